@@ -5,6 +5,7 @@
 //! and neither answers `Failed` unless its count of faults rose in that call.
 #![tactic(auto)]
 
+pub mod copying;
 pub mod hook;
 pub mod limits;
 pub mod listing;

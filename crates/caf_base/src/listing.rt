@@ -2,6 +2,7 @@
 
 ghost use Rattle.std.specs.Prelude.{◌≡◌, [], ◌∷◌, ◌++◌, length, vec_len, vec_capacity, ◌<◌, IfOk, OnOk, OnErr};
 
+use crate::copying::TryCopy;
 use crate::refusal::NoMemory;
 use std::alloc::Global;
 use std::fmt;
@@ -103,6 +104,19 @@ impl<T: Copy> Listing<T> {
         Ok(Listing {
             items: Vec::from_slice(*self.items.allocator(), self.items.as_slice())?,
         })
+    }
+}
+
+impl<T: TryCopy + Drop> Listing<T> {
+    /// An equal list, item by item.
+    pub fn copy_each(&self) -> Result<Listing<T>, NoMemory>
+        ensures { IfOk result (λ l. l ≡ self.now) }
+    {
+        let mut items = Vec::new(*self.items.allocator());
+        for item in self.items.iter() {
+            items.push(item.copy()?)?;
+        }
+        Ok(Listing { items })
     }
 }
 
