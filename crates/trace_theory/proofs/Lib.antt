@@ -1,0 +1,9 @@
+pub mod Filters
+pub mod Orders
+pub mod Weaving
+pub mod Snocs
+pub mod More
+pub mod Merging
+pub mod Machines
+pub mod Simulations
+pub mod Back

@@ -1,0 +1,34 @@
+//! Two machines of which one does what the other does.
+
+ghost use Rattle.std.specs.Prelude.{◌≡◌, ℕ, List};
+ghost use Rattle.trace_theory.specs.Machines.{Move, Said, Walk, Ends};
+ghost use Rattle.trace_theory.specs.Simulations.{Simulates, AllAnswer};
+
+/// Two machines with the same asks and replies, when they stand alike, and which reply answers which ask.
+pub trait Pair {
+    ghost Source: { Type 0 };
+
+    ghost Target: { Type 0 };
+
+    ghost Ask: { Type 0 };
+
+    ghost Reply: { Type 0 };
+
+    ghost source: { Source → Move Source Ask Reply };
+
+    ghost target: { Target → Move Target Ask Reply };
+
+    ghost alike: { Source → Target → Type 0 };
+
+    ghost answers: { Ask → Reply → Type 0 };
+}
+
+/// What the source says and hears, its target says and hears, and they stand alike after it.
+pub fn law_simulated<P: Pair>()
+    ensures { Simulates P.alike P.answers P.source P.target → (c e : P.Source) (d : P.Target) (es : List (Said P.Ask P.Reply)) → AllAnswer P.answers es → P.alike c d → Walk P.source c es e → (f : P.Target) × P.alike e f × Walk P.target d es f }
+{}
+
+/// What the target says and hears, the source says and hears, where the source comes to an ask or ends wherever they stand alike.
+pub fn law_simulated_back<P: Pair>()
+    ensures { Simulates P.alike P.answers P.source P.target → ((c : P.Source) (d : P.Target) → P.alike c d → Ends P.source c) → (c : P.Source) (d f : P.Target) (es : List (Said P.Ask P.Reply)) → AllAnswer P.answers es → P.alike c d → Walk P.target d es f → (e : P.Source) × P.alike e f × Walk P.source c es e }
+{}
