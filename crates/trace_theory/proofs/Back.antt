@@ -13,7 +13,7 @@ module _ (C D A R : Type 0) (alike : C → D → Type 0) (answers : A → R → 
   over_step n more (asks b l i) d h q = absurd (cc)
   over_step n more over d h q = h
 
-  same_over : (n : ℕ) (c : C) (d : D) → alike c d → go source n c ≡ over → Comes target d over
+  pub same_over : (n : ℕ) (c : C) (d : D) → alike c d → go source n c ≡ over → Comes target d over
   same_over zero c d h q = absurd (cc)
   same_over (suc n) c d h q = over_step n (same_over n) (source c) d (sim c d h) q
 
@@ -23,7 +23,7 @@ module _ (C D A R : Type 0) (alike : C → D → Type 0) (answers : A → R → 
     pub comes : Comes source c (asks a l next)
     pub then_alike : (r : R) → answers a r → alike (next r) (k r)
 
-  back_ask : (c : C) (d : D) (a : A) (l : ℕ) (k : R → D) → alike c d → Comes target d (asks a l k) → (n : ℕ) (m : Move C A R) → go source n c ≡ m → Stops m → Back c d a l k
+  pub back_ask : (c : C) (d : D) (a : A) (l : ℕ) (k : R → D) → alike c d → Comes target d (asks a l k) → (n : ℕ) (m : Move C A R) → go source n c ≡ m → Stops m → Back c d a l k
   back_ask c d a l k h comes n (goes e) p s = absurd s
   back_ask c d a l k h comes n (asks b m j) p s =
       let t = same_ask C D A R alike answers source target sim n b m j c d h p in

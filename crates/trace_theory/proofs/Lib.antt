@@ -7,3 +7,4 @@ pub mod Merging
 pub mod Machines
 pub mod Simulations
 pub mod Back
+pub mod Fronts

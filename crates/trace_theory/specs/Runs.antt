@@ -37,3 +37,11 @@ pub record TraceOf {E : Type 0} (image place stamp : E → ℕ) (events historie
   pub images : (i : ℕ) → of image i t ≡ events i
   pub objects : (o : ℕ) → of place (suc o) t ≡ histories (suc o)
   pub stamped : IsStamped image place stamp t
+
+-- The new lists are fronts of the old ones, and an image and an object have the same entries of one another.
+pub record Front {E : Type 0} (image place : E → ℕ) (events histories events' histories' : ℕ → List E) : Type 0 where
+  pub image_left : ℕ → List E
+  pub object_left : ℕ → List E
+  pub image_front : (i : ℕ) → events i ≡ events' i ++ image_left i
+  pub object_front : (o : ℕ) → histories (suc o) ≡ histories' (suc o) ++ object_left o
+  pub agree : (i o : ℕ) → of image i (histories' (suc o)) ≡ of place (suc o) (events' i)
