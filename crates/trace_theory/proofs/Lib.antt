@@ -8,3 +8,4 @@ pub mod Machines
 pub mod Simulations
 pub mod Back
 pub mod Fronts
+pub mod Stops

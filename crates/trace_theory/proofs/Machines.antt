@@ -2,7 +2,7 @@
 use Rattle.std.proofs.Common.{◌≡◌, ℕ, zero, suc, ◌+◌, List, [], ◌∷◌, ◌++◌, refl, ap, sym, ◌∙◌, subst, arith, zero-add}
 use Rattle.trace_theory.specs.Machines.{Move, goes, asks, over, Said, goes_on, go, Comes, Walk, WalkTo, OneNextAsk, Stops}
 
-stays : {C A R : Type 0} (m : Move C A R) (f : C → Move C A R) → Stops m → goes_on m f ≡ m
+pub stays : {C A R : Type 0} (m : Move C A R) (f : C → Move C A R) → Stops m → goes_on m f ≡ m
 stays (goes c) f s = absurd s
 stays (asks a l k) f s = refl
 stays over f s = refl
