@@ -1,0 +1,11 @@
+pub mod Filters
+pub mod Orders
+pub mod Weaving
+pub mod Snocs
+pub mod More
+pub mod Merging
+pub mod Machines
+pub mod Simulations
+pub mod Back
+pub mod Fronts
+pub mod Stops

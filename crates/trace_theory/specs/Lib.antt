@@ -1,0 +1,5 @@
+pub mod Entries
+pub mod Runs
+pub mod Merging
+pub mod Machines
+pub mod Simulations

@@ -1,0 +1,53 @@
+-- A machine that goes by small steps and asks: its configurations C, asks A and replies R.
+use Rattle.std.specs.Prelude.{ℕ, zero, suc, ◌≡◌, List, [], ◌∷◌}
+
+-- what a configuration does next: it goes on, asks at a line and waits for the reply, or is over
+pub data Move (C A R : Type 0) : Type 0 where
+  goes : C → Move C A R
+  asks : A → ℕ → (R → C) → Move C A R
+  over : Move C A R
+
+-- what a machine said and heard: an ask, its reply and the line of the ask
+pub record Said (A R : Type 0) : Type 0 where
+  pub ask : A
+  pub reply : R
+  pub line : ℕ
+
+-- a move that goes on, followed by the next one
+abbrev pub goes_on : {C A R : Type 0} → Move C A R → (C → Move C A R) → Move C A R
+goes_on (goes c) f = f c
+goes_on (asks a l k) f = asks a l k
+goes_on over f = over
+
+-- at most n steps, up to the next ask or the end
+abbrev pub go : {C A R : Type 0} → (C → Move C A R) → ℕ → C → Move C A R
+go step zero c = goes c
+go step (suc n) c = goes_on (step c) (go step n)
+
+-- the configuration comes to this move without an ask before it
+abbrev pub Comes : {C A R : Type 0} → (C → Move C A R) → C → Move C A R → Type 0
+Comes step c m = (n : ℕ) × (go step n c ≡ m)
+
+-- the machine says and hears these from c on, and d is how it goes on after the last reply
+abbrev pub Walk : {C A R : Type 0} → (C → Move C A R) → C → List (Said A R) → C → Type 0
+Walk step c [] d = d ≡ c
+Walk {C} {A} {R} step c (e ∷ es) d = (k : R → C) × Comes step c (asks e.ask e.line k) × Walk step (k e.reply) es d
+
+-- the machine says and hears these from c on, and then comes to d without a further ask
+abbrev pub WalkTo : {C A R : Type 0} → (C → Move C A R) → C → List (Said A R) → C → Type 0
+WalkTo {C} step c es d = (m : C) × Walk step c es m × (n : ℕ) × (go step n m ≡ goes d)
+
+-- a configuration has at most one next ask, at one line, after which it goes on in one way
+abbrev pub OneNextAsk : {C A R : Type 0} → (C → Move C A R) → Type 0
+OneNextAsk {C} {A} {R} step =
+    (c : C) (a b : A) (l m : ℕ) (j k : R → C) → Comes step c (asks a l j) → Comes step c (asks b m k) → (a ≡ b) × (l ≡ m) × (j ≡ k)
+
+-- an ask or the end, and no step before it
+abbrev pub Stops : {C A R : Type 0} → Move C A R → Type 0
+Stops (goes c) = ⊥
+Stops (asks a l k) = Unit {0}
+Stops over = Unit {0}
+
+-- the configuration comes to an ask or ends
+abbrev pub Ends : {C A R : Type 0} → (C → Move C A R) → C → Type 0
+Ends step c = (n : ℕ) × Stops (go step n c)

@@ -1,0 +1,35 @@
+//! Machines that go by small steps and ask.
+
+ghost use Rattle.std.specs.Prelude.{◌≡◌, ℕ, List, [], ◌∷◌, ◌+◌, ◌++◌};
+ghost use Rattle.trace_theory.specs.Machines.{Move, goes, asks, Said, goes_on, go, Comes, Walk, WalkTo, OneNextAsk};
+
+/// A machine: its configurations, what it asks, what it hears, and its step.
+pub trait Machine {
+    ghost Config: { Type 0 };
+
+    ghost Ask: { Type 0 };
+
+    ghost Reply: { Type 0 };
+
+    ghost step: { Config → Move Config Ask Reply };
+}
+
+/// A configuration has at most one next ask.
+pub fn law_one_next_ask<M: Machine>()
+    ensures { OneNextAsk M.step }
+{}
+
+/// Steps and then more steps are one run of steps.
+pub fn law_go_more<M: Machine>()
+    ensures { (n m : ℕ) (c : M.Config) → go M.step (n + m) c ≡ goes_on (go M.step n c) (go M.step m) }
+{}
+
+/// A walk goes on by the next ask and its reply.
+pub fn law_walk_more<M: Machine>()
+    ensures { (c d : M.Config) (es : List (Said M.Ask M.Reply)) (e : Said M.Ask M.Reply) (k : M.Reply → M.Config) → Walk M.step c es d → Comes M.step d (asks e.ask e.line k) → Walk M.step c (es ++ e ∷ []) (k e.reply) }
+{}
+
+/// A machine that stands at its ask, hears the reply and goes on to its next stop has walked one further.
+pub fn law_walk_to_more<M: Machine>()
+    ensures { (c d e : M.Config) (es : List (Said M.Ask M.Reply)) (s : Said M.Ask M.Reply) (k : M.Reply → M.Config) → WalkTo M.step c es d → M.step d ≡ asks s.ask s.line k → (n : ℕ) → go M.step n (k s.reply) ≡ goes e → WalkTo M.step c (es ++ s ∷ []) e }
+{}

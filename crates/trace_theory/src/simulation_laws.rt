@@ -1,0 +1,58 @@
+//! Two machines of which one does what the other does.
+
+ghost use Rattle.std.specs.Prelude.{◌≡◌, ℕ, List};
+ghost use Rattle.trace_theory.specs.Machines.{Move, Said, Walk, WalkTo, Stops, Ends};
+ghost use Rattle.trace_theory.specs.Simulations.{Simulates, AllAnswer, SameStop, StopsNear, Advances};
+
+/// Two machines with the same asks and replies, when they stand alike, what is the same of them where both stop, and which reply
+/// answers which ask.
+pub trait Pair {
+    ghost Source: { Type 0 };
+
+    ghost Target: { Type 0 };
+
+    ghost Ask: { Type 0 };
+
+    ghost Reply: { Type 0 };
+
+    ghost source: { Source → Move Source Ask Reply };
+
+    ghost target: { Target → Move Target Ask Reply };
+
+    ghost alike: { Source → Target → Type 0 };
+
+    ghost near: { Source → Target → Type 0 };
+
+    ghost answers: { Ask → Reply → Type 0 };
+}
+
+/// What the source says and hears, its target says and hears, and they stand alike after it.
+pub fn law_simulated<P: Pair>()
+    ensures { Simulates P.alike P.answers P.source P.target → (c e : P.Source) (d : P.Target) (es : List (Said P.Ask P.Reply)) → AllAnswer P.answers es → P.alike c d → Walk P.source c es e → (f : P.Target) × P.alike e f × Walk P.target d es f }
+{}
+
+/// What the target says and hears, the source says and hears, where the source comes to an ask or ends wherever they stand alike.
+pub fn law_simulated_back<P: Pair>()
+    ensures { Simulates P.alike P.answers P.source P.target → ((c : P.Source) (d : P.Target) → P.alike c d → Ends P.source c) → (c : P.Source) (d f : P.Target) (es : List (Said P.Ask P.Reply)) → AllAnswer P.answers es → P.alike c d → Walk P.target d es f → (e : P.Source) × P.alike e f × Walk P.source c es e }
+{}
+
+/// Where the source walks to a stop, the target walks to the same stop near it.
+pub fn law_stops_onward<P: Pair>()
+    ensures { Simulates P.alike P.answers P.source P.target → StopsNear P.alike P.near P.source P.target → (c c' : P.Source) (d : P.Target) (es : List (Said P.Ask P.Reply)) → AllAnswer P.answers es → P.alike c d → WalkTo P.source c es c' → Stops (P.source c') → (d' : P.Target) × WalkTo P.target d es d' × P.near c' d' × SameStop (P.source c') (P.target d') }
+{}
+
+/// Where the target walks to a stop, the source walks to the same stop near it, where the source comes to an ask or ends wherever
+/// they stand alike.
+pub fn law_stops_backward<P: Pair>()
+    ensures { Simulates P.alike P.answers P.source P.target → StopsNear P.alike P.near P.source P.target → ((c : P.Source) (d : P.Target) → P.alike c d → Ends P.source c) → (c : P.Source) (d d' : P.Target) (es : List (Said P.Ask P.Reply)) → AllAnswer P.answers es → P.alike c d → WalkTo P.target d es d' → Stops (P.target d') → (c' : P.Source) × WalkTo P.source c es c' × P.near c' d' × SameStop (P.source c') (P.target d') }
+{}
+
+/// Where the source comes to an ask or ends, the target does.
+pub fn law_ends_too<P: Pair>()
+    ensures { Simulates P.alike P.answers P.source P.target → (c : P.Source) (d : P.Target) → P.alike c d → Ends P.source c → Ends P.target d }
+{}
+
+/// Where the target comes to an ask or ends, the source does, if each step of the source takes the target a step or more.
+pub fn law_ends_before<P: Pair>()
+    ensures { ((c : P.Source) (d : P.Target) → P.alike c d → Advances P.alike P.target (P.source c) d) → (c : P.Source) (d : P.Target) → P.alike c d → Ends P.target d → Ends P.source c }
+{}
