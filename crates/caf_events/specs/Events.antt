@@ -25,6 +25,12 @@ EndsBy ask reply = ⊥
 abbrev pub EndsRun : Event → Type 0
 EndsRun e = EndsBy e.ask e.reply
 
+-- after such a step an image makes no other: it stopped, is gone, or ended the run
+abbrev pub EndsImage : Ask → Reply → Type 0
+EndsImage (asks.Stop code) reply = Unit {0}
+EndsImage asks.Gone reply = Unit {0}
+EndsImage ask reply = EndsBy ask reply
+
 -- the recorded words of an ask beyond the four of each step: its cell values, the images it names, its printed bytes by eights
 abbrev pub ask_words : Ask → ℕ
 ask_words (asks.Write owner span values) = length values

@@ -10,3 +10,4 @@ pub mod fault;
 pub mod object;
 pub mod reply;
 pub mod round;
+pub mod walker;
