@@ -1,7 +1,7 @@
 //! What runs the program of one image.
 
 ghost use Rattle.std.specs.Prelude.{◌≡◌, ◌<◌, ◌↔◌, IfOk, ℕ};
-ghost use Rattle.trace_theory.specs.Machines.{Move};
+ghost use Rattle.trace_theory.specs.Machines.{Move, Stops};
 ghost use Rattle.caf_events.specs.Walkers.{IsAtAsk, AsksNext, IsAtLine, NextIs, Continues, IsOver, EndsAfter};
 ghost use Rattle.caf_events.specs.declared.ask.Ask.{Ask};
 ghost use Rattle.caf_events.specs.declared.reply.Reply.{Reply};
@@ -49,6 +49,7 @@ pub trait Walker {
     fn give(&mut self, reply: &Reply)
         requires { IsAtAsk (step (config self.old)) }
         ensures goes { Continues step (step (config self.old)) reply.now (config self.new) }
+        ensures rests { Stops (step (config self.new)) }
         ensures ends { IsOver (step (config self.new)) ↔ EndsAfter (step (config self.old)) reply.now }
         ensures spends { asks_left (config self.new) < asks_left (config self.old) };
 }
