@@ -1,0 +1,72 @@
+//! One image of a run: its machine, and the steps that it made.
+
+ghost use Rattle.std.specs.Prelude.{◌≡◌, ◌<◌, ◌≤◌, ◌+◌, ◌^◌, ◌↔◌, ℕ, List, [], ◌∷◌, ◌++◌, IfOk, OnOk, OnErr, vec_len, vec_capacity};
+ghost use Rattle.image_core.specs.Lists.{last_of};
+
+use crate::prepared::Prepared;
+use caf_base::place::ImageNo;
+use caf_base::refusal::NoMemory;
+use caf_events::event::Event;
+use caf_events::walker::Walker;
+
+/// One image: its number from 1, its machine, its events with the last one's stamp, and what is set aside for its next step.
+#[derive(Drop)]
+pub struct ImageRun<M> {
+    pub(crate) image: ImageNo,
+    pub(crate) machine: M,
+    pub(crate) events: Vec<Event>,
+    pub(crate) last: u64,
+    pub(crate) prepared: Prepared,
+    ghost last_is: { last ≡ last_of events.items },
+}
+
+impl<M: Walker> ImageRun<M> {
+    ghost use Rattle.caf_events.specs.Walkers.{IsAtAsk, IsOver, EndsAfter, Continues};
+    ghost use Rattle.trace_theory.specs.Machines.{Stops};
+
+    /// The image's number.
+    pub fn image(&self) -> ImageNo
+        ensures { result ≡ self.now.image }
+    {
+        self.image
+    }
+
+    /// The events that the image made, the oldest first.
+    pub fn events(&self) -> &[Event]
+        ensures { result.now ≡ self.now.events.items }
+    {
+        self.events.as_slice()
+    }
+
+    // Room for one event more.
+    pub(crate) fn make_room(&mut self) -> Result<(), NoMemory>
+        ensures image { self.new.image ≡ self.old.image }
+        ensures machine { M.config self.new.machine ≡ M.config self.old.machine }
+        ensures events { self.new.events.items ≡ self.old.events.items }
+        ensures last { self.new.last ≡ self.old.last }
+        ensures room { OnOk result (vec_len self.new.events < vec_capacity self.new.events) }
+    {
+        self.events.reserve(1)?;
+        Ok(())
+    }
+
+    // Appends an event, and goes on with its reply.
+    #[tactic(auto, using(crate::proofs::Last::last_more))]
+    pub(crate) fn take(&mut self, event: Event)
+        requires at { IsAtAsk (M.step (M.config self.old.machine)) }
+        requires room { vec_len self.old.events < vec_capacity self.old.events }
+        ensures image { self.new.image ≡ self.old.image }
+        ensures events { self.new.events.items ≡ self.old.events.items ++ event ∷ [] }
+        ensures goes { Continues M.step (M.step (M.config self.old.machine)) event.reply (M.config self.new.machine) }
+        ensures rests { Stops (M.step (M.config self.new.machine)) }
+        ensures ends { IsOver (M.step (M.config self.new.machine)) ↔ EndsAfter (M.step (M.config self.old.machine)) event.reply }
+        ensures spends { M.asks_left (M.config self.new.machine) < M.asks_left (M.config self.old.machine) }
+    {
+        self.machine.give(&event.reply);
+        self.last = event.stamp;
+        match self.events.push(event) {
+            Ok(()) => {}
+            Err(_) => unreachable!(),
+        }
+    }
+}

@@ -1,0 +1,79 @@
+//! The two halves of one step of one image: what is due is set aside, and then made.
+
+ghost use Rattle.std.specs.Prelude.{◌≡◌, ◌<◌, ◌≤◌, ◌+◌, ◌^◌, ◌↔◌, ℕ, max, List, [], ◌∷◌, ◌++◌, IfOk, OnOk, OnErr, true, false, vec_len, vec_capacity};
+ghost use Rattle.trace_theory.specs.Machines.{Stops};
+ghost use Rattle.caf_events.specs.Asks.{place_of};
+ghost use Rattle.caf_events.specs.Histories.{last_stamp_of};
+ghost use Rattle.caf_events.specs.Walkers.{IsAtAsk, IsOver, AsksNext, IsAtLine, Continues, EndsAfter};
+ghost use Rattle.caf_events.specs.declared.event.Event.{Event};
+ghost use Rattle.image_core.specs.Lists.{last_of};
+ghost use Rattle.image_core.specs.Prepared.{IsServedNext, StepsAt, IsOwnNext};
+
+use crate::prepared::Prepared;
+use crate::run::ImageRun;
+use caf_base::refusal::NoMemory;
+use caf_events::ask::Ask;
+use caf_events::event::Event;
+use caf_events::object::Object;
+use caf_events::reply::Reply;
+use caf_events::walker::Walker;
+use std::mem;
+
+fn give_up(_ask: Ask) {}
+
+// Sets the image's next ask aside, with the reply of its object, where the object is ready.
+pub(crate) fn prepare_at<M: Walker, O: Object>(
+    run: &mut ImageRun<M>,
+    object: &mut O,
+    ask: Ask,
+) -> Result<bool, NoMemory>
+    requires asked { AsksNext (M.step (M.config run.old.machine)) ask }
+    ensures image { run.new.image ≡ run.old.image }
+    ensures machine { M.config run.new.machine ≡ M.config run.old.machine }
+    ensures events { run.new.events ≡ run.old.events }
+    ensures last { run.new.last ≡ run.old.last }
+    ensures made { O.made object.new ≡ O.made object.old }
+    ensures history { O.history object.new ≡ O.history object.old }
+    ensures answer { IfOk result (λ b. b ≡ O.ready_after (O.made object.old) (O.history object.old) run.old.image.0 ask) }
+    ensures prepared { IfOk result (λ b. b ≡ true → IsServedNext O.made O.history O.has_room O.ready_after O.reply_after (M.step (M.config run.old.machine)) run.old.image.0 object.new run.new.prepared) }
+{
+    let image = run.image;
+    if !object.ready(image, &ask) {
+        give_up(ask);
+        return Ok(false);
+    }
+    match object.reserve(image, &ask) {
+        Ok(spare) => {
+            run.prepared = Prepared::Served { ask, spare };
+            Ok(true)
+        }
+        Err(e) => {
+            give_up(ask);
+            Err(e)
+        }
+    }
+}
+
+// Makes the step that was set aside at an object.
+pub(crate) fn commit_at<M: Walker, O: Object>(run: &mut ImageRun<M>, object: &mut O)
+    requires at { IsAtAsk (M.step (M.config run.old.machine)) }
+    requires room { vec_len run.old.events < vec_capacity run.old.events }
+    requires prepared { IsServedNext O.made O.history O.has_room O.ready_after O.reply_after (M.step (M.config run.old.machine)) run.old.image.0 object.old run.old.prepared }
+    requires after { run.old.last < 2 ^ 62 }
+    requires last { last_stamp_of (O.history object.old) < 2 ^ 62 }
+    ensures image { run.new.image ≡ run.old.image }
+    ensures step { (e : Event) × StepsAt O.made O.history O.has_room O.ready_after O.reply_after M.step run.old.image.0 (M.config run.old.machine) (M.config run.new.machine) run.old.events.items run.new.events.items object.old object.new e }
+    ensures rests { Stops (M.step (M.config run.new.machine)) }
+    ensures spends { M.asks_left (M.config run.new.machine) < M.asks_left (M.config run.old.machine) }
+{
+    let image = run.image;
+    let line = run.machine.line();
+    let after = run.last;
+    match mem::replace(&mut run.prepared, Prepared::Nothing) {
+        Prepared::Served { ask, spare } => {
+            let event = object.apply(image, ask, spare, line, after);
+            run.take(event);
+        }
+        _ => unreachable!(),
+    }
+}
