@@ -94,7 +94,8 @@ pub record IsDue {C M B : Type 0} (r : Rules C M B) (m : Moment C M B) (i : ℕ)
 
 -- the item of number n replaced
 abbrev pub with_item : {A : Type 0} → List A → ℕ → A → List A
-with_item xs n x = slice_set xs (n - 1) x
+with_item xs zero x = xs
+with_item xs (suc k) x = slice_set xs k x
 
 -- the memories' histories with one more entry at a place
 abbrev pub histories_with : Place → List (List Entry) → Entry → List (List Entry)

@@ -4,6 +4,7 @@
 //! until no image can step; `trace` gives the events of all images by stamp, then image.
 #![tactic(auto)]
 
+pub mod parts;
 pub mod prepared;
 pub mod run;
 pub mod step;

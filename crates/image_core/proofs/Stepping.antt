@@ -1,0 +1,170 @@
+-- A step of one image at one object as a step of the whole run.
+use Rattle.std.proofs.Common.{◌≡◌, ℕ, zero, suc, ◌+◌, ◌-◌, ◌<◌, ◌≤◌, max, List, [], ◌∷◌, ◌++◌, ◌⊎◌, inl, inr, length, refl, ap, sym, ◌∙◌, subst, arith, Bool, true, false, IsTrue}
+use Rattle.std.specs.Prelude.{map, slice_index_or, slice_get, slice_set, Option, Some, None}
+use Rattle.caf_base.specs.declared.place.Place.{Place}
+use Rattle.caf_base.specs.declared.place.Place.TheVariants as places
+use Rattle.caf_base.specs.declared.place.ImageNo.{ImageNo}
+use Rattle.caf_events.specs.declared.ask.Ask.{Ask}
+use Rattle.caf_events.specs.declared.reply.Reply.{Reply}
+use Rattle.caf_events.specs.declared.reply.Reply.TheVariants as replies
+use Rattle.caf_events.specs.declared.event.Event.{Event}
+use Rattle.caf_events.specs.declared.event.Entry.{Entry}
+use Rattle.caf_events.specs.Asks.{place_of}
+use Rattle.caf_events.specs.Histories.{last_stamp_of}
+use Rattle.caf_events.specs.Walkers.{IsAtAsk, AsksNext, IsAtLine, Continues}
+use Rattle.trace_theory.specs.Machines.{Move, asks, goes, over, Stops}
+use Rattle.image_core.specs.declared.run.ImageRun.{ImageRun}
+use Rattle.image_core.specs.declared.parts.PartsOf.{PartsOf}
+use Rattle.image_core.specs.Lists.{list_at, entry, last_of}
+use Rattle.image_core.specs.Moments.{Rules, Moment, item_at, history_there, ready_there, reply_there, memory_ready_at, memory_reply_at, with_item, histories_with, board_with, IsDue, Steps}
+use Rattle.image_core.specs.Prepared.{StepsAt}
+use Rattle.image_core.specs.Parts.{rules, moment_of, event_lists}
+use Rattle.image_core.proofs.Slices.{map_set, map_index, map_get, map_length, map_same}
+
+-- two names of the next ask are one
+pub same_ask : {C : Type 0} (m : Move C Ask Reply) (a b : Ask) → AsksNext m a → AsksNext m b → a ≡ b
+same_ask (goes c) a b h k = absurd h
+same_ask (asks x l n) a b h k = h ∙ sym k
+same_ask over a b h k = absurd h
+
+pub at_ask : {C : Type 0} (m : Move C Ask Reply) (a : Ask) → AsksNext m a → IsAtAsk m
+at_ask (goes c) a h = absurd h
+at_ask (asks x l n) a h = tt
+at_ask over a h = absurd h
+
+module _ {M O B C MM BM : Type 0} (config : M → C) (step : C → Move C Ask Reply)
+    (made : O → MM) (history : O → List Entry) (has_room : O → ℕ → Ask → Type 0) (test : MM → List Entry → ℕ → Ask → Bool) (answer : MM → List Entry → ℕ → Ask → Reply)
+    (board_made : B → BM) (board_history : B → List Entry) (board_room : B → ℕ → Ask → Type 0) (board_test : BM → List Entry → ℕ → Ask → Bool) (board_answer : BM → List Entry → ℕ → Ask → Reply)
+    (p p' : PartsOf M O B) (k : ℕ) (r r' : ImageRun M) (e : Event)
+    (image_in : k < length p.images.items) (run_is : r ≡ slice_index_or p.images.items k r) (number : r.image.0 ≡ suc k)
+    (images_now : p'.images.items ≡ slice_set p.images.items k r') (rests : Stops (step (config r'.machine))) where
+
+  abbrev pub R : Rules C MM BM
+  R = rules step test answer board_test board_answer
+
+  abbrev pub now : Moment C MM BM
+  now = moment_of config made history board_made board_history p
+
+  abbrev pub then : Moment C MM BM
+  then = moment_of config made history board_made board_history p'
+
+  stands_here : item_at (map (λ (x : ImageRun M). config x.machine) p.images.items) (suc k) ≡ Some (config r.machine)
+  stands_here = map_get (λ (x : ImageRun M). config x.machine) p.images.items k r image_in run_is
+
+  configs_now : map (λ (x : ImageRun M). config x.machine) p'.images.items ≡ slice_set (map (λ (x : ImageRun M). config x.machine) p.images.items) k (config r'.machine)
+  configs_now = ap (map (λ (x : ImageRun M). config x.machine)) images_now ∙ map_set (λ (x : ImageRun M). config x.machine) p.images.items k r'
+
+  events_here : slice_index_or (event_lists p.images.items) k [] ≡ r.events.items
+  events_here = map_index (λ (x : ImageRun M). x.events.items) p.images.items k r [] image_in run_is
+
+  events_now : r'.events.items ≡ r.events.items ++ e ∷ [] → event_lists p'.images.items ≡ slice_set (event_lists p.images.items) k (slice_index_or (event_lists p.images.items) k [] ++ e ∷ [])
+  events_now h =
+      ap event_lists images_now ∙ map_set (λ (x : ImageRun M). x.events.items) p.images.items k r'
+      ∙ ap (slice_set (event_lists p.images.items) k) (h ∙ ap (λ es. es ++ e ∷ []) (sym events_here))
+
+  -- the stamp of a step at a place with this history
+  stamp_there : (h : List Entry) → e.stamp ≡ max (last_of r.events.items) (last_stamp_of h) + 1 → history_there now (place_of e.ask) ≡ h → e.stamp ≡ max (last_of (list_at now.events (suc k))) (last_stamp_of (history_there now (place_of e.ask))) + 1
+  stamp_there h s t =
+      s ∙ ap (λ es. max (last_of es) (last_stamp_of h) + 1) (sym events_here)
+      ∙ ap (λ xs. max (last_of (list_at now.events (suc k))) (last_stamp_of xs) + 1) (sym t)
+
+  -- a step that the image makes by itself
+  module _ (place : place_of e.ask ≡ places.Own) (memories_now : p'.memories.items ≡ p.memories.items) (board_now : p'.board ≡ p.board)
+      (asked : AsksNext (step (config r.machine)) e.ask) (line : IsAtLine (step (config r.machine)) e.line) (reply : e.reply ≡ replies.Done) (stamp : e.stamp ≡ last_of r.events.items + 1)
+      (goes_on : Continues step (step (config r.machine)) e.reply (config r'.machine)) (events : r'.events.items ≡ r.events.items ++ e ∷ []) where
+    pub own_steps : Steps R now (suc k) e then
+    own_steps = record {
+      from = config r.machine;
+      to = config r'.machine;
+      stands = stands_here;
+      due = record {
+        asked = asked;
+        line = line;
+        ready = subst (λ q. IsTrue (ready_there R now (suc k) e.ask q)) (sym place) refl;
+        reply = reply ∙ ap (reply_there R now (suc k) e.ask) (sym place);
+        stamp = stamp_there [] (stamp ∙ (omega arith)) (ap (history_there now) place);
+      };
+      goes_on = goes_on;
+      rests = rests;
+      configs = configs_now;
+      events = events_now events;
+      memories = ap (map made) memories_now;
+      histories = ap (map history) memories_now ∙ ap (λ q. histories_with q now.histories (entry (suc k) e)) (sym place);
+      board = ap board_made board_now;
+      board_history = ap board_history board_now ∙ ap (λ q. board_with q now.board_history (entry (suc k) e)) (sym place);
+    }
+
+  -- a step at the board
+  module _ (place : place_of e.ask ≡ places.Board) (memories_now : p'.memories.items ≡ p.memories.items)
+      (s : StepsAt board_made board_history board_room board_test board_answer step r.image.0 (config r.machine) (config r'.machine) r.events.items r'.events.items p.board p'.board e) where
+    pub board_steps : Steps R now (suc k) e then
+    board_steps = record {
+      from = config r.machine;
+      to = config r'.machine;
+      stands = stands_here;
+      due = record {
+        asked = s.asked;
+        line = s.line;
+        ready = subst (λ q. IsTrue (ready_there R now (suc k) e.ask q)) (sym place) (subst (λ i. IsTrue (board_test (board_made p.board) (board_history p.board) i e.ask)) number s.ready);
+        reply = s.reply ∙ ap (λ i. board_answer (board_made p.board) (board_history p.board) i e.ask) number ∙ ap (reply_there R now (suc k) e.ask) (sym place);
+        stamp = stamp_there (board_history p.board) s.stamp (ap (history_there now) place);
+      };
+      goes_on = s.goes_on;
+      rests = rests;
+      configs = configs_now;
+      events = events_now s.events;
+      memories = ap (map made) memories_now;
+      histories = ap (map history) memories_now ∙ ap (λ q. histories_with q now.histories (entry (suc k) e)) (sym place);
+      board = s.made_same;
+      board_history = s.history_more ∙ ap (λ i. board_history p.board ++ entry i e ∷ []) number ∙ ap (λ q. board_with q now.board_history (entry (suc k) e)) (sym place);
+    }
+
+  -- a step at a memory
+  module _ (owner : ImageNo) (j : ℕ) (owner_is : owner.0 ≡ suc j) (place : place_of e.ask ≡ places.Memory owner) (o o' : O)
+      (memory_in : j < length p.memories.items) (memory_is : o ≡ slice_index_or p.memories.items j o) (memories_now : p'.memories.items ≡ slice_set p.memories.items j o') (board_now : p'.board ≡ p.board)
+      (s : StepsAt made history has_room test answer step r.image.0 (config r.machine) (config r'.machine) r.events.items r'.events.items o o' e) where
+    history_here : slice_index_or (map history p.memories.items) j [] ≡ history o
+    history_here = map_index history p.memories.items j o [] memory_in memory_is
+
+    made_here : slice_get (map made p.memories.items) j ≡ Some (made o)
+    made_here = map_get made p.memories.items j o memory_in memory_is
+
+    -- what is said of a memory's history and of what it was made with
+    view : {X : Type 0} (f : List Entry → Option MM → X) → f (list_at now.histories owner.0) (item_at now.memories owner.0) ≡ f (history o) (Some (made o))
+    view f =
+        ap (λ n. f (list_at now.histories n) (item_at now.memories n)) owner_is
+        ∙ ap (λ h. f h (slice_get (map made p.memories.items) j)) history_here
+        ∙ ap (f (history o)) made_here
+
+    histories_now : map history p'.memories.items ≡ histories_with (places.Memory owner) now.histories (entry (suc k) e)
+    histories_now =
+        ap (map history) memories_now ∙ map_set history p.memories.items j o'
+        ∙ ap (slice_set now.histories j) (s.history_more ∙ ap (λ i. history o ++ entry i e ∷ []) number ∙ ap (λ h. h ++ entry (suc k) e ∷ []) (sym history_here))
+        ∙ ap (λ n. with_item now.histories n (list_at now.histories n ++ entry (suc k) e ∷ [])) (sym owner_is)
+
+    pub memory_steps : Steps R now (suc k) e then
+    memory_steps = record {
+      from = config r.machine;
+      to = config r'.machine;
+      stands = stands_here;
+      due = record {
+        asked = s.asked;
+        line = s.line;
+        ready =
+            subst (λ q. IsTrue (ready_there R now (suc k) e.ask q)) (sym place)
+            (subst IsTrue (sym (view (λ h m. memory_ready_at R h (suc k) e.ask m)))
+            (subst (λ i. IsTrue (test (made o) (history o) i e.ask)) number s.ready));
+        reply =
+            s.reply ∙ ap (λ i. answer (made o) (history o) i e.ask) number
+            ∙ sym (view (λ h m. memory_reply_at R h (suc k) e.ask m)) ∙ ap (reply_there R now (suc k) e.ask) (sym place);
+        stamp = stamp_there (history o) s.stamp (ap (history_there now) place ∙ view (λ h m. h));
+      };
+      goes_on = s.goes_on;
+      rests = rests;
+      configs = configs_now;
+      events = events_now s.events;
+      memories = ap (map made) memories_now ∙ map_same made p.memories.items j o o' memory_in memory_is s.made_same;
+      histories = histories_now ∙ ap (λ q. histories_with q now.histories (entry (suc k) e)) (sym place);
+      board = ap board_made board_now;
+      board_history = ap board_history board_now ∙ ap (λ q. board_with q now.board_history (entry (suc k) e)) (sym place);
+    }

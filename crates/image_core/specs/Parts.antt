@@ -1,0 +1,100 @@
+-- What the parts of a run mean.
+use Rattle.std.specs.Prelude.{ℕ, zero, suc, ◌≡◌, ◌<◌, ◌≤◌, ◌+◌, ◌-◌, ◌^◌, Bool, true, false, List, [], ◌∷◌, map, length, sum_by, slice_index_or, vec_len, vec_capacity}
+use Rattle.caf_base.specs.declared.place.Place.{Place}
+use Rattle.caf_base.specs.declared.place.Place.TheVariants.{Memory, Board, Own}
+use Rattle.caf_events.specs.declared.ask.Ask.{Ask}
+use Rattle.caf_events.specs.declared.reply.Reply.{Reply}
+use Rattle.caf_events.specs.declared.event.Event.{Event}
+use Rattle.caf_events.specs.declared.event.Entry.{Entry}
+use Rattle.caf_events.specs.declared.object.Spare.{Spare}
+use Rattle.caf_events.specs.Asks.{place_of}
+use Rattle.caf_events.specs.Histories.{last_stamp_of}
+use Rattle.caf_events.specs.Walkers.{AsksNext}
+use Rattle.trace_theory.specs.Machines.{Move, Stops}
+use Rattle.image_core.specs.declared.run.ImageRun.{ImageRun}
+use Rattle.image_core.specs.declared.parts.PartsOf.{PartsOf}
+use Rattle.image_core.specs.declared.parts.Ready.{Ready}
+use Rattle.image_core.specs.declared.parts.Ready.TheVariants as answers
+use Rattle.image_core.specs.declared.prepared.Prepared.{Prepared}
+use Rattle.image_core.specs.declared.prepared.Prepared.TheVariants as prepareds
+use Rattle.image_core.specs.Lists.{list_at, last_of}
+use Rattle.image_core.specs.Moments.{Rules, Moment, can_step, HasEnded}
+use Rattle.image_core.specs.Prepared.{IsServed}
+
+-- the rules of a run from those of its machines, its memories and its board
+abbrev pub rules : {C M B : Type 0} → (C → Move C Ask Reply) → (M → List Entry → ℕ → Ask → Bool) → (M → List Entry → ℕ → Ask → Reply) → (B → List Entry → ℕ → Ask → Bool) → (B → List Entry → ℕ → Ask → Reply) → Rules C M B
+rules step memory_ready memory_reply board_ready board_reply = record {
+  step = step;
+  memory_ready = memory_ready;
+  memory_reply = memory_reply;
+  board_ready = board_ready;
+  board_reply = board_reply;
+}
+
+-- the events of each image
+abbrev pub event_lists : {M : Type 0} → List (ImageRun M) → List (List Event)
+event_lists images = map (λ r. r.events.items) images
+
+-- how the parts stand at a moment
+abbrev pub moment_of : {M O B C MM BM : Type 0} → (M → C) → (O → MM) → (O → List Entry) → (B → BM) → (B → List Entry) → PartsOf M O B → Moment C MM BM
+moment_of config made history board_made board_history p = record {
+  configs = map (λ r. config r.machine) p.images.items;
+  events = event_lists p.images.items;
+  memories = map made p.memories.items;
+  histories = map history p.memories.items;
+  board = board_made p.board;
+  board_history = board_history p.board;
+}
+
+-- what holds of the item at each place of a list, counted from 0
+abbrev pub EachAt : {A : Type 0} → (ℕ → A → Type 0) → List A → Type 0
+EachAt {A} P xs = (k : ℕ) (x : A) → k < length xs → x ≡ slice_index_or xs k x → P k x
+
+-- the images are numbered from 1
+abbrev pub AreNumbered : {M : Type 0} → List (ImageRun M) → Type 0
+AreNumbered images = EachAt (λ k r. r.image.0 ≡ suc k) images
+
+-- each machine stands at an ask, or has ended
+abbrev pub AreAtRest : {C : Type 0} → (C → Move C Ask Reply) → List C → Type 0
+AreAtRest step configs = EachAt (λ k c. Stops (step c)) configs
+
+-- how many steps were made
+abbrev pub steps_made : {C M B : Type 0} → Moment C M B → ℕ
+steps_made m = sum_by length m.events
+
+-- no stamp is above the number of steps, and the steps that may still come stay far below the last stamp
+pub record IsBounded {C M B : Type 0} (left : C → ℕ) (m : Moment C M B) : Type 0 where
+  pub images : (i : ℕ) → last_of (list_at m.events i) ≤ steps_made m
+  pub memories : (i : ℕ) → last_stamp_of (list_at m.histories i) ≤ steps_made m
+  pub board : last_stamp_of m.board_history ≤ steps_made m
+  pub few : steps_made m + sum_by left m.configs < 2 ^ 60
+
+-- what is set aside for the image at a place of the list is its next step
+module _ {M O B C MM BM : Type 0} (config : M → C) (step : C → Move C Ask Reply)
+    (made : O → MM) (history : O → List Entry) (has_room : O → ℕ → Ask → Type 0) (test : MM → List Entry → ℕ → Ask → Bool) (answer : MM → List Entry → ℕ → Ask → Reply)
+    (board_made : B → BM) (board_history : B → List Entry) (board_room : B → ℕ → Ask → Type 0) (board_test : BM → List Entry → ℕ → Ask → Bool) (board_answer : BM → List Entry → ℕ → Ask → Reply) where
+  -- the object at this place set the step aside
+  abbrev pub IsServedThere : PartsOf M O B → ℕ → Ask → Spare → Place → Type 0
+  IsServedThere p i ask spare Own = ⊥
+  IsServedThere p i ask spare Board = IsServed board_made board_history board_room board_test board_answer i p.board ask spare
+  IsServedThere p i ask spare (Memory owner) =
+      (0 < owner.0) × (owner.0 ≤ length p.memories.items) × ((o : O) → o ≡ slice_index_or p.memories.items (owner.0 - 1) o → IsServed made history has_room test answer i o ask spare)
+
+  abbrev pub IsSetAside : PartsOf M O B → ℕ → Move C Ask Reply → Prepared → Type 0
+  IsSetAside p i move prepareds.Nothing = ⊥
+  IsSetAside p i move (prepareds.Own ask) = AsksNext move ask × (place_of ask ≡ Own)
+  IsSetAside p i move (prepareds.Served ask spare) = AsksNext move ask × IsServedThere p i ask spare (place_of ask)
+
+  -- the step of the image at this place is set aside, with room for its event
+  pub record IsPreparedRun (p : PartsOf M O B) (k : ℕ) (r : ImageRun M) : Type 0 where
+    pub room : vec_len r.events < vec_capacity r.events
+    pub next : IsSetAside p (suc k) (step (config r.machine)) r.prepared
+
+  abbrev pub IsPrepared : PartsOf M O B → ℕ → Type 0
+  IsPrepared p k = (r : ImageRun M) → r ≡ slice_index_or p.images.items k r → IsPreparedRun p k r
+
+-- what `prepare` answers for the image of a number
+abbrev pub AnswersReady : {C M B : Type 0} → Rules C M B → Moment C M B → ℕ → Ready → Type 0
+AnswersReady r m i answers.Can = can_step r m i ≡ true
+AnswersReady r m i answers.NotYet = (can_step r m i ≡ false) × (HasEnded r m i → ⊥)
+AnswersReady r m i answers.Over = HasEnded r m i
