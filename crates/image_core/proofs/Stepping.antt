@@ -17,8 +17,10 @@ use Rattle.image_core.specs.declared.run.ImageRun.{ImageRun}
 use Rattle.image_core.specs.declared.parts.PartsOf.{PartsOf}
 use Rattle.image_core.specs.Lists.{list_at, entry, last_of}
 use Rattle.image_core.specs.Moments.{Rules, Moment, item_at, history_there, ready_there, reply_there, memory_ready_at, memory_reply_at, with_item, histories_with, board_with, IsDue, Steps}
-use Rattle.image_core.specs.Prepared.{StepsAt}
-use Rattle.image_core.specs.Parts.{rules, moment_of, event_lists}
+use Rattle.image_core.specs.declared.prepared.Prepared.{Prepared}
+use Rattle.image_core.specs.declared.prepared.Prepared.TheVariants as prepareds
+use Rattle.image_core.specs.Prepared.{StepsAt, StepsAlone, IsServed, IsServedNext, IsOwnNext, place_aside}
+use Rattle.image_core.specs.Parts.{rules, moment_of, event_lists, IsSetAside, IsServedThere}
 use Rattle.image_core.proofs.Slices.{map_set, map_index, map_get, map_length, map_same}
 
 -- two names of the next ask are one
@@ -35,10 +37,49 @@ at_ask over a h = absurd h
 module _ {M O B C MM BM : Type 0} (config : M → C) (step : C → Move C Ask Reply)
     (made : O → MM) (history : O → List Entry) (has_room : O → ℕ → Ask → Type 0) (test : MM → List Entry → ℕ → Ask → Bool) (answer : MM → List Entry → ℕ → Ask → Reply)
     (board_made : B → BM) (board_history : B → List Entry) (board_room : B → ℕ → Ask → Type 0) (board_test : BM → List Entry → ℕ → Ask → Bool) (board_answer : BM → List Entry → ℕ → Ask → Reply)
+    (p : PartsOf M O B) (i : ℕ) (move : Move C Ask Reply) where
+  -- the next ask is made where the step is set aside
+  pub aside_place : (pr : Prepared) (a : Ask) → IsSetAside config step made history has_room test answer board_made board_history board_room board_test board_answer p i move pr → AsksNext move a → place_of a ≡ place_aside pr
+  aside_place prepareds.Nothing a h k = absurd h
+  aside_place (prepareds.Own ask) a h k = ap place_of (same_ask move a ask k h.0) ∙ h.1
+  aside_place (prepareds.Served ask spare) a h k = ap place_of (same_ask move a ask k h.0)
+
+  pub aside_at_ask : (pr : Prepared) → IsSetAside config step made history has_room test answer board_made board_history board_room board_test board_answer p i move pr → IsAtAsk move
+  aside_at_ask prepareds.Nothing h = absurd h
+  aside_at_ask (prepareds.Own ask) h = at_ask move ask h.0
+  aside_at_ask (prepareds.Served ask spare) h = at_ask move ask h.0
+
+  -- a step that is set aside by the image itself
+  pub aside_own : (pr : Prepared) → IsSetAside config step made history has_room test answer board_made board_history board_room board_test board_answer p i move pr → place_aside pr ≡ places.Own → IsOwnNext move pr
+  aside_own prepareds.Nothing h e = absurd h
+  aside_own (prepareds.Own ask) h e = h
+  aside_own (prepareds.Served ask spare) h e = absurd (subst (IsServedThere config step made history has_room test answer board_made board_history board_room board_test board_answer p i ask spare) e h.1)
+
+  -- by the board
+  pub aside_board : (pr : Prepared) → IsSetAside config step made history has_room test answer board_made board_history board_room board_test board_answer p i move pr → place_aside pr ≡ places.Board → IsServedNext board_made board_history board_room board_test board_answer move i p.board pr
+  aside_board prepareds.Nothing h e = absurd h
+  aside_board (prepareds.Own ask) h e = absurd (cc)
+  aside_board (prepareds.Served ask spare) h e = (h.0, subst (IsServedThere config step made history has_room test answer board_made board_history board_room board_test board_answer p i ask spare) e h.1)
+
+  -- by a memory, which the run has
+  pub aside_within : (pr : Prepared) (owner : ImageNo) → IsSetAside config step made history has_room test answer board_made board_history board_room board_test board_answer p i move pr → place_aside pr ≡ places.Memory owner → (0 < owner.0) × (owner.0 ≤ length p.memories.items)
+  aside_within prepareds.Nothing owner h e = absurd h
+  aside_within (prepareds.Own ask) owner h e = absurd (cc)
+  aside_within (prepareds.Served ask spare) owner h e =
+      let t = subst (IsServedThere config step made history has_room test answer board_made board_history board_room board_test board_answer p i ask spare) e h.1 in (t.0, t.1)
+
+  pub aside_memory : (pr : Prepared) (owner : ImageNo) (o : O) → IsSetAside config step made history has_room test answer board_made board_history board_room board_test board_answer p i move pr → place_aside pr ≡ places.Memory owner → o ≡ slice_index_or p.memories.items (owner.0 - 1) o → IsServedNext made history has_room test answer move i o pr
+  aside_memory prepareds.Nothing owner o h e m = absurd h
+  aside_memory (prepareds.Own ask) owner o h e m = absurd (cc)
+  aside_memory (prepareds.Served ask spare) owner o h e m =
+      (h.0, (subst (IsServedThere config step made history has_room test answer board_made board_history board_room board_test board_answer p i ask spare) e h.1).2 o m)
+
+module _ {M O B C MM BM : Type 0} (config : M → C) (step : C → Move C Ask Reply)
+    (made : O → MM) (history : O → List Entry) (has_room : O → ℕ → Ask → Type 0) (test : MM → List Entry → ℕ → Ask → Bool) (answer : MM → List Entry → ℕ → Ask → Reply)
+    (board_made : B → BM) (board_history : B → List Entry) (board_room : B → ℕ → Ask → Type 0) (board_test : BM → List Entry → ℕ → Ask → Bool) (board_answer : BM → List Entry → ℕ → Ask → Reply)
     (p p' : PartsOf M O B) (k : ℕ) (r r' : ImageRun M) (e : Event)
     (image_in : k < length p.images.items) (run_is : r ≡ slice_index_or p.images.items k r) (number : r.image.0 ≡ suc k)
     (images_now : p'.images.items ≡ slice_set p.images.items k r') (rests : Stops (step (config r'.machine))) where
-
   abbrev pub R : Rules C MM BM
   R = rules step test answer board_test board_answer
 

@@ -1,5 +1,5 @@
 -- What the parts of a run mean.
-use Rattle.std.specs.Prelude.{ℕ, zero, suc, ◌≡◌, ◌<◌, ◌≤◌, ◌+◌, ◌-◌, ◌^◌, Bool, true, false, List, [], ◌∷◌, map, length, sum_by, slice_index_or, vec_len, vec_capacity}
+use Rattle.std.specs.Prelude.{ℕ, zero, suc, ◌≡◌, ◌<◌, ◌≤◌, ◌+◌, ◌-◌, ◌^◌, Bool, true, false, List, [], ◌∷◌, map, length, slice_index_or, vec_len, vec_capacity, Option, Some}
 use Rattle.caf_base.specs.declared.place.Place.{Place}
 use Rattle.caf_base.specs.declared.place.Place.TheVariants.{Memory, Board, Own}
 use Rattle.caf_events.specs.declared.ask.Ask.{Ask}
@@ -18,7 +18,7 @@ use Rattle.image_core.specs.declared.parts.Ready.TheVariants as answers
 use Rattle.image_core.specs.declared.prepared.Prepared.{Prepared}
 use Rattle.image_core.specs.declared.prepared.Prepared.TheVariants as prepareds
 use Rattle.image_core.specs.Lists.{list_at, last_of}
-use Rattle.image_core.specs.Moments.{Rules, Moment, can_step, HasEnded}
+use Rattle.image_core.specs.Moments.{Rules, Moment, can_step, HasEnded, item_at, with_item}
 use Rattle.image_core.specs.Prepared.{IsServed}
 
 -- the rules of a run from those of its machines, its memories and its board
@@ -58,16 +58,29 @@ AreNumbered images = EachAt (λ k r. r.image.0 ≡ suc k) images
 abbrev pub AreAtRest : {C : Type 0} → (C → Move C Ask Reply) → List C → Type 0
 AreAtRest step configs = EachAt (λ k c. Stops (step c)) configs
 
+-- the sum of a number of each item
+abbrev pub total : {A : Type 0} → (A → ℕ) → List A → ℕ
+total f [] = 0
+total f (x ∷ xs) = f x + total f xs
+
 -- how many steps were made
 abbrev pub steps_made : {C M B : Type 0} → Moment C M B → ℕ
-steps_made m = sum_by length m.events
+steps_made m = total length m.events
 
 -- no stamp is above the number of steps, and the steps that may still come stay far below the last stamp
 pub record IsBounded {C M B : Type 0} (left : C → ℕ) (m : Moment C M B) : Type 0 where
   pub images : (i : ℕ) → last_of (list_at m.events i) ≤ steps_made m
   pub memories : (i : ℕ) → last_stamp_of (list_at m.histories i) ≤ steps_made m
   pub board : last_stamp_of m.board_history ≤ steps_made m
-  pub few : steps_made m + sum_by left m.configs < 2 ^ 60
+  pub few : steps_made m + total left m.configs < 2 ^ 60
+
+-- the image of a number has fewer asks to come, and no other image's number changed
+pub record Spends {C M B : Type 0} (left : C → ℕ) (m : Moment C M B) (i : ℕ) (m' : Moment C M B) : Type 0 where
+  pub before : C
+  pub after : C
+  pub stands : item_at m.configs i ≡ Some before
+  pub configs : m'.configs ≡ with_item m.configs i after
+  pub falls : left after < left before
 
 -- what is set aside for the image at a place of the list is its next step
 module _ {M O B C MM BM : Type 0} (config : M → C) (step : C → Move C Ask Reply)

@@ -4,6 +4,7 @@ use Rattle.caf_base.specs.declared.place.Place.{Place}
 use Rattle.caf_base.specs.declared.place.Place.TheVariants.{Memory, Board, Own}
 use Rattle.caf_events.specs.declared.ask.Ask.{Ask}
 use Rattle.caf_events.specs.declared.reply.Reply.{Reply}
+use Rattle.caf_events.specs.declared.reply.Reply.TheVariants as replies
 use Rattle.caf_events.specs.declared.event.Event.{Event}
 use Rattle.caf_events.specs.declared.event.Entry.{Entry}
 use Rattle.caf_events.specs.declared.object.Spare.{Spare}
@@ -47,3 +48,18 @@ abbrev pub IsOwnNext : {C : Type 0} → Move C Ask Reply → Prepared → Type 0
 IsOwnNext move prepareds.Nothing = ⊥
 IsOwnNext move (prepareds.Own ask) = AsksNext move ask × (place_of ask ≡ Own)
 IsOwnNext move (prepareds.Served ask spare) = ⊥
+
+-- the place of the step that is set aside
+abbrev pub place_aside : Prepared → Place
+place_aside prepareds.Nothing = Own
+place_aside (prepareds.Own ask) = Own
+place_aside (prepareds.Served ask spare) = place_of ask
+
+-- one step that an image makes by itself: one event at the end of its list
+pub record StepsAlone {C : Type 0} (step : C → Move C Ask Reply) (from to : C) (es es' : List Event) (e : Event) : Type 0 where
+  pub asked : AsksNext (step from) e.ask
+  pub line : IsAtLine (step from) e.line
+  pub reply : e.reply ≡ replies.Done
+  pub stamp : e.stamp ≡ last_of es + 1
+  pub goes_on : Continues step (step from) e.reply to
+  pub events : es' ≡ es ++ e ∷ []

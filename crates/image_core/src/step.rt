@@ -7,7 +7,7 @@ ghost use Rattle.caf_events.specs.Histories.{last_stamp_of};
 ghost use Rattle.caf_events.specs.Walkers.{IsAtAsk, IsOver, AsksNext, IsAtLine, Continues, EndsAfter};
 ghost use Rattle.caf_events.specs.declared.event.Event.{Event};
 ghost use Rattle.image_core.specs.Lists.{last_of};
-ghost use Rattle.image_core.specs.Prepared.{IsServedNext, StepsAt, IsOwnNext};
+ghost use Rattle.image_core.specs.Prepared.{IsServedNext, StepsAt, IsOwnNext, StepsAlone};
 
 use crate::prepared::Prepared;
 use crate::run::ImageRun;
@@ -74,6 +74,30 @@ pub(crate) fn commit_at<M: Walker, O: Object>(run: &mut ImageRun<M>, object: &mu
             let event = object.apply(image, ask, spare, line, after);
             run.take(event);
         }
+        _ => unreachable!(),
+    }
+}
+
+// Makes the step that was set aside for the image itself.
+pub(crate) fn commit_alone<M: Walker>(run: &mut ImageRun<M>)
+    requires at { IsAtAsk (M.step (M.config run.old.machine)) }
+    requires room { vec_len run.old.events < vec_capacity run.old.events }
+    requires prepared { IsOwnNext (M.step (M.config run.old.machine)) run.old.prepared }
+    requires after { run.old.last < 2 ^ 62 }
+    ensures image { run.new.image ≡ run.old.image }
+    ensures step { (e : Event) × StepsAlone M.step (M.config run.old.machine) (M.config run.new.machine) run.old.events.items run.new.events.items e }
+    ensures rests { Stops (M.step (M.config run.new.machine)) }
+    ensures spends { M.asks_left (M.config run.new.machine) < M.asks_left (M.config run.old.machine) }
+{
+    let line = run.machine.line();
+    let stamp = run.last + 1;
+    match mem::replace(&mut run.prepared, Prepared::Nothing) {
+        Prepared::Own { ask } => run.take(Event {
+            ask,
+            reply: Reply::Done,
+            stamp,
+            line,
+        }),
         _ => unreachable!(),
     }
 }
