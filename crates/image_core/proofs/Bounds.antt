@@ -39,10 +39,10 @@ module _ {C M B : Type 0} (left : C → ℕ) (r : Rules C M B) (m m' : Moment C 
       let t = s.due.stamp in
       omega arith
     where
-    there : (q : Place) → last_stamp_of (history_there m q) ≤ steps_made m
-    there (places.Memory owner) = b.memories owner.0
-    there places.Board = b.board
-    there places.Own = omega arith
+      there : (q : Place) → last_stamp_of (history_there m q) ≤ steps_made m
+      there (places.Memory owner) = b.memories owner.0
+      there places.Board = b.board
+      there places.Own = omega arith
 
   images_now : (i : ℕ) → last_of (list_at m'.events i) ≤ steps_made m'
   images_now i = elim (cases_eq (suc k) i) [
@@ -63,24 +63,24 @@ module _ {C M B : Type 0} (left : C → ℕ) (r : Rules C M B) (m m' : Moment C 
   memories_at : (q : Place) → m'.histories ≡ histories_with q m.histories (entry (suc k) e) → (i : ℕ) → last_stamp_of (list_at m'.histories i) ≤ steps_made m'
   memories_at (places.Memory owner) h i = in_memory owner.0 h i
     where
-    in_memory : (n : ℕ) → m'.histories ≡ with_item m.histories n (list_at m.histories n ++ entry (suc k) e ∷ []) → (i : ℕ) → last_stamp_of (list_at m'.histories i) ≤ steps_made m'
-    in_memory n h i = elim (cases_eq n i) [
-      | inl q ↦ subst (λ j. last_stamp_of (list_at m'.histories j) ≤ steps_made m') q (written n h)
-      | inr d ↦ (
-          let z = ap last_stamp_of (ap (λ ls. list_at ls i) h ∙ list_other m.histories n i _ d) in
-          let x = b.memories i in
-          let o = one_more in
-          omega arith)
-    ]
-      where
-      written : (n : ℕ) → m'.histories ≡ with_item m.histories n (list_at m.histories n ++ entry (suc k) e ∷ []) → last_stamp_of (list_at m'.histories n) ≤ steps_made m'
-      written zero h = omega arith
-      written (suc j) h =
-          let l = low in
-          let o = one_more in
-          let x : last_stamp_of (list_at m.histories (suc j) ++ entry (suc k) e ∷ []) ≡ e.stamp = last_stamp_more 0 (list_at m.histories (suc j)) (entry (suc k) e) in
-          subst (λ ls. last_stamp_of (list_at ls (suc j)) ≤ steps_made m') (sym h)
-          (index_either (λ g. last_stamp_of g ≤ steps_made m') m.histories j _ [] (omega arith) (omega arith))
+      in_memory : (n : ℕ) → m'.histories ≡ with_item m.histories n (list_at m.histories n ++ entry (suc k) e ∷ []) → (i : ℕ) → last_stamp_of (list_at m'.histories i) ≤ steps_made m'
+      in_memory n h i = elim (cases_eq n i) [
+        | inl q ↦ subst (λ j. last_stamp_of (list_at m'.histories j) ≤ steps_made m') q (written n h)
+        | inr d ↦ (
+            let z = ap last_stamp_of (ap (λ ls. list_at ls i) h ∙ list_other m.histories n i _ d) in
+            let x = b.memories i in
+            let o = one_more in
+            omega arith)
+      ]
+        where
+          written : (n : ℕ) → m'.histories ≡ with_item m.histories n (list_at m.histories n ++ entry (suc k) e ∷ []) → last_stamp_of (list_at m'.histories n) ≤ steps_made m'
+          written zero h = omega arith
+          written (suc j) h =
+              let l = low in
+              let o = one_more in
+              let x : last_stamp_of (list_at m.histories (suc j) ++ entry (suc k) e ∷ []) ≡ e.stamp = last_stamp_more 0 (list_at m.histories (suc j)) (entry (suc k) e) in
+              subst (λ ls. last_stamp_of (list_at ls (suc j)) ≤ steps_made m') (sym h)
+              (index_either (λ g. last_stamp_of g ≤ steps_made m') m.histories j _ [] (omega arith) (omega arith))
   memories_at places.Board h i =
       let z = ap (λ ls. last_stamp_of (list_at ls i)) h in
       let x = b.memories i in

@@ -1,5 +1,6 @@
 pub mod Bounds
 pub mod Last
 pub mod Numbered
+pub mod PartSteps
 pub mod Slices
-pub mod Stepping
+pub mod WholeSteps

@@ -11,7 +11,7 @@ use Rattle.caf_events.specs.declared.object.Spare.{Spare}
 use Rattle.caf_events.specs.Asks.{place_of}
 use Rattle.caf_events.specs.Histories.{last_stamp_of, IsSpare}
 use Rattle.caf_events.specs.Walkers.{IsOver, AsksNext, IsAtLine, Continues, EndsAfter}
-use Rattle.trace_theory.specs.Machines.{Move, Stops}
+use Rattle.trace_theory.specs.Machines.{Move, asks, goes, over, Stops}
 use Rattle.image_core.specs.declared.prepared.Prepared.{Prepared}
 use Rattle.image_core.specs.declared.prepared.Prepared.TheVariants as prepareds
 use Rattle.image_core.specs.Lists.{entry, last_of}
@@ -63,3 +63,9 @@ pub record StepsAlone {C : Type 0} (step : C → Move C Ask Reply) (from to : C)
   pub stamp : e.stamp ≡ last_of es + 1
   pub goes_on : Continues step (step from) e.reply to
   pub events : es' ≡ es ++ e ∷ []
+
+-- the next move is an ask at this place
+abbrev pub AsksAt : {C : Type 0} → Place → Move C Ask Reply → Type 0
+AsksAt q (goes c) = ⊥
+AsksAt q (asks a l k) = place_of a ≡ q
+AsksAt q over = ⊥

@@ -6,5 +6,7 @@
 
 pub mod parts;
 pub mod prepared;
+pub mod preparing;
 pub mod run;
 pub mod step;
+pub mod stepping;

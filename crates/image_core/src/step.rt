@@ -2,6 +2,7 @@
 
 ghost use Rattle.std.specs.Prelude.{◌≡◌, ◌<◌, ◌≤◌, ◌+◌, ◌^◌, ◌↔◌, ℕ, max, List, [], ◌∷◌, ◌++◌, IfOk, OnOk, OnErr, true, false, vec_len, vec_capacity};
 ghost use Rattle.trace_theory.specs.Machines.{Stops};
+ghost use Rattle.caf_base.specs.declared.place.Place.TheVariants as places;
 ghost use Rattle.caf_events.specs.Asks.{place_of};
 ghost use Rattle.caf_events.specs.Histories.{last_stamp_of};
 ghost use Rattle.caf_events.specs.Walkers.{IsAtAsk, IsOver, AsksNext, IsAtLine, Continues, EndsAfter};
@@ -20,6 +21,33 @@ use caf_events::walker::Walker;
 use std::mem;
 
 fn give_up(_ask: Ask) {}
+
+// The image's next ask, with room for its event.
+pub(crate) fn next_ask<M: Walker>(run: &mut ImageRun<M>) -> Result<Ask, NoMemory>
+    requires at { IsAtAsk (M.step (M.config run.old.machine)) }
+    ensures image { run.new.image ≡ run.old.image }
+    ensures machine { M.config run.new.machine ≡ M.config run.old.machine }
+    ensures events { run.new.events.items ≡ run.old.events.items }
+    ensures last { run.new.last ≡ run.old.last }
+    ensures room { OnOk result (vec_len run.new.events < vec_capacity run.new.events) }
+    ensures asked { IfOk result (AsksNext (M.step (M.config run.old.machine))) }
+{
+    run.make_room()?;
+    run.machine.ask()
+}
+
+// Sets an ask aside that the image makes by itself.
+pub(crate) fn prepare_alone<M: Walker>(run: &mut ImageRun<M>, ask: Ask)
+    requires asked { AsksNext (M.step (M.config run.old.machine)) ask }
+    requires place { place_of ask ≡ places.Own }
+    ensures image { run.new.image ≡ run.old.image }
+    ensures machine { M.config run.new.machine ≡ M.config run.old.machine }
+    ensures events { run.new.events ≡ run.old.events }
+    ensures last { run.new.last ≡ run.old.last }
+    ensures prepared { IsOwnNext (M.step (M.config run.old.machine)) run.new.prepared }
+{
+    run.prepared = Prepared::Own { ask };
+}
 
 // Sets the image's next ask aside, with the reply of its object, where the object is ready.
 pub(crate) fn prepare_at<M: Walker, O: Object>(

@@ -1,0 +1,87 @@
+//! The first half of a step among all parts: what is due next is set aside.
+
+ghost use Rattle.std.specs.Prelude.{◌≡◌, ◌<◌, ◌≤◌, ◌+◌, ◌-◌, ◌^◌, ◌↔◌, ℕ, suc, List, [], ◌∷◌, ◌++◌, length, IfOk, OnOk, OnErr, true, false, slice_index_or};
+ghost use Rattle.caf_base.specs.declared.place.Place.TheVariants as places;
+ghost use Rattle.image_core.specs.Moments.{can_step};
+ghost use Rattle.image_core.specs.Parts.{rules, moment_of, AreNumbered, IsPrepared, AnswersReady};
+ghost use Rattle.image_core.specs.Prepared.{AsksAt};
+ghost use Rattle.image_core.specs.declared.run.ImageRun.{ImageRun};
+
+use crate::parts::{PartsOf, Ready};
+use crate::step::{next_ask, prepare_alone, prepare_at};
+use caf_base::place::{ImageNo, Place};
+use caf_base::refusal::NoMemory;
+use caf_events::object::Object;
+use caf_events::walker::{Next, Walker};
+
+impl<M: Walker, O: Object, B: Object> PartsOf<M, O, B> {
+    // Sets aside the step that the image at a place makes by itself.
+    fn set_aside_alone(&mut self, k: usize) -> Result<bool, NoMemory>
+        requires image { k < length self.old.images.items }
+        requires numbered { AreNumbered self.old.images.items }
+        requires place { (r : ImageRun M) → r ≡ slice_index_or self.old.images.items k r → AsksAt places.Own (M.step (M.config r.machine)) }
+        ensures numbered { AreNumbered self.new.images.items }
+        ensures same { moment_of M.config O.made O.history B.made B.history self.new ≡ moment_of M.config O.made O.history B.made B.history self.old }
+        ensures answer { IfOk result (λ b. b ≡ can_step (rules M.step O.ready_after O.reply_after B.ready_after B.reply_after) (moment_of M.config O.made O.history B.made B.history self.old) (suc k)) }
+        ensures prepared { IfOk result (λ b. b ≡ true → IsPrepared M.config M.step O.made O.history O.has_room O.ready_after O.reply_after B.made B.history B.has_room B.ready_after B.reply_after self.new k) }
+    {
+        let run = &mut self.images[k];
+        let ask = next_ask(run)?;
+        prepare_alone(run, ask);
+        Ok(true)
+    }
+
+    // Sets aside the step of the image at a place, where the board is ready for it.
+    fn set_aside_at_board(&mut self, k: usize) -> Result<bool, NoMemory>
+        requires image { k < length self.old.images.items }
+        requires numbered { AreNumbered self.old.images.items }
+        requires place { (r : ImageRun M) → r ≡ slice_index_or self.old.images.items k r → AsksAt places.Board (M.step (M.config r.machine)) }
+        ensures numbered { AreNumbered self.new.images.items }
+        ensures same { moment_of M.config O.made O.history B.made B.history self.new ≡ moment_of M.config O.made O.history B.made B.history self.old }
+        ensures answer { IfOk result (λ b. b ≡ can_step (rules M.step O.ready_after O.reply_after B.ready_after B.reply_after) (moment_of M.config O.made O.history B.made B.history self.old) (suc k)) }
+        ensures prepared { IfOk result (λ b. b ≡ true → IsPrepared M.config M.step O.made O.history O.has_room O.ready_after O.reply_after B.made B.history B.has_room B.ready_after B.reply_after self.new k) }
+    {
+        let run = &mut self.images[k];
+        let ask = next_ask(run)?;
+        prepare_at(run, &mut self.board, ask)
+    }
+
+    // Sets aside the step of the image at a place, where the run has the memory and it is ready.
+    fn set_aside_at_memory(&mut self, k: usize, owner: ImageNo) -> Result<bool, NoMemory>
+        requires image { k < length self.old.images.items }
+        requires numbered { AreNumbered self.old.images.items }
+        requires place { (r : ImageRun M) → r ≡ slice_index_or self.old.images.items k r → AsksAt (places.Memory owner) (M.step (M.config r.machine)) }
+        ensures numbered { AreNumbered self.new.images.items }
+        ensures same { moment_of M.config O.made O.history B.made B.history self.new ≡ moment_of M.config O.made O.history B.made B.history self.old }
+        ensures answer { IfOk result (λ b. b ≡ can_step (rules M.step O.ready_after O.reply_after B.ready_after B.reply_after) (moment_of M.config O.made O.history B.made B.history self.old) (suc k)) }
+        ensures prepared { IfOk result (λ b. b ≡ true → IsPrepared M.config M.step O.made O.history O.has_room O.ready_after O.reply_after B.made B.history B.has_room B.ready_after B.reply_after self.new k) }
+    {
+        if owner.0 == 0 || owner.0 as usize > self.memories.len() {
+            return Ok(false);
+        }
+        let at = (owner.0 - 1) as usize;
+        let run = &mut self.images[k];
+        let ask = next_ask(run)?;
+        prepare_at(run, &mut self.memories[at], ask)
+    }
+
+    /// Sets the next step of an image aside: `Can` where it can be made now, `NotYet` exactly where the image's next ask
+    /// isn't ready, `Over` exactly where the image stopped or made an ending step. No step is made, also after want of memory.
+    pub fn prepare(&mut self, image: ImageNo) -> Result<Ready, NoMemory>
+        requires image { (0 < image.0) × (image.0 ≤ length self.old.images.items) }
+        requires numbered { AreNumbered self.old.images.items }
+        ensures numbered { AreNumbered self.new.images.items }
+        ensures same { moment_of M.config O.made O.history B.made B.history self.new ≡ moment_of M.config O.made O.history B.made B.history self.old }
+        ensures answer { IfOk result (AnswersReady (rules M.step O.ready_after O.reply_after B.ready_after B.reply_after) (moment_of M.config O.made O.history B.made B.history self.old) image.0) }
+        ensures prepared { IfOk result (λ a. a ≡ Ready.Can → IsPrepared M.config M.step O.made O.history O.has_room O.ready_after O.reply_after B.made B.history B.has_room B.ready_after B.reply_after self.new (image.0 - 1)) }
+    {
+        let k = (image.0 - 1) as usize;
+        let can = match self.images[k].machine.next() {
+            Next::Ended => return Ok(Ready::Over),
+            Next::Ask(Place::Own) => self.set_aside_alone(k)?,
+            Next::Ask(Place::Board) => self.set_aside_at_board(k)?,
+            Next::Ask(Place::Memory(owner)) => self.set_aside_at_memory(k, owner)?,
+        };
+        Ok(if can { Ready::Can } else { Ready::NotYet })
+    }
+}
