@@ -2,5 +2,6 @@ pub mod Bounds
 pub mod Last
 pub mod Numbered
 pub mod PartSteps
+pub mod Readiness
 pub mod Slices
 pub mod WholeSteps

@@ -65,6 +65,23 @@ impl<M: Walker, O: Object, B: Object> PartsOf<M, O, B> {
         prepare_at(run, &mut self.memories[at], ask)
     }
 
+    // Sets aside the step of the image at a place, where its object is ready for it.
+    fn set_aside(&mut self, k: usize, place: Place) -> Result<bool, NoMemory>
+        requires image { k < length self.old.images.items }
+        requires numbered { AreNumbered self.old.images.items }
+        requires place { (r : ImageRun M) → r ≡ slice_index_or self.old.images.items k r → AsksAt place (M.step (M.config r.machine)) }
+        ensures numbered { AreNumbered self.new.images.items }
+        ensures same { moment_of M.config O.made O.history B.made B.history self.new ≡ moment_of M.config O.made O.history B.made B.history self.old }
+        ensures answer { IfOk result (λ b. b ≡ can_step (rules M.step O.ready_after O.reply_after B.ready_after B.reply_after) (moment_of M.config O.made O.history B.made B.history self.old) (suc k)) }
+        ensures prepared { IfOk result (λ b. b ≡ true → IsPrepared M.config M.step O.made O.history O.has_room O.ready_after O.reply_after B.made B.history B.has_room B.ready_after B.reply_after self.new k) }
+    {
+        match place {
+            Place::Own => self.set_aside_alone(k),
+            Place::Board => self.set_aside_at_board(k),
+            Place::Memory(owner) => self.set_aside_at_memory(k, owner),
+        }
+    }
+
     /// Sets the next step of an image aside: `Can` where it can be made now, `NotYet` exactly where the image's next ask
     /// isn't ready, `Over` exactly where the image stopped or made an ending step. No step is made, also after want of memory.
     pub fn prepare(&mut self, image: ImageNo) -> Result<Ready, NoMemory>
@@ -76,12 +93,15 @@ impl<M: Walker, O: Object, B: Object> PartsOf<M, O, B> {
         ensures prepared { IfOk result (λ a. a ≡ Ready.Can → IsPrepared M.config M.step O.made O.history O.has_room O.ready_after O.reply_after B.made B.history B.has_room B.ready_after B.reply_after self.new (image.0 - 1)) }
     {
         let k = (image.0 - 1) as usize;
-        let can = match self.images[k].machine.next() {
-            Next::Ended => return Ok(Ready::Over),
-            Next::Ask(Place::Own) => self.set_aside_alone(k)?,
-            Next::Ask(Place::Board) => self.set_aside_at_board(k)?,
-            Next::Ask(Place::Memory(owner)) => self.set_aside_at_memory(k, owner)?,
-        };
-        Ok(if can { Ready::Can } else { Ready::NotYet })
+        match self.images[k].machine.next() {
+            Next::Ended => Ok(Ready::Over),
+            Next::Ask(place) => {
+                if self.set_aside(k, place)? {
+                    Ok(Ready::Can)
+                } else {
+                    Ok(Ready::NotYet)
+                }
+            }
+        }
     }
 }

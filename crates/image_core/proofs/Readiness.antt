@@ -1,0 +1,161 @@
+-- What `prepare` answers, and that it changes nothing that a run means.
+use Rattle.std.proofs.Common.{◌≡◌, ℕ, zero, suc, ◌+◌, ◌-◌, ◌<◌, ◌≤◌, List, [], ◌∷◌, ◌++◌, ◌⊎◌, inl, inr, length, refl, ap, sym, ◌∙◌, subst, arith, Bool, true, false}
+use Rattle.std.specs.Prelude.{map, slice_index_or, slice_get, slice_set, Option, Some, None, Result, Ok, Err, IfOk, vec_len, vec_capacity}
+use Rattle.caf_base.specs.declared.place.Place.{Place}
+use Rattle.caf_base.specs.declared.place.Place.TheVariants as places
+use Rattle.caf_base.specs.declared.place.ImageNo.{ImageNo}
+use Rattle.caf_base.specs.declared.refusal.NoMemory.{NoMemory}
+use Rattle.caf_events.specs.declared.ask.Ask.{Ask}
+use Rattle.caf_events.specs.declared.reply.Reply.{Reply}
+use Rattle.caf_events.specs.declared.event.Event.{Event}
+use Rattle.caf_events.specs.declared.event.Entry.{Entry}
+use Rattle.caf_events.specs.declared.walker.Next.{Next}
+use Rattle.caf_events.specs.declared.walker.Next.TheVariants as nexts
+use Rattle.caf_events.specs.Asks.{place_of}
+use Rattle.caf_events.specs.Walkers.{AsksNext, IsOver, NextIs}
+use Rattle.trace_theory.specs.Machines.{Move, asks, goes, over}
+use Rattle.std.specs.declared.vec.Vec.{Vec}
+use Rattle.std.specs.declared.alloc.Global.{Global}
+use Rattle.image_core.specs.declared.run.ImageRun.{ImageRun}
+use Rattle.image_core.specs.declared.parts.PartsOf.{PartsOf}
+use Rattle.image_core.specs.declared.prepared.Prepared.{Prepared}
+use Rattle.image_core.specs.declared.prepared.Prepared.TheVariants as prepareds
+use Rattle.image_core.specs.Lists.{list_at}
+use Rattle.image_core.specs.Moments.{Rules, Moment, item_at, ready_there, memory_ready_at, can_move, can_move_from, can_step, HasEnded, HasEndedFrom}
+use Rattle.image_core.specs.Prepared.{AsksAt, IsServedNext}
+use Rattle.image_core.specs.Parts.{rules, moment_of, event_lists, IsPreparedRun, IsSetAside, IsServedThere}
+use Rattle.image_core.proofs.Slices.{map_index, map_get, map_length, map_same, index_set}
+
+abbrev build : {C M B : Type 0} → List C → List (List Event) → List M → List (List Entry) → B → List Entry → Moment C M B
+build cs es ms hs b h = record { configs = cs; events = es; memories = ms; histories = hs; board = b; board_history = h }
+
+build_same : {C M B : Type 0} (cs cs' : List C) (es es' : List (List Event)) (ms ms' : List M) (hs hs' : List (List Entry)) (b b' : B) (h h' : List Entry) → cs ≡ cs' → es ≡ es' → ms ≡ ms' → hs ≡ hs' → b ≡ b' → h ≡ h' → build cs es ms hs b h ≡ build cs' es' ms' hs' b' h'
+build_same cs cs' es es' ms ms' hs hs' b b' h h' p q r s t u =
+    ap (λ x. build x es ms hs b h) p ∙ ap (λ x. build cs' x ms hs b h) q ∙ ap (λ x. build cs' es' x hs b h) r
+    ∙ ap (λ x. build cs' es' ms' x b h) s ∙ ap (λ x. build cs' es' ms' hs' x h) t ∙ ap (build cs' es' ms' hs' b') u
+
+get_past : {A : Type 0} (xs : List A) (k : ℕ) → length xs ≤ k → slice_get xs k ≡ None
+get_past [] k h = refl
+get_past (x ∷ xs) zero h = absurd (omega arith)
+get_past (x ∷ xs) (suc k) h = get_past xs k (omega arith)
+
+-- the ask that a move makes is at the move's place
+pub asked_at : {C : Type 0} (q : Place) (m : Move C Ask Reply) (a : Ask) → AsksAt q m → AsksNext m a → place_of a ≡ q
+asked_at q (goes c) a h k = absurd h
+asked_at q (asks x l n) a h k = ap place_of k ∙ h
+asked_at q over a h k = absurd h
+
+-- what a machine tells of its next move
+pub at_place : {C : Type 0} (m : Move C Ask Reply) (q : Place) → NextIs m (nexts.Ask q) → AsksAt q m
+at_place (goes c) q h = absurd h
+at_place (asks a l k) q h = (let e : q ≡ place_of a = cc in sym e)
+at_place over q h = absurd (cc)
+
+pub over_now : {C : Type 0} (m : Move C Ask Reply) → NextIs m nexts.Ended → IsOver m
+over_now (goes c) h = absurd h
+over_now (asks a l k) h = absurd (cc)
+over_now over h = tt
+
+not_over : {C : Type 0} (q : Place) (m : Move C Ask Reply) → AsksAt q m → IsOver m → ⊥
+not_over q (goes c) a h = a
+not_over q (asks x l k) a h = h
+not_over q over a h = a
+
+can_asked : {C M B : Type 0} (r : Rules C M B) (m : Moment C M B) (i : ℕ) (mv : Move C Ask Reply) (a : Ask) → AsksNext mv a → can_move r m i mv ≡ ready_there r m i a (place_of a)
+can_asked r m i (goes c) a h = absurd h
+can_asked r m i (asks x l k) a h = ap (λ y. ready_there r m i y (place_of y)) (sym h)
+can_asked r m i over a h = absurd h
+
+module _ {M O B C MM BM : Type 0} (config : M → C) (step : C → Move C Ask Reply)
+    (made : O → MM) (history : O → List Entry) (has_room : O → ℕ → Ask → Type 0) (test : MM → List Entry → ℕ → Ask → Bool) (answer : MM → List Entry → ℕ → Ask → Reply)
+    (board_made : B → BM) (board_history : B → List Entry) (board_room : B → ℕ → Ask → Type 0) (board_test : BM → List Entry → ℕ → Ask → Bool) (board_answer : BM → List Entry → ℕ → Ask → Reply)
+    (p : PartsOf M O B) (k : ℕ) (r : ImageRun M) (image_in : k < length p.images.items) (run_is : r ≡ slice_index_or p.images.items k r) where
+  abbrev pub R : Rules C MM BM
+  R = rules step test answer board_test board_answer
+
+  abbrev pub now : Moment C MM BM
+  now = moment_of config made history board_made board_history p
+
+  -- an image is written again as it was, and so are the objects
+  pub same_moment : (p' : PartsOf M O B) (r' : ImageRun M) → p'.images.items ≡ slice_set p.images.items k r' → config r'.machine ≡ config r.machine → r'.events.items ≡ r.events.items
+      → map made p'.memories.items ≡ map made p.memories.items → map history p'.memories.items ≡ map history p.memories.items → board_made p'.board ≡ board_made p.board → board_history p'.board ≡ board_history p.board
+      → moment_of config made history board_made board_history p' ≡ now
+  same_moment p' r' s c e m h b t =
+      build_same _ _ _ _ _ _ _ _ _ _ _ _
+      (ap (map (λ (x : ImageRun M). config x.machine)) s ∙ map_same (λ (x : ImageRun M). config x.machine) p.images.items k r r' image_in run_is c)
+      (ap event_lists s ∙ map_same (λ (x : ImageRun M). x.events.items) p.images.items k r r' image_in run_is e)
+      m h b t
+
+  can_is : can_step R now (suc k) ≡ can_move R now (suc k) (step (config r.machine))
+  can_is = ap (can_move_from R now (suc k)) (map_get (λ (x : ImageRun M). config x.machine) p.images.items k r image_in run_is)
+
+  ended_is : HasEnded R now (suc k) ≡ IsOver (step (config r.machine))
+  ended_is = ap (HasEndedFrom R) (map_get (λ (x : ImageRun M). config x.machine) p.images.items k r image_in run_is)
+
+  pub ended : IsOver (step (config r.machine)) → HasEnded R now (suc k)
+  ended h = subst (λ (X : Type 0). X) (sym ended_is) h
+
+  pub not_ended : (q : Place) → AsksAt q (step (config r.machine)) → HasEnded R now (suc k) → ⊥
+  not_ended q a h = not_over q (step (config r.machine)) a (subst (λ (X : Type 0). X) ended_is h)
+
+  ready_is : (q : Place) (a : Ask) → AsksAt q (step (config r.machine)) → AsksNext (step (config r.machine)) a → can_step R now (suc k) ≡ ready_there R now (suc k) a q
+  ready_is q a h n = can_is ∙ can_asked R now (suc k) (step (config r.machine)) a n ∙ ap (ready_there R now (suc k) a) (asked_at q (step (config r.machine)) a h n)
+
+  pub own_can : (a : Ask) → AsksAt places.Own (step (config r.machine)) → AsksNext (step (config r.machine)) a → true ≡ can_step R now (suc k)
+  own_can a h n = sym (ready_is places.Own a h n)
+
+  pub board_can : (a : Ask) (i : ℕ) → AsksAt places.Board (step (config r.machine)) → AsksNext (step (config r.machine)) a → i ≡ suc k → board_test (board_made p.board) (board_history p.board) i a ≡ can_step R now (suc k)
+  board_can a i h n e = ap (λ m. board_test (board_made p.board) (board_history p.board) m a) e ∙ sym (ready_is places.Board a h n)
+
+  pub memory_can : (owner : ImageNo) (j : ℕ) (o : O) (a : Ask) (i : ℕ) → owner.0 ≡ suc j → j < length p.memories.items → o ≡ slice_index_or p.memories.items j o → AsksAt (places.Memory owner) (step (config r.machine)) → AsksNext (step (config r.machine)) a → i ≡ suc k → test (made o) (history o) i a ≡ can_step R now (suc k)
+  memory_can owner j o a i w l q h n e =
+      ap (λ m. test (made o) (history o) m a) e
+      ∙ sym (ready_is (places.Memory owner) a h n
+      ∙ ap (λ m. memory_ready_at R (list_at now.histories m) (suc k) a (item_at now.memories m)) w
+      ∙ ap (λ v. memory_ready_at R (list_at now.histories (suc j)) (suc k) a v) (map_get made p.memories.items j o l q)
+      ∙ ap (λ v. memory_ready_at R v (suc k) a (Some (made o))) (map_index history p.memories.items j o [] l q))
+
+  no_memory : (n : ℕ) → (n ≡ 0) ⊎ (length p.memories.items < n) → item_at now.memories n ≡ None
+  no_memory zero h = refl
+  no_memory (suc j) (inl h) = absurd (omega arith)
+  no_memory (suc j) (inr h) = get_past now.memories j (let l = map_length made p.memories.items in omega arith)
+
+  no_move : (owner : ImageNo) (mv : Move C Ask Reply) → (owner.0 ≡ 0) ⊎ (length p.memories.items < owner.0) → AsksAt (places.Memory owner) mv → can_move R now (suc k) mv ≡ false
+  no_move owner (goes c) d h = refl
+  no_move owner (asks a l n) d h = ap (ready_there R now (suc k) a) h ∙ ap (memory_ready_at R (list_at now.histories owner.0) (suc k) a) (no_memory owner.0 d)
+  no_move owner over d h = refl
+
+  -- at a memory that the run hasn't no step can be made
+  pub stranger : (owner : ImageNo) → (owner.0 ≡ 0) ⊎ (length p.memories.items < owner.0) → AsksAt (places.Memory owner) (step (config r.machine)) → false ≡ can_step R now (suc k)
+  stranger owner d h = sym (can_is ∙ no_move owner (step (config r.machine)) d h)
+
+  served_aside : (p' : PartsOf M O B) (mv : Move C Ask Reply) (i : ℕ) → AsksAt places.Board mv → (pr : Prepared) → IsServedNext board_made board_history board_room board_test board_answer mv i p'.board pr
+      → IsSetAside config step made history has_room test answer board_made board_history board_room board_test board_answer p' i mv pr
+  served_aside p' mv i h prepareds.Nothing s = absurd s
+  served_aside p' mv i h (prepareds.Own ask) s = absurd s
+  served_aside p' mv i h (prepareds.Served ask spare) s =
+      (s.0, subst (IsServedThere config step made history has_room test answer board_made board_history board_room board_test board_answer p' i ask spare) (sym (asked_at places.Board mv ask h s.0)) s.1)
+
+  -- the board set the step aside
+  pub board_aside : (p' : PartsOf M O B) (r1 r' : ImageRun M) → p'.images.items ≡ slice_set p.images.items k r' → r1.image.0 ≡ suc k → config r1.machine ≡ config r.machine → config r'.machine ≡ config r1.machine
+      → vec_len r1.events < vec_capacity r1.events → r'.events ≡ r1.events → AsksAt places.Board (step (config r.machine))
+      → IsServedNext board_made board_history board_room board_test board_answer (step (config r1.machine)) r1.image.0 p'.board r'.prepared
+      → (x : ImageRun M) → x ≡ slice_index_or p'.images.items k x → IsPreparedRun config step made history has_room test answer board_made board_history board_room board_test board_answer p' k x
+  board_aside p' r1 r' s e c1 c room es h v x q =
+      let w : x ≡ r' = index_set p.images.items k r' x image_in (subst (λ xs. x ≡ slice_index_or xs k x) s q) in
+      let n = subst (λ i. IsServedNext board_made board_history board_room board_test board_answer (step (config r1.machine)) i p'.board r'.prepared) e v in
+      let h1 = subst (λ d. AsksAt places.Board (step d)) (sym c1) h in
+      subst (IsPreparedRun config step made history has_room test answer board_made board_history board_room board_test board_answer p' k) (sym w) (record {
+        room = subst (λ (t : Vec Event Global). vec_len t < vec_capacity t) (sym es) room;
+        next = subst (λ d. IsSetAside config step made history has_room test answer board_made board_history board_room board_test board_answer p' (suc k) (step d) r'.prepared) (sym c) (served_aside p' (step (config r1.machine)) (suc k) h1 r'.prepared n);
+      })
+
+-- a fact of an Ok that follows from another
+pub if_ok_map : {A E : Type 0} (v : Result A E) (P Q : A → Type 0) → ((a : A) → P a → Q a) → IfOk v P → IfOk v Q
+if_ok_map (Ok a) P Q f h = f a h
+if_ok_map (Err e) P Q f h = h
+
+pub an_item : {A : Type 0} (xs : List A) (k : ℕ) → k < length xs → (x : A) × (x ≡ slice_index_or xs k x)
+an_item [] k h = absurd (omega arith)
+an_item (x ∷ xs) zero h = (x, refl)
+an_item (x ∷ xs) (suc k) h = an_item xs k (omega arith)
