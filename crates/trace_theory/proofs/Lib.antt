@@ -9,3 +9,4 @@ pub mod Simulations
 pub mod Back
 pub mod Fronts
 pub mod Stops
+pub mod Equivalence

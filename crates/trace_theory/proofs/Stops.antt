@@ -15,7 +15,7 @@ not_goes (goes c) f d s h = s
 not_goes (asks a l k) f d s h = cc
 not_goes over f d s h = cc
 
-same_stop_stops : {C D A R : Type 0} (m : Move C A R) (v : Move D A R) → SameStop m v → Stops v
+pub same_stop_stops : {C D A R : Type 0} (m : Move C A R) (v : Move D A R) → SameStop m v → Stops v
 same_stop_stops (goes c) v s = absurd s
 same_stop_stops (asks a l j) v s = rw s.1 tt
 same_stop_stops over v s = rw s tt

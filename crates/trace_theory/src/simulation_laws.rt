@@ -2,10 +2,11 @@
 
 ghost use Rattle.std.specs.Prelude.{◌≡◌, ℕ, List};
 ghost use Rattle.trace_theory.specs.Machines.{Move, Said, Walk, WalkTo, Stops, Ends};
+ghost use Rattle.trace_theory.specs.Equivalence.{SameWalks};
 ghost use Rattle.trace_theory.specs.Simulations.{Simulates, AllAnswer, SameStop, StopsNear, Advances};
 
-/// Two machines with the same asks and replies, when they stand alike, what is the same of them where both stop, and which reply
-/// answers which ask.
+/// Two machines with the same asks and replies, when they stand alike, what is the same of them after each reply and where
+/// both stop, and which reply answers which ask.
 pub trait Pair {
     ghost Source: { Type 0 };
 
@@ -20,6 +21,8 @@ pub trait Pair {
     ghost target: { Target → Move Target Ask Reply };
 
     ghost alike: { Source → Target → Type 0 };
+
+    ghost after: { Source → Target → Type 0 };
 
     ghost near: { Source → Target → Type 0 };
 
@@ -55,4 +58,14 @@ pub fn law_ends_too<P: Pair>()
 /// Where the target comes to an ask or ends, the source does, if each step of the source takes the target a step or more.
 pub fn law_ends_before<P: Pair>()
     ensures { ((c : P.Source) (d : P.Target) → P.alike c d → Advances P.alike P.target (P.source c) d) → (c : P.Source) (d : P.Target) → P.alike c d → Ends P.target d → Ends P.source c }
+{}
+
+/// A simulation whose source comes to an ask or ends wherever they stand alike gives both machines the same walks.
+pub fn law_same_walks<P: Pair>()
+    ensures { Simulates P.alike P.answers P.source P.target → StopsNear P.alike P.near P.source P.target → ((x : P.Source) (y : P.Target) → P.alike x y → Ends P.source x) → ((x : P.Source) (y : P.Target) → P.alike x y → P.after x y) → (c : P.Source) (d : P.Target) → P.alike c d → SameWalks P.answers P.after P.near P.source c P.target d }
+{}
+
+/// The same walks, seen from the other machine.
+pub fn law_same_walks_back<P: Pair>()
+    ensures { (c : P.Source) (d : P.Target) → SameWalks P.answers P.after P.near P.source c P.target d → SameWalks P.answers (λ y x. P.after x y) (λ y x. P.near x y) P.target d P.source c }
 {}
