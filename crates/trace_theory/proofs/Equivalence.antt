@@ -55,3 +55,13 @@ module _ (C D A R : Type 0) (answers : A → R → Type 0) (after near : C → D
           let r = same.stops_backward es t.0 ans t.1 (same_stop_stops (third z) (target t.0) (same_stop_back (target t.0) (third z) t.3)) in
           (r.0, r.1, (t.0, r.2, t.2), same_stop_through (source r.0) (target t.0) (third z) r.3 t.3));
     }
+
+-- what follows from what is the same is the same
+pub same_walks_weaken : (C D A R : Type 0) (answers : A → R → Type 0) (after near after' near' : C → D → Type 0) (source : C → Move C A R) (c : C) (target : D → Move D A R) (d : D)
+    → ((x : C) (y : D) → after x y → after' x y) → ((x : C) (y : D) → near x y → near' x y) → SameWalks answers after near source c target d → SameWalks answers after' near' source c target d
+same_walks_weaken C D A R answers after near after' near' source c target d f g same = record {
+  onward = λ es e ans w. (let r = same.onward es e ans w in (r.0, f e r.0 r.1, r.2));
+  backward = λ es e ans w. (let r = same.backward es e ans w in (r.0, f r.0 e r.1, r.2));
+  stops_onward = λ es e ans w s. (let r = same.stops_onward es e ans w s in (r.0, r.1, g e r.0 r.2, r.3));
+  stops_backward = λ es e ans w s. (let r = same.stops_backward es e ans w s in (r.0, r.1, g r.0 e r.2, r.3));
+}

@@ -10,3 +10,4 @@ pub mod Back
 pub mod Fronts
 pub mod Stops
 pub mod Equivalence
+pub mod Overlay

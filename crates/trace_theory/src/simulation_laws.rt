@@ -2,7 +2,7 @@
 
 ghost use Rattle.std.specs.Prelude.{◌≡◌, ℕ, List};
 ghost use Rattle.trace_theory.specs.Machines.{Move, Said, Walk, WalkTo, Stops, Ends};
-ghost use Rattle.trace_theory.specs.Equivalence.{SameWalks};
+ghost use Rattle.trace_theory.specs.Equivalence.{SameWalks, Lasts};
 ghost use Rattle.trace_theory.specs.Simulations.{Simulates, AllAnswer, SameStop, StopsNear, Advances};
 
 /// Two machines with the same asks and replies, when they stand alike, what is the same of them after each reply and where
@@ -68,4 +68,15 @@ pub fn law_same_walks<P: Pair>()
 /// The same walks, seen from the other machine.
 pub fn law_same_walks_back<P: Pair>()
     ensures { (c : P.Source) (d : P.Target) → SameWalks P.answers P.after P.near P.source c P.target d → SameWalks P.answers (λ y x. P.after x y) (λ y x. P.near x y) P.target d P.source c }
+{}
+
+/// Where the source comes to an ask or ends wherever they stand alike, each walk of the target comes to an ask or ends.
+pub fn law_lasts_too<P: Pair>()
+    ensures { Simulates P.alike P.answers P.source P.target → ((c : P.Source) (d : P.Target) → P.alike c d → Ends P.source c) → (c : P.Source) (d : P.Target) → P.alike c d → Lasts P.answers P.target d }
+{}
+
+/// A source each step of which takes the target a step or more has the same walks as the target, where each walk of the target
+/// comes to an ask or ends.
+pub fn law_same_walks_over<P: Pair>()
+    ensures { Simulates P.alike P.answers P.source P.target → StopsNear P.alike P.near P.source P.target → ((c : P.Source) (d : P.Target) → P.alike c d → Advances P.alike P.target (P.source c) d) → ((c : P.Source) (d : P.Target) → P.alike c d → P.after c d) → (c : P.Source) (d : P.Target) → P.alike c d → Lasts P.answers P.target d → SameWalks P.answers P.after P.near P.source c P.target d }
 {}
