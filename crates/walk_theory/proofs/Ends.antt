@@ -1,20 +1,19 @@
 -- Each configuration of a walk comes to an ask or ends.
-use Rattle.std.proofs.Common.{◌≡◌, ℕ, zero, suc, ◌+◌, ◌-◌, ◌<◌, ◌≤◌, ℤ, pos, negsuc, Bool, true, false, nat_lt, cond, List, [], ◌∷◌, ◌⊎◌, inl, inr, refl, ap, sym, ◌∙◌, subst, arith}
+use Rattle.std.proofs.Common.{◌≡◌, ℕ, zero, suc, ◌+◌, ◌-◌, ◌<◌, ◌≤◌, nat_lt, List, [], ◌∷◌, inl, inr, refl, subst, arith}
 use Rattle.std.proofs.lemmas.Bool.{cases_Bool}
-use Rattle.std.specs.Prelude.{Option, Some, None, slice_get, length}
-use Rattle.trace_theory.specs.Machines.{Move, goes, asks, over, goes_on, go, Stops, Ends}
+use Rattle.trace_theory.specs.Machines.{Move, goes, asks, over, Ends}
 use Rattle.walk_theory.specs.Language.{Effect, goes_to, faults, asking, ends_with, stuck, Tested, no_value, holds, fails, Language, acted, counted, by_test}
-use Rattle.walk_theory.specs.Syntax.{Parts, end_parts, value, act, enter, either, Branches, otherwise, branch, Steps, stop, also}
+use Rattle.walk_theory.specs.Syntax.{end_parts, value, act, enter, either, otherwise, branch, Steps, stop, also}
 use Rattle.walk_theory.specs.Walks.{Task, run, eval, tally, decide, pick, again, turn, back, backs, Config, to, step, step_task}
-use Rattle.walk_theory.specs.Weights.{parts_weight, branches_weight, task_weight, weight, Falls}
+use Rattle.walk_theory.specs.Weights.{weight, Falls}
 use borrow.Author.Tests.{ltb-true}
 
 module _ {A C Q R : Type 0} (L : Language A C Q R) (procedures : ℕ → Steps A) (limit : ℕ) where
   counted_falls : (l n w : ℕ) (c d : Config A C) → c.count ≡ n + 1 → Falls limit n w (counted L limit l n c d)
   counted_falls l n w c d e = elim (cases_Bool (nat_lt n limit)) [
-      inl t ↦ rw t (inr (e, (let h = ltb-true n limit t in omega arith)))
+    | inl t ↦ rw t (inr (e, (let h = ltb-true n limit t in omega arith)))
     | inr f ↦ rw f tt
-    ]
+  ]
 
   acted_falls : (l n w : ℕ) (c : C) (e : Effect C Q R) (ts : List (Task A)) → weight ts < w → Falls limit n w (acted L l (λ d. to ts d n) (λ d. to [] d n) c e)
   acted_falls l n w c (goes_to d) ts h = inl (refl, h)
@@ -57,14 +56,14 @@ module _ {A C Q R : Type 0} (L : Language A C Q R) (procedures : ℕ → Steps A
   by_weight : (k : ℕ) → ((d : Config A C) → limit - d.count < k → Ends (step L procedures limit) d) → (w : ℕ) (c : Config A C) → weight c.tasks ≤ w → limit - c.count ≤ k → Ends (step L procedures limit) c
   by_weight k later zero c h l =
       one_more c (step L procedures limit c) refl (λ d e. elim (subst (Falls limit c.count (weight c.tasks)) e (list_falls c.tasks c.core c.count)) [
-          inl x ↦ absurd (let y = x.1 in omega arith)
+        | inl x ↦ absurd (let y = x.1 in omega arith)
         | inr x ↦ later d (let y = x.0 in let z = x.1 in omega arith)
-        ])
+      ])
   by_weight k later (suc w) c h l =
       one_more c (step L procedures limit c) refl (λ d e. elim (subst (Falls limit c.count (weight c.tasks)) e (list_falls c.tasks c.core c.count)) [
-          inl x ↦ by_weight k later w d (let y = x.1 in omega arith) (let y = x.0 in omega arith)
+        | inl x ↦ by_weight k later w d (let y = x.1 in omega arith) (let y = x.0 in omega arith)
         | inr x ↦ later d (let y = x.0 in let z = x.1 in omega arith)
-        ])
+      ])
 
   by_count : (k : ℕ) (c : Config A C) → limit - c.count ≤ k → Ends (step L procedures limit) c
   by_count zero c l = by_weight 0 (λ d h. absurd (omega arith)) (weight c.tasks) c (omega arith) l

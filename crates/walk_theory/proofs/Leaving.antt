@@ -1,10 +1,9 @@
 -- EXIT, CYCLE and RETURN: what the code leads to is what the walk goes on with.
-use Rattle.std.proofs.Common.{◌≡◌, ℕ, zero, suc, ◌+◌, List, [], ◌∷◌, length, refl, ap, sym, ◌∙◌, subst, ◌⊎◌, inl, inr}
-use Rattle.std.specs.Prelude.{Option, Some, None, slice_get}
-use Rattle.walk_theory.specs.Syntax.{Steps}
-use Rattle.walk_theory.specs.Walks.{Loop, Task, run, eval, tally, decide, pick, again, turn, back, after_loop, from_loop, from_back, backs}
-use Rattle.walk_theory.specs.Code.{Instr, Line, on, jump, go_back}
-use Rattle.walk_theory.specs.Made.{Places, places, exit_instr, cycle_instr}
+use Rattle.std.proofs.Common.{◌≡◌, ℕ, zero, suc, List, [], ◌∷◌, length, refl, ap, sym, subst, inl, inr}
+use Rattle.std.specs.Prelude.{Some, slice_get}
+use Rattle.walk_theory.specs.Walks.{Task, run, eval, tally, decide, pick, again, turn, back, after_loop, from_loop, from_back, backs}
+use Rattle.walk_theory.specs.Code.{Line, on, jump, go_back}
+use Rattle.walk_theory.specs.Made.{Places, exit_instr, cycle_instr}
 use Rattle.walk_theory.specs.Alike.{Does, Leads}
 
 module _ {A : Type 0} (code : List (Line A)) (starts : ℕ → ℕ) where

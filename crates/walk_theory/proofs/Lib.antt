@@ -4,3 +4,4 @@ pub mod Simulation
 pub mod Ends
 pub mod Halts
 pub mod Programs
+pub mod Wide

@@ -1,8 +1,8 @@
 -- Code that stands at a place, cut into its parts.
-use Rattle.std.proofs.Common.{◌≡◌, ℕ, zero, suc, ◌+◌, ◌<◌, ◌≤◌, List, [], ◌∷◌, ◌++◌, length, refl, ap, sym, ◌∙◌, subst, arith, length-append}
-use Rattle.std.specs.Prelude.{Option, Some, None, slice_get}
+use Rattle.std.proofs.Common.{◌≡◌, ℕ, suc, ◌+◌, List, [], ◌∷◌, ◌++◌, length, refl, ◌∙◌, subst, arith, length-append}
+use Rattle.std.specs.Prelude.{Some, slice_get}
 use Rattle.walk_theory.specs.Syntax.{Parts, end_parts, value, act, enter, either, Form, simple, choose, loop, around, exit, cycle, return, Branches, otherwise, branch, Steps, stop, also}
-use Rattle.walk_theory.specs.Code.{Instr, Line, on, does_act, count_one, jump, jump_if, jump_unless, skip, skip_unless, call, go_back, Stands}
+use Rattle.walk_theory.specs.Code.{Line, on, count_one, jump, jump_if, skip, Stands}
 use Rattle.walk_theory.specs.Made.{parts_size, steps_size, form_size, branches_size, Places, places, parts_code, turns_code, pick_code, steps_code, form_code, branches_code}
 
 pub stands_append : {A : Type 0} (code : List (Line A)) (p : ℕ) (xs ys : List (Line A)) → Stands code p (xs ++ ys) → Stands code p xs × Stands code (p + length xs) ys
@@ -22,7 +22,6 @@ module _ {A : Type 0} (starts : ℕ → ℕ) where
   parts_long l (value p q) = length-append (parts_code starts l p) (parts_code starts l q) ∙ (let a = parts_long l p in let b = parts_long l q in omega arith)
   parts_long l (act a q) = let b = parts_long l q in omega arith
   parts_long l (enter k q) = let b = parts_long l q in omega arith
-
   parts_long l (either a b q) =
       let h1 = parts_long l a in
       let h2 = parts_long l b in

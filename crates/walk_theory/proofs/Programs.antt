@@ -1,13 +1,13 @@
 -- The code of a whole program.
-use Rattle.std.proofs.Common.{◌≡◌, ℕ, zero, suc, ◌+◌, ◌<◌, ◌≤◌, List, [], ◌∷◌, ◌++◌, length, refl, ap, sym, ◌∙◌, subst, arith, ◌⊎◌, inl, inr, append_assoc, length-append}
-use Rattle.std.specs.Prelude.{Option, Some, None, slice_get}
+use Rattle.std.proofs.Common.{◌≡◌, ℕ, zero, suc, ◌+◌, ◌<◌, List, [], ◌∷◌, ◌++◌, length, refl, ap, ◌∙◌, subst, arith, inr, append_assoc, length-append}
+use Rattle.std.specs.Prelude.{Some, None, slice_get}
 use Rattle.std.proofs.Math.Seq.{get_or-append_seam}
 use Rattle.std.proofs.lemmas.Option.{slice_get-get_or, slice_get_past}
-use Rattle.trace_theory.specs.Machines.{Ends}
+use Rattle.trace_theory.specs.Equivalence.{Lasts}
 use Rattle.trace_theory.proofs.Equivalence.{same_walks}
-use Rattle.trace_theory.proofs.Stops.{ends_too}
+use Rattle.trace_theory.proofs.Overlay.{lasts_too}
 use Rattle.walk_theory.specs.Language.{Language}
-use Rattle.walk_theory.specs.Syntax.{Steps, stop, body_of}
+use Rattle.walk_theory.specs.Syntax.{Steps, body_of}
 use Rattle.walk_theory.specs.Walks.{Config, step, start}
 use Rattle.walk_theory.specs.Code.{Line, on, go_back, State, code_step, at_place, Stands}
 use Rattle.walk_theory.specs.Made.{steps_size, steps_code, start_of, bodies_code, program_code}
@@ -67,6 +67,6 @@ module _ {A C Q R : Type 0} (L : Language A C Q R) (answers : Q → R → Type 0
       (λ c d h. (h.core, h.count))
       alike_first
 
-  -- where the code stands alike to a configuration of the walk, it comes to an ask or ends
-  pub code_ends : (c : Config A C) (d : State C) → Alike (program_code last l bs) (start_of 4 bs) c d → Ends (code_step L (program_code last l bs) limit) d
-  code_ends c d h = ends_too (Config A C) (State C) Q R (Alike (program_code last l bs) (start_of 4 bs)) answers (step L (body_of bs) limit) (code_step L (program_code last l bs) limit) (simulates L answers (body_of bs) limit (program_code last l bs) (start_of 4 bs) proceed past) c d h (ends L (body_of bs) limit c)
+  -- each walk of the code of a program comes to an ask or ends
+  pub code_lasts : Lasts answers (code_step L (program_code last l bs) limit) (at_place 0 [] first 0)
+  code_lasts = lasts_too (Config A C) (State C) Q R answers (Alike (program_code last l bs) (start_of 4 bs)) (step L (body_of bs) limit) (code_step L (program_code last l bs) limit) (simulates L answers (body_of bs) limit (program_code last l bs) (start_of 4 bs) proceed past) (λ c d h. ends L (body_of bs) limit c) (start last l first) (at_place 0 [] first 0) alike_first

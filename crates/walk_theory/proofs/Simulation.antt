@@ -1,16 +1,16 @@
 -- The code of a program does what its walk does, step by step.
-use Rattle.std.proofs.Common.{◌≡◌, ℕ, zero, suc, ◌+◌, ◌<◌, ◌≤◌, ℤ, pos, negsuc, Bool, true, false, cond, nat_lt, List, [], ◌∷◌, ◌++◌, length, refl, ap, sym, ◌∙◌, subst, arith, ◌⊎◌, inl, inr}
+use Rattle.std.proofs.Common.{◌≡◌, ℕ, suc, ◌+◌, nat_lt, List, [], ◌∷◌, ◌++◌, length, refl, ap, sym, subst, arith, inl, inr}
 use Rattle.std.proofs.lemmas.Bool.{cases_Bool}
-use Rattle.std.specs.Prelude.{Option, Some, None, slice_get}
-use Rattle.trace_theory.specs.Machines.{Move, goes, asks, over, goes_on, go, Comes}
+use Rattle.std.specs.Prelude.{Some, None, slice_get}
+use Rattle.trace_theory.specs.Machines.{Move, goes, over, goes_on, go}
 use Rattle.trace_theory.specs.Simulations.{Matches, Simulates}
 use Rattle.walk_theory.specs.Language.{Effect, goes_to, faults, asking, ends_with, stuck, Tested, no_value, holds, fails, Language, acted, counted, by_test}
-use Rattle.walk_theory.specs.Syntax.{Parts, end_parts, value, act, enter, either, Form, simple, choose, loop, around, exit, cycle, return, Branches, otherwise, branch, Steps, stop, also}
-use Rattle.walk_theory.specs.Walks.{Loop, Task, run, eval, tally, decide, pick, again, turn, back, Config, to, form_tasks, after_loop, from_loop, from_back, backs, step, step_task}
-use Rattle.walk_theory.specs.Code.{Instr, Line, on, State, at_place, does_act, count_one, jump, jump_if, jump_unless, skip, skip_unless, call, go_back, returned, does, fetched, code_step, Stands}
-use Rattle.walk_theory.specs.Made.{parts_size, steps_size, form_size, branches_size, Places, places, exit_instr, cycle_instr, parts_code, turns_code, pick_code, steps_code, form_code, branches_code}
-use Rattle.walk_theory.specs.Alike.{Hops, Leads, TurnsStand, Does, Alike, Proceed}
-use Rattle.walk_theory.proofs.Places.{turns_cut, stands_append, cut, parts_long, steps_long, form_long, branches_long}
+use Rattle.walk_theory.specs.Syntax.{end_parts, value, act, enter, either, Form, simple, choose, loop, around, exit, cycle, return, otherwise, branch, Steps, stop, also}
+use Rattle.walk_theory.specs.Walks.{Task, run, eval, tally, decide, pick, again, turn, back, Config, to, form_tasks, backs, step, step_task}
+use Rattle.walk_theory.specs.Code.{Instr, Line, on, State, at_place, does_act, count_one, jump, jump_if, jump_unless, skip, skip_unless, call, go_back, returned, does, code_step, Stands}
+use Rattle.walk_theory.specs.Made.{parts_size, steps_size, form_size, branches_size, Places, places, parts_code, turns_code, pick_code, steps_code, form_code, branches_code}
+use Rattle.walk_theory.specs.Alike.{Hops, Leads, Does, Alike, Proceed}
+use Rattle.walk_theory.proofs.Places.{turns_cut, cut, parts_long, steps_long, form_long}
 use Rattle.walk_theory.proofs.Leaving.{Reaches, same_depth, reach_back, leave_loop, cycle_loop}
 
 module _ {A C Q R : Type 0} (L : Language A C Q R) (answers : Q → R → Type 0) (procedures : ℕ → Steps A) (limit : ℕ) (code : List (Line A)) (starts : ℕ → ℕ) (proceed : Proceed code starts procedures) (past : slice_get code (length code) ≡ None) where
@@ -47,24 +47,24 @@ module _ {A C Q R : Type 0} (L : Language A C Q R) (answers : Q → R → Type 0
   in_two : (ts : List (Task A)) (p q l : ℕ) (i : Instr A) (rs : List ℕ) (c d : C) (n m : ℕ) → slice_get code p ≡ Some (on l i) → does L code limit i l p rs c n ≡ goes (at_place q rs d m) → Reaches code starts q rs ts → Next (goes (to ts d m)) (at_place p rs c n)
   in_two ts p q l i rs c d n m at e r =
       elim r.leads [
-        inl s ↦ in_one ts r.loops p q l i rs rs c d n m at e (subst (λ k. D r.loops k rs ts) (sym s) r.does)
-      | inr j ↦ (2, at_place r.to rs d m, rw (at, e, j.2, hop_does j.1 j.0 q r.to rs d m j.3) refl, record { loops = r.loops; does = r.does; core = refl; count = refl })
+        | inl s ↦ in_one ts r.loops p q l i rs rs c d n m at e (subst (λ k. D r.loops k rs ts) (sym s) r.does)
+        | inr j ↦ (2, at_place r.to rs d m, rw (at, e, j.2, hop_does j.1 j.0 q r.to rs d m j.3) refl, record { loops = r.loops; does = r.does; core = refl; count = refl })
       ]
 
   -- by a jump or none
   by_jump : (ts : List (Task A)) (p : ℕ) (rs : List ℕ) (c : C) (n : ℕ) → Reaches code starts p rs ts → Next (goes (to ts c n)) (at_place p rs c n)
   by_jump ts p rs c n r =
       elim r.leads [
-        inl s ↦ at_once ts r.loops p rs c n (subst (λ k. D r.loops k rs ts) (sym s) r.does)
-      | inr j ↦ in_one ts r.loops p r.to j.0 j.1 rs rs c c n n j.2 (hop_does j.1 j.0 p r.to rs c n j.3) r.does
+        | inl s ↦ at_once ts r.loops p rs c n (subst (λ k. D r.loops k rs ts) (sym s) r.does)
+        | inr j ↦ in_one ts r.loops p r.to j.0 j.1 rs rs c c n n j.2 (hop_does j.1 j.0 p r.to rs c n j.3) r.does
       ]
 
   -- a count, which may be one too many
   tally_alike : (ts : List (Task A)) (p l : ℕ) (rs : List ℕ) (c : C) (n : ℕ) → slice_get code p ≡ Some (on l count_one) → Reaches code starts (p + 1) rs ts → Next (counted L limit l n (to ts c (n + 1)) (to [] c n)) (at_place p rs c n)
   tally_alike ts p l rs c n at r =
       elim (cases_Bool (nat_lt n limit)) [
-        inl t ↦ rw t (in_two ts p (p + 1) l count_one rs c c n (n + 1) at (rw t refl) r)
-      | inr f ↦ rw f ((λ r. at_place (length code) [] c n), (1, rw (at, f) refl), λ r ok. nothing c n)
+        | inl t ↦ rw t (in_two ts p (p + 1) l count_one rs c c n (n + 1) at (rw t refl) r)
+        | inr f ↦ rw f ((λ r. at_place (length code) [] c n), (1, rw (at, f) refl), λ r ok. nothing c n)
       ]
 
   -- an act: the operators and asks of every form go through here
@@ -130,10 +130,10 @@ module _ {A C Q R : Type 0} (L : Language A C Q R) (answers : Q → R → Type 0
       let k' = subst (λ k. D xs k rs ts) e h.1 in
       let d = same_depth code starts ts xs _ rs h.1 in
       elim (cases_Bool (nat_lt (L.frames c) (backs ts))) [
-        inl t' ↦ rw t' (1, rw (h.0.0, d, t') refl)
-      | inr f' ↦ rw f' (
-          in_one (run (procedures k) ∷ back ∷ eval l q ∷ ts) [] p (starts k) l (call (starts k)) rs ((p + 1) ∷ rs) c c m' m' h.0.0 (rw (d, f') refl)
-          (f.0, starts k + steps_size (procedures k), inl refl, (refl, (proceed k).0, f.1.0, xs, (h.0.1, k'))))
+        | inl t' ↦ rw t' (1, rw (h.0.0, d, t') refl)
+        | inr f' ↦ rw f' (
+            in_one (run (procedures k) ∷ back ∷ eval l q ∷ ts) [] p (starts k) l (call (starts k)) rs ((p + 1) ∷ rs) c c m' m' h.0.0 (rw (d, f') refl)
+            (f.0, starts k + steps_size (procedures k), inl refl, (refl, (proceed k).0, f.1.0, xs, (h.0.1, k'))))
       ]
   step_alike (eval l (either a b q)) ts xs p rs c m' h =
       let f = cut code (p + 1) (parts_size a) (parts_code starts l a) (on l (skip (parts_size b)) ∷ (parts_code starts l b ++ parts_code starts l q)) (parts_long starts l a) h.0.1 in
@@ -179,8 +179,8 @@ module _ {A C Q R : Type 0} (L : Language A C Q R) (answers : Q → R → Type 0
   no_task : (xs : List Places) (p : ℕ) (rs : List ℕ) (c : C) (m' : ℕ) → D xs p rs [] → Next over (at_place p rs c m')
   no_task xs p rs c m' h =
       elim h.2 [
-        inl n ↦ (1, rw n refl)
-      | inr s ↦ (1, rw s.1 (subst (λ qs. goes_on (returned qs c m') (go (code_step L code limit) 0) ≡ over) (sym h.1) refl))
+        | inl n ↦ (1, rw n refl)
+        | inr s ↦ (1, rw s.1 (subst (λ qs. goes_on (returned qs c m') (go (code_step L code limit) 0) ≡ over) (sym h.1) refl))
       ]
 
   by_tasks : (us : List (Task A)) (xs : List Places) (p : ℕ) (rs : List ℕ) (c : C) (m' : ℕ) → D xs p rs us → Next (step L procedures limit (to us c m')) (at_place p rs c m')

@@ -1,6 +1,6 @@
 -- When a configuration of the walk and a state of the code stand alike: the code does these tasks.
-use Rattle.std.specs.Prelude.{ℕ, zero, suc, ◌+◌, ◌≡◌, ◌⊎◌, ◌++◌, List, [], ◌∷◌, length, Option, Some, None, slice_get}
-use Rattle.walk_theory.specs.Syntax.{Parts, Branches, Steps}
+use Rattle.std.specs.Prelude.{ℕ, ◌+◌, ◌≡◌, ◌⊎◌, ◌++◌, List, [], ◌∷◌, Some, None, slice_get}
+use Rattle.walk_theory.specs.Syntax.{Steps}
 use Rattle.walk_theory.specs.Walks.{Loop, Task, run, eval, tally, decide, pick, again, turn, back, Config}
 use Rattle.walk_theory.specs.Code.{Line, on, State, Instr, does_act, count_one, jump, jump_if, jump_unless, skip, skip_unless, call, go_back, Stands}
 use Rattle.walk_theory.specs.Made.{parts_size, steps_size, branches_size, Places, places, parts_code, turns_code, pick_code, steps_code, branches_code}

@@ -6,3 +6,4 @@ pub mod Made
 pub mod Alike
 pub mod Weights
 pub mod Programs
+pub mod Wide

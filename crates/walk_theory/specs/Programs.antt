@@ -3,8 +3,8 @@ use Rattle.std.specs.Prelude.{ℕ, List, []}
 use Rattle.trace_theory.specs.Equivalence.{SameWalks}
 use Rattle.walk_theory.specs.Language.{Language}
 use Rattle.walk_theory.specs.Syntax.{Steps, body_of}
-use Rattle.walk_theory.specs.Walks.{Config, step, start}
-use Rattle.walk_theory.specs.Code.{Line, State, at_place, code_step}
+use Rattle.walk_theory.specs.Walks.{step, start}
+use Rattle.walk_theory.specs.Code.{Line, at_place, code_step}
 use Rattle.walk_theory.specs.Alike.{SameCore}
 
 -- The code has the walks of the program with these procedures, the main program first, from this core on: what it asks, at

@@ -4,10 +4,10 @@ use Rattle.std.specs.Prelude.{ℕ, zero, suc, List, [], ◌∷◌}
 -- what an expression or a simple statement does, in order
 pub data Parts (A : Type 0) : Type 0 where
   end_parts : Parts A
-  value : Parts A → Parts A → Parts A              -- evaluates an operand, and goes on
-  act : A → Parts A → Parts A                      -- acts on what is there, and goes on
-  enter : ℕ → Parts A → Parts A                    -- runs the body of a procedure, and goes on
-  either : Parts A → Parts A → Parts A → Parts A   -- takes a truth value, does the one or the other, and goes on
+  value : Parts A → Parts A → Parts A  -- evaluates an operand, and goes on
+  act : A → Parts A → Parts A  -- acts on what is there, and goes on
+  enter : ℕ → Parts A → Parts A  -- runs the body of a procedure, and goes on
+  either : Parts A → Parts A → Parts A → Parts A  -- takes a truth value, does the one or the other, and goes on
 
 mutual
   pub data Form (A : Type 0) : Type 0 where
@@ -15,8 +15,8 @@ mutual
     choose : Parts A → Branches A → Form A
     loop : (start next test : Parts A) (body : Steps A) → Form A
     around : (before : Parts A) (body : Steps A) (line : ℕ) (after : Parts A) → Form A
-    exit : ℕ → Form A                              -- leaves the loop that is so many loops out
-    cycle : ℕ → Form A                             -- ends the turn of that loop
+    exit : ℕ → Form A  -- leaves the loop that is so many loops out
+    cycle : ℕ → Form A  -- ends the turn of that loop
     return : Form A
 
   -- the blocks of a choice, each with the line and the parts of its test

@@ -1,6 +1,6 @@
 -- The walk of a program: one small step after another over the list of what is left to do.
 use Rattle.std.specs.Prelude.{ℕ, zero, suc, ◌+◌, cond, nat_lt, List, [], ◌∷◌}
-use Rattle.trace_theory.specs.Machines.{Move, goes, asks, over}
+use Rattle.trace_theory.specs.Machines.{Move, goes, over}
 use Rattle.walk_theory.specs.Language.{Language, acted, counted, by_test}
 use Rattle.walk_theory.specs.Syntax.{Parts, end_parts, value, act, enter, either, Form, simple, choose, loop, around, exit, cycle, return, Branches, otherwise, branch, Steps, stop, also}
 
@@ -13,14 +13,14 @@ pub record Loop (A : Type 0) : Type 0 where
 
 -- what is left to do
 pub data Task (A : Type 0) : Type 0 where
-  run : Steps A → Task A                     -- a block
-  eval : ℕ → Parts A → Task A                -- parts, at this line
-  tally : ℕ → Task A                         -- counts one, at this line
-  decide : Branches A → Task A               -- finds the block whose test gives true
-  pick : ℕ → Steps A → Branches A → Task A   -- this block where the test gave true, else one of the others
-  again : Loop A → Task A                    -- the end of a loop's turn
-  turn : Loop A → Task A                     -- one more turn where the test gave true
-  back : Task A                              -- the end of a procedure's body
+  run : Steps A → Task A  -- a block
+  eval : ℕ → Parts A → Task A  -- parts, at this line
+  tally : ℕ → Task A  -- counts one, at this line
+  decide : Branches A → Task A  -- finds the block whose test gives true
+  pick : ℕ → Steps A → Branches A → Task A  -- this block where the test gave true, else one of the others
+  again : Loop A → Task A  -- the end of a loop's turn
+  turn : Loop A → Task A  -- one more turn where the test gave true
+  back : Task A  -- the end of a procedure's body
 
 -- what is left to do, the core, and how many statements were counted
 pub record Config (A C : Type 0) : Type 0 where

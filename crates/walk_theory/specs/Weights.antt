@@ -1,5 +1,5 @@
 -- What is left to do before the next count or ask: a number that falls with each step.
-use Rattle.std.specs.Prelude.{ℕ, zero, suc, ◌+◌, ◌<◌, ◌≡◌, ◌⊎◌, List, [], ◌∷◌}
+use Rattle.std.specs.Prelude.{ℕ, ◌+◌, ◌<◌, ◌≡◌, ◌⊎◌, List, [], ◌∷◌}
 use Rattle.trace_theory.specs.Machines.{Move, goes, asks, over}
 use Rattle.walk_theory.specs.Syntax.{Parts, end_parts, value, act, enter, either, Branches, otherwise, branch}
 use Rattle.walk_theory.specs.Walks.{Task, run, eval, tally, decide, pick, again, turn, back, Config}

@@ -1,9 +1,11 @@
 //! Flat code.
 
 ghost use Rattle.std.specs.Prelude.{◌≡◌, ℕ, List, length};
+ghost use Rattle.walk_theory.specs.Language.{Language};
 ghost use Rattle.walk_theory.specs.Syntax.{Steps};
 ghost use Rattle.walk_theory.specs.Made.{Places, steps_code, steps_size, program_code};
 ghost use Rattle.walk_theory.specs.Programs.{HasWalksOf};
+ghost use Rattle.walk_theory.specs.Wide.{Wides, Placed, Unfolds, Covers, HasWideWalksOf};
 
 use crate::walk_laws::Spoken;
 
@@ -16,4 +18,32 @@ pub fn law_steps_long<S: Spoken>()
 /// other way round.
 pub fn law_has_walks<S: Spoken>()
     ensures { (last : S.Act) (bodies : List (Steps S.Act)) (line limit : ℕ) (first : S.Core) → HasWalksOf S.language S.answers last bodies line limit first (program_code last line bodies) }
+{}
+
+/// A language with wide steps: what they do, and what is kept of a core while the steps that one stands for are done.
+pub trait Widened {
+    ghost Act: { Type 0 };
+
+    ghost Core: { Type 0 };
+
+    ghost Ask: { Type 0 };
+
+    ghost Reply: { Type 0 };
+
+    ghost Wide: { Type 0 };
+
+    ghost Kept: { Type 0 };
+
+    ghost language: { Language Act Core Ask Reply };
+
+    ghost answers: { Ask → Reply → Type 0 };
+
+    ghost wides: { Wides Act Core Ask Reply Wide };
+
+    ghost kept: { Core → Kept };
+}
+
+/// Code of wide steps, each of which stands where the steps that it stands for stand and does what they do, has the walks of the program.
+pub fn law_has_wide_walks<S: Widened>()
+    ensures { (last : S.Act) (bodies : List (Steps S.Act)) (line limit : ℕ) (first : S.Core) → Unfolds S.language S.wides (program_code last line bodies) limit S.kept → (wides : List (Placed S.Wide)) → Covers S.language S.wides (program_code last line bodies) limit wides → HasWideWalksOf S.language S.wides S.kept S.answers last bodies line limit first (program_code last line bodies) wides }
 {}
