@@ -33,3 +33,8 @@ pub fn law_walk_more<M: Machine>()
 pub fn law_walk_to_more<M: Machine>()
     ensures { (c d e : M.Config) (es : List (Said M.Ask M.Reply)) (s : Said M.Ask M.Reply) (k : M.Reply → M.Config) → WalkTo M.step c es d → M.step d ≡ asks s.ask s.line k → (n : ℕ) → go M.step n (k s.reply) ≡ goes e → WalkTo M.step c (es ++ s ∷ []) e }
 {}
+
+/// One walk after another is a walk.
+pub fn law_walk_to_join<M: Machine>()
+    ensures { (c d e : M.Config) (es fs : List (Said M.Ask M.Reply)) → WalkTo M.step c es d → WalkTo M.step d fs e → WalkTo M.step c (es ++ fs) e }
+{}
