@@ -1,12 +1,11 @@
 -- Each configuration of a walk comes to an ask or ends.
 use Rattle.std.proofs.Common.{◌≡◌, ℕ, zero, suc, ◌+◌, ◌-◌, ◌<◌, ◌≤◌, nat_lt, List, [], ◌∷◌, inl, inr, refl, subst, arith}
-use Rattle.std.proofs.lemmas.Bool.{cases_Bool}
+use Rattle.std.proofs.lemmas.Bool.{cases_Bool, ltb-true}
 use Rattle.trace_theory.specs.Machines.{Move, goes, asks, over, Ends}
 use Rattle.walk_theory.specs.Language.{Effect, goes_to, faults, asking, ends_with, stuck, Tested, no_value, holds, fails, Language, acted, counted, by_test}
 use Rattle.walk_theory.specs.Syntax.{end_parts, value, act, enter, either, otherwise, branch, Steps, stop, also}
 use Rattle.walk_theory.specs.Walks.{Task, run, eval, tally, decide, pick, again, turn, back, backs, Config, to, step, step_task}
 use Rattle.walk_theory.specs.Weights.{weight, Falls}
-use borrow.Author.Tests.{ltb-true}
 
 module _ {A C Q R : Type 0} (L : Language A C Q R) (procedures : ℕ → Steps A) (limit : ℕ) where
   counted_falls : (l n w : ℕ) (c d : Config A C) → c.count ≡ n + 1 → Falls limit n w (counted L limit l n c d)

@@ -5,3 +5,7 @@ pub mod Ends
 pub mod Halts
 pub mod Programs
 pub mod Wide
+pub mod Evaluation
+pub mod Terms
+pub mod Turns
+pub mod Nesting

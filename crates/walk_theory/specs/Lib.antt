@@ -7,3 +7,7 @@ pub mod Alike
 pub mod Weights
 pub mod Programs
 pub mod Wide
+pub mod Evaluation
+pub mod Terms
+pub mod Turns
+pub mod Nesting

@@ -6,4 +6,6 @@
 #![tactic(auto)]
 
 pub mod code_laws;
+pub mod term_laws;
+pub mod turn_laws;
 pub mod walk_laws;
