@@ -26,15 +26,18 @@ pub fn law_go_more<M: Machine>()
 
 /// A walk goes on by the next ask and its reply.
 pub fn law_walk_more<M: Machine>()
-    ensures { (c d : M.Config) (es : List (Said M.Ask M.Reply)) (e : Said M.Ask M.Reply) (k : M.Reply → M.Config) → Walk M.step c es d → Comes M.step d (asks e.ask e.line k) → Walk M.step c (es ++ e ∷ []) (k e.reply) }
+    ensures { (c d : M.Config) (es : List (Said M.Ask M.Reply)) (e : Said M.Ask M.Reply) (k : M.Reply → M.Config) → Walk M.step c es d
+        → Comes M.step d (asks e.ask e.line k) → Walk M.step c (es ++ e ∷ []) (k e.reply) }
 {}
 
 /// A machine that stands at its ask, hears the reply and goes on to its next stop has walked one further.
 pub fn law_walk_to_more<M: Machine>()
-    ensures { (c d e : M.Config) (es : List (Said M.Ask M.Reply)) (s : Said M.Ask M.Reply) (k : M.Reply → M.Config) → WalkTo M.step c es d → M.step d ≡ asks s.ask s.line k → (n : ℕ) → go M.step n (k s.reply) ≡ goes e → WalkTo M.step c (es ++ s ∷ []) e }
+    ensures { (c d e : M.Config) (es : List (Said M.Ask M.Reply)) (s : Said M.Ask M.Reply) (k : M.Reply → M.Config) → WalkTo M.step c es d
+        → M.step d ≡ asks s.ask s.line k → (n : ℕ) → go M.step n (k s.reply) ≡ goes e → WalkTo M.step c (es ++ s ∷ []) e }
 {}
 
 /// One walk after another is a walk.
 pub fn law_walk_to_join<M: Machine>()
-    ensures { (c d e : M.Config) (es fs : List (Said M.Ask M.Reply)) → WalkTo M.step c es d → WalkTo M.step d fs e → WalkTo M.step c (es ++ fs) e }
+    ensures { (c d e : M.Config) (es fs : List (Said M.Ask M.Reply)) → WalkTo M.step c es d → WalkTo M.step d fs e
+        → WalkTo M.step c (es ++ fs) e }
 {}

@@ -1,6 +1,6 @@
 -- The walk of parts comes to what their evaluation comes to.
-use Rattle.std.proofs.Common.{◌≡◌, ℕ, zero, suc, ◌+◌, List, [], ◌∷◌, refl, ap, sym, ◌∙◌, subst, arith}
-use Rattle.trace_theory.specs.Machines.{Move, goes, asks, over, goes_on, go, Comes}
+use Rattle.std.proofs.Common.{◌≡◌, ℕ, ◌+◌, List, ◌∷◌, refl, ap, ◌∙◌}
+use Rattle.trace_theory.specs.Machines.{Move, goes, goes_on, go}
 use Rattle.trace_theory.proofs.Machines.{go_more}
 use Rattle.walk_theory.specs.Language.{Effect, goes_to, faults, asking, ends_with, stuck, Tested, no_value, holds, fails, Language}
 use Rattle.walk_theory.specs.Syntax.{Parts, end_parts, value, act, enter, either, Steps, stop}

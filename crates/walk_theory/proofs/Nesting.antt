@@ -1,8 +1,8 @@
 -- EXIT, CYCLE and RETURN leave what they name and all that is inside it, and nothing else.
-use Rattle.std.proofs.Common.{◌≡◌, ℕ, zero, suc, ◌+◌, ◌<◌, nat_lt, true, List, [], ◌∷◌, ◌++◌, refl, ap, sym, ◌∙◌, subst}
+use Rattle.std.proofs.Common.{◌≡◌, ℕ, zero, suc, ◌+◌, ◌<◌, List, [], ◌∷◌, ◌++◌, refl}
 use Rattle.std.proofs.lemmas.Bool.{lt-ltb}
-use Rattle.trace_theory.specs.Machines.{Move, goes, asks, over, Said, Walk, goes_on, go}
-use Rattle.walk_theory.specs.Language.{Effect, faults, Language}
+use Rattle.trace_theory.specs.Machines.{goes, asks, Said, Walk, go}
+use Rattle.walk_theory.specs.Language.{faults, Language}
 use Rattle.walk_theory.specs.Syntax.{Parts, act, Steps, also, exit, cycle, return}
 use Rattle.walk_theory.specs.Walks.{Loop, Task, run, eval, tally, decide, pick, again, turn, back, after_loop, from_loop, from_back, backs, Config, to, step}
 use Rattle.walk_theory.specs.Nesting.{loops}

@@ -1,10 +1,10 @@
 -- The walk of an expression leaves its value.
-use Rattle.std.proofs.Common.{◌≡◌, ℕ, suc, List, [], ◌∷◌, length, refl, ap, sym, ◌∙◌, subst}
-use Rattle.trace_theory.specs.Machines.{goes, asks, Comes}
-use Rattle.walk_theory.specs.Language.{Effect, goes_to, faults, Language}
-use Rattle.walk_theory.specs.Syntax.{Parts, end_parts, value, act, Steps}
+use Rattle.std.proofs.Common.{◌≡◌, ℕ, suc, List, [], ◌∷◌, length, refl, ap, ◌∙◌, subst}
+use Rattle.trace_theory.specs.Machines.{asks, Comes}
+use Rattle.walk_theory.specs.Language.{Language}
+use Rattle.walk_theory.specs.Syntax.{Parts, end_parts, act, Steps}
 use Rattle.walk_theory.specs.Walks.{Task, eval, Config, to, step}
-use Rattle.walk_theory.specs.Evaluation.{Outcome, leaves, faulted, not_plain, and_then, of_effect, outcome, ComesTo}
+use Rattle.walk_theory.specs.Evaluation.{Outcome, leaves, faulted, and_then, of_effect, outcome, ComesTo}
 use Rattle.walk_theory.specs.Terms.{Term, term, Terms, no_terms, more_terms, Found, found, at_fault, with_found, term_value, terms_values, operands, term_parts, terms_parts, put_all, found_effect, ActsAs, TermActs, TermsAct, ValueComes}
 use Rattle.walk_theory.proofs.Evaluation.{parts_come}
 

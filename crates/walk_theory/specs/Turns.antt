@@ -1,9 +1,9 @@
 -- The turns of a loop.
-use Rattle.std.specs.Prelude.{ℕ, zero, suc, ◌+◌, ◌<◌, ◌≡◌, List, [], ◌∷◌, ◌++◌, Option, Some, None}
+use Rattle.std.specs.Prelude.{ℕ, zero, suc, ◌+◌, ◌<◌, ◌≡◌, List, [], ◌∷◌, ◌++◌, Option, Some}
 use Rattle.trace_theory.specs.Machines.{Said, WalkTo}
 use Rattle.walk_theory.specs.Language.{holds, fails, Language}
 use Rattle.walk_theory.specs.Syntax.{Steps}
-use Rattle.walk_theory.specs.Walks.{Loop, Task, run, again, Config, to, step}
+use Rattle.walk_theory.specs.Walks.{Loop, Task, again, to, at_body, step}
 use Rattle.walk_theory.specs.Evaluation.{leaves, outcome}
 
 module _ {A C Q R : Type 0} (L : Language A C Q R) where
@@ -22,7 +22,7 @@ module _ {A C Q R : Type 0} (L : Language A C Q R) where
     pub record Turn (m : Loop A) (c : C) (n : ℕ) (es : List (Said Q R)) (d : C) (k : ℕ) : Type 0 where
       pub below : n < limit
       pub end : C
-      pub body : (ts : List (Task A)) → WalkTo (step L procedures limit) (to (run m.body ∷ again m ∷ ts) c (n + 1)) es (to (again m ∷ ts) end k)
+      pub body : (ts : List (Task A)) → WalkTo (step L procedures limit) (at_body m ts c (n + 1)) es (to (again m ∷ ts) end k)
       pub keeps : left end ≡ left c
       pub next : outcome L m.next end ≡ leaves d
 

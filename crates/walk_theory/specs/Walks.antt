@@ -32,6 +32,22 @@ pub record Config (A C : Type 0) : Type 0 where
 abbrev pub to : {A C : Type 0} → List (Task A) → C → ℕ → Config A C
 to ts c n = record { tasks = ts; core = c; count = n }
 
+-- where a statement of a block is next, with what is behind it in the block and ts after the block
+abbrev pub at_statement : {A C : Type 0} → ℕ → Form A → Steps A → List (Task A) → C → ℕ → Config A C
+at_statement l f rest ts c n = to (run (also l f rest) ∷ ts) c n
+
+-- where parts are next
+abbrev pub at_parts : {A C : Type 0} → ℕ → Parts A → List (Task A) → C → ℕ → Config A C
+at_parts l p ts c n = to (eval l p ∷ ts) c n
+
+-- where the test of a loop is next
+abbrev pub at_test : {A C : Type 0} → Loop A → List (Task A) → C → ℕ → Config A C
+at_test m ts c n = to (eval m.line m.test ∷ turn m ∷ ts) c n
+
+-- where the body of a loop is next
+abbrev pub at_body : {A C : Type 0} → Loop A → List (Task A) → C → ℕ → Config A C
+at_body m ts c n = to (run m.body ∷ again m ∷ ts) c n
+
 -- EXIT of a loop that is n loops out: what follows that loop. Where there is none, the body ends.
 abbrev pub after_loop : {A : Type 0} → ℕ → List (Task A) → List (Task A)
 after_loop n [] = []

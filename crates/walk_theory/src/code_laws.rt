@@ -11,13 +11,15 @@ use crate::walk_laws::Spoken;
 
 /// The code of a block has the size of the block.
 pub fn law_steps_long<S: Spoken>()
-    ensures { (starts : ℕ → ℕ) (loops : List Places) (place : ℕ) (block : Steps S.Act) → length (steps_code starts loops place block) ≡ steps_size block }
+    ensures { (starts : ℕ → ℕ) (loops : List Places) (place : ℕ) (block : Steps S.Act)
+        → length (steps_code starts loops place block) ≡ steps_size block }
 {}
 
 /// The code of a program has its walks: it asks what the program asks, at the same lines, with the same cores and counts, and the
 /// other way round.
 pub fn law_has_walks<S: Spoken>()
-    ensures { (last : S.Act) (bodies : List (Steps S.Act)) (line limit : ℕ) (first : S.Core) → HasWalksOf S.language S.answers last bodies line limit first (program_code last line bodies) }
+    ensures { (last : S.Act) (bodies : List (Steps S.Act)) (line : ℕ) (first : S.Core)
+        → HasWalksOf S.language S.answers last bodies line S.limit first (program_code last line bodies) }
 {}
 
 /// A language with wide steps: what they do, and what is kept of a core while the steps that one stands for are done.
@@ -38,6 +40,8 @@ pub trait Widened {
 
     ghost answers: { Ask → Reply → Type 0 };
 
+    ghost limit: { ℕ };
+
     ghost wides: { Wides Act Core Ask Reply Wide };
 
     ghost kept: { Core → Kept };
@@ -45,5 +49,8 @@ pub trait Widened {
 
 /// Code of wide steps, each of which stands where the steps that it stands for stand and does what they do, has the walks of the program.
 pub fn law_has_wide_walks<S: Widened>()
-    ensures { (last : S.Act) (bodies : List (Steps S.Act)) (line limit : ℕ) (first : S.Core) → Unfolds S.language S.wides (program_code last line bodies) limit S.kept → (wides : List (Placed S.Wide)) → Covers S.language S.wides (program_code last line bodies) limit wides → HasWideWalksOf S.language S.wides S.kept S.answers last bodies line limit first (program_code last line bodies) wides }
+    ensures { (last : S.Act) (bodies : List (Steps S.Act)) (line : ℕ) (first : S.Core)
+        → Unfolds S.language S.wides (program_code last line bodies) S.limit S.kept → (wides : List (Placed S.Wide))
+        → Covers S.language S.wides (program_code last line bodies) S.limit wides
+        → HasWideWalksOf S.language S.wides S.kept S.answers last bodies line S.limit first (program_code last line bodies) wides }
 {}
