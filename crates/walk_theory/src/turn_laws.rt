@@ -24,7 +24,7 @@ pub fn law_one_more_turn<S: Spoken>()
         → Comes (step S.language S.procedures S.limit) (at_test m ts c n) (goes (at_body m ts c (n + 1))) }
 {}
 
-/// A statement that is a loop counted by r makes r turns, no more and no fewer, and the statement behind it comes next.
+/// A statement that is a loop counted by r makes r turns, these ones, and then the statement behind it comes next.
 pub fn law_counted_loop<S: Spoken>()
     ensures { (left : S.Core → Option ℕ) (m : Loop S.Act) → IsCounted S.language left m
         → (start : Parts S.Act) (rest : Steps S.Act) (ts : List (Task S.Act)) (b c d : S.Core) (n r k : ℕ) (es : List (Said S.Ask S.Reply))
