@@ -11,3 +11,4 @@ pub mod Fronts
 pub mod Stops
 pub mod Equivalence
 pub mod Overlay
+pub mod Ending

@@ -1,9 +1,10 @@
 //! Machines that go by small steps and ask.
 
 ghost use Rattle.std.specs.Prelude.{◌≡◌, ℕ, List, [], ◌∷◌, ◌+◌, ◌++◌};
-ghost use Rattle.trace_theory.specs.Machines.{Move, goes, asks, Said, goes_on, go, Comes, Walk, WalkTo, OneNextAsk};
+ghost use Rattle.trace_theory.specs.Machines.{Move, goes, asks, Said, goes_on, go, Comes, Walk, WalkTo, OneNextAsk, Ends, Falls};
 
-/// A machine: its configurations, what it asks, what it hears, and its step.
+/// A machine: its configurations, what it asks, what it hears, and its step; where all is well with it, what it counts, and what is left
+/// to do before the next count.
 pub trait Machine {
     ghost Config: { Type 0 };
 
@@ -12,6 +13,12 @@ pub trait Machine {
     ghost Reply: { Type 0 };
 
     ghost step: { Config → Move Config Ask Reply };
+
+    ghost well: { Config → Type 0 };
+
+    ghost count: { Config → ℕ };
+
+    ghost rest: { Config → ℕ };
 }
 
 /// A configuration has at most one next ask.
@@ -40,4 +47,10 @@ pub fn law_walk_to_more<M: Machine>()
 pub fn law_walk_to_join<M: Machine>()
     ensures { (c d e : M.Config) (es fs : List (Said M.Ask M.Reply)) → WalkTo M.step c es d → WalkTo M.step d fs e
         → WalkTo M.step c (es ++ fs) e }
+{}
+
+/// A machine that counts below a limit, and has less and less left to do between two counts, comes to an ask or ends.
+pub fn law_ends_by_falling<M: Machine>()
+    ensures { (limit : ℕ) → ((c : M.Config) → M.well c → Falls M.well M.count M.rest limit c (M.step c)) → (c : M.Config) → M.well c
+        → Ends M.step c }
 {}
