@@ -57,3 +57,7 @@ abbrev pub Falls : {C A R : Type 0} → (Well : C → Type 0) → (count rest : 
 Falls Well count rest limit c (goes d) = Well d × (((count d ≡ count c) × (rest d < rest c)) ⊎ ((count d ≡ count c + 1) × (count c < limit)))
 Falls Well count rest limit c (asks a l k) = Unit {0}
 Falls Well count rest limit c over = Unit {0}
+
+-- at d all is well, and less is left to do than at c or more is counted
+abbrev pub Onward : {C : Type 0} → (Well : C → Type 0) → (count rest : C → ℕ) → (limit : ℕ) → C → C → Type 0
+Onward Well count rest limit c d = Well d × (((count d ≡ count c) × (rest d < rest c)) ⊎ ((count c < count d) × (count c < limit)))

@@ -9,3 +9,6 @@ pub mod Evaluation
 pub mod Terms
 pub mod Turns
 pub mod Nesting
+pub mod Numbers
+pub mod Good
+pub mod MadeGood

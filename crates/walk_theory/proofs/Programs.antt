@@ -19,7 +19,7 @@ use Rattle.walk_theory.proofs.Halts.{stops_near}
 use Rattle.walk_theory.proofs.Ends.{ends}
 
 -- each list stands where it is
-all_stand : {A : Type 0} (is pre : List (Line A)) → Stands (pre ++ is) (length pre) is
+pub all_stand : {A : Type 0} (is pre : List (Line A)) → Stands (pre ++ is) (length pre) is
 all_stand [] pre = tt
 all_stand (i ∷ is) pre =
     let within : length pre < length (pre ++ i ∷ is) = omega (arith, length-append pre (i ∷ is)) in

@@ -11,3 +11,4 @@ pub mod Evaluation
 pub mod Terms
 pub mod Turns
 pub mod Nesting
+pub mod Good

@@ -1,8 +1,7 @@
 -- What is left to do before the next count or ask: a number that falls with each step.
-use Rattle.std.specs.Prelude.{ℕ, ◌+◌, ◌<◌, ◌≡◌, ◌⊎◌, List, [], ◌∷◌}
-use Rattle.trace_theory.specs.Machines.{Move, goes, asks, over}
+use Rattle.std.specs.Prelude.{ℕ, ◌+◌, List, [], ◌∷◌}
 use Rattle.walk_theory.specs.Syntax.{Parts, end_parts, value, act, enter, either, Branches, otherwise, branch}
-use Rattle.walk_theory.specs.Walks.{Task, run, eval, tally, decide, pick, again, turn, back, Config}
+use Rattle.walk_theory.specs.Walks.{Task, run, eval, tally, decide, pick, again, turn, back}
 
 -- of parts
 abbrev pub parts_weight : {A : Type 0} → Parts A → ℕ
@@ -32,9 +31,3 @@ task_weight back w = 1 + w
 abbrev pub weight : {A : Type 0} → List (Task A) → ℕ
 weight [] = 0
 weight (t ∷ ts) = task_weight t (weight ts)
-
--- after a move that asks nothing, less is left, or one more is counted below the limit
-abbrev pub Falls : {A C Q R : Type 0} → ℕ → ℕ → ℕ → Move (Config A C) Q R → Type 0
-Falls limit count w (goes d) = ((d.count ≡ count) × (weight d.tasks < w)) ⊎ ((d.count ≡ count + 1) × (count < limit))
-Falls limit count w (asks a l k) = Unit {0}
-Falls limit count w over = Unit {0}

@@ -1,8 +1,11 @@
 //! Flat code.
 
-ghost use Rattle.std.specs.Prelude.{◌≡◌, ℕ, List, length};
+ghost use Rattle.std.specs.Prelude.{◌≡◌, ◌<◌, ℕ, List, length};
+ghost use Rattle.trace_theory.specs.Machines.{Ends, Falls};
 ghost use Rattle.walk_theory.specs.Language.{Language};
 ghost use Rattle.walk_theory.specs.Syntax.{Steps};
+ghost use Rattle.walk_theory.specs.Code.{Line, State, code_step};
+ghost use Rattle.walk_theory.specs.Good.{IsGood, IsShallow, rest};
 ghost use Rattle.walk_theory.specs.Made.{Places, steps_code, steps_size, program_code};
 ghost use Rattle.walk_theory.specs.Programs.{HasWalksOf};
 ghost use Rattle.walk_theory.specs.Wide.{Wides, Placed, Unfolds, Covers, HasWideWalksOf};
@@ -20,6 +23,24 @@ pub fn law_steps_long<S: Spoken>()
 pub fn law_has_walks<S: Spoken>()
     ensures { (last : S.Act) (bodies : List (Steps S.Act)) (line : ℕ) (first : S.Core)
         → HasWalksOf S.language S.answers last bodies line S.limit first (program_code last line bodies) }
+{}
+
+/// The code of a program is good: each of its jumps goes on, or to a count.
+pub fn law_made_code_is_good<S: Spoken>()
+    ensures { (last : S.Act) (line : ℕ) (bodies : List (Steps S.Act)) → IsGood (program_code last line bodies) }
+{}
+
+/// In good code, after a step that asks nothing, less is left to do before the next count, or one more is counted below the limit.
+pub fn law_code_falls<S: Spoken>()
+    ensures { (code : List (Line S.Act)) (deepest : ℕ) → ((c : S.Core) → S.language.frames c < deepest) → IsGood code → (d : State S.Core)
+        → IsShallow deepest d
+        → Falls (IsShallow deepest) (λ (e : State S.Core). e.count) (rest code deepest) S.limit d (code_step S.language code S.limit d) }
+{}
+
+/// Each state of good code comes to an ask or ends.
+pub fn law_good_code_ends<S: Spoken>()
+    ensures { (code : List (Line S.Act)) (deepest : ℕ) → ((c : S.Core) → S.language.frames c < deepest) → IsGood code → (d : State S.Core)
+        → IsShallow deepest d → Ends (code_step S.language code S.limit) d }
 {}
 
 /// A language with wide steps: what they do, and what is kept of a core while the steps that one stands for are done.
