@@ -42,6 +42,7 @@ module _ {A : Type 0} (code : List (Line A)) (starts : ℕ → ℕ) where
   Does xs p [] (back ∷ ts) = ⊥
   Does xs p (r ∷ rs) (back ∷ ts) = (xs ≡ []) × (l : ℕ) × (slice_get code p ≡ Some (on l go_back)) × (ys : List Places) × Does ys r rs ts
 
+  -- The configuration and the state stand alike: the code does what is left to do, and core and count are the same.
   pub record Alike {C : Type 0} (c : Config A C) (d : State C) : Type 0 where
     pub loops : List Places
     pub does : Does loops d.at d.returns c.tasks

@@ -3,7 +3,7 @@ use Rattle.std.specs.Prelude.{ℕ, zero, suc, ◌+◌, List, [], ◌∷◌, ◌+
 use Rattle.walk_theory.specs.Syntax.{Parts, end_parts, value, act, enter, either, Form, simple, choose, loop, around, exit, cycle, return, Branches, otherwise, branch, Steps, stop, also}
 use Rattle.walk_theory.specs.Code.{Instr, does_act, count_one, jump, jump_if, jump_unless, skip, skip_unless, call, go_back, Line, on}
 
--- how many steps of code it makes
+-- how many steps of code parts make
 abbrev pub parts_size : {A : Type 0} → Parts A → ℕ
 parts_size end_parts = 0
 parts_size (value p q) = parts_size p + parts_size q
@@ -11,6 +11,7 @@ parts_size (act a q) = 1 + parts_size q
 parts_size (enter k q) = 1 + parts_size q
 parts_size (either a b q) = 1 + parts_size a + 1 + parts_size b + parts_size q
 
+-- how many steps a block, a form of statement and a choice make
 abbrev mutual
   pub steps_size : {A : Type 0} → Steps A → ℕ
   steps_size stop = 0

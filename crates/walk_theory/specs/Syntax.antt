@@ -9,7 +9,9 @@ pub data Parts (A : Type 0) : Type 0 where
   enter : ℕ → Parts A → Parts A  -- runs the body of a procedure, and goes on
   either : Parts A → Parts A → Parts A → Parts A  -- takes a truth value, does the one or the other, and goes on
 
+-- forms of statements, choices and blocks
 mutual
+  -- a form of statement
   pub data Form (A : Type 0) : Type 0 where
     simple : Parts A → Form A
     choose : Parts A → Branches A → Form A
