@@ -9,3 +9,6 @@ pub mod Simulations
 pub mod Back
 pub mod Fronts
 pub mod Stops
+pub mod Equivalence
+pub mod Overlay
+pub mod Ending

@@ -49,3 +49,15 @@ module _ (C A R : Type 0) (step : C → Move C A R) where
   -- a machine that stands at its ask hears the reply and goes on
   pub walk_to_more : (c d e : C) (es : List (Said A R)) (s : Said A R) (k : R → C) → WalkTo step c es d → step d ≡ asks s.ask s.line k → (n : ℕ) → go step n (k s.reply) ≡ goes e → WalkTo step c (es ++ s ∷ []) e
   walk_to_more c d e es s k (m, w, n, h) at j g = (k s.reply, walk_more c m es s k w (comes_later n m d s.ask s.line k h at), j, g)
+
+  -- steps that ask nothing before a walk
+  pub walk_to_later : (n : ℕ) (c d e : C) (es : List (Said A R)) → go step n c ≡ goes d → WalkTo step d es e → WalkTo step c es e
+  walk_to_later n c d e [] p (m, w, k, q) = (c, refl, n + k, go_more n k c ∙ ap (λ v. goes_on v (go step k)) p ∙ ap (go step k) (sym w) ∙ q)
+  walk_to_later n c d e (s ∷ es) p (m, (k, comes, w), j, at) =
+      (m, (k, (n + comes.0, go_more n comes.0 c ∙ ap (λ v. goes_on v (go step comes.0)) p ∙ comes.1), w), j, at)
+
+  -- one walk after another
+  pub walk_to_join : (c d e : C) (es fs : List (Said A R)) → WalkTo step c es d → WalkTo step d fs e → WalkTo step c (es ++ fs) e
+  walk_to_join c d e [] fs (m, w, n, p) v = walk_to_later n c d e fs (ap (go step n) (sym w) ∙ p) v
+  walk_to_join c d e (s ∷ es) fs (m, (k, comes, w), j, at) v =
+      let r = walk_to_join (k s.reply) d e es fs (m, w, j, at) v in (r.0, (k, comes, r.1), r.2, r.3)

@@ -10,12 +10,12 @@ use Rattle.trace_theory.proofs.Back.{same_over, simulated_back}
 goes_same : {C A R : Type 0} (m : Move C A R) (c d : C) → m ≡ goes c → m ≡ goes d → c ≡ d
 goes_same m c d p q = cc
 
-not_goes : {C A R : Type 0} (m : Move C A R) (f : C → Move C A R) (d : C) → Stops m → goes_on m f ≡ goes d → ⊥
+pub not_goes : {C A R : Type 0} (m : Move C A R) (f : C → Move C A R) (d : C) → Stops m → goes_on m f ≡ goes d → ⊥
 not_goes (goes c) f d s h = s
 not_goes (asks a l k) f d s h = cc
 not_goes over f d s h = cc
 
-same_stop_stops : {C D A R : Type 0} (m : Move C A R) (v : Move D A R) → SameStop m v → Stops v
+pub same_stop_stops : {C D A R : Type 0} (m : Move C A R) (v : Move D A R) → SameStop m v → Stops v
 same_stop_stops (goes c) v s = absurd s
 same_stop_stops (asks a l j) v s = rw s.1 tt
 same_stop_stops over v s = rw s tt

@@ -3,3 +3,4 @@ pub mod Runs
 pub mod Merging
 pub mod Machines
 pub mod Simulations
+pub mod Equivalence

@@ -1,5 +1,5 @@
 -- A machine that goes by small steps and asks: its configurations C, asks A and replies R.
-use Rattle.std.specs.Prelude.{ℕ, zero, suc, ◌≡◌, List, [], ◌∷◌}
+use Rattle.std.specs.Prelude.{ℕ, zero, suc, ◌+◌, ◌<◌, ◌≡◌, ◌⊎◌, List, [], ◌∷◌}
 
 -- what a configuration does next: it goes on, asks at a line and waits for the reply, or is over
 pub data Move (C A R : Type 0) : Type 0 where
@@ -51,3 +51,13 @@ Stops over = Unit {0}
 -- the configuration comes to an ask or ends
 abbrev pub Ends : {C A R : Type 0} → (C → Move C A R) → C → Type 0
 Ends step c = (n : ℕ) × Stops (go step n c)
+
+-- after a step from c that asks nothing all is still well, and either less is left to do or one more is counted below the limit
+abbrev pub Falls : {C A R : Type 0} → (Well : C → Type 0) → (count rest : C → ℕ) → (limit : ℕ) → C → Move C A R → Type 0
+Falls Well count rest limit c (goes d) = Well d × (((count d ≡ count c) × (rest d < rest c)) ⊎ ((count d ≡ count c + 1) × (count c < limit)))
+Falls Well count rest limit c (asks a l k) = Unit {0}
+Falls Well count rest limit c over = Unit {0}
+
+-- at d all is well, and less is left to do than at c or more is counted
+abbrev pub Onward : {C : Type 0} → (Well : C → Type 0) → (count rest : C → ℕ) → (limit : ℕ) → C → C → Type 0
+Onward Well count rest limit c d = Well d × (((count d ≡ count c) × (rest d < rest c)) ⊎ ((count c < count d) × (count c < limit)))

@@ -13,10 +13,12 @@ pub fn law_merges_start<E: Entries>()
 
 /// A merge goes on by the least of the first entries, and by the one of the least image where their stamps are the same.
 pub fn law_merges_more<E: Entries>()
-    ensures { (events rest rest' : ℕ → List E.Entry) (out : List E.Entry) (e : E.Entry) → Merges E.image E.stamp events rest out → Takes E.image E.stamp rest rest' e → Merges E.image E.stamp events rest' (out ++ e ∷ []) }
+    ensures { (events rest rest' : ℕ → List E.Entry) (out : List E.Entry) (e : E.Entry) → Merges E.image E.stamp events rest out
+        → Takes E.image E.stamp rest rest' e → Merges E.image E.stamp events rest' (out ++ e ∷ []) }
 {}
 
 /// Where nothing is left, what was taken has each image's list.
 pub fn law_merges_all<E: Entries>()
-    ensures { (events rest : ℕ → List E.Entry) (out : List E.Entry) → Merges E.image E.stamp events rest out → ((i : ℕ) → rest i ≡ []) → (i : ℕ) → of E.image i out ≡ events i }
+    ensures { (events rest : ℕ → List E.Entry) (out : List E.Entry) → Merges E.image E.stamp events rest out → ((i : ℕ) → rest i ≡ [])
+        → (i : ℕ) → of E.image i out ≡ events i }
 {}

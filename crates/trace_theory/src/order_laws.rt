@@ -21,5 +21,6 @@ pub fn law_same_order<E: Entries>()
 
 /// There is one trace of the images' lists: two lists in the order of a trace with the same entries of each image are equal.
 pub fn law_one_trace<E: Entries>()
-    ensures { (xs ys : List E.Entry) → IsTraceOrder E.image E.stamp xs → IsTraceOrder E.image E.stamp ys → ((i : ℕ) → of E.image i xs ≡ of E.image i ys) → xs ≡ ys }
+    ensures { (xs ys : List E.Entry) → IsTraceOrder E.image E.stamp xs → IsTraceOrder E.image E.stamp ys
+        → ((i : ℕ) → of E.image i xs ≡ of E.image i ys) → xs ≡ ys }
 {}

@@ -1,0 +1,14 @@
+pub mod Places
+pub mod Leaving
+pub mod Simulation
+pub mod Ends
+pub mod Halts
+pub mod Programs
+pub mod Wide
+pub mod Evaluation
+pub mod Terms
+pub mod Turns
+pub mod Nesting
+pub mod Numbers
+pub mod Good
+pub mod MadeGood
