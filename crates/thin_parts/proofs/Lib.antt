@@ -1,0 +1,3 @@
+pub mod ThinCells
+pub mod ThinRounds
+pub mod ThinSteps

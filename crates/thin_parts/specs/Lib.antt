@@ -1,0 +1,3 @@
+pub mod ThinBoard
+pub mod ThinMemory
+pub mod ThinWalk
