@@ -5,4 +5,5 @@
 //! read whole, or the cause is told; bytes are written whole, or a proper front of them and the cause is told.
 #![tactic(auto)]
 
+pub mod reading;
 pub mod writing;
