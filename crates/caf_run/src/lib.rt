@@ -6,4 +6,5 @@
 #![tactic(auto)]
 
 pub mod reading;
+pub mod words;
 pub mod writing;
