@@ -1,5 +1,5 @@
 -- Tests, options and runs of bytes.
-use Rattle.std.proofs.Common.{◌≡◌, refl, sym, ◌∙◌, ap, subst, rules, arith, ℕ, zero, suc, ◌+◌, ◌<◌, ◌≤◌, Bool, true, false, cond, List, [], ◌∷◌, ◌++◌, length, take, drop, Option, Some, None, option_map, option_and_then, ◌&&◌, ◌⊎◌, inl, inr, one-add, not}
+use Rattle.std.proofs.Common.{◌≡◌, refl, sym, ◌∙◌, ap, subst, ℕ, zero, suc, ◌+◌, Bool, true, false, cond, List, [], ◌∷◌, ◌++◌, take, drop, Option, Some, None, option_map, option_and_then, ◌&&◌, ◌⊎◌, inl, inr, one-add}
 use Rattle.std.specs.List.{list_all, prefix_len}
 use Rattle.fortran_reader.specs.Cutting.{when, chosen, several}
 
@@ -68,12 +68,14 @@ behind_over p (x ∷ xs) ys h s =
 pub prefix_passes : (p : ℕ → Bool) (xs : List ℕ) → list_all p (take (prefix_len p xs) xs) ≡ true
 prefix_passes p [] = refl
 prefix_passes p (x ∷ xs) = elim (bool_cases (p x)) [
-    inl t ↦ ap (λ b. list_all p (take (cond b (1 + prefix_len p xs) 0) (x ∷ xs))) t ∙ (ap (λ n. list_all p (take n (x ∷ xs))) (one-add (prefix_len p xs)) ∙ (ap (λ b. b && list_all p (take (prefix_len p xs) xs)) t ∙ prefix_passes p xs))
-  | inr f ↦ ap (λ b. list_all p (take (cond b (1 + prefix_len p xs) 0) (x ∷ xs))) f ]
+  | inl t ↦ ap (λ b. list_all p (take (cond b (1 + prefix_len p xs) 0) (x ∷ xs))) t ∙ (ap (λ n. list_all p (take n (x ∷ xs))) (one-add (prefix_len p xs)) ∙ (ap (λ b. b && list_all p (take (prefix_len p xs) xs)) t ∙ prefix_passes p xs))
+  | inr f ↦ ap (λ b. list_all p (take (cond b (1 + prefix_len p xs) 0) (x ∷ xs))) f
+]
 
 -- and what stands behind them doesn't begin with one
 pub behind_stops : (p : ℕ → Bool) (xs : List ℕ) → Stops p (drop (prefix_len p xs) xs)
 behind_stops p [] = tt
 behind_stops p (x ∷ xs) = elim (bool_cases (p x)) [
-    inl t ↦ subst (λ n. Stops p (drop n (x ∷ xs))) (sym (ap (λ b. cond b (1 + prefix_len p xs) 0) t ∙ one-add (prefix_len p xs))) (behind_stops p xs)
-  | inr f ↦ subst (λ n. Stops p (drop n (x ∷ xs))) (sym (ap (λ b. cond b (1 + prefix_len p xs) 0) f)) f ]
+  | inl t ↦ subst (λ n. Stops p (drop n (x ∷ xs))) (sym (ap (λ b. cond b (1 + prefix_len p xs) 0) t ∙ one-add (prefix_len p xs))) (behind_stops p xs)
+  | inr f ↦ subst (λ n. Stops p (drop n (x ∷ xs))) (sym (ap (λ b. cond b (1 + prefix_len p xs) 0) f)) f
+]

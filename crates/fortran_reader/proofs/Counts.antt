@@ -1,5 +1,5 @@
 -- A short file has few terms and statements: a token takes a byte, and a line but the last one more.
-use Rattle.std.proofs.Common.{◌≡◌, refl, sym, ◌∙◌, ap, subst, rules, arith, ℕ, zero, suc, ◌+◌, ◌-◌, ◌*◌, ◌<◌, ◌≤◌, ◌==◌, Bool, true, false, cond, if◌then◌else◌, List, [], ◌∷◌, ◌++◌, length, take, slice_index, ◌⊎◌, inl, inr, length-append, length-take-le}
+use Rattle.std.proofs.Common.{◌≡◌, refl, sym, ap, subst, arith, ℕ, zero, suc, ◌+◌, ◌-◌, ◌*◌, ◌<◌, ◌≤◌, ◌==◌, Bool, true, false, cond, if◌then◌else◌, List, [], ◌∷◌, ◌++◌, length, take, slice_index, inl, inr, length-append}
 use Rattle.std.specs.List.{slice_split, onto_first}
 use Rattle.std.specs.Str.Lines.{lines, lines_of_parts, strip_carriage_return}
 use Rattle.caf_base.specs.Thin.{addend_counts, act_counts, form_counts, statement_counts, counts}
@@ -14,7 +14,6 @@ use Rattle.caf_base.specs.declared.thin.ThinSum.{ThinSum}
 use Rattle.caf_base.specs.declared.thin.ThinAddend.{ThinAddend}
 use Rattle.caf_base.specs.declared.thin.ThinTerm.{ThinTerm}
 use Rattle.caf_base.specs.declared.thin.ThinTerm.TheVariants as terms
-use Rattle.fortran_reader.specs.Tokens.{Lies}
 use Rattle.fortran_reader.specs.Reads.{Lay, statement_rows, end_row, Reads}
 use Rattle.fortran_reader.specs.Statements.{term_tokens, addend_tokens, sum_tokens, act_tokens, form_tokens}
 use Rattle.fortran_reader.specs.declared.line.Row.{Row}
@@ -51,11 +50,12 @@ lay_small n (l ∷ ls) rows (inr lay) =
 parts_size : (bytes : List ℕ) → line_size (slice_split (λ b. b == 10) bytes) ≡ length bytes + 1
 parts_size [] = refl
 parts_size (b ∷ bytes) = elim (bool_cases (b == 10)) [
-    inl t ↦ (let e : line_size (slice_split (λ b. b == 10) (b ∷ bytes)) ≡ line_size ([] ∷ slice_split (λ b. b == 10) bytes) = ap (λ t. line_size (cond t ([] ∷ slice_split (λ b. b == 10) bytes) (onto_first b (slice_split (λ b. b == 10) bytes)))) t in
+  | inl t ↦ (let e : line_size (slice_split (λ b. b == 10) (b ∷ bytes)) ≡ line_size ([] ∷ slice_split (λ b. b == 10) bytes) = ap (λ t. line_size (cond t ([] ∷ slice_split (λ b. b == 10) bytes) (onto_first b (slice_split (λ b. b == 10) bytes)))) t in
       let more : line_size (slice_split (λ b. b == 10) bytes) ≡ length bytes + 1 = parts_size bytes in omega arith)
   | inr f ↦ (let e : line_size (slice_split (λ b. b == 10) (b ∷ bytes)) ≡ line_size (onto_first b (slice_split (λ b. b == 10) bytes)) = ap (λ t. line_size (cond t ([] ∷ slice_split (λ b. b == 10) bytes) (onto_first b (slice_split (λ b. b == 10) bytes)))) f in
       let more : line_size (slice_split (λ b. b == 10) bytes) ≡ length bytes + 1 = parts_size bytes in
-      let first : line_size (onto_first b (slice_split (λ b. b == 10) bytes)) ≡ line_size (slice_split (λ b. b == 10) bytes) + 1 = onto_size b (slice_split (λ b. b == 10) bytes) (omega arith) in omega arith) ] where
+      let first : line_size (onto_first b (slice_split (λ b. b == 10) bytes)) ≡ line_size (slice_split (λ b. b == 10) bytes) + 1 = onto_size b (slice_split (λ b. b == 10) bytes) (omega arith) in omega arith)
+] where
   onto_size : (b : ℕ) (parts : List (List ℕ)) → 0 < line_size parts → line_size (onto_first b parts) ≡ line_size parts + 1
   onto_size b [] some = absurd (omega arith)
   onto_size b (part ∷ parts) some = omega arith
@@ -129,5 +129,5 @@ few_counts bytes p reads short =
     let parts : line_size (slice_split (λ b. b == 10) bytes) ≡ length bytes + 1 = parts_size bytes in
     let counted : 4 * statement_counts p.statements ≤ 13 * row_size (statement_rows p.declared p.statements) = statements_small p.declared p.statements in
     joined (statement_counts p.statements) (row_size reads.heads) (row_size (statement_rows p.declared p.statements)) (row_size (end_row p.end_line ∷ [])) (length bytes) (omega arith) counted short where
-  joined : (c h s e n : ℕ) → h + s + e ≤ n + 1 → 4 * c ≤ 13 * s → n ≤ 65536 → c + 8 ≤ 262000
-  joined c h s e n all counted short = omega arith
+      joined : (c h s e n : ℕ) → h + s + e ≤ n + 1 → 4 * c ≤ 13 * s → n ≤ 65536 → c + 8 ≤ 262000
+      joined c h s e n all counted short = omega arith

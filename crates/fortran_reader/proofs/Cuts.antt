@@ -1,5 +1,5 @@
 -- A line is cut into tokens in the one way in which they lie in it.
-use Rattle.std.proofs.Common.{◌≡◌, refl, sym, ◌∙◌, ap, subst, rules, arith, ℕ, zero, suc, ◌+◌, ◌<◌, ◌≤◌, ◌==◌, nat_le, Bool, true, false, cond, List, [], ◌∷◌, ◌++◌, length, take, drop, Option, Some, None, option_map, option_and_then, ◌&&◌, ◌||◌, ◌⊎◌, inl, inr, one-add, append_assoc, append-nil, take-append-drop, length-append, codes, bytes_eq}
+use Rattle.std.proofs.Common.{◌≡◌, refl, sym, ◌∙◌, ap, subst, arith, ℕ, zero, suc, ◌+◌, ◌<◌, ◌≤◌, ◌==◌, nat_le, Bool, true, false, cond, List, [], ◌∷◌, ◌++◌, length, take, drop, Option, Some, None, option_map, option_and_then, ◌||◌, inl, inr, one-add, append-nil, take-append-drop, length-append, codes, bytes_eq}
 use Rattle.std.proofs.lemmas.Bool.Decides.{nat_tests}
 use Rattle.std.proofs.lemmas.Slice.Eq.{bytes_eq-Decides}
 use Rattle.std.specs.List.{list_all, prefix_len}
@@ -11,7 +11,7 @@ use Rattle.fortran_reader.specs.declared.token.Mark.{Mark}
 use Rattle.fortran_reader.specs.declared.token.Mark.TheVariants as mark
 use Rattle.fortran_reader.specs.declared.token.Token.{Token}
 use Rattle.fortran_reader.specs.declared.token.Token.TheVariants.{Fixed, Name, Number}
-use Rattle.fortran_reader.proofs.Basics.{bool_cases, both_true, mapped_some, then_some, chosen_some, when_some, cond_some, several_some, Stops, front_over, behind_over, prefix_passes, behind_stops}
+use Rattle.fortran_reader.proofs.Basics.{both_true, mapped_some, then_some, chosen_some, when_some, cond_some, Stops, front_over, behind_over, prefix_passes, behind_stops}
 
 -- equal bytes
 bytes_same : (xs ys : List ℕ) → bytes_eq xs ys ≡ true → xs ≡ ys
@@ -41,13 +41,31 @@ keyword_is w text k m h e spelled ends = subst (λ j. (w ≡ spelling j) × ((c 
 
 keyword_sound : (w : List ℕ) (m : Mark) → keyword_of w ≡ Some m → IsKeyword w m
 keyword_sound w m e0 =
-    elim (cond_some (bytes_eq w (codes "integer")) _ _ _ e0) [ inl h ↦ keyword_is w _ mark.Integer m h.0 h.1 refl (λ c s. s) | inr e1 ↦
-    elim (cond_some (bytes_eq w (codes "sync")) _ _ _ e1.1) [ inl h ↦ keyword_is w _ mark.Sync m h.0 h.1 refl (λ c s. s) | inr e2 ↦
-    elim (cond_some (bytes_eq w (codes "all")) _ _ _ e2.1) [ inl h ↦ keyword_is w _ mark.All m h.0 h.1 refl (λ c s. s) | inr e3 ↦
-    elim (cond_some (bytes_eq w (codes "if")) _ _ _ e3.1) [ inl h ↦ keyword_is w _ mark.If m h.0 h.1 refl (λ c s. s) | inr e4 ↦
-    elim (cond_some (bytes_eq w (codes "print")) _ _ _ e4.1) [ inl h ↦ keyword_is w _ mark.Print m h.0 h.1 refl (λ c s. s) | inr e5 ↦
-    elim (cond_some (bytes_eq w (codes "end")) _ _ _ e5.1) [ inl h ↦ keyword_is w _ mark.End m h.0 h.1 refl (λ c s. s) | inr e6 ↦
-    elim (cond_some (bytes_eq w (codes "this_image")) _ _ _ e6.1) [ inl h ↦ keyword_is w _ mark.ThisImage m h.0 h.1 refl (λ c s. s) | inr e7 ↦ (let none : None ≡ Some m = e7.1 in cc) ] ] ] ] ] ] ]
+    elim (cond_some (bytes_eq w (codes "integer")) _ _ _ e0) [
+      | inl h ↦ keyword_is w _ mark.Integer m h.0 h.1 refl (λ c s. s)
+      | inr e1 ↦
+          elim (cond_some (bytes_eq w (codes "sync")) _ _ _ e1.1) [
+            | inl h ↦ keyword_is w _ mark.Sync m h.0 h.1 refl (λ c s. s)
+            | inr e2 ↦
+                elim (cond_some (bytes_eq w (codes "all")) _ _ _ e2.1) [
+                  | inl h ↦ keyword_is w _ mark.All m h.0 h.1 refl (λ c s. s)
+                  | inr e3 ↦
+                      elim (cond_some (bytes_eq w (codes "if")) _ _ _ e3.1) [
+                        | inl h ↦ keyword_is w _ mark.If m h.0 h.1 refl (λ c s. s)
+                        | inr e4 ↦
+                            elim (cond_some (bytes_eq w (codes "print")) _ _ _ e4.1) [
+                              | inl h ↦ keyword_is w _ mark.Print m h.0 h.1 refl (λ c s. s)
+                              | inr e5 ↦
+                                  elim (cond_some (bytes_eq w (codes "end")) _ _ _ e5.1) [
+                                    | inl h ↦ keyword_is w _ mark.End m h.0 h.1 refl (λ c s. s)
+                                    | inr e6 ↦
+                                        elim (cond_some (bytes_eq w (codes "this_image")) _ _ _ e6.1) [ inl h ↦ keyword_is w _ mark.ThisImage m h.0 h.1 refl (λ c s. s) | inr e7 ↦ (let none : None ≡ Some m = e7.1 in cc) ]
+                                  ]
+                            ]
+                      ]
+                ]
+          ]
+    ]
 
 -- a word that spells no keyword is spelled as no mark is
 free_of : (w : List ℕ) → begins_word w ≡ true → keyword_of w ≡ None → (m : Mark) → w ≡ spelling m → ⊥
@@ -77,15 +95,17 @@ word_token_sound : (w : List ℕ) (t : Token) → begins_word w ≡ true → lis
 unfolding IsKeyword
 word_token_sound w t letter word e =
     elim (chosen_some (keyword_of w) (λ m. Some (Fixed m)) (when (nat_le (length w) 63) (Name w)) t e) [
-      inl h ↦ (let known : IsKeyword w h.0 = keyword_sound w h.0 h.1 in let same : Fixed h.0 ≡ t = some_same _ _ h.2 in
-        subst (λ t. Spells t w × ((c : ℕ) → is_word_byte c ≡ false → goes_on t c ≡ false)) same known)
-    | inr h ↦ (let is = when_some (nat_le (length w) 63) (Name w) t h.1 in
-        subst (λ t. Spells t w × ((c : ℕ) → is_word_byte c ≡ false → goes_on t c ≡ false)) is.1
-        ((refl, record { letter = letter; word = word; short = le_from (length w) is.0; free = free_of w letter h.0 }), (λ c s. s))) ] where
-  some_same : (x y : Token) → Some x ≡ Some y → x ≡ y
-  some_same x y h = cc
-  le_from : (n : ℕ) → nat_le n 63 ≡ true → n ≤ 63
-  le_from n h = grind (arith, nat_tests)
+      | inl h ↦ (let known : IsKeyword w h.0 = keyword_sound w h.0 h.1 in let same : Fixed h.0 ≡ t = some_same _ _ h.2 in
+          subst (λ t. Spells t w × ((c : ℕ) → is_word_byte c ≡ false → goes_on t c ≡ false)) same known)
+      | inr h ↦ (let is = when_some (nat_le (length w) 63) (Name w) t h.1 in
+          subst (λ t. Spells t w × ((c : ℕ) → is_word_byte c ≡ false → goes_on t c ≡ false)) is.1
+          ((refl, record { letter = letter; word = word; short = le_from (length w) is.0; free = free_of w letter h.0 }), (λ c s. s)))
+    ] where
+      some_same : (x y : Token) → Some x ≡ Some y → x ≡ y
+      some_same x y h = cc
+
+      le_from : (n : ℕ) → nat_le n 63 ≡ true → n ≤ 63
+      le_from n h = grind (arith, nat_tests)
 
 letter_word : (c : ℕ) → is_letter c ≡ true → is_word_byte c ≡ true
 letter_word c h = ap (λ b. (b || is_digit c) || (c == 95)) h
@@ -139,8 +159,8 @@ number_sound c cs q h e =
       spells = record { some = digits_some c cs h; digit = prefix_passes is_digit (c ∷ cs); value = v.1; low = subst (λ k. k ≤ 2147483647) v.1 (le_from _ v.0) };
       ends = ends_at (Number m.0) is_digit (drop (prefix_len is_digit (c ∷ cs)) (c ∷ cs)) (λ d s. s) (behind_stops is_digit (c ∷ cs));
     }) where
-  le_from : (n : ℕ) → nat_le n 2147483647 ≡ true → n ≤ 2147483647
-  le_from n h = grind (arith, nat_tests)
+      le_from : (n : ℕ) → nat_le n 2147483647 ≡ true → n ≤ 2147483647
+      le_from n h = grind (arith, nat_tests)
 
 -- a byte in front
 behind_sound : (b : ℕ) (cs r : List ℕ) → behind_byte b cs ≡ Some r → cs ≡ b ∷ r
@@ -166,42 +186,72 @@ single_is c b cs k m h e spelled ends = subst (λ j. (c ∷ [] ≡ spelling j) �
 
 single_sound : (c : ℕ) (cs : List ℕ) (m : Mark) → ((c ≡ 61) → Stops (λ x. x == 61) cs) → single_of c ≡ Some m → IsSingle c cs m
 single_sound c cs m lone e0 =
-    elim (cond_some (c == 61) _ _ _ e0) [ inl h ↦ single_is c 61 cs mark.Equals m h.0 h.1 refl (λ e. ends_at (Fixed mark.Equals) (λ x. x == 61) cs (λ d s. s) (lone e)) | inr e1 ↦
-    elim (cond_some (c == 43) _ _ _ e1.1) [ inl h ↦ single_is c 43 cs mark.Plus m h.0 h.1 refl (λ e. ends_always (Fixed mark.Plus) cs (λ d. refl)) | inr e2 ↦
-    elim (cond_some (c == 45) _ _ _ e2.1) [ inl h ↦ single_is c 45 cs mark.Minus m h.0 h.1 refl (λ e. ends_always (Fixed mark.Minus) cs (λ d. refl)) | inr e3 ↦
-    elim (cond_some (c == 42) _ _ _ e3.1) [ inl h ↦ single_is c 42 cs mark.Star m h.0 h.1 refl (λ e. ends_always (Fixed mark.Star) cs (λ d. refl)) | inr e4 ↦
-    elim (cond_some (c == 44) _ _ _ e4.1) [ inl h ↦ single_is c 44 cs mark.Comma m h.0 h.1 refl (λ e. ends_always (Fixed mark.Comma) cs (λ d. refl)) | inr e5 ↦
-    elim (cond_some (c == 40) _ _ _ e5.1) [ inl h ↦ single_is c 40 cs mark.Open m h.0 h.1 refl (λ e. ends_always (Fixed mark.Open) cs (λ d. refl)) | inr e6 ↦
-    elim (cond_some (c == 41) _ _ _ e6.1) [ inl h ↦ single_is c 41 cs mark.Close m h.0 h.1 refl (λ e. ends_always (Fixed mark.Close) cs (λ d. refl)) | inr e7 ↦
-    elim (cond_some (c == 91) _ _ _ e7.1) [ inl h ↦ single_is c 91 cs mark.OpenBracket m h.0 h.1 refl (λ e. ends_always (Fixed mark.OpenBracket) cs (λ d. refl)) | inr e8 ↦
-    elim (cond_some (c == 93) _ _ _ e8.1) [ inl h ↦ single_is c 93 cs mark.CloseBracket m h.0 h.1 refl (λ e. ends_always (Fixed mark.CloseBracket) cs (λ d. refl)) | inr e9 ↦ (let none : None ≡ Some m = e9.1 in cc) ] ] ] ] ] ] ] ] ]
+    elim (cond_some (c == 61) _ _ _ e0) [
+      | inl h ↦ single_is c 61 cs mark.Equals m h.0 h.1 refl (λ e. ends_at (Fixed mark.Equals) (λ x. x == 61) cs (λ d s. s) (lone e))
+      | inr e1 ↦
+          elim (cond_some (c == 43) _ _ _ e1.1) [
+            | inl h ↦ single_is c 43 cs mark.Plus m h.0 h.1 refl (λ e. ends_always (Fixed mark.Plus) cs (λ d. refl))
+            | inr e2 ↦
+                elim (cond_some (c == 45) _ _ _ e2.1) [
+                  | inl h ↦ single_is c 45 cs mark.Minus m h.0 h.1 refl (λ e. ends_always (Fixed mark.Minus) cs (λ d. refl))
+                  | inr e3 ↦
+                      elim (cond_some (c == 42) _ _ _ e3.1) [
+                        | inl h ↦ single_is c 42 cs mark.Star m h.0 h.1 refl (λ e. ends_always (Fixed mark.Star) cs (λ d. refl))
+                        | inr e4 ↦
+                            elim (cond_some (c == 44) _ _ _ e4.1) [
+                              | inl h ↦ single_is c 44 cs mark.Comma m h.0 h.1 refl (λ e. ends_always (Fixed mark.Comma) cs (λ d. refl))
+                              | inr e5 ↦
+                                  elim (cond_some (c == 40) _ _ _ e5.1) [
+                                    | inl h ↦ single_is c 40 cs mark.Open m h.0 h.1 refl (λ e. ends_always (Fixed mark.Open) cs (λ d. refl))
+                                    | inr e6 ↦
+                                        elim (cond_some (c == 41) _ _ _ e6.1) [
+                                          | inl h ↦ single_is c 41 cs mark.Close m h.0 h.1 refl (λ e. ends_always (Fixed mark.Close) cs (λ d. refl))
+                                          | inr e7 ↦
+                                              elim (cond_some (c == 91) _ _ _ e7.1) [
+                                                | inl h ↦ single_is c 91 cs mark.OpenBracket m h.0 h.1 refl (λ e. ends_always (Fixed mark.OpenBracket) cs (λ d. refl))
+                                                | inr e8 ↦
+                                                    elim (cond_some (c == 93) _ _ _ e8.1) [ inl h ↦ single_is c 93 cs mark.CloseBracket m h.0 h.1 refl (λ e. ends_always (Fixed mark.CloseBracket) cs (λ d. refl)) | inr e9 ↦ (let none : None ≡ Some m = e9.1 in cc) ]
+                                              ]
+                                        ]
+                                  ]
+                            ]
+                      ]
+                ]
+          ]
+    ]
 
 sign_sound : (c : ℕ) (cs : List ℕ) (q : Mark × List ℕ) → sign_of c cs ≡ Some q → Fronts (c ∷ cs) (Fixed q.0, q.1)
 unfolding IsSingle
 sign_sound c cs q e =
     elim (cond_some (c == 58) _ _ _ e) [
-      inl h ↦ (let m = mapped_some (λ r. (mark.Colons, r)) (behind_byte 58 cs) q h.1 in
-        subst (λ q. Fronts (c ∷ cs) (Fixed q.0, q.1)) m.2 (record { front = codes "::"; is = ap (λ x. x ∷ cs) (nat_same c 58 h.0) ∙ ap (λ zs. 58 ∷ zs) (behind_sound 58 cs m.0 m.1); spells = refl; ends = ends_always (Fixed mark.Colons) m.0 (λ d. refl) }))
-    | inr h ↦ elim (chosen_some (cond (c == 61) (behind_byte 61 cs) None) (λ r. Some (mark.Same, r)) (option_map (λ m. (m, cs)) (single_of c)) q h.1) [
-        inl k ↦ elim (cond_some (c == 61) _ _ _ k.1) [
-            inl a ↦ subst (λ q. Fronts (c ∷ cs) (Fixed q.0, q.1)) (pair_same _ _ k.2) (record { front = codes "=="; is = ap (λ x. x ∷ cs) (nat_same c 61 a.0) ∙ ap (λ zs. 61 ∷ zs) (behind_sound 61 cs k.0 a.1); spells = refl; ends = ends_always (Fixed mark.Same) k.0 (λ d. refl) })
-          | inr a ↦ (let none : None ≡ Some k.0 = a.1 in cc) ]
-      | inr k ↦ (let m = mapped_some (λ m. (m, cs)) (single_of c) q k.1 in
-          let known : IsSingle c cs m.0 = single_sound c cs m.0 (lone c cs k.0) m.1 in
-          subst (λ q. Fronts (c ∷ cs) (Fixed q.0, q.1)) m.2 (record { front = c ∷ []; is = refl; spells = known.0; ends = known.1 })) ] ] where
-  pair_same : (x y : Mark × List ℕ) → Some x ≡ Some y → x ≡ y
-  pair_same x y h = cc
-  lone : (c : ℕ) (cs : List ℕ) → cond (c == 61) (behind_byte 61 cs) None ≡ None → c ≡ 61 → Stops (λ x. x == 61) cs
-  lone c cs h e = behind_none 61 cs (subst (λ d. cond (d == 61) (behind_byte 61 cs) None ≡ None) e h)
+      | inl h ↦ (let m = mapped_some (λ r. (mark.Colons, r)) (behind_byte 58 cs) q h.1 in
+          subst (λ q. Fronts (c ∷ cs) (Fixed q.0, q.1)) m.2 (record { front = codes "::"; is = ap (λ x. x ∷ cs) (nat_same c 58 h.0) ∙ ap (λ zs. 58 ∷ zs) (behind_sound 58 cs m.0 m.1); spells = refl; ends = ends_always (Fixed mark.Colons) m.0 (λ d. refl) }))
+      | inr h ↦ elim (chosen_some (cond (c == 61) (behind_byte 61 cs) None) (λ r. Some (mark.Same, r)) (option_map (λ m. (m, cs)) (single_of c)) q h.1) [
+        | inl k ↦ elim (cond_some (c == 61) _ _ _ k.1) [
+          | inl a ↦ subst (λ q. Fronts (c ∷ cs) (Fixed q.0, q.1)) (pair_same _ _ k.2) (record { front = codes "=="; is = ap (λ x. x ∷ cs) (nat_same c 61 a.0) ∙ ap (λ zs. 61 ∷ zs) (behind_sound 61 cs k.0 a.1); spells = refl; ends = ends_always (Fixed mark.Same) k.0 (λ d. refl) })
+          | inr a ↦ (let none : None ≡ Some k.0 = a.1 in cc)
+        ]
+        | inr k ↦ (let m = mapped_some (λ m. (m, cs)) (single_of c) q k.1 in
+            let known : IsSingle c cs m.0 = single_sound c cs m.0 (lone c cs k.0) m.1 in
+            subst (λ q. Fronts (c ∷ cs) (Fixed q.0, q.1)) m.2 (record { front = c ∷ []; is = refl; spells = known.0; ends = known.1 }))
+      ]
+    ] where
+      pair_same : (x y : Mark × List ℕ) → Some x ≡ Some y → x ≡ y
+      pair_same x y h = cc
+
+      lone : (c : ℕ) (cs : List ℕ) → cond (c == 61) (behind_byte 61 cs) None ≡ None → c ≡ 61 → Stops (λ x. x == 61) cs
+      lone c cs h e = behind_none 61 cs (subst (λ d. cond (d == 61) (behind_byte 61 cs) None ≡ None) e h)
 
 pub first_sound : (bytes : List ℕ) (q : Token × List ℕ) → first_of bytes ≡ Some q → Fronts bytes q
 first_sound [] q e = (cc)
 first_sound (c ∷ cs) q e =
     elim (cond_some (is_letter c) _ _ _ e) [
-      inl h ↦ word_sound c cs q h.0 h.1
-    | inr h ↦ elim (cond_some (is_digit c) _ _ _ h.1) [
-        inl k ↦ number_sound c cs q k.0 k.1
-      | inr k ↦ (let m = mapped_some (λ r. (Fixed r.0, r.1)) (sign_of c cs) q k.1 in subst (λ q. Fronts (c ∷ cs) q) m.2 (sign_sound c cs m.0 m.1)) ] ]
+      | inl h ↦ word_sound c cs q h.0 h.1
+      | inr h ↦ elim (cond_some (is_digit c) _ _ _ h.1) [
+        | inl k ↦ number_sound c cs q k.0 k.1
+        | inr k ↦ (let m = mapped_some (λ r. (Fixed r.0, r.1)) (sign_of c cs) q k.1 in subst (λ q. Fronts (c ∷ cs) q) m.2 (sign_sound c cs m.0 m.1))
+      ]
+    ]
 
 -- a word in front is cut off
 stops_from : (t : Token) (p : ℕ → Bool) (rest : List ℕ) → ((c : ℕ) → goes_on t c ≡ false → p c ≡ false) → Ends t rest → Stops p rest
@@ -223,13 +273,15 @@ keyword_spelled w m e = (keyword_sound w m e).0
 name_given : (w rest : List ℕ) → IsName w → Ends (Name w) rest → first_of (w ++ rest) ≡ Some (Name w, rest)
 name_given w rest is ends =
     word_given w rest (Name w) is.letter is.word (ap (λ o. chosen o (λ m. Some (Fixed m)) (when (nat_le (length w) 63) (Name w))) (no_keyword w is) ∙ ap (λ b. when b (Name w)) (le_true (length w) is.short)) (stops_from (Name w) is_word_byte rest (λ c s. s) ends) where
-  le_true : (n : ℕ) → n ≤ 63 → nat_le n 63 ≡ true
-  le_true n h = grind (arith, nat_tests)
-  from : (o : Option Mark) → ((m : Mark) → o ≡ Some m → ⊥) → o ≡ None
-  from None h = refl
-  from (Some m) h = absurd (h m refl)
-  no_keyword : (w : List ℕ) → IsName w → keyword_of w ≡ None
-  no_keyword w is = from (keyword_of w) (λ m e. is.free m (keyword_spelled w m e))
+      le_true : (n : ℕ) → n ≤ 63 → nat_le n 63 ≡ true
+      le_true n h = grind (arith, nat_tests)
+
+      from : (o : Option Mark) → ((m : Mark) → o ≡ Some m → ⊥) → o ≡ None
+      from None h = refl
+      from (Some m) h = absurd (h m refl)
+
+      no_keyword : (w : List ℕ) → IsName w → keyword_of w ≡ None
+      no_keyword w is = from (keyword_of w) (λ m e. is.free m (keyword_spelled w m e))
 
 digits_given : (ds rest : List ℕ) (n : ℕ) → IsNumber n ds → Ends (Number n) rest → first_of (ds ++ rest) ≡ Some (Number n, rest)
 digits_given [] rest n is ends = absurd (omega (arith, is.some))
@@ -242,8 +294,8 @@ digits_given (c ∷ ds) rest n is ends =
     ∙ (ap (λ behind. option_map (λ n. (Number n, behind)) (value_of (c ∷ ds))) (behind_over is_digit (c ∷ ds) rest is.digit stops)
     ∙ (ap (λ k. option_map (λ n. (Number n, rest)) (when (nat_le k 2147483647) k)) is.value
     ∙ ap (λ b. option_map (λ n. (Number n, rest)) (when b n)) (le_true n is.low))))) where
-  le_true : (n : ℕ) → n ≤ 2147483647 → nat_le n 2147483647 ≡ true
-  le_true n h = grind (arith, nat_tests)
+      le_true : (n : ℕ) → n ≤ 2147483647 → nat_le n 2147483647 ≡ true
+      le_true n h = grind (arith, nat_tests)
 
 mark_given : (m : Mark) (rest : List ℕ) → Ends (Fixed m) rest → first_of (spelling m ++ rest) ≡ Some (Fixed m, rest)
 mark_given mark.Integer rest ends = word_given (codes "integer") rest (Fixed mark.Integer) refl refl refl (stops_from (Fixed mark.Integer) is_word_byte rest (λ c s. s) ends)
@@ -333,15 +385,18 @@ cut_from (suc n) line (c ∷ cs) ts e h =
     let fronts : Fronts (c ∷ cs) three.0 = first_sound (c ∷ cs) three.0 three.1 in
     let more : Lies two.0 three.0.1 = cut_from n three.0.1 one.0.1 two.0 (ap (λ r. r.1) three.2) two.1 in
     subst (λ ts. Lies ts line) two.2
-    (subst (λ t. Lies (t ∷ two.0) line) (ap (λ r. r.0) three.2)
-    (three.0.1, record {
-      blanks = take (prefix_len is_blank line) line;
-      front = fronts.front;
-      is = sym (take-append-drop (prefix_len is_blank line) line) ∙ (ap (λ r. take (prefix_len is_blank line) line ++ r) (e ∙ fronts.is));
-      blank = prefix_passes is_blank line;
-      spells = fronts.spells;
-      ends = fronts.ends;
-    }, more))
+    (subst (λ t. Lies (t ∷ two.0) line) (ap (λ r. r.0) three.2) (
+      three.0.1,
+      record {
+        blanks = take (prefix_len is_blank line) line;
+        front = fronts.front;
+        is = sym (take-append-drop (prefix_len is_blank line) line) ∙ (ap (λ r. take (prefix_len is_blank line) line ++ r) (e ∙ fronts.is));
+        blank = prefix_passes is_blank line;
+        spells = fronts.spells;
+        ends = fronts.ends;
+      },
+      more,
+    ))
 
 pub cut_sound : (line : List ℕ) (ts : List Token) → tokens_of line ≡ Some ts → Lies ts line
 cut_sound line ts h = cut_from (length line) line (behind_blanks line) ts refl h
@@ -370,11 +425,11 @@ cut_upto (t ∷ ts) (suc n) line low lies =
     ∙ (ap (several next_of (suc n)) (solid_behind nx.blanks nx.front lies.0 nx.blank s)
     ∙ (stepped n (nx.front ++ lies.0) t lies.0 ts first
     (cut_upto ts n lies.0 (omega arith) lies.2))) where
-  stepped : (n : ℕ) (bytes : List ℕ) (t : Token) (rest : List ℕ) (ts : List Token) → first_of bytes ≡ Some (t, rest) → several next_of n (behind_blanks rest) ≡ Some ts → several next_of (suc n) bytes ≡ Some (t ∷ ts)
-  stepped n [] t rest ts e more = (cc)
-  stepped n (c ∷ cs) t rest ts e more =
-      ap (λ o. option_and_then (λ (r : Token × List ℕ). option_map (λ more. r.0 ∷ more) (several next_of n r.1)) (option_map (λ (r : Token × List ℕ). (r.0, behind_blanks r.1)) o)) e
-      ∙ ap (λ o. option_map (λ more. t ∷ more) o) more
+      stepped : (n : ℕ) (bytes : List ℕ) (t : Token) (rest : List ℕ) (ts : List Token) → first_of bytes ≡ Some (t, rest) → several next_of n (behind_blanks rest) ≡ Some ts → several next_of (suc n) bytes ≡ Some (t ∷ ts)
+      stepped n [] t rest ts e more = (cc)
+      stepped n (c ∷ cs) t rest ts e more =
+          ap (λ o. option_and_then (λ (r : Token × List ℕ). option_map (λ more. r.0 ∷ more) (several next_of n r.1)) (option_map (λ (r : Token × List ℕ). (r.0, behind_blanks r.1)) o)) e
+          ∙ ap (λ o. option_map (λ more. t ∷ more) o) more
 
 pub cut_given : (ts : List Token) (line : List ℕ) → Lies ts line → tokens_of line ≡ Some ts
 cut_given ts line lies = cut_upto ts (length line) line (few_tokens ts line lies) lies

@@ -1,5 +1,5 @@
 -- The tokens of a statement are read in the one way in which they stand for a form.
-use Rattle.std.proofs.Common.{◌≡◌, refl, sym, ◌∙◌, ap, subst, rules, arith, ℕ, zero, suc, ◌+◌, ◌<◌, ◌≤◌, ◌==◌, Bool, true, false, cond, List, [], ◌∷◌, ◌++◌, length, get_or, map, Option, Some, None, option_map, option_and_then, ◌&&◌, ◌⊎◌, inl, inr, append_assoc, append-nil, length-append, bytes_eq, add-one}
+use Rattle.std.proofs.Common.{◌≡◌, refl, sym, ◌∙◌, ap, subst, arith, ℕ, zero, suc, ◌+◌, ◌<◌, ◌≤◌, ◌==◌, Bool, true, false, cond, List, [], ◌∷◌, ◌++◌, length, get_or, Option, Some, None, option_map, option_and_then, ◌⊎◌, inl, inr, length-append, bytes_eq}
 use Rattle.std.proofs.lemmas.Bool.Decides.{nat_tests}
 use Rattle.std.proofs.lemmas.Slice.Eq.{bytes_eq-Decides}
 use Rattle.std.specs.List.{position_from}
@@ -14,14 +14,14 @@ use Rattle.caf_base.specs.declared.thin.ThinAddend.{ThinAddend}
 use Rattle.caf_base.specs.declared.thin.ThinTerm.{ThinTerm}
 use Rattle.caf_base.specs.declared.thin.ThinTerm.TheVariants as terms
 use Rattle.fortran_reader.specs.Cutting.{when, chosen, several}
-use Rattle.fortran_reader.specs.Reading.{rank, behind, behind_all, is_empty, ends_there, is_all, name_of, number_of, place_of, image_part, variable_of, named_of, term_of, sign_of, addend_of, addends_of, sum_of, declared_as, declaration_of, assignment_of, act_of, image_of, form_of}
+use Rattle.fortran_reader.specs.Reading.{rank, behind, behind_all, is_empty, ends_there, is_all, name_of, number_of, place_of, image_part, variable_of, term_of, sign_of, addend_of, addends_of, sum_of, declared_as, declaration_of, act_of, image_of, form_of}
 use Rattle.fortran_reader.specs.Reads.{AreOnce}
 use Rattle.fortran_reader.specs.Statements.{name_at, term_tokens, addend_tokens, sum_tokens, act_tokens, form_tokens, declaration_tokens}
 use Rattle.fortran_reader.specs.declared.token.Mark.{Mark}
 use Rattle.fortran_reader.specs.declared.token.Mark.TheVariants as mark
 use Rattle.fortran_reader.specs.declared.token.Token.{Token}
 use Rattle.fortran_reader.specs.declared.token.Token.TheVariants.{Fixed, Name, Number}
-use Rattle.fortran_reader.proofs.Basics.{bool_cases, both_true, mapped_some, then_some, chosen_some, when_some, cond_some}
+use Rattle.fortran_reader.proofs.Basics.{mapped_some, then_some, chosen_some, when_some, cond_some}
 
 -- each mark has its own number
 of_rank : ℕ → Mark
@@ -107,8 +107,9 @@ is_end ts h = let r = is_all_sound (mark.End ∷ []) ts h in behind_all_sound (m
 place_from_sound : (vars : List ThinVariable) (name : List ℕ) (from i : ℕ) → position_from (λ v. bytes_eq v.name name) from vars ≡ Some i → (k : ℕ) × (i ≡ from + k) × (k < length vars) × (name_at vars k ≡ name)
 place_from_sound [] name from i h = (cc)
 place_from_sound (v ∷ vars) name from i h = elim (cond_some (bytes_eq v.name name) _ _ _ h) [
-    inl a ↦ (0, first from i a.1, omega arith, (bytes_eq-Decides v.name name).0 a.0)
-  | inr a ↦ (let later = place_from_sound vars name (from + 1) i a.1 in (suc later.0, omega arith, omega arith, later.3)) ] where
+  | inl a ↦ (0, first from i a.1, omega arith, (bytes_eq-Decides v.name name).0 a.0)
+  | inr a ↦ (let later = place_from_sound vars name (from + 1) i a.1 in (suc later.0, omega arith, omega arith, later.3))
+] where
   first : (from i : ℕ) → Some from ≡ Some i → i ≡ from + 0
   first from i h = grind arith
 
@@ -123,22 +124,27 @@ place_from_given (v ∷ vars) name from zero low at before = ap (λ b. cond b (S
 place_from_given (v ∷ vars) name from (suc k) low at before =
     ap (λ b. cond b (Some from) (position_from (λ v. bytes_eq v.name name) (from + 1) vars)) (other (bytes_eq v.name name) (λ t. before 0 (some k) ((bytes_eq-Decides v.name name).0 t)))
     ∙ (place_from_given vars name (from + 1) k (omega arith) at (λ j below same. before (suc j) (more j k below) same) ∙ ap Some (shift from k)) where
-  some : (n : ℕ) → 0 < suc n
-  some n = omega arith
-  more : (j k : ℕ) → j < k → suc j < suc k
-  more j k h = omega arith
-  shift : (n k : ℕ) → n + 1 + k ≡ n + suc k
-  shift n k = omega arith
-  other : (b : Bool) → (b ≡ true → ⊥) → b ≡ false
-  other true h = absurd (h refl)
-  other false h = refl
+      some : (n : ℕ) → 0 < suc n
+      some n = omega arith
+
+      more : (j k : ℕ) → j < k → suc j < suc k
+      more j k h = omega arith
+
+      shift : (n k : ℕ) → n + 1 + k ≡ n + suc k
+      shift n k = omega arith
+
+      other : (b : Bool) → (b ≡ true → ⊥) → b ≡ false
+      other true h = absurd (h refl)
+      other false h = refl
 
 pub place_given : (vars : List ThinVariable) (i : ℕ) → AreOnce vars → i < length vars → place_of vars (name_at vars i) ≡ Some i
 place_given vars i once low = place_from_given vars (name_at vars i) 0 i low refl (λ j below same. not_below j i below (once j i (lower j i below low) low same)) ∙ ap Some (zero_plus i) where
   zero_plus : (n : ℕ) → 0 + n ≡ n
   zero_plus n = omega arith
+
   lower : (j i : ℕ) → j < i → i < length vars → j < length vars
   lower j i a b = omega arith
+
   not_below : (j i : ℕ) → j < i → j ≡ i → ⊥
   not_below j i a b = omega arith
 
@@ -151,42 +157,46 @@ variable_sound : (vars : List ThinVariable) (i : ℕ) (ts : List Token) (q : Thi
 unfolding marks
 variable_sound vars i ts q low h =
     elim (chosen_some (behind_all (mark.OpenBracket ∷ []) ts) _ _ q h) [
-      inl a ↦ (let one = then_some (λ r. when (is_coarray_at vars i) (terms.Coindexed i r.0, r.1)) (image_part a.0) q a.2 in
-        let two = then_some (λ r. option_map (λ behind. (r.0, behind)) (behind_all (mark.CloseBracket ∷ []) r.1)) (number_of a.0) one.0 one.1 in
-        let three = mapped_some (λ behind. (two.0.0, behind)) (behind_all (mark.CloseBracket ∷ []) two.0.1) one.0 two.2 in
-        let four = when_some (is_coarray_at vars i) (terms.Coindexed i one.0.0, one.0.1) q one.2 in
-        let close : two.0.1 ≡ Fixed mark.CloseBracket ∷ three.0 = behind_all_sound (mark.CloseBracket ∷ []) two.0.1 three.0 three.1 in
-        let inner : a.0 ≡ Number two.0.0 ∷ Fixed mark.CloseBracket ∷ three.0 = number_sound a.0 two.0 two.1 ∙ ap (λ r. Number two.0.0 ∷ r) close in
-        let whole : ts ≡ Fixed mark.OpenBracket ∷ Number two.0.0 ∷ Fixed mark.CloseBracket ∷ three.0 = behind_all_sound (mark.OpenBracket ∷ []) ts a.0 a.1 ∙ ap (λ r. Fixed mark.OpenBracket ∷ r) inner in
-        subst (λ q. IsTerm vars (Name (name_at vars i) ∷ ts) q) four.1
-        (subst (λ o. IsTerm vars (Name (name_at vars i) ∷ ts) (terms.Coindexed i o.0, o.1)) three.2
-        (record { is = ap (λ r. Name (name_at vars i) ∷ r) whole; used = (low, four.0) })))
-    | inr a ↦ subst (λ q. IsTerm vars (Name (name_at vars i) ∷ ts) q) (some_same _ _ a.1) (record { is = refl; used = low }) ] where
-  some_same : (x y : ThinTerm × List Token) → Some x ≡ Some y → x ≡ y
-  some_same x y h = cc
+      | inl a ↦ (let one = then_some (λ r. when (is_coarray_at vars i) (terms.Coindexed i r.0, r.1)) (image_part a.0) q a.2 in
+          let two = then_some (λ r. option_map (λ behind. (r.0, behind)) (behind_all (mark.CloseBracket ∷ []) r.1)) (number_of a.0) one.0 one.1 in
+          let three = mapped_some (λ behind. (two.0.0, behind)) (behind_all (mark.CloseBracket ∷ []) two.0.1) one.0 two.2 in
+          let four = when_some (is_coarray_at vars i) (terms.Coindexed i one.0.0, one.0.1) q one.2 in
+          let close : two.0.1 ≡ Fixed mark.CloseBracket ∷ three.0 = behind_all_sound (mark.CloseBracket ∷ []) two.0.1 three.0 three.1 in
+          let inner : a.0 ≡ Number two.0.0 ∷ Fixed mark.CloseBracket ∷ three.0 = number_sound a.0 two.0 two.1 ∙ ap (λ r. Number two.0.0 ∷ r) close in
+          let whole : ts ≡ Fixed mark.OpenBracket ∷ Number two.0.0 ∷ Fixed mark.CloseBracket ∷ three.0 = behind_all_sound (mark.OpenBracket ∷ []) ts a.0 a.1 ∙ ap (λ r. Fixed mark.OpenBracket ∷ r) inner in
+          subst (λ q. IsTerm vars (Name (name_at vars i) ∷ ts) q) four.1
+          (subst (λ o. IsTerm vars (Name (name_at vars i) ∷ ts) (terms.Coindexed i o.0, o.1)) three.2
+          (record { is = ap (λ r. Name (name_at vars i) ∷ r) whole; used = (low, four.0) })))
+      | inr a ↦ subst (λ q. IsTerm vars (Name (name_at vars i) ∷ ts) q) (some_same _ _ a.1) (record { is = refl; used = low })
+    ] where
+      some_same : (x y : ThinTerm × List Token) → Some x ≡ Some y → x ≡ y
+      some_same x y h = cc
 
 term_sound : (vars : List ThinVariable) (ts : List Token) (q : ThinTerm × List Token) → term_of vars ts ≡ Some q → IsTerm vars ts q
 unfolding marks
 term_sound vars ts q h =
     elim (chosen_some (number_of ts) _ _ q h) [
-      inl a ↦ subst (λ q. IsTerm vars ts q) (some_same _ _ a.2) (record { is = number_sound ts a.0 a.1; used = tt })
-    | inr a ↦ elim (chosen_some (name_of ts) _ _ q a.1) [
-        inl b ↦ (let one = then_some (λ i. variable_of vars i b.0.1) (place_of vars b.0.0) q b.2 in
-          let place = place_sound vars b.0.0 one.0 one.1 in
-          let named : Name (name_at vars one.0) ∷ b.0.1 ≡ ts = ap (λ n. Name n ∷ b.0.1) place.1 ∙ sym (name_sound ts b.0 b.1) in
-          subst (λ ts. IsTerm vars ts q) named (variable_sound vars one.0 b.0.1 q place.0 one.2))
-      | inr b ↦ (let m = mapped_some (λ rest. (terms.ThisImage, rest)) (behind_all (mark.ThisImage ∷ mark.Open ∷ mark.Close ∷ []) ts) q b.1 in
-          subst (λ q. IsTerm vars ts q) m.2 (record { is = behind_all_sound (mark.ThisImage ∷ mark.Open ∷ mark.Close ∷ []) ts m.0 m.1; used = tt })) ] ] where
-  some_same : (x y : ThinTerm × List Token) → Some x ≡ Some y → x ≡ y
-  some_same x y h = cc
+      | inl a ↦ subst (λ q. IsTerm vars ts q) (some_same _ _ a.2) (record { is = number_sound ts a.0 a.1; used = tt })
+      | inr a ↦ elim (chosen_some (name_of ts) _ _ q a.1) [
+        | inl b ↦ (let one = then_some (λ i. variable_of vars i b.0.1) (place_of vars b.0.0) q b.2 in
+            let place = place_sound vars b.0.0 one.0 one.1 in
+            let named : Name (name_at vars one.0) ∷ b.0.1 ≡ ts = ap (λ n. Name n ∷ b.0.1) place.1 ∙ sym (name_sound ts b.0 b.1) in
+            subst (λ ts. IsTerm vars ts q) named (variable_sound vars one.0 b.0.1 q place.0 one.2))
+        | inr b ↦ (let m = mapped_some (λ rest. (terms.ThisImage, rest)) (behind_all (mark.ThisImage ∷ mark.Open ∷ mark.Close ∷ []) ts) q b.1 in
+            subst (λ q. IsTerm vars ts q) m.2 (record { is = behind_all_sound (mark.ThisImage ∷ mark.Open ∷ mark.Close ∷ []) ts m.0 m.1; used = tt }))
+      ]
+    ] where
+      some_same : (x y : ThinTerm × List Token) → Some x ≡ Some y → x ≡ y
+      some_same x y h = cc
 
 sign_sound : (ts : List Token) (q : Bool × List Token) → sign_of ts ≡ Some q → ts ≡ Fixed (cond q.0 mark.Minus mark.Plus) ∷ q.1
 sign_sound ts q h =
     elim (chosen_some (behind mark.Plus ts) _ _ q h) [
-      inl a ↦ subst (λ q. ts ≡ Fixed (cond q.0 mark.Minus mark.Plus) ∷ q.1) (some_same _ _ a.2) (behind_sound mark.Plus ts a.0 a.1)
-    | inr a ↦ (let m = mapped_some (λ r. (true, r)) (behind mark.Minus ts) q a.1 in subst (λ q. ts ≡ Fixed (cond q.0 mark.Minus mark.Plus) ∷ q.1) m.2 (behind_sound mark.Minus ts m.0 m.1)) ] where
-  some_same : (x y : Bool × List Token) → Some x ≡ Some y → x ≡ y
-  some_same x y h = cc
+      | inl a ↦ subst (λ q. ts ≡ Fixed (cond q.0 mark.Minus mark.Plus) ∷ q.1) (some_same _ _ a.2) (behind_sound mark.Plus ts a.0 a.1)
+      | inr a ↦ (let m = mapped_some (λ r. (true, r)) (behind mark.Minus ts) q a.1 in subst (λ q. ts ≡ Fixed (cond q.0 mark.Minus mark.Plus) ∷ q.1) m.2 (behind_sound mark.Minus ts m.0 m.1))
+    ] where
+      some_same : (x y : Bool × List Token) → Some x ≡ Some y → x ≡ y
+      some_same x y h = cc
 
 addends_sound : (vars : List ThinVariable) (n : ℕ) (ts : List Token) (out : List ThinAddend) → addends_of vars n ts ≡ Some out → (ts ≡ addend_tokens vars out) × AreAddendsDeclared vars out
 addends_sound vars n [] out h = subst (λ out. ([] ≡ addend_tokens vars out) × AreAddendsDeclared vars out) (some_same _ _ h) (refl, tt) where
@@ -217,42 +227,45 @@ act_sound : (vars : List ThinVariable) (ts : List Token) (a : ThinAct) → act_o
 unfolding marks
 act_sound vars ts a h =
     elim (chosen_some (behind_all (mark.Print ∷ mark.Star ∷ mark.Comma ∷ []) ts) _ _ a h) [
-      inl p ↦ (let m = mapped_some acts.Print (sum_of vars p.0) a p.2 in
-        let sum = sum_sound vars p.0 m.0 m.1 in
-        subst (λ a. (ts ≡ act_tokens vars a) × IsActDeclared vars a) m.2 (behind_all_sound (mark.Print ∷ mark.Star ∷ mark.Comma ∷ []) ts p.0 p.1 ∙ ap (λ r. Fixed mark.Print ∷ Fixed mark.Star ∷ Fixed mark.Comma ∷ r) sum.0, sum.1))
-    | inr p ↦ (let one = then_some (λ r. option_and_then (λ i. option_and_then (λ rest. option_map (acts.Assign i) (sum_of vars rest)) (behind_all (mark.Equals ∷ []) r.1)) (place_of vars r.0)) (name_of ts) a p.1 in
-        let two = then_some (λ i. option_and_then (λ rest. option_map (acts.Assign i) (sum_of vars rest)) (behind_all (mark.Equals ∷ []) one.0.1)) (place_of vars one.0.0) a one.2 in
-        let three = then_some (λ rest. option_map (acts.Assign two.0) (sum_of vars rest)) (behind_all (mark.Equals ∷ []) one.0.1) a two.2 in
-        let m = mapped_some (acts.Assign two.0) (sum_of vars three.0) a three.2 in
-        let sum = sum_sound vars three.0 m.0 m.1 in
-        let place = place_sound vars one.0.0 two.0 two.1 in
-        let rest : one.0.1 ≡ Fixed mark.Equals ∷ sum_tokens vars m.0 = behind_all_sound (mark.Equals ∷ []) one.0.1 three.0 three.1 ∙ ap (λ r. Fixed mark.Equals ∷ r) sum.0 in
-        subst (λ a. (ts ≡ act_tokens vars a) × IsActDeclared vars a) m.2
-        (name_sound ts one.0 one.1 ∙ (ap (λ n. Name n ∷ one.0.1) (sym place.1) ∙ ap (λ r. Name (name_at vars two.0) ∷ r) rest), (place.0, sum.1))) ]
+      | inl p ↦ (let m = mapped_some acts.Print (sum_of vars p.0) a p.2 in
+          let sum = sum_sound vars p.0 m.0 m.1 in
+          subst (λ a. (ts ≡ act_tokens vars a) × IsActDeclared vars a) m.2 (behind_all_sound (mark.Print ∷ mark.Star ∷ mark.Comma ∷ []) ts p.0 p.1 ∙ ap (λ r. Fixed mark.Print ∷ Fixed mark.Star ∷ Fixed mark.Comma ∷ r) sum.0, sum.1))
+      | inr p ↦ (let one = then_some (λ r. option_and_then (λ i. option_and_then (λ rest. option_map (acts.Assign i) (sum_of vars rest)) (behind_all (mark.Equals ∷ []) r.1)) (place_of vars r.0)) (name_of ts) a p.1 in
+          let two = then_some (λ i. option_and_then (λ rest. option_map (acts.Assign i) (sum_of vars rest)) (behind_all (mark.Equals ∷ []) one.0.1)) (place_of vars one.0.0) a one.2 in
+          let three = then_some (λ rest. option_map (acts.Assign two.0) (sum_of vars rest)) (behind_all (mark.Equals ∷ []) one.0.1) a two.2 in
+          let m = mapped_some (acts.Assign two.0) (sum_of vars three.0) a three.2 in
+          let sum = sum_sound vars three.0 m.0 m.1 in
+          let place = place_sound vars one.0.0 two.0 two.1 in
+          let rest : one.0.1 ≡ Fixed mark.Equals ∷ sum_tokens vars m.0 = behind_all_sound (mark.Equals ∷ []) one.0.1 three.0 three.1 ∙ ap (λ r. Fixed mark.Equals ∷ r) sum.0 in
+          subst (λ a. (ts ≡ act_tokens vars a) × IsActDeclared vars a) m.2
+          (name_sound ts one.0 one.1 ∙ (ap (λ n. Name n ∷ one.0.1) (sym place.1) ∙ ap (λ r. Name (name_at vars two.0) ∷ r) rest), (place.0, sum.1)))
+    ]
 
 pub form_sound : (vars : List ThinVariable) (ts : List Token) (f : ThinForm) → form_of vars ts ≡ Some f → (ts ≡ form_tokens vars f) × IsFormDeclared vars f
 unfolding marks
 form_sound vars ts f h =
     elim (cond_some (is_all (mark.Sync ∷ mark.All ∷ []) ts) _ _ _ h) [
-      inl p ↦ (let r = is_all_sound (mark.Sync ∷ mark.All ∷ []) ts p.0 in
-        subst (λ f. (ts ≡ form_tokens vars f) × IsFormDeclared vars f) (some_same _ _ p.1) (behind_all_sound (mark.Sync ∷ mark.All ∷ []) ts r.0 r.1 ∙ ap (λ r. Fixed mark.Sync ∷ Fixed mark.All ∷ r) r.2, tt))
-    | inr p ↦ elim (chosen_some (behind_all (mark.If ∷ mark.Open ∷ mark.ThisImage ∷ mark.Open ∷ mark.Close ∷ mark.Same ∷ []) ts) _ _ f p.1) [
-        inl q ↦ (let one = then_some (λ r. option_map (forms.IfImage r.0) (act_of vars r.1)) (image_of q.0) f q.2 in
-          let two = then_some (λ r. option_map (λ behind. (r.0, behind)) (behind_all (mark.Close ∷ []) r.1)) (number_of q.0) one.0 one.1 in
-          let three = mapped_some (λ behind. (two.0.0, behind)) (behind_all (mark.Close ∷ []) two.0.1) one.0 two.2 in
-          let m = mapped_some (forms.IfImage one.0.0) (act_of vars one.0.1) f one.2 in
-          let act = act_sound vars one.0.1 m.0 m.1 in
-          let rest : three.0 ≡ act_tokens vars m.0 = ap (λ r. r.1) three.2 ∙ act.0 in
-          let image : two.0.0 ≡ one.0.0 = ap (λ r. r.0) three.2 in
-          let close : two.0.1 ≡ Fixed mark.Close ∷ act_tokens vars m.0 = behind_all_sound (mark.Close ∷ []) two.0.1 three.0 three.1 ∙ ap (λ r. Fixed mark.Close ∷ r) rest in
-          let number : q.0 ≡ Number one.0.0 ∷ Fixed mark.Close ∷ act_tokens vars m.0 = number_sound q.0 two.0 two.1 ∙ (ap (λ n. Number n ∷ two.0.1) image ∙ ap (λ r. Number one.0.0 ∷ r) close) in
-          subst (λ f. (ts ≡ form_tokens vars f) × IsFormDeclared vars f) m.2
-          (behind_all_sound (mark.If ∷ mark.Open ∷ mark.ThisImage ∷ mark.Open ∷ mark.Close ∷ mark.Same ∷ []) ts q.0 q.1 ∙ ap (λ r. Fixed mark.If ∷ Fixed mark.Open ∷ Fixed mark.ThisImage ∷ Fixed mark.Open ∷ Fixed mark.Close ∷ Fixed mark.Same ∷ r) number, act.1))
-      | inr q ↦ (let m = mapped_some forms.Act (act_of vars ts) f q.1 in
-          let act = act_sound vars ts m.0 m.1 in
-          subst (λ f. (ts ≡ form_tokens vars f) × IsFormDeclared vars f) m.2 act) ] ] where
-  some_same : (x y : ThinForm) → Some x ≡ Some y → x ≡ y
-  some_same x y h = cc
+      | inl p ↦ (let r = is_all_sound (mark.Sync ∷ mark.All ∷ []) ts p.0 in
+          subst (λ f. (ts ≡ form_tokens vars f) × IsFormDeclared vars f) (some_same _ _ p.1) (behind_all_sound (mark.Sync ∷ mark.All ∷ []) ts r.0 r.1 ∙ ap (λ r. Fixed mark.Sync ∷ Fixed mark.All ∷ r) r.2, tt))
+      | inr p ↦ elim (chosen_some (behind_all (mark.If ∷ mark.Open ∷ mark.ThisImage ∷ mark.Open ∷ mark.Close ∷ mark.Same ∷ []) ts) _ _ f p.1) [
+        | inl q ↦ (let one = then_some (λ r. option_map (forms.IfImage r.0) (act_of vars r.1)) (image_of q.0) f q.2 in
+            let two = then_some (λ r. option_map (λ behind. (r.0, behind)) (behind_all (mark.Close ∷ []) r.1)) (number_of q.0) one.0 one.1 in
+            let three = mapped_some (λ behind. (two.0.0, behind)) (behind_all (mark.Close ∷ []) two.0.1) one.0 two.2 in
+            let m = mapped_some (forms.IfImage one.0.0) (act_of vars one.0.1) f one.2 in
+            let act = act_sound vars one.0.1 m.0 m.1 in
+            let rest : three.0 ≡ act_tokens vars m.0 = ap (λ r. r.1) three.2 ∙ act.0 in
+            let image : two.0.0 ≡ one.0.0 = ap (λ r. r.0) three.2 in
+            let close : two.0.1 ≡ Fixed mark.Close ∷ act_tokens vars m.0 = behind_all_sound (mark.Close ∷ []) two.0.1 three.0 three.1 ∙ ap (λ r. Fixed mark.Close ∷ r) rest in
+            let number : q.0 ≡ Number one.0.0 ∷ Fixed mark.Close ∷ act_tokens vars m.0 = number_sound q.0 two.0 two.1 ∙ (ap (λ n. Number n ∷ two.0.1) image ∙ ap (λ r. Number one.0.0 ∷ r) close) in
+            subst (λ f. (ts ≡ form_tokens vars f) × IsFormDeclared vars f) m.2
+            (behind_all_sound (mark.If ∷ mark.Open ∷ mark.ThisImage ∷ mark.Open ∷ mark.Close ∷ mark.Same ∷ []) ts q.0 q.1 ∙ ap (λ r. Fixed mark.If ∷ Fixed mark.Open ∷ Fixed mark.ThisImage ∷ Fixed mark.Open ∷ Fixed mark.Close ∷ Fixed mark.Same ∷ r) number, act.1))
+        | inr q ↦ (let m = mapped_some forms.Act (act_of vars ts) f q.1 in
+            let act = act_sound vars ts m.0 m.1 in
+            subst (λ f. (ts ≡ form_tokens vars f) × IsFormDeclared vars f) m.2 act)
+      ]
+    ] where
+      some_same : (x y : ThinForm) → Some x ≡ Some y → x ≡ y
+      some_same x y h = cc
 
 -- a declaration
 declared_as_sound : (name : List ℕ) (b alone : Bool) (v : ThinVariable) → declared_as name b alone ≡ Some v → ((b ≡ true) × (record { name = name; is_coarray = true } ≡ v)) ⊎ ((alone ≡ true) × (record { name = name; is_coarray = false } ≡ v))
@@ -268,10 +281,11 @@ declaration_sound ts v h =
     let two = then_some (λ r. declared_as r.0 (is_all (mark.OpenBracket ∷ mark.Star ∷ mark.CloseBracket ∷ []) r.1) (is_empty r.1)) (name_of one.0) v one.2 in
     let head : ts ≡ Fixed mark.Integer ∷ Fixed mark.Colons ∷ Name two.0.0 ∷ two.0.1 = behind_all_sound (mark.Integer ∷ mark.Colons ∷ []) ts one.0 one.1 ∙ ap (λ r. Fixed mark.Integer ∷ Fixed mark.Colons ∷ r) (name_sound one.0 two.0 two.1) in
     elim (declared_as_sound two.0.0 (is_all (mark.OpenBracket ∷ mark.Star ∷ mark.CloseBracket ∷ []) two.0.1) (is_empty two.0.1) v two.2) [
-      inl a ↦ (let all = is_all_sound (mark.OpenBracket ∷ mark.Star ∷ mark.CloseBracket ∷ []) two.0.1 a.0 in
-        let tail : two.0.1 ≡ Fixed mark.OpenBracket ∷ Fixed mark.Star ∷ Fixed mark.CloseBracket ∷ [] = behind_all_sound (mark.OpenBracket ∷ mark.Star ∷ mark.CloseBracket ∷ []) two.0.1 all.0 all.1 ∙ ap (λ r. Fixed mark.OpenBracket ∷ Fixed mark.Star ∷ Fixed mark.CloseBracket ∷ r) all.2 in
-        subst (λ v. ts ≡ declaration_tokens v) a.1 (head ∙ ap (λ r. Fixed mark.Integer ∷ Fixed mark.Colons ∷ Name two.0.0 ∷ r) tail))
-    | inr a ↦ subst (λ v. ts ≡ declaration_tokens v) a.1 (head ∙ ap (λ r. Fixed mark.Integer ∷ Fixed mark.Colons ∷ Name two.0.0 ∷ r) (empty_sound two.0.1 a.0)) ]
+      | inl a ↦ (let all = is_all_sound (mark.OpenBracket ∷ mark.Star ∷ mark.CloseBracket ∷ []) two.0.1 a.0 in
+          let tail : two.0.1 ≡ Fixed mark.OpenBracket ∷ Fixed mark.Star ∷ Fixed mark.CloseBracket ∷ [] = behind_all_sound (mark.OpenBracket ∷ mark.Star ∷ mark.CloseBracket ∷ []) two.0.1 all.0 all.1 ∙ ap (λ r. Fixed mark.OpenBracket ∷ Fixed mark.Star ∷ Fixed mark.CloseBracket ∷ r) all.2 in
+          subst (λ v. ts ≡ declaration_tokens v) a.1 (head ∙ ap (λ r. Fixed mark.Integer ∷ Fixed mark.Colons ∷ Name two.0.0 ∷ r) tail))
+      | inr a ↦ subst (λ v. ts ≡ declaration_tokens v) a.1 (head ∙ ap (λ r. Fixed mark.Integer ∷ Fixed mark.Colons ∷ Name two.0.0 ∷ r) (empty_sound two.0.1 a.0))
+    ]
 
 pub declaration_given : (v : ThinVariable) → declaration_of (declaration_tokens v) ≡ Some v
 declaration_given v = given v.name v.is_coarray where

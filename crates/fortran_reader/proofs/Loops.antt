@@ -1,5 +1,5 @@
 -- One step of each loop.
-use Rattle.std.proofs.Common.{◌≡◌, refl, sym, ◌∙◌, ap, subst, rules, arith, ℕ, zero, suc, ◌+◌, ◌-◌, ◌*◌, ◌^◌, ◌<◌, ◌≤◌, min, Bool, true, false, cond, List, [], ◌∷◌, ◌++◌, length, take, drop, get_or, Option, Some, None, option_map, option_and_then, append_assoc, append-nil, nat_le, nat_lt, ◌==◌, ◌&&◌, ◌⊎◌, inl, inr, not, add-one, take-suc, ltb-true, position}
+use Rattle.std.proofs.Common.{◌≡◌, refl, sym, ◌∙◌, ap, subst, arith, ℕ, zero, suc, ◌+◌, ◌-◌, ◌*◌, ◌^◌, ◌<◌, ◌≤◌, min, Bool, true, false, cond, List, [], ◌∷◌, ◌++◌, length, take, drop, get_or, Option, Some, None, option_map, option_and_then, append_assoc, append-nil, nat_lt, ◌==◌, inl, inr, not, add-one, take-suc, ltb-true, position}
 use Rattle.std.proofs.lemmas.Int.Digits.{digits_value_push}
 use Rattle.std.specs.Char.{digit_value}
 use Rattle.std.proofs.lemmas.Bool.Decides.{nat_tests}
@@ -75,9 +75,9 @@ rows_turn done n ts line all behind goal split given inv =
     let unrolled : rows_from n all ≡ option_map (with_row n ts) (rows_from (suc n) behind) = ap (rows_from n) split ∙ ap (λ o. option_and_then (λ ts. option_map (with_row n ts) (rows_from (suc n) behind)) o) given in
     let joined : (o : Option (List Row)) → option_map (λ more. (done ++ with_row n ts []) ++ more) o ≡ option_map (λ more. done ++ more) (option_map (with_row n ts) o) = row_joined done n ts in
     joined (rows_from (suc n) behind) ∙ (sym (ap (λ o. option_map (λ more. done ++ more) o) unrolled) ∙ inv) where
-  row_joined : (done : List Row) (n : ℕ) (ts : List Token) (o : Option (List Row)) → option_map (λ more. (done ++ with_row n ts []) ++ more) o ≡ option_map (λ more. done ++ more) (option_map (with_row n ts) o)
-  row_joined done n ts None = refl
-  row_joined done n ts (Some more) = ap Some (append_assoc done (with_row n ts []) more ∙ ap (λ rows. done ++ rows) (sym (with_row_first n ts more)))
+      row_joined : (done : List Row) (n : ℕ) (ts : List Token) (o : Option (List Row)) → option_map (λ more. (done ++ with_row n ts []) ++ more) o ≡ option_map (λ more. done ++ more) (option_map (with_row n ts) o)
+      row_joined done n ts None = refl
+      row_joined done n ts (Some more) = ap Some (append_assoc done (with_row n ts []) more ∙ ap (λ rows. done ++ rows) (sym (with_row_first n ts more)))
 
 -- a line that has no tokens
 pub rows_fault : (n : ℕ) (line : List ℕ) (all behind : List (List ℕ)) → all ≡ line ∷ behind → tokens_of line ≡ None → rows_from n all ≡ None
@@ -115,14 +115,16 @@ value_turn ds i v w u digit low ev ew eu =
     let in_range : (48 ≤ get_or ds i 0) × (get_or ds i 0 ≤ 57) = digit_at ds i digit low in
     let value : digit_value (get_or ds i 0) ≡ get_or ds i 0 - 48 = digit_is (get_or ds i 0) in_range.0 in_range.1 in
     omega arith where
-  digit_range : (c : ℕ) → is_digit c ≡ true → (48 ≤ c) × (c ≤ 57)
-  digit_range c h = grind (arith, nat_tests)
-  digit_is : (c : ℕ) → 48 ≤ c → c ≤ 57 → digit_value c ≡ c - 48
-  digit_is c low high = grind (arith, nat_tests)
-  digit_at : (ds : List ℕ) (i : ℕ) → list_all is_digit ds ≡ true → i < length ds → (48 ≤ get_or ds i 0) × (get_or ds i 0 ≤ 57)
-  digit_at [] i digit low = absurd (omega arith)
-  digit_at (c ∷ cs) zero digit low = digit_range c (both_true (is_digit c) (list_all is_digit cs) digit).0
-  digit_at (c ∷ cs) (suc i) digit low = digit_at cs i (both_true (is_digit c) (list_all is_digit cs) digit).1 (omega arith)
+      digit_range : (c : ℕ) → is_digit c ≡ true → (48 ≤ c) × (c ≤ 57)
+      digit_range c h = grind (arith, nat_tests)
+
+      digit_is : (c : ℕ) → 48 ≤ c → c ≤ 57 → digit_value c ≡ c - 48
+      digit_is c low high = grind (arith, nat_tests)
+
+      digit_at : (ds : List ℕ) (i : ℕ) → list_all is_digit ds ≡ true → i < length ds → (48 ≤ get_or ds i 0) × (get_or ds i 0 ≤ 57)
+      digit_at [] i digit low = absurd (omega arith)
+      digit_at (c ∷ cs) zero digit low = digit_range c (both_true (is_digit c) (list_all is_digit cs) digit).0
+      digit_at (c ∷ cs) (suc i) digit low = digit_at cs i (both_true (is_digit c) (list_all is_digit cs) digit).1 (omega arith)
 
 -- the parts of lines, behind one more
 pub lines_of_more : (x : List ℕ) (parts : List (List ℕ)) → 0 < length parts → lines_of_parts (x ∷ parts) ≡ strip_carriage_return x ∷ lines_of_parts parts
@@ -144,22 +146,28 @@ pub lines_only : (bytes : List ℕ) → 0 < length bytes → position (λ b. b =
 lines_only bytes some none =
     let whole : slice_split (λ b. b == 10) bytes ≡ bytes ∷ [] = whole_part bytes (none_within (position_or_len (λ b. b == 10) bytes) (length bytes) none) in
     ap lines_of_parts whole ∙ one_part bytes some where
-  none_within : (n m : ℕ) → ◌≡◌ {A = Option ℕ} (cond (nat_lt n m) (Some n) None) None → m ≤ n
-  none_within n m e = grind (arith, nat_tests)
-  whole_none : (x : ℕ) (xs : List ℕ) → (x == 10) ≡ true → suc (length xs) ≤ position_or_len (λ b. b == 10) (x ∷ xs) → ⊥
-  whole_none x xs t h = let e : position_or_len (λ b. b == 10) (x ∷ xs) ≡ 0 = ap (λ b. cond (not b) (1 + position_or_len (λ b. b == 10) xs) 0) t in omega arith
-  whole_less : (x : ℕ) (xs : List ℕ) → (x == 10) ≡ false → suc (length xs) ≤ position_or_len (λ b. b == 10) (x ∷ xs) → length xs ≤ position_or_len (λ b. b == 10) xs
-  whole_less x xs f h = let e : position_or_len (λ b. b == 10) (x ∷ xs) ≡ 1 + position_or_len (λ b. b == 10) xs = ap (λ b. cond (not b) (1 + position_or_len (λ b. b == 10) xs) 0) f in omega arith
-  whole_more : (x : ℕ) (xs : List ℕ) → (x == 10) ≡ false → slice_split (λ b. b == 10) xs ≡ xs ∷ [] → slice_split (λ b. b == 10) (x ∷ xs) ≡ (x ∷ xs) ∷ []
-  whole_more x xs f e = ap (λ b. cond b ([] ∷ slice_split (λ b. b == 10) xs) (onto_first x (slice_split (λ b. b == 10) xs))) f ∙ ap (onto_first x) e
-  whole_part : (xs : List ℕ) → length xs ≤ position_or_len (λ b. b == 10) xs → slice_split (λ b. b == 10) xs ≡ xs ∷ []
-  whole_part [] h = refl
-  whole_part (x ∷ xs) h = elim (bool_cases (x == 10)) [ inl t ↦ absurd (whole_none x xs t h) | inr f ↦ whole_more x xs f (whole_part xs (whole_less x xs f h)) ]
-  suc_not_zero : (n : ℕ) → (suc n == 0) ≡ false
-  suc_not_zero n = grind (arith, nat_tests)
-  one_part : (bytes : List ℕ) → 0 < length bytes → lines_of_parts (bytes ∷ []) ≡ bytes ∷ []
-  one_part [] some = absurd (omega arith)
-  one_part (b ∷ bytes) some = ap (λ t. cond t [] ((b ∷ bytes) ∷ [])) (suc_not_zero (length bytes))
+      none_within : (n m : ℕ) → ◌≡◌ {A = Option ℕ} (cond (nat_lt n m) (Some n) None) None → m ≤ n
+      none_within n m e = grind (arith, nat_tests)
+
+      whole_none : (x : ℕ) (xs : List ℕ) → (x == 10) ≡ true → suc (length xs) ≤ position_or_len (λ b. b == 10) (x ∷ xs) → ⊥
+      whole_none x xs t h = let e : position_or_len (λ b. b == 10) (x ∷ xs) ≡ 0 = ap (λ b. cond (not b) (1 + position_or_len (λ b. b == 10) xs) 0) t in omega arith
+
+      whole_less : (x : ℕ) (xs : List ℕ) → (x == 10) ≡ false → suc (length xs) ≤ position_or_len (λ b. b == 10) (x ∷ xs) → length xs ≤ position_or_len (λ b. b == 10) xs
+      whole_less x xs f h = let e : position_or_len (λ b. b == 10) (x ∷ xs) ≡ 1 + position_or_len (λ b. b == 10) xs = ap (λ b. cond (not b) (1 + position_or_len (λ b. b == 10) xs) 0) f in omega arith
+
+      whole_more : (x : ℕ) (xs : List ℕ) → (x == 10) ≡ false → slice_split (λ b. b == 10) xs ≡ xs ∷ [] → slice_split (λ b. b == 10) (x ∷ xs) ≡ (x ∷ xs) ∷ []
+      whole_more x xs f e = ap (λ b. cond b ([] ∷ slice_split (λ b. b == 10) xs) (onto_first x (slice_split (λ b. b == 10) xs))) f ∙ ap (onto_first x) e
+
+      whole_part : (xs : List ℕ) → length xs ≤ position_or_len (λ b. b == 10) xs → slice_split (λ b. b == 10) xs ≡ xs ∷ []
+      whole_part [] h = refl
+      whole_part (x ∷ xs) h = elim (bool_cases (x == 10)) [ inl t ↦ absurd (whole_none x xs t h) | inr f ↦ whole_more x xs f (whole_part xs (whole_less x xs f h)) ]
+
+      suc_not_zero : (n : ℕ) → (suc n == 0) ≡ false
+      suc_not_zero n = grind (arith, nat_tests)
+
+      one_part : (bytes : List ℕ) → 0 < length bytes → lines_of_parts (bytes ∷ []) ≡ bytes ∷ []
+      one_part [] some = absurd (omega arith)
+      one_part (b ∷ bytes) some = ap (λ t. cond t [] ((b ∷ bytes) ∷ [])) (suc_not_zero (length bytes))
 
 -- the term of a name with a bracket
 pub named_coindexed : (vars : List ThinVariable) (name : List ℕ) (ts inner behind rest : List Token) (i image : ℕ) (b : Bool) → place_of vars name ≡ Some i → behind_all (mark.OpenBracket ∷ []) ts ≡ Some inner

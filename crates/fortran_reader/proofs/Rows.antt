@@ -1,23 +1,21 @@
 -- A file is read as the one program that it stands for.
-use Rattle.std.proofs.Common.{◌≡◌, refl, sym, ◌∙◌, ap, subst, rules, arith, ℕ, zero, suc, ◌+◌, ◌<◌, ◌≤◌, ◌==◌, Bool, true, false, cond, List, [], ◌∷◌, ◌++◌, length, Option, Some, None, option_map, option_and_then, ◌&&◌, ◌⊎◌, inl, inr, append_assoc, append-nil, length-append, add-one}
+use Rattle.std.proofs.Common.{◌≡◌, refl, sym, ◌∙◌, ap, subst, arith, ℕ, zero, suc, ◌+◌, ◌<◌, ◌==◌, true, cond, List, [], ◌∷◌, ◌++◌, length, Option, Some, None, option_map, option_and_then, ◌&&◌, inl, inr}
 use Rattle.std.proofs.lemmas.Bool.Decides.{nat_tests}
-use Rattle.std.specs.List.{list_all}
 use Rattle.std.specs.Str.Lines.{lines}
 use Rattle.caf_base.specs.Thin.{IsDeclared, AreStatementsDeclared}
 use Rattle.caf_base.specs.declared.thin.ThinProgram.{ThinProgram}
 use Rattle.caf_base.specs.declared.thin.ThinVariable.{ThinVariable}
 use Rattle.caf_base.specs.declared.thin.ThinStatement.{ThinStatement}
-use Rattle.fortran_reader.specs.Bytes.{is_blank}
 use Rattle.fortran_reader.specs.Tokens.{Lies}
 use Rattle.fortran_reader.specs.Cutting.{tokens_of}
 use Rattle.fortran_reader.specs.Reading.{with_row, rows_from, declaration_of, declarations_before, declarations_of, place_of, is_at, are_once, form_of, statements_of, last_cut, is_all, body_of, program_of, tree_of}
 use Rattle.fortran_reader.specs.Reads.{Lay, Declare, statement_rows, end_row, AreOnce, Reads, OneReading}
-use Rattle.fortran_reader.specs.Statements.{name_at, form_tokens, declaration_tokens}
+use Rattle.fortran_reader.specs.Statements.{name_at, form_tokens}
 use Rattle.fortran_reader.specs.declared.line.Row.{Row}
 use Rattle.fortran_reader.specs.declared.token.Mark.TheVariants as mark
 use Rattle.fortran_reader.specs.declared.token.Token.{Token}
-use Rattle.fortran_reader.specs.declared.token.Token.TheVariants.{Fixed, Name, Number}
-use Rattle.fortran_reader.proofs.Basics.{bool_cases, both_true, mapped_some, then_some, cond_some}
+use Rattle.fortran_reader.specs.declared.token.Token.TheVariants.{Fixed}
+use Rattle.fortran_reader.proofs.Basics.{both_true, mapped_some, then_some, cond_some}
 use Rattle.fortran_reader.proofs.Cuts.{cut_sound, cut_given}
 use Rattle.fortran_reader.proofs.Forms.{place_given, form_sound, form_given, form_some, form_no_declaration, declaration_sound, declaration_given, is_end}
 use Rattle.fortran_reader.proofs.Loops.{last_cut_append}
@@ -31,9 +29,9 @@ rows_sound n (l ∷ ls) rows h =
     let one = then_some (λ ts. option_map (with_row n ts) (rows_from (suc n) ls)) (tokens_of l) rows h in
     let two = mapped_some (with_row n one.0) (rows_from (suc n) ls) rows one.2 in
     subst (λ rows. Lay n (l ∷ ls) rows) two.2 (laid one.0 two.0 (cut_sound l one.0 one.1) (rows_sound (suc n) ls two.0 two.1)) where
-  laid : (ts : List Token) (more : List Row) → Lies ts l → Lay (suc n) ls more → Lay n (l ∷ ls) (with_row n ts more)
-  laid [] more lies lay = inl (lies, lay)
-  laid (t ∷ ts) more lies lay = inr (record { line = n; tokens = t ∷ ts }, more, refl, refl, lies, lay)
+      laid : (ts : List Token) (more : List Row) → Lies ts l → Lay (suc n) ls more → Lay n (l ∷ ls) (with_row n ts more)
+      laid [] more lies lay = inl (lies, lay)
+      laid (t ∷ ts) more lies lay = inr (record { line = n; tokens = t ∷ ts }, more, refl, refl, lies, lay)
 
 -- each row has tokens
 abbrev pub Full : List Row → Type 0
@@ -50,9 +48,9 @@ rows_given n (l ∷ ls) rows full (inr lay) =
     ap (λ o. option_and_then (λ ts. option_map (with_row n ts) (rows_from (suc n) ls)) o) (cut_given lay.0.tokens l lay.4)
     ∙ (ap (λ o. option_map (with_row n lay.0.tokens) o) (rows_given (suc n) ls lay.1 split.1 lay.5)
     ∙ ap Some (first n lay.0 lay.1 lay.0.tokens refl lay.3 split.0 ∙ sym lay.2)) where
-  first : (n : ℕ) (row : Row) (more : List Row) (ts : List Token) → row.tokens ≡ ts → row.line ≡ n → 0 < length ts → with_row n ts more ≡ row ∷ more
-  first n row more [] same line some = absurd (omega arith)
-  first n row more (t ∷ ts) same line some = ap (λ n. record { line = n; tokens = t ∷ ts } ∷ more) (sym line) ∙ ap (λ ts. record { line = row.line; tokens = ts } ∷ more) (sym same)
+      first : (n : ℕ) (row : Row) (more : List Row) (ts : List Token) → row.tokens ≡ ts → row.line ≡ n → 0 < length ts → with_row n ts more ≡ row ∷ more
+      first n row more [] same line some = absurd (omega arith)
+      first n row more (t ∷ ts) same line some = ap (λ n. record { line = n; tokens = t ∷ ts } ∷ more) (sym line) ∙ ap (λ ts. record { line = row.line; tokens = ts } ∷ more) (sym same)
 
 -- the declarations in front
 abbrev pub Heads : List Row → List ThinVariable → List Row → Type 0
@@ -87,6 +85,7 @@ once_from all [] i h j low = absurd (omega arith)
 once_from all (v ∷ vars) i h zero low = at (place_of all v.name) i (both_true (is_at (place_of all v.name) i) (are_once all vars (i + 1)) h).0 where
   same : (k i : ℕ) → (k == i) ≡ true → k ≡ i + 0
   same k i h = grind (arith, nat_tests)
+
   at : (o : Option ℕ) (i : ℕ) → is_at o i ≡ true → o ≡ Some (i + 0)
   at None i h = (cc)
   at (Some k) i h = ap Some (same k i h)
@@ -105,14 +104,17 @@ once_upto all (v ∷ vars) i h =
     ap (λ o. is_at o i && are_once all vars (i + 1)) (h 0 (some (length vars)))
     ∙ (ap (λ b. b && are_once all vars (i + 1)) (here i)
     ∙ once_upto all vars (i + 1) (λ j low. h (suc j) (more j (length vars) low) ∙ ap Some (shift i j))) where
-  some : (n : ℕ) → 0 < suc n
-  some n = omega arith
-  more : (j n : ℕ) → j < n → suc j < suc n
-  more j n low = omega arith
-  shift : (i j : ℕ) → i + suc j ≡ i + 1 + j
-  shift i j = omega arith
-  here : (i : ℕ) → (i + 0 == i) ≡ true
-  here i = grind (arith, nat_tests)
+      some : (n : ℕ) → 0 < suc n
+      some n = omega arith
+
+      more : (j n : ℕ) → j < n → suc j < suc n
+      more j n low = omega arith
+
+      shift : (i j : ℕ) → i + suc j ≡ i + 1 + j
+      shift i j = omega arith
+
+      here : (i : ℕ) → (i + 0 == i) ≡ true
+      here i = grind (arith, nat_tests)
 
 once_given : (vars : List ThinVariable) → AreOnce vars → are_once vars vars 0 ≡ true
 once_given vars once = once_upto vars vars 0 (λ j low. place_given vars j once low ∙ ap Some (plus j)) where
@@ -163,26 +165,28 @@ pub record Stands (rows : List Row) (p : ThinProgram) : Type 0 where
 body_sound : (n : ℕ) (rows : List Row) (p : ThinProgram) → body_of n (declarations_of rows) ≡ Some p → Stands (rows ++ end_row n ∷ []) p
 body_sound n rows p h =
     elim (cond_some (are_once (declarations_of rows).0 (declarations_of rows).0 0) _ _ _ h) [
-      inl a ↦ (let m = mapped_some (λ ss. record { declared = (declarations_of rows).0; statements = ss; end_line = n }) (statements_of (declarations_of rows).0 (declarations_of rows).1) p a.1 in
-        let heads = declarations_sound rows in
-        let body = statements_sound (declarations_of rows).0 (declarations_of rows).1 m.0 m.1 in
-        subst (λ p. Stands (rows ++ end_row n ∷ []) p) m.2 (record {
-          heads = heads.0;
-          declare = heads.2;
-          is = ap (λ rs. rs ++ end_row n ∷ []) (heads.1 ∙ ap (λ rs. heads.0 ++ rs) body.0);
-          once = once_sound (declarations_of rows).0 a.0;
-          used = body.1;
-        }))
-    | inr a ↦ (let none : None ≡ Some p = a.1 in cc) ]
+      | inl a ↦ (let m = mapped_some (λ ss. record { declared = (declarations_of rows).0; statements = ss; end_line = n }) (statements_of (declarations_of rows).0 (declarations_of rows).1) p a.1 in
+          let heads = declarations_sound rows in
+          let body = statements_sound (declarations_of rows).0 (declarations_of rows).1 m.0 m.1 in
+          subst (λ p. Stands (rows ++ end_row n ∷ []) p) m.2 (record {
+            heads = heads.0;
+            declare = heads.2;
+            is = ap (λ rs. rs ++ end_row n ∷ []) (heads.1 ∙ ap (λ rs. heads.0 ++ rs) body.0);
+            once = once_sound (declarations_of rows).0 a.0;
+            used = body.1;
+          }))
+      | inr a ↦ (let none : None ≡ Some p = a.1 in cc)
+    ]
 
 program_sound : (rows : List Row) (p : ThinProgram) → program_of rows ≡ Some p → Stands rows p
 program_sound rows p h =
     let one = then_some (λ r. cond (is_all (mark.End ∷ []) r.1.tokens) (body_of r.1.line (declarations_of r.0)) None) (last_cut rows) p h in
     elim (cond_some (is_all (mark.End ∷ []) one.0.1.tokens) _ _ _ one.2) [
-      inl a ↦ (let last : one.0.1 ≡ end_row one.0.1.line = ap (λ ts. record { line = one.0.1.line; tokens = ts }) (is_end one.0.1.tokens a.0) in
-        let whole : one.0.0 ++ end_row one.0.1.line ∷ [] ≡ rows = ap (λ r. one.0.0 ++ r ∷ []) (sym last) ∙ sym (last_cut_sound rows one.0 one.1) in
-        subst (λ rows. Stands rows p) whole (body_sound one.0.1.line one.0.0 p a.1))
-    | inr a ↦ (let none : None ≡ Some p = a.1 in cc) ]
+      | inl a ↦ (let last : one.0.1 ≡ end_row one.0.1.line = ap (λ ts. record { line = one.0.1.line; tokens = ts }) (is_end one.0.1.tokens a.0) in
+          let whole : one.0.0 ++ end_row one.0.1.line ∷ [] ≡ rows = ap (λ r. one.0.0 ++ r ∷ []) (sym last) ∙ sym (last_cut_sound rows one.0 one.1) in
+          subst (λ rows. Stands rows p) whole (body_sound one.0.1.line one.0.0 p a.1))
+      | inr a ↦ (let none : None ≡ Some p = a.1 in cc)
+    ]
 
 program_given : (rows : List Row) (p : ThinProgram) → Stands rows p → program_of rows ≡ Some p
 program_given rows p stands =

@@ -1,5 +1,5 @@
 -- What the functions of `token` give.
-use Rattle.std.specs.Prelude.{ℕ, zero, suc, ◌==◌, nat_le, Bool, true, false, cond, List, [], ◌∷◌, length, take, drop, codes, Option, None, Some}
+use Rattle.std.specs.Prelude.{ℕ, zero, suc, ◌==◌, nat_le, Bool, cond, List, [], ◌∷◌, length, take, drop, codes, Option, None, Some}
 use Rattle.std.specs.Option.{option_map, option_and_then}
 use Rattle.std.specs.List.{prefix_len}
 use Rattle.std.specs.Str.{bytes_eq}

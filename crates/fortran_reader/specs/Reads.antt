@@ -3,7 +3,6 @@ use Rattle.std.specs.Prelude.{◌≡◌, ℕ, suc, ◌<◌, List, [], ◌∷◌,
 use Rattle.std.specs.List.{list_all}
 use Rattle.std.specs.Str.Lines.{lines}
 use Rattle.caf_base.specs.Thin.{IsDeclared}
-use Rattle.caf_base.specs.declared.place.Pos.{Pos}
 use Rattle.caf_base.specs.declared.refusal.Refusal.{Refusal}
 use Rattle.caf_base.specs.declared.refusal.Refusal.TheVariants.{NoMemory, Cause}
 use Rattle.caf_base.specs.declared.thin.ThinProgram.{ThinProgram}
@@ -13,8 +12,8 @@ use Rattle.fortran_reader.specs.Bytes.{is_blank}
 use Rattle.fortran_reader.specs.Tokens.{Lies}
 use Rattle.fortran_reader.specs.Statements.{name_at, form_tokens, declaration_tokens}
 use Rattle.fortran_reader.specs.declared.line.Row.{Row}
-use Rattle.fortran_reader.specs.declared.read.ReadFault.{ReadFault}
-use Rattle.fortran_reader.specs.declared.read.ReadFault.TheVariants.{NotBuilt}
+use Rattle.fortran_reader.specs.declared.reader.ReadFault.{ReadFault}
+use Rattle.fortran_reader.specs.declared.reader.ReadFault.TheVariants.{NotBuilt}
 use Rattle.fortran_reader.specs.declared.token.Mark.TheVariants as mark
 use Rattle.fortran_reader.specs.declared.token.Token.TheVariants.{Fixed}
 

@@ -5,10 +5,12 @@
 //! At most one tree stands for a text: `stands_for_one`.
 #![tactic(auto)]
 
-pub mod bytes;
+mod bytes;
 pub mod line;
-pub mod program;
-pub mod read;
-pub mod statement;
-pub mod term;
+mod program;
+pub mod reader;
+mod statement;
+mod term;
 pub mod token;
+
+pub use reader::{ReadFault, read, stands_for_one};

@@ -29,7 +29,7 @@ fn add_row(rows: &mut Listing<Row>, line: u32, tokens: Listing<Token>) -> Result
 }
 
 /// The lines that aren't blank, in order; `None` where one can't be cut into tokens.
-pub fn rows(alloc: Global, bytes: &[u8]) -> Result<Option<Listing<Row>>, NoMemory>
+pub(crate) fn rows(alloc: Global, bytes: &[u8]) -> Result<Option<Listing<Row>>, NoMemory>
     requires { length bytes.now < 2 ^ 32 - 1 }
     ensures rows { IfOk result (λ o. o ≡ reading.rows_from 1 (lines bytes.now)) }
     ensures few { IfOk result (λ o. IfSome o (λ rows. length rows ≤ length bytes.now)) }

@@ -1,4 +1,4 @@
-//! Programs: the declarations, the statements and the END statement (ISO/IEC 1539-1:2018, 5.1 and 5.3.2).
+//! Programs: the declarations, the statements and the END statement (ISO/IEC 1539-1:2018, 5.3.2 and 14.1).
 
 ghost use Rattle.std.specs.Prelude.{◌≡◌, ◌≤◌, ◌<◌, ◌^◌, IfOk, length};
 ghost use Rattle.fortran_reader.specs.Reading as reading;

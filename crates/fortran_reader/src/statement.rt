@@ -102,7 +102,14 @@ pub fn form(
     if is_all(tokens, &[Mark::Sync, Mark::All]) {
         return Ok(Some(ThinForm::SyncAll));
     }
-    let condition = [Mark::If, Mark::Open, Mark::ThisImage, Mark::Open, Mark::Close, Mark::Same];
+    let condition = [
+        Mark::If,
+        Mark::Open,
+        Mark::ThisImage,
+        Mark::Open,
+        Mark::Close,
+        Mark::Same,
+    ];
     let Some(rest) = behind_all(tokens, &condition) else {
         return Ok(match act(alloc, declared, tokens)? {
             Some(act) => Some(ThinForm::Act(act)),

@@ -66,7 +66,11 @@ pub fn place(declared: &[ThinVariable], name: &[u8]) -> Option<u32>
 }
 
 /// The term of a name, and what stands behind it: with a bracket of a number, another image's part of a coarray.
-fn named<'a>(declared: &[ThinVariable], name: &[u8], tokens: &'a [Token]) -> Option<(ThinTerm, &'a [Token])>
+fn named<'a>(
+    declared: &[ThinVariable],
+    name: &[u8],
+    tokens: &'a [Token],
+) -> Option<(ThinTerm, &'a [Token])>
     requires { length declared.now < 2 ^ 32 }
     ensures { option_map (λ r. (r.0, r.1.now)) result ≡ reading.named_of declared.now name.now tokens.now }
 {

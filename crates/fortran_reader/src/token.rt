@@ -13,7 +13,7 @@ use caf_base::refusal::NoMemory;
 use std::alloc::Global;
 
 /// The greatest value of an integer of kind 4, and so of a literal.
-pub const GREATEST: u32 = 2_147_483_647;
+const GREATEST: u32 = 2_147_483_647;
 
 /// A token that is always spelled alike: a keyword, an operator or a delimiter.
 #[derive(Clone, Copy, PartialEq, Eq, Debug)]
@@ -136,7 +136,9 @@ fn value(digits: &[u8]) -> Option<u32>
 {
     let mut value: u32 = 0;
     for digit in digits {
-        value = value.saturating_mul(10).saturating_add(u32::from(*digit - b'0'));
+        value = value
+            .saturating_mul(10)
+            .saturating_add(u32::from(*digit - b'0'));
     }
     if value <= GREATEST { Some(value) } else { None }
 }
@@ -176,7 +178,7 @@ fn behind_blanks(bytes: &[u8]) -> &[u8]
 }
 
 /// The tokens of a line, without its end; `None` where it can't be cut into tokens.
-pub fn tokens(alloc: Global, line: &[u8]) -> Result<Option<Listing<Token>>, NoMemory>
+pub(crate) fn tokens(alloc: Global, line: &[u8]) -> Result<Option<Listing<Token>>, NoMemory>
     ensures { IfOk result (λ o. o ≡ cutting.tokens_of line.now) }
 {
     let mut tokens = Listing::new(alloc);

@@ -1,4 +1,4 @@
-use Rattle.std.proofs.Common.{rules, arith, ◌≡◌, ◌+◌, ◌<◌, ◌≤◌, ◌++◌, ◌∷◌, [], sym, ap, subst, ◌∙◌, suc, length, length-append, Some, None, option_map, add-one}
+use Rattle.std.proofs.Common.{rules, arith, ◌≡◌, ◌+◌, ◌<◌, ◌≤◌, ◌++◌, ◌∷◌, [], sym, ap, subst, ◌∙◌, suc, length, length-append, Some, option_map, add-one}
 use Rattle.std.specs.Str.Lines.{lines}
 use Rattle.fortran_reader.specs.Cutting.{tokens_of}
 use Rattle.fortran_reader.specs.Reading.{rows_from, with_row}

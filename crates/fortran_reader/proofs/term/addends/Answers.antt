@@ -1,4 +1,4 @@
-use Rattle.std.proofs.Common.{rules, arith, ◌≡◌, ◌-◌, ◌+◌, ◌<◌, ◌++◌, ◌∷◌, [], sym, subst, suc, length, Some, None, option_map}
+use Rattle.std.proofs.Common.{rules, arith, ◌≡◌, ◌-◌, ◌+◌, ◌<◌, ◌++◌, ◌∷◌, [], sym, subst, length, Some, None, option_map}
 use Rattle.fortran_reader.specs.Cutting.{several}
 use Rattle.fortran_reader.specs.Reading.{addend_of, addends_of}
 use Rattle.fortran_reader.proofs.Loops.{several_turn, joined_fault, joined_over}

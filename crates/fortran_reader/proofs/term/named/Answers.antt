@@ -1,6 +1,6 @@
-use Rattle.std.proofs.Common.{rules, arith, ◌≡◌, true, false, sym, ◌∙◌, ap, Some, ◌∷◌, []}
+use Rattle.std.proofs.Common.{rules, ◌≡◌, true, false, sym, ◌∙◌, ap, Some, ◌∷◌, []}
 use Rattle.caf_base.specs.Thin.{is_coarray_at}
-use Rattle.fortran_reader.specs.Reading.{place_of, behind_all, number_of}
+use Rattle.fortran_reader.specs.Reading.{behind_all, number_of}
 use Rattle.fortran_reader.specs.declared.token.Mark.TheVariants as mark
 use Rattle.fortran_reader.proofs.Loops.{is_coarray_read, named_coindexed}
 use Rattle.fortran_reader.proofs.term.named.Goals as goal

@@ -1,4 +1,4 @@
-use Rattle.std.proofs.Common.{rules, ◌≡◌, true, sym, ◌∙◌, ap, subst, take}
+use Rattle.std.proofs.Common.{◌≡◌, true, sym, ◌∙◌, ap, subst, take}
 use Rattle.std.specs.List.{list_all, prefix_len}
 use Rattle.fortran_reader.specs.Bytes.{is_digit}
 use Rattle.fortran_reader.proofs.Basics.{prefix_passes}

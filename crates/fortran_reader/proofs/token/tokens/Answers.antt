@@ -1,4 +1,4 @@
-use Rattle.std.proofs.Common.{rules, arith, ◌≡◌, ◌-◌, ◌+◌, ◌<◌, ◌++◌, ◌∷◌, [], sym, ap, subst, ◌∙◌, suc, length, Some, None, option_map}
+use Rattle.std.proofs.Common.{rules, arith, ◌≡◌, ◌-◌, ◌+◌, ◌<◌, ◌++◌, ◌∷◌, [], sym, ap, subst, ◌∙◌, length, Some, None, option_map}
 use Rattle.fortran_reader.specs.Cutting.{several, first_of, next_of, tokens_of, behind_blanks}
 use Rattle.fortran_reader.proofs.Loops.{several_turn, joined_fault, joined_over}
 use Rattle.fortran_reader.proofs.token.tokens.Goals as goal

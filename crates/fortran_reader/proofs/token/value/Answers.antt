@@ -1,4 +1,4 @@
-use Rattle.std.proofs.Common.{rules, arith, ◌≡◌, ◌*◌, ◌+◌, ◌-◌, ◌^◌, min, get_or}
+use Rattle.std.proofs.Common.{rules, ◌≡◌, ◌*◌, ◌+◌, ◌-◌, ◌^◌, min, get_or}
 use Rattle.fortran_reader.proofs.Loops.{value_turn}
 use Rattle.fortran_reader.proofs.token.value.Goals as goal
 

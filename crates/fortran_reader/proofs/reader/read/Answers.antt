@@ -1,9 +1,8 @@
-use Rattle.std.proofs.Common.{rules, ◌≡◌, sym, refl, Some, None}
+use Rattle.std.proofs.Common.{rules, ◌≡◌, refl, Some, None}
 use Rattle.fortran_reader.specs.Reading.{tree_of}
-use Rattle.fortran_reader.specs.Reads.{Reads}
 use Rattle.fortran_reader.proofs.Counts.{few_counts}
 use Rattle.fortran_reader.proofs.Rows.{reads_sound, not_read}
-use Rattle.fortran_reader.proofs.read.read.Goals as goal
+use Rattle.fortran_reader.proofs.reader.read.Goals as goal
 
 pub returns-in-Some-clause-reads : goal.returns-in-Some-clause-reads
 returns-in-Some-clause-reads c = let e : tree_of c.args.bytes.now ≡ Some c.in-Some.program = search rules in reads_sound c.args.bytes.now c.in-Some.program e
