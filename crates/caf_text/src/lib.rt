@@ -1,0 +1,92 @@
+//! The text of numbers and logicals, as PRINT, the report and the made programs write them.
+//! It stands on `caf_base` and on the kit's `itoa`, which makes the digits.
+//! The walk of the tree, the machine of an image, the report and the maker of programs stand on it.
+//! Its main contract: each call appends exactly the stated bytes to the output (`decimal_text`, `logical_text`,
+//! `i_field`), and where memory is wanting it leaves the output as it was.
+#![tactic(auto)]
+
+ghost use Rattle.std.specs.Prelude.{◌≡◌, ◌++◌, OnOk, OnErr, replicate};
+ghost use Rattle.caf_text.specs.Numbers.{decimal_text, logical_text, i_field};
+
+use caf_base::refusal::NoMemory;
+use itoa::Buffer;
+
+/// Appends a number in decimal, a negative one with `-` before it.
+pub fn push_number(out: &mut Vec<u8>, v: i64) -> Result<(), NoMemory>
+    ensures ok { OnOk result (out.new.items ≡ out.old.items ++ decimal_text v) }
+    ensures err { OnErr result (out.new.items ≡ out.old.items) }
+{
+    let mut buffer = Buffer::new();
+    out.extend_from_slice(buffer.format(v).as_bytes())?;
+    Ok(())
+}
+
+/// Appends `T` for true and `F` for false (ISO/IEC 1539-1:2018, 13.7.3).
+pub fn push_logical(out: &mut Vec<u8>, b: bool) -> Result<(), NoMemory>
+    ensures ok { OnOk result (out.new.items ≡ out.old.items ++ logical_text b) }
+    ensures err { OnErr result (out.new.items ≡ out.old.items) }
+{
+    out.push(if b { b'T' } else { b'F' })?;
+    Ok(())
+}
+
+/// Appends a number as the edit descriptor `Iw` writes it: with `w` = 0 in as few places as it takes, else at the
+/// right of `w` places, or `w` asterisks where it is too wide (ISO/IEC 1539-1:2018, 13.7.2.1 and 13.7.2.2).
+pub fn push_i_format(out: &mut Vec<u8>, v: i64, w: u32) -> Result<(), NoMemory>
+    ensures ok { OnOk result (out.new.items ≡ out.old.items ++ i_field v w) }
+    ensures err { OnErr result (out.new.items ≡ out.old.items) }
+{
+    if w == 0 {
+        return push_number(out, v);
+    }
+    let mut buffer = Buffer::new();
+    let text = buffer.format(v).as_bytes();
+    let places = w as usize;
+    out.reserve(places)?;
+    if text.len() > places {
+        out.resize(out.len() + places, b'*').unwrap();
+    } else {
+        out.resize(out.len() + (places - text.len()), b' ').unwrap();
+        out.extend_from_slice(text).unwrap();
+    }
+    Ok(())
+}
+
+#[cfg(test)]
+mod tests {
+    use super::*;
+    use std::test::Fail;
+
+    #[test]
+    fn numbers_are_written_in_their_fields(rt: HostRuntime) -> Result<(), Fail> {
+        let rows = [
+            (42, 4, "  42"),
+            (123, 2, "**"),
+            (-7, 0, "-7"),
+            (0, 0, "0"),
+            (-12, 3, "-12"),
+            (-12, 2, "**"),
+            (2_147_483_647, 11, " 2147483647"),
+            (-2_147_483_648, 0, "-2147483648"),
+            (i64::MAX, 19, "9223372036854775807"),
+            (i64::MIN, 0, "-9223372036854775808"),
+        ];
+        for (v, w, want) in rows {
+            let mut out = b":".to_vec(rt.alloc())?;
+            assert_eq!(rt; push_i_format(&mut out, v, w), Ok(()));
+            assert_eq!(rt; out[1..], want.as_bytes()[..], "at {want}");
+        }
+        Ok(())
+    }
+
+    #[test]
+    fn plain_numbers_and_logicals_are_appended(rt: HostRuntime) -> Result<(), Fail> {
+        let mut out = Vec::new(rt.alloc());
+        assert_eq!(rt; push_number(&mut out, i64::MIN), Ok(()));
+        assert_eq!(rt; push_logical(&mut out, true), Ok(()));
+        assert_eq!(rt; push_logical(&mut out, false), Ok(()));
+        assert_eq!(rt; push_number(&mut out, 30), Ok(()));
+        assert_eq!(rt; out.as_slice(), b"-9223372036854775808TF30".as_slice());
+        Ok(())
+    }
+}

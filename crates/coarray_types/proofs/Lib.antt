@@ -1,0 +1,5 @@
+pub mod CellLemmas
+pub mod CoplaceLemmas
+pub mod Digits
+pub mod DistanceLemmas
+pub mod PlaceLemmas

@@ -1,0 +1,67 @@
+-- Each element of a shape has a place of its own below the size, and each place below the size has an element.
+use Rattle.std.proofs.Common.{◌≡◌, ℕ, zero, suc, ◌+◌, ◌*◌, ◌/◌, ◌%◌, ◌<◌, ◌≤◌, ℤ, pos, ◌+ℤ◌, ◌≤ℤ◌, ◌<ℤ◌, Bool, true, false, cond, List, [], ◌∷◌, refl, sym, ap, ap₂, ◌∙◌, arith, subst}
+use Rattle.std.specs.Int.RustNames.{int_lt}
+use Rattle.std.proofs.lemmas.Int.{ints}
+use Rattle.coarray_types.specs.Distances.{distance}
+use Rattle.coarray_types.specs.Places.{extent_of, cells_of, AllWithin, place_of}
+use Rattle.coarray_types.proofs.Digits.{digit-below, digit_same, rest_same, digit_split, rest-below}
+use Rattle.coarray_types.proofs.DistanceLemmas.{distance_order, distance-add, add-up, add-within, distance_same}
+
+-- the extent, where the upper bound isn't below the lower one
+pub extent_is : (l u : ℤ) → l ≤ℤ u → extent_of (l, u) ≡ distance l u + 1
+extent_is l u h = let e : int_lt u l ≡ false = grind (arith, ints) in ap (λ b. cond b 0 (distance l u + 1)) e
+
+-- a subscript within its bounds is less than the extent away from the lower one
+pub within-below : (l u s : ℤ) → l ≤ℤ s → s ≤ℤ u → distance l s < extent_of (l, u)
+within-below l u s a b =
+    let o : l ≤ℤ u = omega (arith, ints) in
+    let d : distance l s ≤ distance l u = distance_order l s u a b in
+    let e : extent_of (l, u) ≡ distance l u + 1 = extent_is l u o in
+    subst (λ n. distance l s < n) (sym e) (omega (arith, d))
+
+-- a dimension with a place has its upper bound not below its lower one
+pub bounds_of-place : (l u : ℤ) (n : ℕ) → n < extent_of (l, u) → (l ≤ℤ u) × (n ≤ distance l u)
+bounds_of-place l u n = go (int_lt u l) refl where
+  go : (b : Bool) → int_lt u l ≡ b → n < cond b 0 (distance l u + 1) → (l ≤ℤ u) × (n ≤ distance l u)
+  go true e h = absurd (omega arith)
+  go false e h = (grind (arith, ints), omega arith)
+
+-- each element's place is below the size
+pub place_of-below : (ds : List (ℤ × ℤ)) (ss : List ℤ) → AllWithin ds ss → place_of ds ss < cells_of ds
+place_of-below [] [] w = omega arith
+place_of-below [] (s ∷ ss) w = absurd w
+place_of-below (d ∷ ds) [] w = absurd w
+place_of-below (d ∷ ds) (s ∷ ss) w =
+    digit-below (distance d.0 s) (extent_of d) (place_of ds ss) (cells_of ds) (within-below d.0 d.1 s w.0 w.1) (place_of-below ds ss w.2)
+
+-- elements with the same place are the same
+pub place_of-once : (ds : List (ℤ × ℤ)) (ss ts : List ℤ) → AllWithin ds ss → AllWithin ds ts → place_of ds ss ≡ place_of ds ts → ss ≡ ts
+place_of-once [] [] [] v w e = refl
+place_of-once [] [] (t ∷ ts) v w e = absurd w
+place_of-once [] (s ∷ ss) ts v w e = absurd v
+place_of-once (d ∷ ds) [] ts v w e = absurd v
+place_of-once (d ∷ ds) (s ∷ ss) [] v w e = absurd w
+place_of-once (d ∷ ds) (s ∷ ss) (t ∷ ts) v w e =
+    let a : distance d.0 s < extent_of d = within-below d.0 d.1 s v.0 v.1 in
+    let b : distance d.0 t < extent_of d = within-below d.0 d.1 t w.0 w.1 in
+    let same : distance d.0 s ≡ distance d.0 t = digit_same (distance d.0 s) (distance d.0 t) (extent_of d) (place_of ds ss) (place_of ds ts) a b e in
+    let rest : place_of ds ss ≡ place_of ds ts = rest_same (distance d.0 s) (distance d.0 t) (extent_of d) (place_of ds ss) (place_of ds ts) a b e in
+    ap₂ (λ x xs. x ∷ xs) (distance_same d.0 s t v.0 w.0 same) (place_of-once ds ss ts v.2 w.2 rest)
+
+-- a product above a number has two factors above 0
+first-pos : (e c n : ℕ) → n < e * c → 0 < e
+first-pos zero c n h = absurd (omega arith)
+first-pos (suc e) c n h = omega arith
+
+-- each place below the size is an element's
+pub place_of-each : (ds : List (ℤ × ℤ)) (n : ℕ) → n < cells_of ds → (ss : List ℤ) × AllWithin ds ss × (place_of ds ss ≡ n)
+place_of-each [] n h = ([], tt, omega arith)
+place_of-each (d ∷ ds) n h =
+    let e : 0 < extent_of d = first-pos (extent_of d) (cells_of ds) n h in
+    let r : n % extent_of d < extent_of d = omega arith in
+    let b = bounds_of-place d.0 d.1 (n % extent_of d) r in
+    let rest = place_of-each ds (n / extent_of d) (rest-below n (extent_of d) (cells_of ds) e h) in
+    let s : ℤ = d.0 +ℤ pos (n % extent_of d) in
+    (s ∷ rest.0,
+    (add-up d.0 (n % extent_of d), add-within d.0 d.1 (n % extent_of d) b.0 b.1, rest.1),
+    ap₂ (λ x y. x + extent_of d * y) (distance-add d.0 (n % extent_of d)) rest.2 ∙ digit_split n (extent_of d) e)

@@ -1,0 +1,31 @@
+-- The images that cosubscripts name: array element order over the cobounds, the last coextent without a limit
+-- (ISO/IEC 1539-1:2018, 9.6 and 16.9.97).
+use Rattle.std.specs.Prelude.{ℕ, ◌≡◌, ◌+◌, ◌*◌, ◌<◌, ℤ, pos, ◌+ℤ◌, ◌-ℤ◌, ◌≤ℤ◌, List, [], ◌∷◌, FitsSigned}
+use Rattle.std.specs.Int.{w32}
+use Rattle.std.specs.Int.RustNames.{unsigned_abs}
+use Rattle.coarray_types.specs.Distances.{distance}
+
+-- lower cobounds, and the coextents of all but the last of one to more codimensions: none is empty, and all cobounds are numbers of kind 4
+abbrev pub HasCobounds : List ℤ → List ℤ → Type 0
+HasCobounds [] es = ⊥
+HasCobounds (l ∷ ls) [] = FitsSigned w32 l × (ls ≡ [])
+HasCobounds (l ∷ ls) (e ∷ es) = FitsSigned w32 l × (pos 1 ≤ℤ e) × FitsSigned w32 ((l +ℤ e) -ℤ pos 1) × HasCobounds ls es
+
+-- as many cosubscripts as codimensions, each within its cobounds, and the last not below its lower one
+abbrev pub CoWithin : List ℤ → List ℤ → List ℤ → Type 0
+CoWithin [] es cs = ⊥
+CoWithin (l ∷ ls) es [] = ⊥
+CoWithin (l ∷ ls) [] (c ∷ cs) = (l ≤ℤ c) × (ls ≡ []) × (cs ≡ [])
+CoWithin (l ∷ ls) (e ∷ es) (c ∷ cs) = (l ≤ℤ c) × (distance l c < unsigned_abs e) × CoWithin ls es cs
+
+-- the place of cosubscripts, from 0: the first one runs fastest
+abbrev pub co_place : List ℤ → List ℤ → List ℤ → ℕ
+co_place [] es cs = 0
+co_place (l ∷ ls) es [] = 0
+co_place (l ∷ ls) [] (c ∷ cs) = distance l c
+co_place (l ∷ ls) (e ∷ es) (c ∷ cs) = distance l c + unsigned_abs e * co_place ls es cs
+
+-- the cosubscripts name the image with this index, from 1
+pub record Names (lowers extents subs : List ℤ) (image : ℕ) : Type 0 where
+  pub within : CoWithin lowers extents subs
+  pub index : image ≡ co_place lowers extents subs + 1

@@ -1,0 +1,4 @@
+pub mod Cells
+pub mod Coplaces
+pub mod Distances
+pub mod Places

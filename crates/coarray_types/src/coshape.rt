@@ -1,0 +1,105 @@
+//! Coshapes, and the images that cosubscripts name.
+
+ghost use Rattle.std.specs.Prelude.{◌≡◌, ◌≤◌, ◌<◌, ◌+◌, ◌-◌, ◌∷◌, ℕ, length, take, drop, replicate, IfSome, IsNone, pos};
+ghost use Rattle.coarray_types.specs.Coplaces.{HasCobounds, CoWithin, co_place, Names};
+
+use caf_base::short::Short;
+
+/// The cobounds of a coarray: of each codimension the lower cobound, and of each but the last the coextent. The
+/// last coextent has no limit (ISO/IEC 1539-1:2018, 8.5.6.3).
+#[derive(Drop, PartialEq, Debug)]
+pub struct CoShape {
+    pub lower: Short<i64, 3>,
+    pub extent: Short<i64, 2>,
+}
+
+/// The index of the image that cosubscripts name among n images, or 0 exactly where they name none of them
+/// (ISO/IEC 1539-1:2018, 9.6 and 16.9.97).
+pub fn image_of(co: &CoShape, subs: &[i64], n: u32) -> u32
+    requires cobounds { HasCobounds co.now.lower co.now.extent }
+    requires corank { length subs.now ≡ length co.now.lower }
+    ensures image { 0 < result → Names co.now.lower co.now.extent subs.now result × (result ≤ n) }
+    ensures none { result ≡ 0 → (i : ℕ) → Names co.now.lower co.now.extent subs.now i → n < i }
+{
+    match place_below(co.lower.as_slice(), co.extent.as_slice(), subs, n) {
+        Some(place) => place + 1,
+        None => 0,
+    }
+}
+
+/// The cosubscripts that name an image, and 0 past the corank (ISO/IEC 1539-1:2018, 16.9.190).
+pub fn cosubscripts_of(co: &CoShape, index: u32) -> [i64; 3]
+    requires cobounds { HasCobounds co.now.lower co.now.extent }
+    requires corank { length co.now.lower ≤ 3 }
+    requires index { 1 ≤ index }
+    ensures named { Names co.now.lower co.now.extent (take (length co.now.lower) result) index }
+    ensures past { drop (length co.now.lower) result ≡ replicate (3 - length co.now.lower) (pos 0) }
+{
+    let mut subs = [0; 3];
+    put_cosubscripts(
+        co.lower.as_slice(),
+        co.extent.as_slice(),
+        index - 1,
+        &mut subs,
+    );
+    subs
+}
+
+// The place from 0 that cosubscripts name, where it is below n. 64 bits suffice: a coextent is at most 2^32, since
+// the cobounds fit 32 bits, and a place is below n, so their product and one more coextent is below 2^64.
+fn place_below(lowers: &[i64], extents: &[i64], subs: &[i64], n: u32) -> Option<u32>
+    requires cobounds { HasCobounds lowers.now extents.now }
+    requires corank { length subs.now ≡ length lowers.now }
+    ensures some { IfSome result (λ p. CoWithin lowers.now extents.now subs.now × (p ≡ co_place lowers.now extents.now subs.now) × (p < n)) }
+    ensures none { IsNone result → CoWithin lowers.now extents.now subs.now → n ≤ co_place lowers.now extents.now subs.now }
+{
+    let ([lower, lowers @ ..], [sub, subs @ ..]) = (lowers, subs) else {
+        return None;
+    };
+    if sub < lower {
+        return None;
+    }
+    let distance = sub.abs_diff(*lower);
+    let [extent, extents @ ..] = extents else {
+        return below(distance, n);
+    };
+    let extent = extent.unsigned_abs();
+    if distance >= extent {
+        return None;
+    }
+    let rest = place_below(lowers, extents, subs, n)?;
+    below(distance + extent * u64::from(rest), n)
+}
+
+// A place, where it is below n.
+fn below(place: u64, n: u32) -> Option<u32>
+    ensures some { IfSome result (λ p. (p ≡ place) × (p < n)) }
+    ensures none { IsNone result → n ≤ place }
+{
+    if place < u64::from(n) {
+        Some(place as u32)
+    } else {
+        None
+    }
+}
+
+// Puts the cosubscripts of a place at the front. 64 bits suffice: a lower cobound fits 32 bits, and so does a place.
+fn put_cosubscripts(lowers: &[i64], extents: &[i64], place: u32, subs: &mut [i64])
+    requires cobounds { HasCobounds lowers.now extents.now }
+    requires corank { length lowers.now ≤ length subs.old }
+    ensures within { CoWithin lowers.now extents.now (take (length lowers.now) subs.new) }
+    ensures place { co_place lowers.now extents.now (take (length lowers.now) subs.new) ≡ place }
+    ensures past { drop (length lowers.now) subs.new ≡ drop (length lowers.now) subs.old }
+{
+    let ([lower, lowers @ ..], [sub, subs @ ..]) = (lowers, subs) else {
+        return;
+    };
+    let [extent, extents @ ..] = extents else {
+        *sub = lower + i64::from(place);
+        return;
+    };
+    let place = u64::from(place);
+    let extent = extent.unsigned_abs();
+    *sub = lower + (place % extent) as i64;
+    put_cosubscripts(lowers, extents, (place / extent) as u32, subs);
+}

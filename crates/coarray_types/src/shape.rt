@@ -1,0 +1,44 @@
+//! Shapes, and the offsets of their elements.
+
+ghost use Rattle.std.specs.Prelude.{◌≡◌, ◌≤◌, ◌<◌, length, IsNone, IfSome, ◌↔◌, List, ℤ, ℕ};
+ghost use Rattle.coarray_types.specs.Places.{cells_of, AllWithin, place_of};
+
+use caf_base::short::Short;
+
+/// The bounds of an array: of each dimension the lower and the upper one. A dimension whose upper bound is below the
+/// lower one has no element. A scalar has no dimension.
+#[derive(Drop, PartialEq, Debug)]
+pub struct Shape {
+    pub dims: Short<(i64, i64), 3>,
+}
+
+/// The offset of an element from the first one, in array element order, of a shape of at most 65,536 cells; None
+/// exactly where a subscript is out of bounds (ISO/IEC 1539-1:2018, 9.5.3.2).
+pub fn offset_of(shape: &Shape, subs: &[i64]) -> Option<u32>
+    requires cells { cells_of shape.now.dims ≤ 65536 }
+    requires rank { length subs.now ≡ length shape.now.dims }
+    ensures out { IsNone result → AllWithin shape.now.dims subs.now → ⊥ }
+    ensures offset { IfSome result (λ n. AllWithin shape.now.dims subs.now × (n ≡ place_of shape.now.dims subs.now)) }
+    ensures below { IfSome result (λ n. n < cells_of shape.now.dims) }
+{
+    offset_in(shape.dims.as_slice(), subs)
+}
+
+// The same, of the dimensions. 64 bits suffice: within the bounds no sum or product here passes the 65,536 cells.
+fn offset_in(dims: &[(i64, i64)], subs: &[i64]) -> Option<u32>
+    requires cells { cells_of dims.now ≤ 65536 }
+    requires rank { length subs.now ≡ length dims.now }
+    ensures out { IsNone result → AllWithin dims.now subs.now → ⊥ }
+    ensures offset { IfSome result (λ n. AllWithin dims.now subs.now × (n ≡ place_of dims.now subs.now)) }
+    ensures below { IfSome result (λ n. n < cells_of dims.now) }
+{
+    let ([(lower, upper), dims @ ..], [sub, subs @ ..]) = (dims, subs) else {
+        return Some(0);
+    };
+    if sub < lower || upper < sub {
+        return None;
+    }
+    let rest = offset_in(dims, subs)?;
+    let extent = upper.abs_diff(*lower) + 1;
+    Some((sub.abs_diff(*lower) + extent * u64::from(rest)) as u32)
+}
