@@ -1,0 +1,4 @@
+pub mod LineLemmas
+pub mod Cutting
+pub mod Feeds
+pub mod FirstFaults

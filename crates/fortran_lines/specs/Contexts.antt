@@ -1,0 +1,25 @@
+-- Character contexts: where a byte stands within a literal (ISO/IEC 1539-1:2018, 6.3.2.1 and 7.4.4).
+use Rattle.std.specs.Prelude.{Bool, true, false, cond, nat_eq, List, fold}
+use Rattle.fortran_lines.specs.declared.mark.Mark.{Mark}
+use Rattle.fortran_lines.specs.declared.context.Context.{Context}
+use Rattle.fortran_lines.specs.declared.context.Context.TheVariants.{Outside, Inside, Closed}
+use Rattle.fortran_lines.specs.Marks.{is_quote}
+
+abbrev pub is_inside : Context → Bool
+is_inside Outside = false
+is_inside (Inside q) = true
+is_inside (Closed q) = false
+
+-- where no literal is open, a quote opens one
+abbrev pub opened : Mark → Context
+opened m = cond (is_quote m) (Inside m) Outside
+
+-- A literal ends at its own quote, and goes on where that quote follows at once.
+abbrev pub behind : Context → Mark → Context
+behind Outside m = opened m
+behind (Inside q) m = cond (nat_eq m.code q.code) (Closed q) (Inside q)
+behind (Closed q) m = cond (nat_eq m.code q.code) (Inside q) (opened m)
+
+-- the context behind some text
+abbrev pub context_behind : Context → List Mark → Context
+context_behind k text = fold behind k text

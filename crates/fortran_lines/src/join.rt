@@ -1,0 +1,230 @@
+//! The bytes of a file, joined into statements.
+
+ghost use Rattle.std.specs.Prelude.{◌≡◌, ◌<◌, ◌+◌, ◌≤◌, ◌∷◌, [], length, map, IfOk, OnOk, IfErr, ◌==◌};
+ghost use Rattle.std.specs.List.{position_or_len};
+ghost use Rattle.std.specs.Str.Lines.{lines, strip_carriage_return};
+ghost use Rattle.fortran_lines.specs.Marks.{marks_from};
+ghost use Rattle.fortran_lines.specs.Lines.{statements_of};
+ghost use Rattle.fortran_lines.specs.Faults.{faults_of, IsFirst};
+ghost use Rattle.fortran_lines.specs.Causes.{IfCause};
+ghost use Rattle.fortran_lines.specs.Statements.{stmt_marks};
+
+use crate::fault::LineFault;
+use crate::mark::Mark;
+use crate::reading::{Reading, first_at_end};
+use crate::stmt::Stmt;
+use caf_base::place::Pos;
+use caf_base::refusal::{NoMemory, Refusal};
+use std::alloc::Global;
+
+/// A line without the carriage return that ends it.
+fn without_return(line: &[u8]) -> &[u8]
+    ensures { result.now ≡ strip_carriage_return line.now }
+{
+    match line.split_last() {
+        Some((b'\r', front)) => front,
+        _ => line,
+    }
+}
+
+/// The place of the first line feed, or the end.
+fn line_end(bytes: &[u8]) -> usize
+    ensures { result ≡ position_or_len (λ byte. byte == 10) bytes.now }
+{
+    for (i, byte) in bytes.iter().enumerate() {
+        if *byte == b'\n' {
+            return i;
+        }
+    }
+    bytes.len()
+}
+
+/// The first line of some bytes, without its line feed and a carriage return before that, and the bytes behind it.
+fn first_line(bytes: &[u8]) -> (&[u8], &[u8])
+    requires { 0 < length bytes.now }
+    ensures first { lines bytes.now ≡ result.0.now ∷ lines result.1.now }
+    ensures shorter { length result.1.now < length bytes.now }
+    ensures within { length result.0.now ≤ length bytes.now }
+{
+    let end = line_end(bytes);
+    if end < bytes.len() {
+        (without_return(&bytes[..end]), &bytes[end + 1..])
+    } else {
+        (bytes, &[])
+    }
+}
+
+/// The bytes of a line with their places.
+fn marks_of(alloc: Global, line: u32, bytes: &[u8]) -> Result<Vec<Mark>, NoMemory>
+    requires { length bytes.now < 4294967295 }
+    ensures { IfOk result (λ marks. marks.items ≡ marks_from line 1 bytes.now) }
+{
+    let mut marks = Vec::with_capacity(alloc, bytes.len())?;
+    for (i, code) in bytes.iter().enumerate() {
+        let at = Pos {
+            line,
+            col: i as u32 + 1,
+        };
+        marks.push(Mark { code: *code, at })?;
+    }
+    Ok(marks)
+}
+
+/// The statements of a file in free source form, in order. A refusal is what is broken first in the file, judged to its end; want of memory may come at any time.
+pub fn join_lines(alloc: Global, bytes: &[u8]) -> Result<Vec<Stmt>, Refusal<LineFault>>
+    requires { length bytes.now < 4294967295 }
+    ensures statements { IfOk result (λ stmts. map stmt_marks stmts.items ≡ statements_of bytes.now) }
+    ensures unbroken { OnOk result (faults_of bytes.now ≡ []) }
+    ensures refused { IfErr result (λ refusal. IfCause refusal (λ fault. IsFirst (faults_of bytes.now) fault)) }
+{
+    let mut reading = Reading::new(alloc);
+    let mut rest = bytes;
+    let mut number = 1;
+    while !rest.is_empty() {
+        let (line, others) = first_line(rest);
+        let marks = marks_of(alloc, number, line)?;
+        reading.take_line(alloc, marks.as_slice())?;
+        rest = others;
+        number += 1;
+    }
+    match first_at_end(reading.first, reading.before) {
+        None => Ok(reading.stmts),
+        Some(fault) => Err(Refusal::Cause(fault)),
+    }
+}
+
+#[cfg(test)]
+mod tests {
+    use super::*;
+    use std::test::Fail;
+
+    /// The texts of the statements, with a bar behind each.
+    fn texts(alloc: Global, source: &[u8]) -> Result<Vec<u8>, Fail> {
+        let mut all = Vec::new(alloc);
+        if source.len() < 1_000 {
+            for stmt in &join_lines(alloc, source)? {
+                all.extend_from_slice(stmt.text.as_slice())?;
+                all.push(b'|')?;
+            }
+        }
+        Ok(all)
+    }
+
+    #[test]
+    fn joins(rt: HostRuntime) -> Result<(), Fail> {
+        let cases = [
+            (b"a = 1\nb = 2".as_slice(), b"a = 1|b = 2|".as_slice()),
+            (b"a = & ! one\n\n ! two\n & 1\r\n", b"a =  1|"),
+            (b"a = &\n1\n", b"a =  1|"),
+            (b"a=1;; b=2 ; ! c\n", b"a=1| b=2 |"),
+            (b"print *, 'it''s; & !'\n", b"print *, 'it''s; & !'|"),
+            (b"print *, 'it&\n\n!c\n  &''s'", b"print *, 'it''s'|"),
+            (b"print *, 'it'&\n&'s;'\n", b"print *, 'it''s;'|"),
+            (b"a = &\n & ! alone\n & 1", b"a =  1|"),
+            (b"&\na", b" a|"),
+            (b"a\tb\rc ! \xff", b"a\tb\rc |"),
+            (b"\n  \n! only\n;;\n", b""),
+        ];
+        for (source, wanted) in cases {
+            assert_eq!(rt; texts(rt.alloc(), source)?.as_slice(), wanted);
+        }
+        Ok(())
+    }
+
+    #[test]
+    fn places(rt: HostRuntime) -> Result<(), Fail> {
+        let stmts = join_lines(rt.alloc(), b"a&\n &b; c")?;
+        assert_eq!(rt; stmts.len(), 2);
+        let first = stmts[0].at.as_slice();
+        assert_eq!(rt;
+            first,
+            [Pos { line: 1, col: 1 }, Pos { line: 2, col: 3 }].as_slice()
+        );
+        let second = stmts[1].at.as_slice();
+        assert_eq!(rt;
+            second,
+            [Pos { line: 2, col: 5 }, Pos { line: 2, col: 6 }].as_slice()
+        );
+        Ok(())
+    }
+
+    #[test]
+    fn refuses(rt: HostRuntime) -> Result<(), Fail> {
+        let cases = [
+            (
+                b"a\n b = '\xe4' ! \xff\n".as_slice(),
+                LineFault::NotAscii {
+                    at: Pos { line: 2, col: 7 },
+                },
+            ),
+            (
+                b"a = 1 + & ! c\n\n  ! d",
+                LineFault::DanglingContinuation {
+                    at: Pos { line: 1, col: 9 },
+                },
+            ),
+            (
+                b"a = 'it&\n  ! d",
+                LineFault::DanglingContinuation {
+                    at: Pos { line: 1, col: 8 },
+                },
+            ),
+            (
+                b"a = 'it''s & ! d\n&",
+                LineFault::OpenLiteral {
+                    at: Pos { line: 1, col: 5 },
+                },
+            ),
+            (
+                b"a = 'it&\n\nb = '\xe4'",
+                LineFault::OpenLiteral {
+                    at: Pos { line: 1, col: 5 },
+                },
+            ),
+            (
+                b"a = 'it'&\n&'s",
+                LineFault::OpenLiteral {
+                    at: Pos { line: 1, col: 5 },
+                },
+            ),
+        ];
+        for (source, wanted) in cases {
+            assert_eq!(rt; source.len() < 1_000, true);
+            match join_lines(rt.alloc(), source) {
+                Err(Refusal::Cause(fault)) => assert_eq!(rt; fault, wanted),
+                _ => assert!(rt; false, "not refused"),
+            }
+        }
+        Ok(())
+    }
+
+    #[test]
+    fn refuses_a_long_line(rt: HostRuntime) -> Result<(), Fail> {
+        let mut source = vec![in rt.alloc(); b' '; 1_000]?;
+        source.push(b'\n')?;
+        assert_eq!(rt; source.len(), 1_001);
+        assert_eq!(rt; join_lines(rt.alloc(), source.as_slice())?.len(), 0);
+        source.truncate(1_000);
+        source.push(b'!')?;
+        assert_eq!(rt; source.len(), 1_001);
+        match join_lines(rt.alloc(), source.as_slice()) {
+            Err(Refusal::Cause(fault)) => {
+                assert_eq!(rt;
+                    fault,
+                    LineFault::LineTooLong {
+                        at: Pos {
+                            line: 1,
+                            col: 1_001
+                        }
+                    }
+                );
+                assert_eq!(rt;
+                    format!(in rt.alloc(); "{fault}")?.as_str(),
+                    "LineTooLong at 1:1001"
+                );
+            }
+            _ => assert!(rt; false, "not refused"),
+        }
+        Ok(())
+    }
+}

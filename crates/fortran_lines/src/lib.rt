@@ -1,0 +1,18 @@
+//! Free source form (ISO/IEC 1539-1:2018, 6.3.2): the bytes of a file, joined into statements.
+//! It stands on `caf_base` and `thiserror`; `fortran_tokens` and the readers stand on it.
+//! Its main contract is that of `join_lines`: the statements are exactly those that the lines of the file join to,
+//! each byte with its place, and a refusal is the break of a rule before which no rule is broken in the file.
+//! The definitions are in specs/Lines (lines and how they join) and specs/Faults (what is broken, and where first).
+#![tactic(auto)]
+
+pub mod context;
+pub mod fault;
+pub mod join;
+pub mod line;
+pub mod mark;
+pub mod reading;
+pub mod stmt;
+
+pub use fault::LineFault;
+pub use join::join_lines;
+pub use stmt::Stmt;
