@@ -14,7 +14,7 @@ use Rattle.caf_base.specs.declared.thin.ThinForm.{ThinForm}
 use Rattle.caf_base.specs.declared.thin.ThinForm.TheVariants.{SyncAll, Act, IfImage}
 use Rattle.caf_base.specs.declared.thin.ThinStatement.{ThinStatement}
 use Rattle.caf_base.specs.declared.thin.ThinProgram.{ThinProgram}
-use Rattle.caf_base.specs.Thin.{form_terms, act_terms, counts}
+use Rattle.caf_base.specs.Thin.{form_terms, act_terms, addend_counts, act_counts, form_counts, statement_counts, counts}
 use Rattle.caf_events.specs.declared.fault.FaultKind.TheVariants as faults
 use Rattle.caf_events.specs.declared.ask.Ask.{Ask}
 use Rattle.caf_events.specs.declared.reply.Reply.{Reply}
@@ -209,9 +209,23 @@ reply_ends c d e r h spends lives stops =
       λ x. exactly.1 (none_after (moves_left d) (moves_left e) spends (falls.1.0 x)),
     )
 
-weight_counted : (ss : List ThinStatement) → weight ss ≤ sum_by (λ s. 8 + 5 * form_terms s.form) ss
+addends_counted : (more : List ThinAddend) → addend_counts more ≡ 5 * length more
+addends_counted [] = refl
+addends_counted (a ∷ more) = let r = addends_counted more in omega arith
+
+act_counted : (act : ThinAct) → act_counts act ≡ 5 * act_terms act
+act_counted (Assign k sum) = let r = addends_counted sum.rest in omega arith
+act_counted (Print sum) = let r = addends_counted sum.rest in omega arith
+
+form_counted : (form : ThinForm) → form_counts form ≡ 8 + 5 * form_terms form
+form_counted SyncAll = refl
+form_counted (Act act) = let r = act_counted act in omega arith
+form_counted (IfImage image act) = let r = act_counted act in omega arith
+
+-- statements count more than the steps that they can take
+weight_counted : (ss : List ThinStatement) → weight ss ≤ statement_counts ss
 weight_counted [] = omega arith
-weight_counted (s ∷ ss) = rw sum_by-cons (omega (arith, weight_counted ss))
+weight_counted (s ∷ ss) = let r = weight_counted ss in let f = form_counted s.form in omega arith
 
 -- a program counts more than the steps of its images
 pub start_counted : (p : ThinProgram) (me images : ℕ) → moves_left (start_of p me images) ≤ counts p
