@@ -1,5 +1,6 @@
 pub mod CellLemmas
 pub mod CoplaceLemmas
-pub mod Digits
+pub mod DigitLemmas
 pub mod DistanceLemmas
+pub mod Parts
 pub mod PlaceLemmas

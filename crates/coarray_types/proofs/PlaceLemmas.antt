@@ -1,10 +1,11 @@
 -- Each element of a shape has a place of its own below the size, and each place below the size has an element.
-use Rattle.std.proofs.Common.{◌≡◌, ℕ, zero, suc, ◌+◌, ◌*◌, ◌/◌, ◌%◌, ◌<◌, ◌≤◌, ℤ, pos, ◌+ℤ◌, ◌≤ℤ◌, ◌<ℤ◌, Bool, true, false, cond, List, [], ◌∷◌, refl, sym, ap, ap₂, ◌∙◌, arith, subst}
+use Rattle.std.proofs.Common.{◌≡◌, ℕ, zero, suc, ◌+◌, ◌*◌, ◌/◌, ◌%◌, ◌<◌, ◌≤◌, ℤ, pos, ◌+ℤ◌, ◌≤ℤ◌, ◌<ℤ◌, Bool, true, false, cond, List, [], ◌∷◌, length, get_or, refl, sym, ap, ap₂, ◌∙◌, arith, subst}
 use Rattle.std.specs.Int.RustNames.{int_lt}
 use Rattle.std.proofs.lemmas.Int.{ints}
 use Rattle.coarray_types.specs.Distances.{distance}
 use Rattle.coarray_types.specs.Places.{extent_of, cells_of, AllWithin, place_of}
-use Rattle.coarray_types.proofs.Digits.{digit-below, digit_same, rest_same, digit_split, rest-below}
+use Rattle.coarray_types.proofs.Parts.{tail_of, tail_of-cons}
+use Rattle.coarray_types.proofs.DigitLemmas.{digit-below, digit_same, rest_same, digit_split, rest-below}
 use Rattle.coarray_types.proofs.DistanceLemmas.{distance_order, distance-add, add-up, add-within, distance_same}
 
 -- the extent, where the upper bound isn't below the lower one
@@ -61,7 +62,40 @@ place_of-each (d ∷ ds) n h =
     let r : n % extent_of d < extent_of d = omega arith in
     let b = bounds_of-place d.0 d.1 (n % extent_of d) r in
     let rest = place_of-each ds (n / extent_of d) (rest-below n (extent_of d) (cells_of ds) e h) in
-    let s : ℤ = d.0 +ℤ pos (n % extent_of d) in
-    (s ∷ rest.0,
-    (add-up d.0 (n % extent_of d), add-within d.0 d.1 (n % extent_of d) b.0 b.1, rest.1),
-    ap₂ (λ x y. x + extent_of d * y) (distance-add d.0 (n % extent_of d)) rest.2 ∙ digit_split n (extent_of d) e)
+    let s : ℤ = d.0 +ℤ pos (n % extent_of d) in (
+      s ∷ rest.0,
+      (add-up d.0 (n % extent_of d), add-within d.0 d.1 (n % extent_of d) b.0 b.1, rest.1),
+      ap₂ (λ x y. x + extent_of d * y) (distance-add d.0 (n % extent_of d)) rest.2 ∙ digit_split n (extent_of d) e,
+    )
+
+-- one dimension more: what `offset_of` needs of it
+pub record OffsetStep (dims : List (ℤ × ℤ)) (subs : List ℤ) (l u s : ℤ) (rest : ℕ) : Type 0 where
+  pub digit : distance l s < distance l u + 1
+  pub small : distance l u + 1 ≤ 65536
+  pub within : AllWithin dims subs
+  pub place : distance l s + (distance l u + 1) * rest ≡ place_of dims subs
+  pub below : distance l s + (distance l u + 1) * rest < cells_of dims
+
+-- an extent is at most its product with a number above another
+extent-le : (e c r : ℕ) → r < c → e * c ≤ 65536 → e ≤ 65536
+extent-le e zero r h b = absurd (omega arith)
+extent-le e (suc c) r h b = omega arith
+
+pub offset_step : (dims : List (ℤ × ℤ)) (subs : List ℤ) (rest : ℕ) → 1 ≤ length dims → 1 ≤ length subs → (get_or dims 0 (pos 0, pos 0)).0 ≤ℤ get_or subs 0 (pos 0) → get_or subs 0 (pos 0) ≤ℤ (get_or dims 0 (pos 0, pos 0)).1 → AllWithin (tail_of dims) (tail_of subs) → rest ≡ place_of (tail_of dims) (tail_of subs) → cells_of dims ≤ 65536 → OffsetStep dims subs (get_or dims 0 (pos 0, pos 0)).0 (get_or dims 0 (pos 0, pos 0)).1 (get_or subs 0 (pos 0)) rest
+offset_step [] subs rest hd hs lo hi w e cells = absurd (omega arith)
+offset_step (d ∷ ds) [] rest hd hs lo hi w e cells = absurd (omega arith)
+offset_step (d ∷ ds) (s ∷ ss) rest hd hs lo hi w e cells =
+    let o : d.0 ≤ℤ d.1 = omega (arith, ints) in
+    let x : extent_of d ≡ distance d.0 d.1 + 1 = extent_is d.0 d.1 o in
+    let v = subst (λ es. AllWithin es ss) (tail_of-cons d ds) (subst (λ ts. AllWithin (tail_of (d ∷ ds)) ts) (tail_of-cons s ss) w) in
+    let p : rest ≡ place_of ds ss = e ∙ ap₂ place_of (tail_of-cons d ds) (tail_of-cons s ss) in
+    let b : place_of ds ss < cells_of ds = place_of-below ds ss v in
+    let all : AllWithin (d ∷ ds) (s ∷ ss) = (lo, hi, v) in
+    let m : distance d.0 s + (distance d.0 d.1 + 1) * rest ≡ place_of (d ∷ ds) (s ∷ ss) = ap₂ (λ k r. distance d.0 s + k * r) (sym x) p in
+    record {
+      digit = subst (λ n. distance d.0 s < n) x (within-below d.0 d.1 s lo hi);
+      small = subst (λ n. n ≤ 65536) x (extent-le (extent_of d) (cells_of ds) (place_of ds ss) b cells);
+      within = all;
+      place = m;
+      below = subst (λ n. n < cells_of (d ∷ ds)) (sym m) (place_of-below (d ∷ ds) (s ∷ ss) all);
+    }

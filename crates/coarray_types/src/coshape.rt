@@ -3,6 +3,7 @@
 ghost use Rattle.std.specs.Prelude.{◌≡◌, ◌≤◌, ◌<◌, ◌+◌, ◌-◌, ◌∷◌, ℕ, length, take, drop, replicate, IfSome, IsNone, pos};
 ghost use Rattle.coarray_types.specs.Coplaces.{HasCobounds, CoWithin, co_place, Names};
 
+use crate::digits::{above, apart, coextent, joined};
 use caf_base::short::Short;
 
 /// The cobounds of a coarray: of each codimension the lower cobound, and of each but the last the coextent. The
@@ -45,8 +46,7 @@ pub fn cosubscripts_of(co: &CoShape, index: u32) -> [i64; 3]
     subs
 }
 
-// The place from 0 that cosubscripts name, where it is below n. 64 bits suffice: a coextent is at most 2^32, since
-// the cobounds fit 32 bits, and a place is below n, so their product and one more coextent is below 2^64.
+// The place from 0 that cosubscripts name, where it is below n.
 fn place_below(lowers: &[i64], extents: &[i64], subs: &[i64], n: u32) -> Option<u32>
     requires cobounds { HasCobounds lowers.now extents.now }
     requires corank { length subs.now ≡ length lowers.now }
@@ -59,16 +59,16 @@ fn place_below(lowers: &[i64], extents: &[i64], subs: &[i64], n: u32) -> Option<
     if sub < lower {
         return None;
     }
-    let distance = sub.abs_diff(*lower);
+    let digit = apart(lower, sub);
     let [extent, extents @ ..] = extents else {
-        return below(distance, n);
+        return below(digit, n);
     };
-    let extent = extent.unsigned_abs();
-    if distance >= extent {
+    let extent = coextent(lower, extent);
+    if digit >= extent {
         return None;
     }
     let rest = place_below(lowers, extents, subs, n)?;
-    below(distance + extent * u64::from(rest), n)
+    below(joined(digit, extent, rest), n)
 }
 
 // A place, where it is below n.
@@ -83,7 +83,7 @@ fn below(place: u64, n: u32) -> Option<u32>
     }
 }
 
-// Puts the cosubscripts of a place at the front. 64 bits suffice: a lower cobound fits 32 bits, and so does a place.
+// Puts the cosubscripts of a place at the front.
 fn put_cosubscripts(lowers: &[i64], extents: &[i64], place: u32, subs: &mut [i64])
     requires cobounds { HasCobounds lowers.now extents.now }
     requires corank { length lowers.now ≤ length subs.old }
@@ -91,15 +91,15 @@ fn put_cosubscripts(lowers: &[i64], extents: &[i64], place: u32, subs: &mut [i64
     ensures place { co_place lowers.now extents.now (take (length lowers.now) subs.new) ≡ place }
     ensures past { drop (length lowers.now) subs.new ≡ drop (length lowers.now) subs.old }
 {
-    let ([lower, lowers @ ..], [sub, subs @ ..]) = (lowers, subs) else {
+    let [lower, lowers @ ..] = lowers else {
         return;
     };
     let [extent, extents @ ..] = extents else {
-        *sub = lower + i64::from(place);
+        subs[0] = above(lower, place);
         return;
     };
+    let extent = coextent(lower, extent);
     let place = u64::from(place);
-    let extent = extent.unsigned_abs();
-    *sub = lower + (place % extent) as i64;
-    put_cosubscripts(lowers, extents, (place / extent) as u32, subs);
+    subs[0] = above(lower, (place % extent) as u32);
+    put_cosubscripts(lowers, extents, (place / extent) as u32, &mut subs[1..]);
 }

@@ -9,13 +9,11 @@ pub fn law_places()
     ensures below { (dims : List (ℤ × ℤ)) (subs : List ℤ) → AllWithin dims subs → place_of dims subs < cells_of dims }
     ensures once { (dims : List (ℤ × ℤ)) (these those : List ℤ) → AllWithin dims these → AllWithin dims those → place_of dims these ≡ place_of dims those → these ≡ those }
     ensures each { (dims : List (ℤ × ℤ)) (n : ℕ) → n < cells_of dims → (subs : List ℤ) × AllWithin dims subs × (place_of dims subs ≡ n) }
-{
-}
+{}
 
 /// Cosubscripts name one image, each image from 1 on has cosubscripts that name it, and no two lists name the same.
 pub fn law_images()
     ensures one { (lowers extents subs : List ℤ) (image other : ℕ) → Names lowers extents subs image → Names lowers extents subs other → image ≡ other }
     ensures once { (lowers extents these those : List ℤ) (image : ℕ) → Names lowers extents these image → Names lowers extents those image → these ≡ those }
     ensures each { (lowers extents : List ℤ) (image : ℕ) → HasCobounds lowers extents → 1 ≤ image → (subs : List ℤ) × Names lowers extents subs image }
-{
-}
+{}

@@ -6,6 +6,7 @@
 #![tactic(auto)]
 
 pub mod coshape;
+mod digits;
 pub mod laws;
 pub mod section;
 pub mod shape;
@@ -68,7 +69,11 @@ mod tests {
             (0, i64::MAX, 0),
             (i64::MIN, 1, 0),
         ] {
-            assert_eq!(rt; image_of(&co, &[first, second], 5), want, "at {first}, {second}");
+            assert_eq!(rt;
+                image_of(&co, &[first, second], 5),
+                want,
+                "at {first}, {second}"
+            );
         }
         assert_eq!(rt; cosubscripts_of(&co, 5), [0, 3, 0]);
     }

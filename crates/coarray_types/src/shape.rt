@@ -3,6 +3,7 @@
 ghost use Rattle.std.specs.Prelude.{◌≡◌, ◌≤◌, ◌<◌, length, IsNone, IfSome, ◌↔◌, List, ℤ, ℕ};
 ghost use Rattle.coarray_types.specs.Places.{cells_of, AllWithin, place_of};
 
+use crate::digits::{apart, joined};
 use caf_base::short::Short;
 
 /// The bounds of an array: of each dimension the lower and the upper one. A dimension whose upper bound is below the
@@ -32,13 +33,16 @@ fn offset_in(dims: &[(i64, i64)], subs: &[i64]) -> Option<u32>
     ensures offset { IfSome result (λ n. AllWithin dims.now subs.now × (n ≡ place_of dims.now subs.now)) }
     ensures below { IfSome result (λ n. n < cells_of dims.now) }
 {
-    let ([(lower, upper), dims @ ..], [sub, subs @ ..]) = (dims, subs) else {
+    let [(lower, upper), dims @ ..] = dims else {
         return Some(0);
+    };
+    let [sub, subs @ ..] = subs else {
+        return None;
     };
     if sub < lower || upper < sub {
         return None;
     }
     let rest = offset_in(dims, subs)?;
-    let extent = upper.abs_diff(*lower) + 1;
-    Some((sub.abs_diff(*lower) + extent * u64::from(rest)) as u32)
+    let extent = apart(lower, upper) + 1;
+    Some(joined(apart(lower, sub), extent, rest) as u32)
 }

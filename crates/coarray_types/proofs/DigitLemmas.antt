@@ -1,5 +1,5 @@
 -- A number as a digit r below e, and the rest q behind it: r + e * q.
-use Rattle.std.proofs.Common.{◌≡◌, ℕ, ◌+◌, ◌*◌, ◌/◌, ◌%◌, ◌<◌, ◌≤◌, arith, sym, ◌∙◌, ap}
+use Rattle.std.proofs.Common.{◌≡◌, ℕ, ◌+◌, ◌*◌, ◌/◌, ◌%◌, ◌^◌, ◌<◌, ◌≤◌, arith, sym, ◌∙◌, ap}
 use Rattle.std.proofs.lemmas.Nat.{mul-add-lt, mod-mul-add, div-mul-add}
 use Rattle.std.proofs.Math.Nat.{div-lt_iff_lt-mul}
 
@@ -34,3 +34,7 @@ digit_split n e h = omega arith
 -- the quotient of a number below e * c is below c
 pub rest-below : (n e c : ℕ) → 0 < e → n < e * c → n / e < c
 rest-below n e c h b = let k : n < c * e = omega arith in (div-lt_iff_lt-mul h).1 k
+
+-- of 64 bits, where the extent is at most 2^32 and the rest fits 32 bits
+pub joined_fits : (r e q : ℕ) → r < e → e ≤ 2 ^ 32 → q < 2 ^ 32 → r + e * q < 2 ^ 64
+joined_fits r e q hr he hq = let h : r + e * q < e * 2 ^ 32 = digit-below r e q (2 ^ 32) hr hq in omega (arith, h)
