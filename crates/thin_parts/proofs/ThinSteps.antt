@@ -43,8 +43,8 @@ weight-drop (x ∷ xs) (suc n) s e =
 
 -- an action has as many terms with signs as terms
 act_addends : (act : ThinAct) → length (addends_of (act_sum act)) ≡ act_terms act
-act_addends (Assign k sum) = ap suc (sym (length-map sum.rest (λ (a : ThinAddend). a.term)))
-act_addends (Print sum) = ap suc (sym (length-map sum.rest (λ (a : ThinAddend). a.term)))
+act_addends (Assign k sum) = refl
+act_addends (Print sum) = refl
 
 -- what a task leaves is less than m, where the statement has n terms and those behind it weigh w
 abbrev Lighter : ℕ → ℕ → ℕ → Task → Type 0

@@ -2,7 +2,7 @@
 
 ghost use Rattle.std.specs.Prelude.{◌≡◌, ◌≤◌, ℕ, IfOk};
 ghost use Rattle.std.specs.Arc.{arc_value};
-ghost use Rattle.trace_theory.specs.Machines.{go, goes};
+ghost use Rattle.trace_theory.specs.Machines.{go, goes, Stops};
 ghost use Rattle.caf_base.specs.Thin.{counts};
 ghost use Rattle.caf_events.specs.Walkers.{IsOver};
 ghost use Rattle.thin_parts.specs.ThinWalk.{thin_step, start_of, moves_left};
@@ -44,6 +44,7 @@ impl ThinMachine {
         images: u32,
     ) -> Result<ThinMachine, NoMemory>
         ensures start { IfOk result (λ m. (k : ℕ) × (go thin_step k (start_of (arc_value program) me.0 images) ≡ goes m)) }
+        ensures rests { IfOk result (λ m. Stops (thin_step m)) }
         ensures runs { IfOk result (λ m. ¬ IsOver (thin_step m)) }
         ensures bounded { IfOk result (λ m. moves_left m ≤ counts (arc_value program)) }
     {
