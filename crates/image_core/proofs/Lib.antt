@@ -4,4 +4,5 @@ pub mod Numbered
 pub mod PartSteps
 pub mod Readiness
 pub mod Slices
+pub mod Weaves
 pub mod WholeSteps
