@@ -4,5 +4,6 @@ pub mod Numbered
 pub mod PartSteps
 pub mod Readiness
 pub mod Slices
+pub mod Turns
 pub mod Weaves
 pub mod WholeSteps

@@ -1,4 +1,5 @@
 pub mod Lists
 pub mod Moments
+pub mod Orders
 pub mod Parts
 pub mod Prepared

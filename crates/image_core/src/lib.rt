@@ -4,6 +4,8 @@
 //! until no image can step; `trace` gives the events of all images by stamp, then image.
 #![tactic(auto)]
 
+pub mod choices;
+pub mod order;
 pub mod parts;
 pub mod prepared;
 pub mod preparing;

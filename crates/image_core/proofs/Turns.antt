@@ -1,0 +1,115 @@
+-- The turns of an ordered run.
+use Rattle.std.proofs.Common.{◌≡◌, ℕ, zero, suc, ◌+◌, ◌-◌, ◌<◌, ◌≤◌, min, List, [], ◌∷◌, ◌++◌, ◌⊎◌, inl, inr, length, refl, ap, sym, ◌∙◌, subst, arith, Bool, true, false, IsTrue, ◌↔◌}
+use Rattle.std.specs.Prelude.{slice_index_or, slice_get, Option, Some, None, MatchOption, Result, Ok, Err}
+use Rattle.std.proofs.lemmas.Bool.{cases_lt}
+use Rattle.caf_base.specs.declared.place.ImageNo.{ImageNo}
+use Rattle.caf_events.specs.declared.event.Event.{Event}
+use Rattle.caf_events.specs.declared.event.Entry.{Entry}
+use Rattle.caf_events.specs.Events.{EndsRun}
+use Rattle.trace_theory.specs.Entries.{Each}
+use Rattle.image_core.specs.Lists.{entry, list_at}
+use Rattle.image_core.specs.Moments.{Rules, Moment, item_at, can_move_from, can_step, Steps}
+use Rattle.image_core.specs.declared.choices.RunEnd.TheVariants.{Ending}
+use Rattle.image_core.specs.Orders.{IsOrderRun, IsNext, IsFirstOf, Picks, NoneCan, Ordered, NoneEnds, Advances}
+use Rattle.image_core.specs.Orders.{AreFewer}
+use Rattle.image_core.specs.Parts.{total, IsBounded, Spends}
+use Rattle.image_core.proofs.Bounds.{bounded_more}
+use Rattle.image_core.proofs.Numbered.{item_within, index_same, total_set}
+
+-- an ordered run goes on by one step
+pub ordered_more : {C M B : Type 0} (r : Rules C M B) (last : ℕ) (m : Moment C M B) (xs : List Entry) (last' : ℕ) (m' m'' : Moment C M B) (i : ℕ) (e : Event) → Ordered r last m xs last' m' → Picks r m' last' i → Steps r m' i e m'' → Ordered r last m (xs ++ entry i e ∷ []) i m''
+ordered_more r last m [] last' m' m'' i e (p, q) picks steps =
+    (subst (λ v. Picks r v last i) q (subst (λ n. Picks r m' n i) p picks), m'', subst (λ v. Steps r v i e m'') q steps, (refl, refl))
+ordered_more r last m (x ∷ xs) last' m' m'' i e (p, next, s, rest) picks steps = (p, next, s, ordered_more r x.image.0 next xs last' m' m'' i e rest picks steps)
+
+pub none_more : (xs : List Entry) (x : Entry) → NoneEnds xs → (EndsRun x.event → ⊥) → NoneEnds (xs ++ x ∷ [])
+none_more [] x h n = (n, tt)
+none_more (y ∷ ys) x h n = (h.0, none_more ys x h.1 n)
+
+-- the event of a step is the last one of its image
+pub new_event : {C M B : Type 0} (r : Rules C M B) (m m' : Moment C M B) (k : ℕ) (e : Event) → length m.events ≡ length m.configs → Steps r m (suc k) e m' → slice_index_or m'.events k [] ≡ list_at m.events (suc k) ++ e ∷ []
+new_event r m m' k e as_many s =
+    let w = item_within m.configs k s.from s.stands in
+    ap (λ ls. slice_index_or ls k []) s.events ∙ index_same m.events k (list_at m.events (suc k) ++ e ∷ []) [] (omega arith)
+
+get_past : {A : Type 0} (xs : List A) (k : ℕ) → length xs ≤ k → slice_get xs k ≡ None
+get_past [] k h = refl
+get_past (x ∷ xs) zero h = absurd (omega arith)
+get_past (x ∷ xs) (suc k) h = get_past xs k (omega arith)
+
+-- no image of another number can step
+pub none_outside : {C M B : Type 0} (r : Rules C M B) (m : Moment C M B) (j : ℕ) → length m.configs < j → can_step r m j ≡ false
+none_outside r m zero h = refl
+none_outside r m (suc k) h = ap (can_move_from r m (suc k)) (get_past m.configs k (omega arith))
+
+module _ {C M B : Type 0} (r : Rules C M B) (m : Moment C M B) (last : ℕ) where
+  -- the first one behind the last choice
+  pub picks_behind : (high : ℕ) (i : ImageNo) → IsFirstOf (can_step r m) (last + 1) high (Some i) → Picks r m last i.0
+  picks_behind high i (low, under, can, none) =
+      record { can = can; next = inl (omega arith, λ j a b. none j (omega arith) b) }
+
+  below_or : (n count : ℕ) (P : ℕ → Type 0) → ((j : ℕ) → 1 ≤ j → j < min n count + 1 → P j) → P 0 → ((j : ℕ) → count < j → P j) → (j : ℕ) → j ≤ n → P j
+  below_or n count P inside none out j h = elim (cases_lt count j) [
+    | inl l ↦ out j l
+    | inr g ↦ (elim (cases_lt 0 j) [ inl p ↦ inside j (omega arith) (omega arith) | inr z ↦ (let e : 0 ≡ j = omega arith in subst P e none) ])
+  ]
+
+  -- none above the last choice
+
+  pub none_above : (count : ℕ) → count ≡ length m.configs → ((j : ℕ) → last + 1 ≤ j → j < count + 1 → can_step r m j ≡ false) → (j : ℕ) → last < j → can_step r m j ≡ false
+  none_above count c none j h = elim (cases_lt count j) [ inl l ↦ none_outside r m j (omega arith) | inr g ↦ none j (omega arith) (omega arith) ]
+
+  pub picks_from_the_first : (count : ℕ) → count ≡ length m.configs → ((j : ℕ) → last < j → can_step r m j ≡ false) → (o : Option ImageNo) → IsFirstOf (can_step r m) 1 (min last count + 1) o → MatchOption o (NoneCan r m) (λ i. Picks r m last i.0)
+  picks_from_the_first count c above None none =
+      λ j. elim (cases_lt last j) [
+        | inl l ↦ above j l
+        | inr g ↦ below_or last count (λ n. can_step r m n ≡ false) none refl (λ n h. none_outside r m n (omega arith)) j g
+      ]
+  picks_from_the_first count c above (Some i) (low, under, can, none) =
+      record {
+        can = can;
+        next = inr (above, λ j h. elim (cases_lt 0 j) [ inl p ↦ none j (omega arith) h | inr z ↦ (let e : 0 ≡ j = omega arith in subst (λ n. can_step r m n ≡ false) e refl) ]);
+      }
+
+-- a step that leaves fewer asks to come keeps the bounds, whatever its image's number
+pub bounded_by : {C M B : Type 0} (left : C → ℕ) (r : Rules C M B) (m m' : Moment C M B) (n : ℕ) → length m.events ≡ length m.configs → IsBounded left m → (e : Event) × Steps r m n e m' → Spends left m n m' → IsBounded left m'
+bounded_by left r m m' zero as_many b (e, s) p = absurd (let h = s.stands in cc)
+bounded_by left r m m' (suc k) as_many b (e, s) p = bounded_more left r m m' k e as_many b s p
+
+pub fewer_by : {C M B : Type 0} (left : C → ℕ) (m m' : Moment C M B) (n : ℕ) → Spends left m n m' → AreFewer left m m'
+fewer_by left m m' zero p = absurd (let h = p.stands in cc)
+fewer_by left m m' (suc k) p =
+    let t = total_set left m.configs k p.before p.after p.stands in
+    let c = ap (total left) p.configs in
+    let f = p.falls in
+    omega arith
+
+-- one turn of the ordered run
+module _ {C M B : Type 0} (r : Rules C M B) (last : ℕ) (m m' m'' : Moment C M B) (last' : ℕ) (image : ImageNo) (as_many : length m'.events ≡ length m'.configs)
+    (run : (xs : List Entry) × Ordered r last m xs last' m' × NoneEnds xs) (advances : Advances r last' m' m'' (Some image)) (low : 0 < image.0) where
+  event_is : slice_index_or m''.events (image.0 - 1) [] ≡ list_at m'.events image.0 ++ advances.1 ∷ []
+  event_is =
+      let q : image.0 ≡ suc (image.0 - 1) = omega arith in
+      subst (λ n. slice_index_or m''.events (image.0 - 1) [] ≡ list_at m'.events n ++ advances.1 ∷ []) (sym q)
+      (new_event r m' m'' (image.0 - 1) advances.1 as_many (subst (λ n. Steps r m' n advances.1 m'') q advances.2))
+
+  ordered_on : Ordered r last m (run.0 ++ entry image.0 advances.1 ∷ []) image.0 m''
+  ordered_on = ordered_more r last m run.0 last' m' m'' image.0 advances.1 run.1 advances.0 advances.2
+
+  pub turn_on : (b : Bool) → b ≡ false → ((es : List Event) (e : Event) → slice_index_or m''.events (image.0 - 1) [] ≡ es ++ e ∷ [] → (IsTrue b ↔ EndsRun e)) → (xs : List Entry) × Ordered r last m xs image.0 m'' × NoneEnds xs
+  turn_on b f ended =
+      (run.0 ++ entry image.0 advances.1 ∷ [], ordered_on, none_more run.0 (entry image.0 advances.1) run.2 (λ h. absurd (let t = (ended (list_at m'.events image.0) advances.1 event_is).1 h in cc)))
+
+  pub turn_ends : {E : Type 0} (b : Bool) → b ≡ true → ((es : List Event) (e : Event) → slice_index_or m''.events (image.0 - 1) [] ≡ es ++ e ∷ [] → (IsTrue b ↔ EndsRun e)) → IsOrderRun {E = E} r last m image.0 m'' (Ok (Ending image))
+  turn_ends b f ended = record {
+    steps = run.0 ++ entry image.0 advances.1 ∷ [];
+    ordered = ordered_on;
+    so = record {
+      before = run.0;
+      last = entry image.0 advances.1;
+      all = refl;
+      none = run.2;
+      ends = (ended (list_at m'.events image.0) advances.1 event_is).0 f;
+      whose = refl;
+    };
+  }
