@@ -1,5 +1,5 @@
 -- What an event weighs in the record, and which events end a run.
-use Rattle.std.specs.Prelude.{ℕ, ◌≡◌, ◌+◌, ◌/◌, List, [], ◌∷◌, length, sum_by}
+use Rattle.std.specs.Prelude.{ℕ, ◌+◌, ◌/◌, Bool, true, false, cond, length, sum_by}
 use Rattle.caf_events.specs.declared.ask.Ask.{Ask}
 use Rattle.caf_events.specs.declared.ask.Ask.TheVariants as asks
 use Rattle.caf_events.specs.declared.reply.Reply.{Reply}
@@ -49,16 +49,20 @@ reply_words (replies.Indices indices) = length indices
 reply_words (replies.Left status teams) = sum_by (λ t. length t.members) teams
 reply_words reply = 0
 
--- limits and the steps of a failure count nothing
+-- whether an event of this ask counts: limits and the steps of a failure count nothing
+abbrev pub counts_words : Ask → Bool
+counts_words (asks.Mark owner) = false
+counts_words (asks.Free owner span) = false
+counts_words asks.Gone = false
+counts_words asks.Fail = false
+counts_words (asks.LimitStatements number) = false
+counts_words (asks.LimitWords number) = false
+counts_words (asks.LimitStamp number) = false
+counts_words ask = true
+
+-- the recorded words of a step: none, or four and those of its ask and its reply
 abbrev pub words_by : Ask → Reply → ℕ
-words_by (asks.Mark owner) reply = 0
-words_by (asks.Free owner span) reply = 0
-words_by asks.Gone reply = 0
-words_by asks.Fail reply = 0
-words_by (asks.LimitStatements number) reply = 0
-words_by (asks.LimitWords number) reply = 0
-words_by (asks.LimitStamp number) reply = 0
-words_by ask reply = 4 + ask_words ask + reply_words reply
+words_by ask reply = cond (counts_words ask) (4 + ask_words ask + reply_words reply) 0
 
 -- the recorded words of an event
 abbrev pub words_of : Event → ℕ
