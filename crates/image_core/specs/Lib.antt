@@ -3,3 +3,4 @@ pub mod Moments
 pub mod Orders
 pub mod Parts
 pub mod Prepared
+pub mod Starts

@@ -10,5 +10,6 @@ pub mod parts;
 pub mod prepared;
 pub mod preparing;
 pub mod run;
+pub mod start;
 pub mod step;
 pub mod stepping;
