@@ -1,7 +1,9 @@
 pub mod Bounds
+pub mod Heads
 pub mod Last
 pub mod Numbered
 pub mod PartSteps
 pub mod Readiness
 pub mod Slices
+pub mod Traces
 pub mod WholeSteps

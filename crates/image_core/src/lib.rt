@@ -10,3 +10,4 @@ pub mod preparing;
 pub mod run;
 pub mod step;
 pub mod stepping;
+pub mod trace;
