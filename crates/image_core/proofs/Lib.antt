@@ -1,5 +1,6 @@
 pub mod Beginnings
 pub mod Bounds
+pub mod Heads
 pub mod Last
 pub mod Numbered
 pub mod PartSteps
@@ -7,4 +8,5 @@ pub mod Readiness
 pub mod Slices
 pub mod Turns
 pub mod Weaves
+pub mod Traces
 pub mod WholeSteps

@@ -13,3 +13,4 @@ pub mod run;
 pub mod start;
 pub mod step;
 pub mod stepping;
+pub mod trace;
