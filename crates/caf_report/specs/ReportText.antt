@@ -1,5 +1,5 @@
 -- The text of a report: what each image printed, by image in rising order, and then the line of the end.
-use Rattle.std.specs.Prelude.{ℕ, zero, suc, ◌==◌, pos, cond, List, [], ◌∷◌, ◌++◌, Option, None, Some, codes, flat_map, slice_get}
+use Rattle.std.specs.Prelude.{ℕ, zero, suc, ◌+◌, ◌==◌, pos, cond, List, [], ◌++◌, Option, None, Some, codes, flat_map, slice_get}
 use Rattle.std.specs.List.{slice_split}
 use Rattle.caf_text.specs.Numbers.{decimal_text}
 use Rattle.caf_events.specs.declared.ask.Ask.{Ask}
@@ -33,7 +33,7 @@ printed_at image e = cond (e.image.0 == image) (printed_by image e.event.ask) []
 -- what so many images print, in rising order from this one on
 abbrev pub printed_from : ℕ → ℕ → List Entry → List ℕ
 printed_from image zero es = []
-printed_from image (suc more) es = flat_map (printed_at image) es ++ printed_from (suc image) more es
+printed_from image (suc more) es = flat_map (printed_at image) es ++ printed_from (image + 1) more es
 
 -- an image and the line of its statement
 abbrev pub place_text : ℕ → ℕ → List ℕ

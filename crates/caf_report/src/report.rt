@@ -114,3 +114,98 @@ impl Report {
         Ok(out)
     }
 }
+
+#[cfg(test)]
+mod tests {
+    use super::*;
+    use caf_base::place::INITIAL_TEAM;
+    use caf_events::event::{Entry, Event};
+    use caf_events::fault::FaultKind;
+    use caf_events::reply::Reply;
+    use caf_events::round::Arriving;
+    use std::test::Fail;
+
+    // An entry of an image, of line 7.
+    fn entry(image: u32, stamp: u64, ask: Ask) -> Entry {
+        Entry {
+            image: ImageNo(image),
+            event: Event {
+                ask,
+                reply: Reply::Done,
+                stamp,
+                line: 7,
+            },
+        }
+    }
+
+    // An entry that prints.
+    fn print(alloc: Global, image: u32, stamp: u64, text: &str) -> Result<Entry, NoMemory> {
+        let text = Listing::from_slice(alloc, text.as_bytes())?;
+        Ok(entry(image, stamp, Ask::Print { text }))
+    }
+
+    #[test]
+    fn images_are_grouped_and_the_fault_ends(rt: HostRuntime) -> Result<(), Fail> {
+        let alloc = rt.alloc();
+        let mut entries = Listing::new(alloc);
+        entries.push(print(alloc, 2, 1, "two")?)?;
+        entries.push(print(alloc, 1, 1, "one\n\nthree")?)?;
+        entries.push(print(alloc, 2, 2, "")?)?;
+        entries.push(entry(
+            1,
+            2,
+            Ask::Fault {
+                kind: FaultKind::CoBounds,
+            },
+        ))?;
+        entries.push(print(alloc, 1, 3, "-4")?)?;
+        let report = Report::new(2, Trace { entries }, Listing::new(alloc));
+        assert_eq!(rt; report.status(), 8);
+        let want = "1: one\n1: \n1: three\n1: -4\n2: two\n2: \nfault image 1 line 7 CoBounds\n";
+        assert_eq!(rt; report.text(alloc)?.as_slice(), want.as_bytes());
+        Ok(())
+    }
+
+    #[test]
+    fn nothing_printed_and_finished_is_no_text(rt: HostRuntime) -> Result<(), Fail> {
+        let alloc = rt.alloc();
+        let mut entries = Listing::new(alloc);
+        entries.push(entry(1, 1, Ask::Stop { code: 0 }))?;
+        let report = Report::new(1, Trace { entries }, Listing::new(alloc));
+        assert_eq!(rt; report.status(), 0);
+        assert_eq!(rt; report.text(alloc)?.as_slice(), b"".as_slice());
+        Ok(())
+    }
+
+    #[test]
+    fn an_image_that_waits_is_stuck(rt: HostRuntime) -> Result<(), Fail> {
+        let alloc = rt.alloc();
+        let mut entries = Listing::new(alloc);
+        entries.push(entry(
+            2,
+            1,
+            Ask::Arrive {
+                team: INITIAL_TEAM,
+                arriving: Arriving::Sync,
+            },
+        ))?;
+        let waits = Listing::of_one(
+            alloc,
+            Waiting {
+                image: ImageNo(2),
+                line: 12,
+                ask: Ask::Leave {
+                    team: INITIAL_TEAM,
+                    round: 1,
+                },
+            },
+        )?;
+        let report = Report::new(2, Trace { entries }, waits);
+        assert_eq!(rt; report.status(), 6);
+        assert_eq!(rt;
+            report.text(alloc)?.as_slice(),
+            b"stuck image 2 line 12 leave\n".as_slice()
+        );
+        Ok(())
+    }
+}
