@@ -1,5 +1,5 @@
 -- The images that cosubscripts name: array element order over the cobounds, the last coextent without a limit
--- (ISO/IEC 1539-1:2018, 9.6 and 16.9.97).
+-- (ISO/IEC 1539-1:2018, 9.6, and IMAGE_INDEX in 16.9).
 use Rattle.std.specs.Prelude.{ℕ, ◌≡◌, ◌+◌, ◌*◌, ◌<◌, ℤ, pos, ◌+ℤ◌, ◌-ℤ◌, ◌≤ℤ◌, List, [], ◌∷◌, FitsSigned}
 use Rattle.std.specs.Int.{w32}
 use Rattle.std.specs.Int.RustNames.{unsigned_abs}

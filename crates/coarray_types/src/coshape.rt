@@ -15,7 +15,7 @@ pub struct CoShape {
 }
 
 /// The index of the image that cosubscripts name among n images, or 0 exactly where they name none of them
-/// (ISO/IEC 1539-1:2018, 9.6 and 16.9.97).
+/// (ISO/IEC 1539-1:2018, 9.6, and IMAGE_INDEX in 16.9).
 pub fn image_of(co: &CoShape, subs: &[i64], n: u32) -> u32
     requires cobounds { HasCobounds co.now.lower co.now.extent }
     requires corank { length subs.now ≡ length co.now.lower }
@@ -28,7 +28,7 @@ pub fn image_of(co: &CoShape, subs: &[i64], n: u32) -> u32
     }
 }
 
-/// The cosubscripts that name an image, and 0 past the corank (ISO/IEC 1539-1:2018, 16.9.190).
+/// The cosubscripts that name an image, and 0 past the corank (ISO/IEC 1539-1:2018, THIS_IMAGE in 16.9).
 pub fn cosubscripts_of(co: &CoShape, index: u32) -> [i64; 3]
     requires cobounds { HasCobounds co.now.lower co.now.extent }
     requires corank { length co.now.lower ≤ 3 }

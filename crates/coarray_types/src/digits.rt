@@ -12,8 +12,8 @@ pub(crate) fn apart(from: &i64, to: &i64) -> u64
     to.abs_diff(*from)
 }
 
-/// A digit below an extent, and the rest behind it. 64 bits suffice: both extent and rest fit 32 bits and a half,
-/// so the number is below 2^32 times 2^32.
+/// A digit below an extent, and the rest behind it. 64 bits suffice: the extent is at most 2^32 and the rest fits 32
+/// bits, so the number is below 2^32 times 2^32.
 #[tactic(auto, using(crate::proofs::DigitLemmas::joined_fits))]
 pub(crate) fn joined(digit: u64, extent: u64, rest: u32) -> u64
     requires digit { digit < extent }

@@ -1,9 +1,6 @@
-use Rattle.std.proofs.Common.{rules, ◌≡◌, ◌≤◌, ◌<◌, ◌∙◌, ℕ, ℤ, ◌+◌, ◌-◌, ◌%◌, ◌/◌, ◌+ℤ◌, arith, length, take, get_or, slice_set, pos, sym, ap, ap₂, FitsSigned, to_z, of_z, w64}
-use Rattle.std.specs.Int.RustNames.{unsigned_abs}
+use Rattle.std.proofs.Common.{rules, ◌≤◌, ◌∙◌, ◌+◌, ◌%◌, ◌/◌, ◌+ℤ◌, arith, length, get_or, pos, ap₂, FitsSigned, w64}
 use Rattle.std.proofs.lemmas.Int.{to_z-of_z}
 use Rattle.std.proofs.lemmas.Grind.{common_steps}
-use borrow.Rule.Slice.PartMut.{put_mid}
-use Rattle.coarray_types.specs.Coplaces.{CoWithin, co_place}
 use Rattle.coarray_types.proofs.CoplaceLemmas.{cosubscripts_step}
 use Rattle.coarray_types.proofs.coshape.+put_cosubscripts.Goals as goal
 

@@ -1,4 +1,4 @@
-use Rattle.std.proofs.Common.{◌≡◌, ◌-◌, ◌∙◌, length, drop, replicate, pos, sym, ap}
+use Rattle.std.proofs.Common.{◌∙◌, length, drop, replicate, pos, sym, ap}
 use Rattle.std.proofs.lemmas.List.{drop-replicate}
 use Rattle.coarray_types.proofs.coshape.cosubscripts_of.Goals as goal
 

@@ -1,6 +1,6 @@
-use Rattle.std.proofs.Common.{rules, ◌≡◌, ◌≤◌, ◌<◌, ◌∙◌, length, ℕ, arith, List, map, get_or, pos, sym, subst, ap, FitsSigned, to_z, of_z, w32}
+use Rattle.std.proofs.Common.{rules, ◌≡◌, ◌∙◌, arith, map, get_or, pos, sym, subst, ap, FitsSigned, w32}
 use Rattle.std.proofs.lemmas.Int.{to_z-of_z}
-use Rattle.caf_base.specs.Spans.{offsets_from, row_of, rows_of}
+use Rattle.caf_base.specs.Spans.{offsets_from, rows_of}
 use Rattle.coarray_types.specs.Cells.{AreCells}
 use Rattle.coarray_types.proofs.Parts.{tail_of}
 use Rattle.coarray_types.proofs.CellLemmas.{wide_of-tail, cells_of-tail, rows_of-tail}

@@ -1,4 +1,4 @@
-use Rattle.std.proofs.Common.{◌≡◌, ◌≤◌, ◌<◌, ◌+◌, ◌-◌, ℤ, ◌+ℤ◌, arith, to_z, of_z, w32, w64, subst, sym}
+use Rattle.std.proofs.Common.{◌≡◌, ◌+◌, ◌-◌, ℤ, ◌+ℤ◌, arith, to_z, of_z, w32, w64, subst, sym}
 use Rattle.std.proofs.lemmas.Int.{ints}
 use Rattle.caf_base.specs.Spans.{row_of}
 use Rattle.coarray_types.specs.Cells.{AreCells}

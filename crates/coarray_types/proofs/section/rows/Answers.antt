@@ -1,4 +1,4 @@
-use Rattle.std.proofs.Common.{◌≡◌, ◌≤◌, ◌<◌, ℕ, ℤ, arith, length, get_or, to_z, of_z, w32, sym}
+use Rattle.std.proofs.Common.{◌≡◌, ℤ, arith, length, get_or, to_z, of_z, w32, sym}
 use Rattle.std.proofs.lemmas.Int.{ints}
 use Rattle.std.proofs.lemmas.Grind.{get_or_default_zero}
 use Rattle.coarray_types.proofs.CellLemmas.{rows_step, rows_to_come, rows_done}

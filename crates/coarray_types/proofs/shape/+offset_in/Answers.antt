@@ -1,4 +1,4 @@
-use Rattle.std.proofs.Common.{◌≡◌, ◌≤◌, ◌<◌, ℕ, ◌+◌, ◌*◌, ◌∙◌, ◌≤ℤ◌, arith, pos, get_or, ap₂, sym, subst}
+use Rattle.std.proofs.Common.{◌<◌, ◌+◌, ◌*◌, ◌∙◌, ◌≤ℤ◌, arith, pos, get_or, ap₂, sym, subst}
 use Rattle.std.proofs.lemmas.Int.{ints}
 use Rattle.coarray_types.specs.Places.{cells_of}
 use Rattle.coarray_types.proofs.PlaceLemmas.{offset_step}
