@@ -1,0 +1,12 @@
+pub mod Marks
+pub mod Sequence
+pub mod Single
+pub mod Choice
+pub mod Ahead
+pub mod Deep
+pub mod Fuel
+pub mod Many
+pub mod Fronts
+pub mod Whole
+pub mod Best
+pub mod Tail

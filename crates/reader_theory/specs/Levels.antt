@@ -1,0 +1,21 @@
+-- Tokens marked by the number of levels that are open at them.
+use Rattle.std.specs.Prelude.{ℕ, zero, suc, ◌≡◌, Bool, true, false, List, [], ◌∷◌, nat_lt}
+use Rattle.reader_theory.specs.Words.{Mark}
+
+-- a token at which so many levels are open, where no more than limit may be
+abbrev pub mark : {T : Type 0} → ℕ → ℕ → T → Mark T
+mark limit level x = record { token = x; deep = nat_lt limit level }
+
+-- exactly this token
+abbrev pub word : {T : Type 0} → ℕ → ℕ → T → List (Mark T) → Type 0
+word limit level x w = w ≡ mark limit level x ∷ []
+
+-- a token that passes the test
+abbrev pub One : {T : Type 0} → (T → Bool) → ℕ → ℕ → T → List (Mark T) → Type 0
+One test limit level x w = (test x ≡ true) × word limit level x w
+
+-- the first so many tokens aren't too deep
+abbrev pub ShallowFor : {T : Type 0} → ℕ → List (Mark T) → Type 0
+ShallowFor zero w = Unit {0}
+ShallowFor (suc n) [] = Unit {0}
+ShallowFor (suc n) (m ∷ w) = (m.deep ≡ false) × ShallowFor n w

@@ -1,0 +1,9 @@
+pub mod Words
+pub mod Levels
+pub mod Refusals
+pub mod Limits
+pub mod Readers
+pub mod Exactness
+pub mod Languages
+pub mod Texts
+pub mod Laws

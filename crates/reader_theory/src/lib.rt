@@ -1,0 +1,2 @@
+//! Readers.
+#![tactic(auto)]
