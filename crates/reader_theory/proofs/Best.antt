@@ -9,7 +9,7 @@ use Rattle.reader_theory.proofs.Marks.{same_front}
 use Rattle.reader_theory.proofs.Fronts.{begins_front, read_begins, opens_begins}
 
 -- a longer front goes on with the first token that the shorter one leaves
-longer_front : {T : Type 0} (f g r s : List T) → f ++ r ≡ g ++ s → length r < length s → (x : T) × (b : List T) × (f ≡ g ++ x ∷ b) × (s ≡ x ∷ (b ++ r))
+pub longer_front : {T : Type 0} (f g r s : List T) → f ++ r ≡ g ++ s → length r < length s → (x : T) × (b : List T) × (f ≡ g ++ x ∷ b) × (s ≡ x ∷ (b ++ r))
 longer_front [] [] r s e l = absurd (let n = ap length e in omega arith)
 longer_front (x ∷ f) [] r s e l = (x, f, refl, sym e)
 longer_front [] (y ∷ g) r s e l = absurd (let n = ap length e in let k = length-append g s in omega arith)

@@ -41,7 +41,7 @@ module _ {T A : Type 0} (K M : A → List (Mark T) → Type 0) (into : (a : A) (
   stops_same front expected (y ∷ rest) h = (λ b. h.0 (begins_same (front ++ y ∷ []) b), λ o. h.1 (opens_same front y o))
   stops_same front too_deep (y ∷ rest) (n, (a, w, v, k, s, e)) = (λ b. n (begins_same (front ++ y ∷ []) b), (a, w, v, into a (w ++ record { token = y; deep = true } ∷ v) k, s, e))
 
-  same_answers : (ts : List T) (v : Verdict T (A)) → Answers K ts v → Answers M ts v
+  pub same_answers : (ts : List T) (v : Verdict T (A)) → Answers K ts v → Answers M ts v
   same_answers ts (found a rest) (e, (w, h, s, i)) = (e, (w, into a w h, s, i))
   same_answers ts (fault c rest) h = record { front = h.front; split = h.split; begins = (let (a, w, v, k, s, e) = h.begins in (a, w, v, into a (w ++ v) k, s, e)); stops = stops_same h.front c rest h.stops }
 

@@ -10,3 +10,7 @@ pub mod Fronts
 pub mod Whole
 pub mod Best
 pub mod Tail
+pub mod Texts
+pub mod Levels
+pub mod Limits
+pub mod Sinking

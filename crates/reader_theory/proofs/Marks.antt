@@ -69,6 +69,10 @@ pub judge_shallow : {T A : Type 0} (a : A) (u v : List (Mark T)) (rest : List T)
 judge_shallow a [] v rest h = refl
 judge_shallow a (m ∷ u) v rest h = ap (λ b. cond b (fault too_deep (m.token ∷ bare (u ++ v) ++ rest)) (judge (u ++ v) a rest)) h.0 ∙ judge_shallow a u v rest h.1
 
+pub judge_all : {T A : Type 0} (a : A) (u : List (Mark T)) (z : List T) → Shallow u → judge u a z ≡ found a z
+judge_all a [] z h = refl
+judge_all a (m ∷ u) z h = ap (λ d. cond d (fault too_deep (m.token ∷ bare u ++ z)) (judge u a z)) h.0 ∙ judge_all a u z h.1
+
 -- what stands behind a token is judged as found, or as too deep further on
 abbrev pub Judged : {T A : Type 0} → A → List (Mark T) → Verdict T A → Type 0
 Judged {T} a v verdict = (verdict ≡ found a []) ⊎ ((left : List T) × (verdict ≡ fault too_deep left) × (length left ≤ length (bare v)))

@@ -6,7 +6,7 @@ use Rattle.reader_theory.specs.Refusals.{Begins, Opens, StopsAt, Refused, Reads,
 use Rattle.reader_theory.specs.Readers.{joined, then_by}
 use Rattle.reader_theory.specs.Exactness.{judge, Stops, Finds, Misses, Sinks, Tells, Exact}
 use Rattle.reader_theory.specs.Languages.{By}
-use Rattle.reader_theory.proofs.Marks.{bare_append, bare_length, shallow_append, shallow_front, shallow_back, cut, same_front, judge_shallow, judged, Passed, judge_found, judge_part}
+use Rattle.reader_theory.proofs.Marks.{bare_append, bare_length, shallow_append, shallow_front, shallow_back, cut, same_front, judge_shallow, judge_all, judged, Passed, judge_found, judge_part}
 use Rattle.reader_theory.proofs.Sequence.{local_at}
 
 module _ {T A B C : Type 0} (f : A → B → C) (L : A → List (Mark T) → Type 0) (M : A → B → List (Mark T) → Type 0) (p : List T → Verdict T A) (q : A → List T → Verdict T B) (more : T → Bool) (x : Exact L more p) (apart : (a : A) (b : B) (w : List (Mark T)) → M a b w → Stops more (bare w)) (some : A → B) (some_word : A → List (Mark T)) (is_some : (a : A) → M a (some a) (some_word a)) where
@@ -142,10 +142,6 @@ module _ {T A B C : Type 0} (f : A → B → C) (L : A → List (Mark T) → Typ
   pub one_of_tail : ((a : A) (ts : List T) (b c : B) → Reads (M a) ts b → Reads (M a) ts c → b ≡ c) → (ts : List T) (d e : C) → Reads (By f L M) ts d → Reads (By f L M) ts e → d ≡ e
   one_of_tail one ts d e (w, (a, b, is, (i, j, h, k, split)), s, eq) (w2, (a2, b2, is2, (i2, j2, h2, k2, split2)), s2, eq2) =
       let g = sym (first_of_word a i j b h k) ∙ (ap p (sym (eq ∙ ap bare split)) ∙ (ap p (eq2 ∙ ap bare split2) ∙ first_of_word a2 i2 j2 b2 h2 k2)) in
-      let o = judge_found i a a2 (bare j) (bare j2) (g ∙ all_shallow a2 i2 (bare j2) (shallow_front i2 j2 (subst Shallow split2 s2))) in
+      let o = judge_found i a a2 (bare j) (bare j2) (g ∙ judge_all a2 i2 (bare j2) (shallow_front i2 j2 (subst Shallow split2 s2))) in
       let m = one a2 (bare j) b b2 (j, subst (λ z. M z b j) o.same_tree k, shallow_back i j (subst Shallow split s), refl) (j2, k2, shallow_back i2 j2 (subst Shallow split2 s2), o.same_rest) in
       is ∙ (ap (λ z. f z b) o.same_tree ∙ (ap (f a2) m ∙ sym is2))
-    where
-      all_shallow : (a : A) (u : List (Mark T)) (z : List T) → Shallow u → judge u a z ≡ found a z
-      all_shallow a [] z h = refl
-      all_shallow a (m ∷ u) z h = ap (λ d. cond d (fault too_deep (m.token ∷ bare u ++ z)) (judge u a z)) h.0 ∙ all_shallow a u z h.1

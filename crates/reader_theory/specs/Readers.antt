@@ -38,6 +38,23 @@ then f q = then_by f (λ _. q)
 abbrev pub both : {T A B C : Type 0} → (A → B → C) → (List T → Verdict T A) → (List T → Verdict T B) → List T → Verdict T C
 both f p q ts = then_by f (λ _. q) (p ts)
 
+-- what of two parts is kept
+abbrev pub first : {A B : Type 0} → A → B → A
+first a b = a
+
+abbrev pub second : {A B : Type 0} → A → B → B
+second a b = b
+
+abbrev pub pair : {A B : Type 0} → A → B → A × B
+pair a b = (a, b)
+
+-- what stands behind a token, and between two
+abbrev pub behind : {T A : Type 0} → (T → Bool) → (List T → Verdict T A) → List T → Verdict T A
+behind test r = both second (token test) r
+
+abbrev pub between : {T A : Type 0} → (T → Bool) → (T → Bool) → (List T → Verdict T A) → List T → Verdict T A
+between opener closer r = behind opener (both first r (token closer))
+
 -- a choice by the first token
 abbrev pub pick : {T A : Type 0} → (T → Bool) → (List T → Verdict T A) → (List T → Verdict T A) → List T → Verdict T A
 pick test p q [] = q []
