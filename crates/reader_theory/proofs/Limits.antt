@@ -1,15 +1,16 @@
 -- The first place of a choice, of a part and what stands behind it, and the refusal with its reason.
 use Rattle.std.proofs.Common.{◌≡◌, ℕ, zero, suc, ◌+◌, ◌-◌, ◌<◌, ◌≤◌, Bool, true, false, cond, List, [], ◌∷◌, ◌++◌, ◌⊎◌, inl, inr, refl, ap, sym, ◌∙◌, subst, arith, append_assoc, length, min, nat_lt, ltb-true, ltb-false, Option, Some, None}
 use Rattle.std.proofs.lemmas.Bool.{cases_Bool}
-use Rattle.std.proofs.lemmas.List.{length-append, append_cancel_right}
+use Rattle.std.proofs.lemmas.List.{append-nil, length-append, append_cancel_right}
 use Rattle.reader_theory.specs.Words.{Mark, bare, Shallow, Cause, expected, too_deep, Verdict, found, fault}
-use Rattle.reader_theory.specs.Refusals.{Begins, StopsAt, Refused}
-use Rattle.reader_theory.specs.Limits.{Goes, SinksAt, FirstSunk, Reason, Because, Halts, RefusedFor, shifted, place_by, nearer, reason}
+use Rattle.reader_theory.specs.Refusals.{Reads, Begins, StopsAt, Refused}
+use Rattle.reader_theory.specs.Limits.{Goes, SinksAt, FirstSunk, Reason, no_word, level_at, Because, Halts, RefusedFor, shifted, place_by, nearer, reason}
 use Rattle.reader_theory.specs.Exactness.{judge, Stops, Finds, Tells, Exact}
 use Rattle.reader_theory.specs.Languages.{By}
-use Rattle.reader_theory.proofs.Marks.{bare_append, bare_length, shallow_append, shallow_front, shallow_back, judge_all}
+use Rattle.reader_theory.proofs.Marks.{bare_append, bare_length, shallow_append, shallow_front, shallow_back, same_front, judge_all}
 use Rattle.reader_theory.proofs.Sequence.{local_at}
 use Rattle.reader_theory.proofs.Best.{longer_front}
+use Rattle.reader_theory.proofs.Fronts.{begins_front, read_begins}
 use Rattle.reader_theory.proofs.Sinking.{judge_at, sinks_word, sunk_answer}
 
 -- a choice
@@ -157,3 +158,59 @@ module _ {T A : Type 0} (L : A → List (Mark T) → Type 0) where
   pub refused_for : (ts : List T) (c : Cause) (x : T) (rest : List T) (o : Option ℕ) → (r : Refused L ts c (x ∷ rest)) → FirstSunk L (r.front ++ x ∷ []) o → RefusedFor L ts (reason o) (x ∷ rest)
   refused_for ts expected x rest o r h = record { front = r.front; split = r.split; begins = r.begins; stops = (r.stops.0, because (r.front ++ x ∷ []) o r.stops.0 h) }
   refused_for ts too_deep x rest o r h = record { front = r.front; split = r.split; begins = r.begins; stops = (r.stops.0, because (r.front ++ x ∷ []) o r.stops.0 h) }
+
+  pub refused_at_end : (ts : List T) (c : Cause) → Refused L ts c [] → RefusedFor L ts no_word []
+  refused_at_end ts c r = record { front = r.front; split = r.split; begins = r.begins; stops = (refl, r.stops.1) }
+
+  -- what is refused for a reason isn't read
+  pub not_read : (ts : List T) (why : Reason) (rest : List T) (a : A) → RefusedFor L ts why rest → Reads L ts a → ⊥
+  not_read ts why rest a f r = by_rest why rest f.split f.stops
+    where
+      by_rest : (why : Reason) (rest : List T) → ts ≡ f.front ++ rest → Halts L f.front why rest → ⊥
+      by_rest why [] e s = s.1 a (subst (λ z. Reads L z a) (e ∙ append-nil f.front) r)
+      by_rest why (x ∷ rest) e s = s.0 (begins_front L (f.front ++ x ∷ []) rest (subst (Begins L) (e ∙ sym (append_assoc f.front (x ∷ []) rest)) (read_begins L ts a r)))
+
+  -- a text that begins a word, and stops being one behind a shorter front, doesn't
+  passed : (ts f g r s : List T) (x : T) → ts ≡ f ++ x ∷ r → ts ≡ g ++ s → length s < length (x ∷ r) → Begins L g → (Begins L (f ++ x ∷ []) → ⊥) → ⊥
+  passed ts f g r s x e i l b n =
+      let k = longer_front g f s (x ∷ r) (sym i ∙ e) l in
+      let j : x ≡ k.0 = (let q = k.3 in cc) in
+      n (begins_front L (f ++ x ∷ []) k.1 (subst (Begins L) (k.2 ∙ (ap (λ z. f ++ z ∷ k.1) (sym j) ∙ sym (append_assoc f (x ∷ []) k.1))) b))
+
+  -- a text is refused at one place
+  one_place : (ts r s : List T) (why also : Reason) (f : RefusedFor L ts why r) (g : RefusedFor L ts also s) → (r ≡ s) × (f.front ≡ g.front)
+  one_place ts r s why also f g = elim (cases_Bool (nat_lt (length s) (length r))) [
+      | inl t ↦ absurd (by_longer r s f.front g.front why f.split g.split (ltb-true (length s) (length r) t) g.begins f.stops)
+      | inr n ↦ elim (cases_Bool (nat_lt (length r) (length s))) [
+        | inl t ↦ absurd (by_longer s r g.front f.front also g.split f.split (ltb-true (length r) (length s) t) f.begins g.stops)
+        | inr m ↦ (let k = same_front f.front g.front r s (sym f.split ∙ g.split) (let i = ltb-false (length s) (length r) n in let j = ltb-false (length r) (length s) m in omega arith) in (k.1, k.0))
+      ]
+    ]
+    where
+      by_longer : (r s f g : List T) (why : Reason) → ts ≡ f ++ r → ts ≡ g ++ s → length s < length r → Begins L g → Halts L f why r → ⊥
+      by_longer [] s f g why e i l b h = absurd (omega arith)
+      by_longer (x ∷ r) s f g why e i l b h = passed ts f g r s x e i l b h.0
+
+  one_reason : (front r : List T) (why also : Reason) → Halts L front why r → Halts L front also r → why ≡ also
+  one_reason front [] why also h k = h.0 ∙ sym k.0
+  one_reason front (x ∷ r) no_word no_word h k = refl
+  one_reason front (x ∷ r) no_word (level_at d) h k = absurd (h.1 (goes k.1.0))
+    where
+      goes : SinksAt L (front ++ x ∷ []) d → Goes L (front ++ x ∷ [])
+      goes (a, f, g, v, m, i, e, s, deep, l) = (a, f ++ m ∷ g, v, i, e)
+  one_reason front (x ∷ r) (level_at d) no_word h k = absurd (k.1 (goes h.1.0))
+    where
+      goes : SinksAt L (front ++ x ∷ []) d → Goes L (front ++ x ∷ [])
+      goes (a, f, g, v, m, i, e, s, deep, l) = (a, f ++ m ∷ g, v, i, e)
+  one_reason front (x ∷ r) (level_at d) (level_at e) h k = elim (cases_Bool (nat_lt d e)) [
+      | inl t ↦ absurd (k.1.1 d (ltb-true d e t) h.1.0)
+      | inr n ↦ elim (cases_Bool (nat_lt e d)) [
+        | inl t ↦ absurd (h.1.1 e (ltb-true e d t) k.1.0)
+        | inr m ↦ ap level_at (let i = ltb-false d e n in let j = ltb-false e d m in omega arith)
+      ]
+    ]
+
+  pub one_refusal : (ts r s : List T) (why also : Reason) → RefusedFor L ts why r → RefusedFor L ts also s → (why ≡ also) × (r ≡ s)
+  one_refusal ts r s why also f g =
+      let k = one_place ts r s why also f g in
+      (one_reason f.front r why also f.stops (subst (Halts L f.front also) (sym k.0) (subst (λ z. Halts L z also s) (sym k.1) g.stops)), k.0)

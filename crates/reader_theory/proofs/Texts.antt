@@ -15,41 +15,44 @@ use Rattle.reader_theory.proofs.Whole.{exact_whole}
 use Rattle.reader_theory.proofs.Best.{exact_best}
 use Rattle.reader_theory.proofs.Tail.{exact_tail}
 
-module _ {T A S I : Type 0} (L : I → A → List (Mark T) → Type 0) (p : I → List T → Verdict T A) (x : (i : I) → Exact (L i) never (p i)) (forms : S → List I) (next : S → A → S) (final : S → Bool) (longer : (i : I) (a : A) (w : List (Mark T)) → L i a w → 1 ≤ length (bare w)) (some : S → List A) (some_word : S → List (Mark T)) (is_some : (s : S) → Rest L forms next final (some s) s (some_word s)) (alive : (s : S) → final s ≡ false → (i : I) × (js : List I) × (forms s ≡ i ∷ js)) where
-  abbrev Rest_at : S → List A → List (Mark T) → Type 0
+module _ {T A S I : Type 0} (L : I → A → List (Mark T) → Type 0) (forms : S → List I) (next : S → A → S) (final : S → Bool) where
+  -- the language of a place
+  abbrev pub Rest_at : S → List A → List (Mark T) → Type 0
   Rest_at s ls w = Rest L forms next final ls s w
 
-  abbrev Ways : S → List I → List A → List (Mark T) → Type 0
+  -- a part of one of these forms, and the rest of the text
+  abbrev pub Ways : S → List I → List A → List (Mark T) → Type 0
   Ways s js = By more_of (AnyOf L js) (λ a. Rest_at (next s a))
 
-  abbrev Ways_or_end : S → List I → List A → List (Mark T) → Type 0
-  Ways_or_end s js ls w = Nothing [] ls w ⊎ Ways s js ls w
-
-  -- shorter texts are answered exactly
-  abbrev Shorter : ℕ → (S → List T → Verdict T (List A)) → Type 0
-  Shorter n rest = (s : S) (ts : List T) → length ts < n → Answers (Rest_at s) ts (rest s ts)
-
-  one_way : (rest : S → List T → Verdict T (List A)) (s : S) (i : I) (ts : List T) → Shorter (length ts) rest → Answers (By more_of (L i) (λ a. Rest_at (next s a))) ts (then_by more_of (λ a. rest (next s a)) (p i ts))
-  one_way rest s i ts shorter = exact_tail more_of (L i) (λ a. Rest_at (next s a)) (p i) (λ a. rest (next s a)) never (x i) (λ a b w h. never_stops (bare w)) (λ a. some (next s a)) (λ a. some_word (next s a)) (λ a. is_some (next s a)) ts
-      (λ a left e t. shorter (next s a) left (let k = longer i a t.word t.is_word in let l = ap length t.split in let m = length-append (bare t.word) left in omega arith))
-
-  first_way : (s : S) (i : I) (js : List I) (ls : List A) (w : List (Mark T)) → By more_of (L i) (λ a. Rest_at (next s a)) ls w → Ways s (i ∷ js) ls w
+  pub first_way : (s : S) (i : I) (js : List I) (ls : List A) (w : List (Mark T)) → By more_of (L i) (λ a. Rest_at (next s a)) ls w → Ways s (i ∷ js) ls w
   first_way s i js ls w (a, b, e, (u, v, h, k, split)) = (a, b, e, (u, v, inl h, k, split))
 
-  later_way : (s : S) (i : I) (js : List I) (ls : List A) (w : List (Mark T)) → Ways s js ls w → Ways s (i ∷ js) ls w
+  pub later_way : (s : S) (i : I) (js : List I) (ls : List A) (w : List (Mark T)) → Ways s js ls w → Ways s (i ∷ js) ls w
   later_way s i js ls w (a, b, e, (u, v, h, k, split)) = (a, b, e, (u, v, inr h, k, split))
 
-  which_way : (s : S) (i : I) (js : List I) (ls : List A) (w : List (Mark T)) → Ways s (i ∷ js) ls w → By more_of (L i) (λ a. Rest_at (next s a)) ls w ⊎ Ways s js ls w
+  pub which_way : (s : S) (i : I) (js : List I) (ls : List A) (w : List (Mark T)) → Ways s (i ∷ js) ls w → By more_of (L i) (λ a. Rest_at (next s a)) ls w ⊎ Ways s js ls w
   which_way s i js ls w (a, b, e, (u, v, inl h, k, split)) = inl (a, b, e, (u, v, h, k, split))
   which_way s i js ls w (a, b, e, (u, v, inr h, k, split)) = inr (a, b, e, (u, v, h, k, split))
 
-  only_way : (s : S) (i : I) (ls : List A) (w : List (Mark T)) → Ways s (i ∷ []) ls w → By more_of (L i) (λ a. Rest_at (next s a)) ls w
+module _ {T A S I : Type 0} (L : I → A → List (Mark T) → Type 0) (p : I → List T → Verdict T A) (x : (i : I) → Exact (L i) never (p i)) (forms : S → List I) (next : S → A → S) (final : S → Bool) (longer : (i : I) (a : A) (w : List (Mark T)) → L i a w → 1 ≤ length (bare w)) (some : S → List A) (some_word : S → List (Mark T)) (is_some : (s : S) → Rest L forms next final (some s) s (some_word s)) (alive : (s : S) → final s ≡ false → (i : I) × (js : List I) × (forms s ≡ i ∷ js)) where
+  abbrev Ways_or_end : S → List I → List A → List (Mark T) → Type 0
+  Ways_or_end s js ls w = Nothing [] ls w ⊎ Ways L forms next final s js ls w
+
+  -- shorter texts are answered exactly
+  abbrev Shorter : ℕ → (S → List T → Verdict T (List A)) → Type 0
+  Shorter n rest = (s : S) (ts : List T) → length ts < n → Answers (Rest_at L forms next final s) ts (rest s ts)
+
+  one_way : (rest : S → List T → Verdict T (List A)) (s : S) (i : I) (ts : List T) → Shorter (length ts) rest → Answers (By more_of (L i) (λ a. Rest_at L forms next final (next s a))) ts (then_by more_of (λ a. rest (next s a)) (p i ts))
+  one_way rest s i ts shorter = exact_tail more_of (L i) (λ a. Rest_at L forms next final (next s a)) (p i) (λ a. rest (next s a)) never (x i) (λ a b w h. never_stops (bare w)) (λ a. some (next s a)) (λ a. some_word (next s a)) (λ a. is_some (next s a)) ts
+      (λ a left e t. shorter (next s a) left (let k = longer i a t.word t.is_word in let l = ap length t.split in let m = length-append (bare t.word) left in omega arith))
+
+  only_way : (s : S) (i : I) (ls : List A) (w : List (Mark T)) → Ways L forms next final s (i ∷ []) ls w → By more_of (L i) (λ a. Rest_at L forms next final (next s a)) ls w
   only_way s i ls w (a, b, e, (u, v, inl h, k, split)) = (a, b, e, (u, v, h, k, split))
   only_way s i ls w (a, b, e, (u, v, inr h, k, split)) = absurd h
 
-  tries_answer : (rest : S → List T → Verdict T (List A)) (s : S) (i : I) (js : List I) (ts : List T) → Shorter (length ts) rest → Answers (Ways s (i ∷ js)) ts (tries p next rest s (i ∷ js) ts)
-  tries_answer rest s i [] ts shorter = same_answers (By more_of (L i) (λ a. Rest_at (next s a))) (Ways s (i ∷ [])) (first_way s i []) (only_way s i) ts _ (one_way rest s i ts shorter)
-  tries_answer rest s i (j ∷ js) ts shorter = exact_best (By more_of (L i) (λ a. Rest_at (next s a))) (Ways s (j ∷ js)) (Ways s (i ∷ j ∷ js)) (first_way s i (j ∷ js)) (later_way s i (j ∷ js)) (which_way s i (j ∷ js))
+  tries_answer : (rest : S → List T → Verdict T (List A)) (s : S) (i : I) (js : List I) (ts : List T) → Shorter (length ts) rest → Answers (Ways L forms next final s (i ∷ js)) ts (tries p next rest s (i ∷ js) ts)
+  tries_answer rest s i [] ts shorter = same_answers (By more_of (L i) (λ a. Rest_at L forms next final (next s a))) (Ways L forms next final s (i ∷ [])) (first_way L forms next final s i []) (only_way s i) ts _ (one_way rest s i ts shorter)
+  tries_answer rest s i (j ∷ js) ts shorter = exact_best (By more_of (L i) (λ a. Rest_at L forms next final (next s a))) (Ways L forms next final s (j ∷ js)) (Ways L forms next final s (i ∷ j ∷ js)) (first_way L forms next final s i (j ∷ js)) (later_way L forms next final s i (j ∷ js)) (which_way L forms next final s i (j ∷ js))
       ts _ _ (one_way rest s i ts shorter) (tries_answer rest s j js ts shorter)
 
   end_answer : (rest : S → List T → Verdict T (List A)) (s : S) (js : List I) (ts : List T) → Shorter (length ts) rest → Answers (Ways_or_end s js) ts (tries_or_end p next rest s js ts)
@@ -58,22 +61,22 @@ module _ {T A S I : Type 0} (L : I → A → List (Mark T) → Type 0) (p : I �
       only_end : (ls : List A) (w : List (Mark T)) → Ways_or_end s [] ls w → Nothing {T = T} [] ls w
       only_end ls w (inl h) = h
       only_end ls w (inr (a, b, e, (u, v, h, k, split))) = absurd h
-  end_answer rest s (i ∷ js) ts shorter = exact_best (By more_of (L i) (λ a. Rest_at (next s a))) (Ways_or_end s js) (Ways_or_end s (i ∷ js))
-      (λ ls w h. inr (first_way s i js ls w h)) later which ts _ _ (one_way rest s i ts shorter) (end_answer rest s js ts shorter)
+  end_answer rest s (i ∷ js) ts shorter = exact_best (By more_of (L i) (λ a. Rest_at L forms next final (next s a))) (Ways_or_end s js) (Ways_or_end s (i ∷ js))
+      (λ ls w h. inr (first_way L forms next final s i js ls w h)) later which ts _ _ (one_way rest s i ts shorter) (end_answer rest s js ts shorter)
     where
       later : (ls : List A) (w : List (Mark T)) → Ways_or_end s js ls w → Ways_or_end s (i ∷ js) ls w
       later ls w (inl h) = inl h
-      later ls w (inr h) = inr (later_way s i js ls w h)
+      later ls w (inr h) = inr (later_way L forms next final s i js ls w h)
 
-      which : (ls : List A) (w : List (Mark T)) → Ways_or_end s (i ∷ js) ls w → By more_of (L i) (λ a. Rest_at (next s a)) ls w ⊎ Ways_or_end s js ls w
+      which : (ls : List A) (w : List (Mark T)) → Ways_or_end s (i ∷ js) ls w → By more_of (L i) (λ a. Rest_at L forms next final (next s a)) ls w ⊎ Ways_or_end s js ls w
       which ls w (inl h) = inr (inl h)
-      which ls w (inr h) = by (which_way s i js ls w h)
+      which ls w (inr h) = by (which_way L forms next final s i js ls w h)
         where
-          by : By more_of (L i) (λ a. Rest_at (next s a)) ls w ⊎ Ways s js ls w → By more_of (L i) (λ a. Rest_at (next s a)) ls w ⊎ Ways_or_end s js ls w
+          by : By more_of (L i) (λ a. Rest_at L forms next final (next s a)) ls w ⊎ Ways L forms next final s js ls w → By more_of (L i) (λ a. Rest_at L forms next final (next s a)) ls w ⊎ Ways_or_end s js ls w
           by (inl k) = inl k
           by (inr k) = inr (inr k)
 
-  from_ways : (s : S) (ls : List A) (w : List (Mark T)) → Ways s (forms s) ls w → Rest L forms next final ls s w
+  from_ways : (s : S) (ls : List A) (w : List (Mark T)) → Ways L forms next final s (forms s) ls w → Rest L forms next final ls s w
   from_ways s ls w (a, b, e, (u, v, h, k, split)) = subst (λ z. Rest L forms next final z s w) (sym e) (u, v, h, k, split)
 
   from_end : (s : S) → final s ≡ true → (ls : List A) (w : List (Mark T)) → Ways_or_end s (forms s) ls w → Rest L forms next final ls s w
@@ -84,7 +87,7 @@ module _ {T A S I : Type 0} (L : I → A → List (Mark T) → Type 0) (p : I �
   to_ways s [] w h = inl (refl, h.1)
   to_ways s (a ∷ ls) w (u, v, h, k, split) = inr (a, ls, refl, (u, v, h, k, split))
 
-  only_ways : (s : S) → final s ≡ false → (ls : List A) (w : List (Mark T)) → Rest L forms next final ls s w → Ways s (forms s) ls w
+  only_ways : (s : S) → final s ≡ false → (ls : List A) (w : List (Mark T)) → Rest L forms next final ls s w → Ways L forms next final s (forms s) ls w
   only_ways s f [] w h = absurd (let k = sym f ∙ h.0 in cc)
   only_ways s f (a ∷ ls) w (u, v, h, k, split) = (a, ls, refl, (u, v, h, k, split))
 
@@ -93,7 +96,7 @@ module _ {T A S I : Type 0} (L : I → A → List (Mark T) → Type 0) (p : I �
   any_longer (j ∷ js) a w (inl h) = longer j a w h
   any_longer (j ∷ js) a w (inr h) = any_longer js a w h
 
-  nothing_left : (s : S) → final s ≡ false → (ls : List A) → Reads (Rest_at s) [] ls → ⊥
+  nothing_left : (s : S) → final s ≡ false → (ls : List A) → Reads (Rest_at L forms next final s) [] ls → ⊥
   nothing_left s f [] (w, h, k, e) = absurd (let g = sym f ∙ h.0 in cc)
   nothing_left s f (a ∷ ls) (w, (u, v, h, g, split), k, e) = by_word u (any_longer (forms s) a u h) split
     where
@@ -101,23 +104,23 @@ module _ {T A S I : Type 0} (L : I → A → List (Mark T) → Type 0) (p : I �
       by_word [] l i = absurd (omega arith)
       by_word (m ∷ u) l i = absurd (let g = e ∙ ap bare i in cc)
 
-  at_end : (s : S) → Answers (Rest_at s) [] (cond (final s) (found [] []) (fault expected []))
+  at_end : (s : S) → Answers (Rest_at L forms next final s) [] (cond (final s) (found [] []) (fault expected []))
   at_end s = elim (cases_Bool (final s)) [
-      | inl t ↦ subst (λ b. Answers (Rest_at s) [] (cond b (found [] []) (fault expected []))) (sym t) (refl, ([], (t, refl), tt, refl))
-      | inr f ↦ subst (λ b. Answers (Rest_at s) [] (cond b (found [] []) (fault expected []))) (sym f) (record { front = []; split = refl; begins = (some s, [], some_word s, is_some s, tt, refl); stops = (refl, nothing_left s f) })
+      | inl t ↦ subst (λ b. Answers (Rest_at L forms next final s) [] (cond b (found [] []) (fault expected []))) (sym t) (refl, ([], (t, refl), tt, refl))
+      | inr f ↦ subst (λ b. Answers (Rest_at L forms next final s) [] (cond b (found [] []) (fault expected []))) (sym f) (record { front = []; split = refl; begins = (some s, [], some_word s, is_some s, tt, refl); stops = (refl, nothing_left s f) })
     ]
 
   -- From each place on a text is read exactly where it is statements of the forms that the places allow, up to an end,
   -- else refused exactly at the first token with which no such text goes on.
-  pub exact_rest_of_text : (n : ℕ) (s : S) (ts : List T) → length ts ≤ n → Answers (Rest_at s) ts (from_here p forms next final n s ts)
+  pub exact_rest_of_text : (n : ℕ) (s : S) (ts : List T) → length ts ≤ n → Answers (Rest_at L forms next final s) ts (from_here p forms next final n s ts)
   exact_rest_of_text zero s [] l = at_end s
   exact_rest_of_text zero s (t ∷ ts) l = absurd (omega arith)
   exact_rest_of_text (suc n) s ts l = elim (cases_Bool (final s)) [
-      | inl t ↦ subst (λ b. Answers (Rest_at s) ts (cond b (tries_or_end p next (from_here p forms next final n) s (forms s) ts) (tries p next (from_here p forms next final n) s (forms s) ts))) (sym t)
-          (same_answers (Ways_or_end s (forms s)) (Rest_at s) (from_end s t) (to_ways s) ts _ (end_answer (from_here p forms next final n) s (forms s) ts (λ r us k. exact_rest_of_text n r us (omega arith))))
-      | inr f ↦ subst (λ b. Answers (Rest_at s) ts (cond b (tries_or_end p next (from_here p forms next final n) s (forms s) ts) (tries p next (from_here p forms next final n) s (forms s) ts))) (sym f)
-          (same_answers (Ways s (forms s)) (Rest_at s) (from_ways s) (only_ways s f) ts _
-            (let g = alive s f in subst (λ js. Answers (Ways s js) ts (tries p next (from_here p forms next final n) s js ts)) (sym g.2) (tries_answer (from_here p forms next final n) s g.0 g.1 ts (λ r us k. exact_rest_of_text n r us (omega arith)))))
+      | inl t ↦ subst (λ b. Answers (Rest_at L forms next final s) ts (cond b (tries_or_end p next (from_here p forms next final n) s (forms s) ts) (tries p next (from_here p forms next final n) s (forms s) ts))) (sym t)
+          (same_answers (Ways_or_end s (forms s)) (Rest_at L forms next final s) (from_end s t) (to_ways s) ts _ (end_answer (from_here p forms next final n) s (forms s) ts (λ r us k. exact_rest_of_text n r us (omega arith))))
+      | inr f ↦ subst (λ b. Answers (Rest_at L forms next final s) ts (cond b (tries_or_end p next (from_here p forms next final n) s (forms s) ts) (tries p next (from_here p forms next final n) s (forms s) ts))) (sym f)
+          (same_answers (Ways L forms next final s (forms s)) (Rest_at L forms next final s) (from_ways s) (only_ways s f) ts _
+            (let g = alive s f in subst (λ js. Answers (Ways L forms next final s js) ts (tries p next (from_here p forms next final n) s js ts)) (sym g.2) (tries_answer (from_here p forms next final n) s g.0 g.1 ts (λ r us k. exact_rest_of_text n r us (omega arith)))))
     ]
 
 -- Each text has one reading, where no two parts that a place allows begin one text, and each is longer than none.

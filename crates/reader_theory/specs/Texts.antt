@@ -1,5 +1,6 @@
 -- A text of parts, each of one of the forms that its place allows; the part that is read makes the next place of this one.
-use Rattle.std.specs.Prelude.{ℕ, zero, suc, ◌≡◌, Bool, true, false, cond, List, [], ◌∷◌, ◌⊎◌}
+use Rattle.std.specs.Prelude.{ℕ, zero, suc, ◌≡◌, Bool, true, false, cond, List, [], ◌∷◌, ◌⊎◌, Option, None}
+use Rattle.reader_theory.specs.Limits.{place_by, nearer}
 use Rattle.reader_theory.specs.Words.{Mark, ◌⟫◌, expected, Verdict, found, fault}
 use Rattle.reader_theory.specs.Readers.{then_by, more_of, ended, best}
 
@@ -33,3 +34,13 @@ abbrev pub from_here : {T A S I : Type 0} → (I → List T → Verdict T A) →
 from_here p forms next final zero s ts = cond (final s) (ended (found []) ts) (fault expected ts)
 from_here p forms next final (suc n) s ts =
     cond (final s) (tries_or_end p next (from_here p forms next final n) s (forms s) ts) (tries p next (from_here p forms next final n) s (forms s) ts)
+
+-- the first place at which a form sinks, of those that go on
+abbrev pub places : {T A S I : Type 0} → (I → List T → Verdict T A) → (S → A → S) → (S → I → List T → Bool) → (S → List T → Option ℕ) → S → List I → List T → Option ℕ
+places p next goes rest s [] ts = None
+places p next goes rest s (i ∷ is) ts = nearer (place_by (goes s i ts) ts (λ a. rest (next s a)) (p i ts)) (places p next goes rest s is ts)
+
+-- the same from this place on, in a text of no more than so many tokens
+abbrev pub place_here : {T A S I : Type 0} → (I → List T → Verdict T A) → (S → List I) → (S → A → S) → (S → I → List T → Bool) → ℕ → S → List T → Option ℕ
+place_here p forms next goes zero s ts = None
+place_here p forms next goes (suc n) s ts = places p next goes (place_here p forms next goes n) s (forms s) ts
