@@ -9,17 +9,26 @@ use Rattle.reader_theory.specs.Languages.{By}
 use Rattle.reader_theory.proofs.Marks.{bare_append, bare_length, shallow_append, shallow_front, shallow_back, cut, same_front, judge_shallow, judge_all, judged, Passed, judge_found, judge_part}
 use Rattle.reader_theory.proofs.Sequence.{local_at}
 
-module _ {T A B C : Type 0} (f : A → B → C) (L : A → List (Mark T) → Type 0) (M : A → B → List (Mark T) → Type 0) (p : List T → Verdict T A) (q : A → List T → Verdict T B) (more : T → Bool) (x : Exact L more p) (apart : (a : A) (b : B) (w : List (Mark T)) → M a b w → Stops more (bare w)) (some : A → B) (some_word : A → List (Mark T)) (is_some : (a : A) → M a (some a) (some_word a)) where
+module _ {T A B C : Type 0} (f : A → B → C) (L : A → List (Mark T) → Type 0) (M : A → B → List (Mark T) → Type 0) (p : List T → Verdict T A) (more : T → Bool) (x : Exact L more p) (apart : (a : A) (b : B) (w : List (Mark T)) → M a b w → Stops more (bare w)) where
   -- a word of both is judged at its first part
-  first_of_word : (a : A) (u v : List (Mark T)) (b : B) → L a u → M a b v → p (bare (u ++ v)) ≡ judge u a (bare v)
+  pub first_of_word : (a : A) (u v : List (Mark T)) (b : B) → L a u → M a b v → p (bare (u ++ v)) ≡ judge u a (bare v)
   first_of_word a u v b h k = ap p (bare_append u v) ∙ x.given a u (bare v) h (apart a b v k)
 
+  -- each text has one reading, where the rest has one behind each part
+  pub one_of_tail : ((a : A) (ts : List T) (b c : B) → Reads (M a) ts b → Reads (M a) ts c → b ≡ c) → (ts : List T) (d e : C) → Reads (By f L M) ts d → Reads (By f L M) ts e → d ≡ e
+  one_of_tail one ts d e (w, (a, b, is, (i, j, h, k, split)), s, eq) (w2, (a2, b2, is2, (i2, j2, h2, k2, split2)), s2, eq2) =
+      let g = sym (first_of_word a i j b h k) ∙ (ap p (sym (eq ∙ ap bare split)) ∙ (ap p (eq2 ∙ ap bare split2) ∙ first_of_word a2 i2 j2 b2 h2 k2)) in
+      let o = judge_found i a a2 (bare j) (bare j2) (g ∙ judge_all a2 i2 (bare j2) (shallow_front i2 j2 (subst Shallow split2 s2))) in
+      let m = one a2 (bare j) b b2 (j, subst (λ z. M z b j) o.same_tree k, shallow_back i j (subst Shallow split s), refl) (j2, k2, shallow_back i2 j2 (subst Shallow split2 s2), o.same_rest) in
+      is ∙ (ap (λ z. f z b) o.same_tree ∙ (ap (f a2) m ∙ sym is2))
+
+module _ {T A B C : Type 0} (f : A → B → C) (L : A → List (Mark T) → Type 0) (M : A → B → List (Mark T) → Type 0) (p : List T → Verdict T A) (q : A → List T → Verdict T B) (more : T → Bool) (x : Exact L more p) (apart : (a : A) (b : B) (w : List (Mark T)) → M a b w → Stops more (bare w)) (some : A → B) (some_word : A → List (Mark T)) (is_some : (a : A) → M a (some a) (some_word a)) where
   -- the first part stops with a fault
   module _ (front : List T) (y : T) (c : Cause) (alone : (v : List T) → p (front ++ y ∷ v) ≡ fault c (y ∷ v)) where
     none_goes_on : Begins (By f L M) (front ++ y ∷ []) → ⊥
     none_goes_on (d, w, v, (a, b, e, (i, j, h, k, split)), s, eq) =
         let t : bare (w ++ v) ≡ front ++ y ∷ bare v = bare_append w v ∙ (ap (λ z. z ++ bare v) (sym eq) ∙ append_assoc front (y ∷ []) (bare v)) in
-        let g = sym (first_of_word a i j b h k) ∙ (ap (λ z. p (bare z)) (sym split) ∙ (ap p t ∙ alone (bare v))) in
+        let g = sym (first_of_word f L M p more x apart a i j b h k) ∙ (ap (λ z. p (bare z)) (sym split) ∙ (ap p t ∙ alone (bare v))) in
         let l = judge_part i j a d c (y ∷ bare v) g in
         let m = sym (judge_shallow d w v [] s) ∙ (ap (λ z. judge z d []) split ∙ l) in
         elim (judged d v) [
@@ -30,7 +39,7 @@ module _ {T A B C : Type 0} (f : A → B → C) (L : A → List (Mark T) → Typ
     none_opens : (c ≡ expected) → Opens (By f L M) front y → ⊥
     none_opens is (d, w, v, (a, b, e, (i, j, h, k, split)), s, eq) =
         let t : bare (w ++ record { token = y; deep = true } ∷ v) ≡ front ++ y ∷ bare v = bare_append w (record { token = y; deep = true } ∷ v) ∙ ap (λ z. z ++ y ∷ bare v) (sym eq) in
-        let g = sym (first_of_word a i j b h k) ∙ (ap (λ z. p (bare z)) (sym split) ∙ (ap p t ∙ alone (bare v))) in
+        let g = sym (first_of_word f L M p more x apart a i j b h k) ∙ (ap (λ z. p (bare z)) (sym split) ∙ (ap p t ∙ alone (bare v))) in
         let l = judge_part i j a d c (y ∷ bare v) g in
         let m = sym (judge_shallow d w (record { token = y; deep = true } ∷ v) [] s) ∙ (ap (λ z. judge z d []) split ∙ l) in
         absurd (let o = sym is in cc)
@@ -38,7 +47,7 @@ module _ {T A B C : Type 0} (f : A → B → C) (L : A → List (Mark T) → Typ
   -- not even the first part is whole
   unfinished : (ts : List T) (c : Cause) → p ts ≡ fault c [] → (d : C) → Reads (By f L M) ts d → ⊥
   unfinished ts c g d (w, (a, b, e, (i, j, h, k, split)), s, eq) =
-      let l = sym (first_of_word a i j b h k) ∙ (ap (λ z. p (bare z)) (sym split) ∙ (ap p (sym eq) ∙ g)) in
+      let l = sym (first_of_word f L M p more x apart a i j b h k) ∙ (ap (λ z. p (bare z)) (sym split) ∙ (ap p (sym eq) ∙ g)) in
       let m = judge_part i j a d c [] l in
       let n = sym (judge_shallow d w [] [] s) ∙ (ap (λ z. judge z d []) (append-nil w ∙ split) ∙ m) in
       absurd (cc)
@@ -88,7 +97,7 @@ module _ {T A B C : Type 0} (f : A → B → C) (L : A → List (Mark T) → Typ
       -- a word that goes on so has this first part
       passes : (y : T) (u : List T) → left ≡ y ∷ u → (tail : List T) (i j : List (Mark T)) (c : A) (b : B) → L c i → M c b j → bare (i ++ j) ≡ bare t.word ++ (second ++ y ∷ tail) → Passed i c a (bare j) (second ++ y ∷ tail)
       passes y u is tail i j c b h k e =
-          judge_found i c a (bare j) (second ++ y ∷ tail) (sym (first_of_word c i j b h k) ∙ (ap p e ∙ local_at p (bare t.word) a rest second y u tail t.alone (cut_at ∙ ap (λ z. second ++ z) is)))
+          judge_found i c a (bare j) (second ++ y ∷ tail) (sym (first_of_word f L M p more x apart c i j b h k) ∙ (ap p e ∙ local_at p (bare t.word) a rest second y u tail t.alone (cut_at ∙ ap (λ z. second ++ z) is)))
 
       goes_on_in : (y : T) (u : List T) → left ≡ y ∷ u → Begins (By f L M) ((bare t.word ++ second) ++ y ∷ []) → Begins (M a) (second ++ y ∷ [])
       goes_on_in y u is (d, w, v, (c, b, e, (i, j, h, k, split)), s, eq) =
@@ -113,7 +122,7 @@ module _ {T A B C : Type 0} (f : A → B → C) (L : A → List (Mark T) → Typ
       over_in : left ≡ [] → p ts ≡ found a rest → (d : C) → Reads (By f L M) (bare t.word ++ second) d → (b : B) × Reads (M a) second b
       over_in is g d (w, (c, b, e, (i, j, h, k, split)), s, eq) =
           let here : ts ≡ bare (i ++ j) = split_here ∙ (ap (λ z. (bare t.word ++ second) ++ z) is ∙ (append-nil (bare t.word ++ second) ∙ (eq ∙ ap bare split))) in
-          let o = judge_found i c a (bare j) rest (sym (first_of_word c i j b h k) ∙ (ap p (sym here) ∙ g)) in
+          let o = judge_found i c a (bare j) rest (sym (first_of_word f L M p more x apart c i j b h k) ∙ (ap p (sym here) ∙ g)) in
           (b, (j, subst (λ z. M z b j) o.same_tree k, shallow_back i j (subst Shallow split s), sym (o.same_rest ∙ (cut_at ∙ (ap (λ z. second ++ z) is ∙ append-nil second)))))
 
       stops_here : (c : Cause) (l : List T) → left ≡ l → p ts ≡ found a rest → StopsAt (M a) second c l → StopsAt (By f L M) (bare t.word ++ second) c l
@@ -138,10 +147,3 @@ module _ {T A B C : Type 0} (f : A → B → C) (L : A → List (Mark T) → Typ
   -- a part read exactly and then a whole text answered exactly
   pub exact_tail : (ts : List T) → ((a : A) (rest : List T) → p ts ≡ found a rest → Finds L p ts a rest → Answers (M a) rest (q a rest)) → Answers (By f L M) ts (then_by f q (p ts))
   exact_tail ts whole = answers ts (p ts) refl whole (x.tells ts)
-
-  pub one_of_tail : ((a : A) (ts : List T) (b c : B) → Reads (M a) ts b → Reads (M a) ts c → b ≡ c) → (ts : List T) (d e : C) → Reads (By f L M) ts d → Reads (By f L M) ts e → d ≡ e
-  one_of_tail one ts d e (w, (a, b, is, (i, j, h, k, split)), s, eq) (w2, (a2, b2, is2, (i2, j2, h2, k2, split2)), s2, eq2) =
-      let g = sym (first_of_word a i j b h k) ∙ (ap p (sym (eq ∙ ap bare split)) ∙ (ap p (eq2 ∙ ap bare split2) ∙ first_of_word a2 i2 j2 b2 h2 k2)) in
-      let o = judge_found i a a2 (bare j) (bare j2) (g ∙ judge_all a2 i2 (bare j2) (shallow_front i2 j2 (subst Shallow split2 s2))) in
-      let m = one a2 (bare j) b b2 (j, subst (λ z. M z b j) o.same_tree k, shallow_back i j (subst Shallow split s), refl) (j2, k2, shallow_back i2 j2 (subst Shallow split2 s2), o.same_rest) in
-      is ∙ (ap (λ z. f z b) o.same_tree ∙ (ap (f a2) m ∙ sym is2))

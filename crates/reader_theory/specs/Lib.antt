@@ -7,3 +7,4 @@ pub mod Exactness
 pub mod Languages
 pub mod Texts
 pub mod Laws
+pub mod TextLaws
