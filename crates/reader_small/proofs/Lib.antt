@@ -1,0 +1,5 @@
+pub mod Tokens
+pub mod Chains
+pub mod Terms
+pub mod Actions
+pub mod Tries

@@ -1,0 +1,1 @@
+-- What a function that reads ensures.

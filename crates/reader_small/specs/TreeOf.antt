@@ -1,0 +1,1 @@
+-- What a tree in memory stands for.
