@@ -76,7 +76,7 @@ is_statement limit level = (
     (mark limit level (tokens.Name 0) ∷ [], [], refl, refl, refl),
     (mark limit level tokens.Equals ∷ [], mark limit level (tokens.Number 0) ∷ [], refl, refl, refl), refl)
 
-sunk_guarded : (limit : ℕ) → Exact (Guarded_at limit limit) never (sunk is_if)
+pub sunk_guarded : (limit : ℕ) → Exact (Guarded_at limit limit) never (sunk is_if)
 sunk_guarded limit = relabel (Behind limit (suc limit) if_name (Both guarded (Condition_at limit (suc limit)) (Statements limit (suc limit)))) (Guarded_at limit limit) (sunk is_if) never never
     (sunk_behind limit is_if if_name refl alone_if (Both guarded (Condition_at limit (suc limit)) (Statements limit (suc limit))) (guarded (number 0) some_statement) _
       (number 0, some_statement, refl, (_, some_word limit (suc limit), (mark limit (suc (suc limit)) tokens.Open ∷ [], mark limit (suc (suc limit)) (tokens.Number 0) ∷ mark limit (suc (suc limit)) tokens.Close ∷ [], refl,

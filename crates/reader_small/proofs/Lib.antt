@@ -3,3 +3,4 @@ pub mod Chains
 pub mod Terms
 pub mod Actions
 pub mod Tries
+pub mod Unique
