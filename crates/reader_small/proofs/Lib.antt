@@ -4,3 +4,4 @@ pub mod Terms
 pub mod Actions
 pub mod Tries
 pub mod Unique
+pub mod Loops

@@ -5,5 +5,8 @@
 //! where a level too deep is refused at its first token.
 #![tactic(auto)]
 
+pub mod error;
+pub mod expr;
+pub mod statement;
 pub mod token;
 pub mod tree;
