@@ -5,3 +5,4 @@ pub mod Actions
 pub mod Tries
 pub mod Unique
 pub mod Loops
+pub mod Statements

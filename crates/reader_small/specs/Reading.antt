@@ -140,3 +140,8 @@ if_at (suc left) = behind is_if (condition_at left)
 unfoldable pub action_at : ℕ → Reader Action
 action_at zero ts = best (ended (assign_at 0) ts) (ended (sunk is_if) ts)
 action_at (suc left) ts = best (ended (assign_at (suc left)) ts) (then guarded (action_at left) (if_at (suc left) ts))
+
+-- `if`, its condition, and a statement
+unfoldable pub guarded_at : ℕ → Reader Action
+guarded_at zero ts = ended (sunk is_if) ts
+guarded_at (suc left) ts = then guarded (action_at left) (if_at (suc left) ts)
