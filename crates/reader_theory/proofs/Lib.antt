@@ -1,5 +1,6 @@
 pub mod Ahead
 pub mod Best
+pub mod Blocks
 pub mod Choice
 pub mod Deep
 pub mod Fronts
@@ -8,6 +9,7 @@ pub mod Levels
 pub mod Limits
 pub mod Many
 pub mod Marks
+pub mod Moved
 pub mod Sequence
 pub mod Single
 pub mod Sinking

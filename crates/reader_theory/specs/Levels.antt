@@ -1,6 +1,6 @@
 -- Tokens marked by the number of levels that are open at them.
 use Rattle.std.specs.Prelude.{ℕ, zero, suc, ◌≡◌, Bool, true, false, List, [], ◌∷◌, nat_lt}
-use Rattle.reader_theory.specs.Words.{Mark, ◌⟫◌}
+use Rattle.reader_theory.specs.Words.{Mark, bare, ◌⟫◌}
 
 -- a token at which so many levels are open, where no more than limit may be
 abbrev pub mark : {T : Type 0} → ℕ → ℕ → T → Mark T
@@ -27,3 +27,10 @@ abbrev pub ShallowFor : {T : Type 0} → ℕ → List (Mark T) → Type 0
 ShallowFor zero w = Unit {0}
 ShallowFor (suc n) [] = Unit {0}
 ShallowFor (suc n) (m ∷ w) = (m.deep ≡ false) × ShallowFor n w
+
+-- a word of this language has the same tokens as this word, and its first so many aren't too deep
+pub record Moved {T : Type 0} (Q : List (Mark T) → Type 0) (n : ℕ) (w : List (Mark T)) : Type 0 where
+  pub moved : List (Mark T)
+  pub is_word : Q moved
+  pub same : bare moved ≡ bare w
+  pub shallow : ShallowFor n moved

@@ -3,6 +3,7 @@ use Rattle.std.specs.Prelude.{ℕ, ◌≡◌, ◌≤◌, Bool, true, false, List
 use Rattle.reader_theory.specs.Words.{Mark, bare, Shallow, Cause, Verdict, found}
 use Rattle.reader_theory.specs.Refusals.{Reads, Begins, Refused, Answers}
 use Rattle.reader_theory.specs.Limits.{Goes, FirstSunk, Reason, no_word, RefusedFor, place_of, place_by, nearer, goes_through, reason}
+use Rattle.reader_theory.specs.Levels.{Moved}
 use Rattle.reader_theory.specs.Readers.{more_of}
 use Rattle.reader_theory.specs.Exactness.{Stops, never, Exact}
 use Rattle.reader_theory.specs.Languages.{By}
@@ -75,3 +76,11 @@ RefusedForIsNotRead {T} {A} L = (ts : List T) (why : Reason) (rest : List T) (a 
 -- a text is refused at one place and for one reason
 abbrev pub OneRefusal : {T A : Type 0} → Words T A → Type 0
 OneRefusal {T} L = (ts r s : List T) (why also : Reason) → RefusedFor L ts why r → RefusedFor L ts also s → (why ≡ also) × (r ≡ s)
+
+-- the words of both have the same tokens, and those of the second aren't too deep up to so many
+abbrev pub SameTokens : {T A : Type 0} → Words T A → Words T A → ℕ → Type 0
+SameTokens {T} {A} L M n = ((a : A) (w : List (Mark T)) → L a w → Moved (M a) n w) × ((a : A) (w : List (Mark T)) → M a w → Moved (L a) 0 w)
+
+-- so whether a text of no more tokens goes on is told under the second limit
+abbrev pub LimitsAgree : {T A : Type 0} → Words T A → Words T A → Type 0
+LimitsAgree {T} L M = (n : ℕ) → SameTokens L M n → (ts : List T) → length ts ≤ n → (Goes L ts → Begins M ts) × (Begins M ts → Goes L ts)

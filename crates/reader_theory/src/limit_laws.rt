@@ -1,6 +1,6 @@
 //! Laws of the reason of a refusal: no word goes on so, or the first token that is too deep.
 
-ghost use Rattle.reader_theory.specs.TextLaws.{AnswerTellsFront, PlaceOfWhole, PlaceOfEither, PlaceOfTail, PlaceInTexts, RefusalHasReason, RefusalAtEnd, RefusedForIsNotRead, OneRefusal};
+ghost use Rattle.reader_theory.specs.TextLaws.{AnswerTellsFront, PlaceOfWhole, PlaceOfEither, PlaceOfTail, PlaceInTexts, RefusalHasReason, RefusalAtEnd, RefusedForIsNotRead, OneRefusal, LimitsAgree};
 
 use crate::language::{Family, Language, Places};
 
@@ -40,5 +40,11 @@ pub fn place_of_tail<T, A, B, C, L: Language<T, A>, M: Family<T, A, B>>()
 /// Where a text of parts sinks first.
 pub fn place_in_texts<T, A, S, I, L: Family<T, I, A>, P: Places<S, I, A>>()
     ensures { PlaceInTexts L.words P.forms P.next P.may_end }
+{
+}
+
+/// Whether some word begins with a text is the same under another limit, which may be out of the text's reach.
+pub fn limits_agree<T, A, L: Language<T, A>, M: Language<T, A>>()
+    ensures { LimitsAgree L.words M.words }
 {
 }
