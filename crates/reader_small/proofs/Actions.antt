@@ -19,7 +19,7 @@ use Rattle.reader_small.specs.declared.token.Token.{Token}
 use Rattle.reader_small.specs.declared.token.Token.TheVariants as tokens
 use Rattle.reader_small.specs.Syntax.{Term, number, element, Terms, no_terms, Action, assign, guarded}
 use Rattle.reader_small.specs.Grammar.{spells, subscripts, if_name, asks, acts, Statements}
-use Rattle.reader_small.specs.Reading.{Reader, is_if, is_open, is_equals, sum_at, subscripts_at, place_at, assigned, assign_at, condition_at, if_at, action_at}
+use Rattle.reader_small.specs.Reading.{Reader, is_if, is_open, is_equals, sum_at, subscripts_at, place_at, assigned, assign_at, condition_at, if_at, action_at, guarded_at}
 use Rattle.reader_small.proofs.Tokens.{alone_if, alone_equals, goes}
 use Rattle.reader_small.proofs.Terms.{Term_at, Place_at, Condition_at, exact_place, exact_term, exact_subscripts, exact_condition}
 
@@ -85,17 +85,29 @@ sunk_guarded limit = relabel (Behind limit (suc limit) if_name (Both guarded (Co
     (λ a w (t, b, e, (x, y, (u, v, p, c, split2), s, split)). (u, v ++ y, p, (t, b, e, (v, y, c, s, refl)), split ∙ (ap (λ z. z ++ y) split2 ∙ append_assoc u v y)))
     (λ rest s. s)
 
+guarded_zero : (limit level : ℕ) → level + 0 ≡ limit → (ts : List Token) → Answers (Guarded_at limit level) ts (guarded_at 0 ts)
+unfolding guarded_at
+guarded_zero limit level e ts =
+    let at : limit ≡ level = omega arith in
+    subst (λ z. Answers (Guarded_at limit z) ts (ended (sunk is_if) ts)) at (exact_whole (Guarded_at limit limit) never (sunk is_if) (sunk_guarded limit) ts)
+
+guarded_more : (limit left level : ℕ) → level + suc left ≡ limit → ((ts : List Token) → Answers (Statements limit (suc level)) ts (action_at left ts)) → (ts : List Token) → Answers (Guarded_at limit level) ts (guarded_at (suc left) ts)
+unfolding guarded_at
+guarded_more limit left level e inner ts =
+    exact_tail guarded (If_at limit level) (λ _. Statements limit (suc level)) (if_at (suc left)) (λ _. action_at left) never (exact_if limit (suc left) level e) (λ a b w h. never_stops (bare w))
+      (λ _. some_statement) (λ _. some_word limit (suc level)) (λ _. is_statement limit (suc level)) ts (λ a rest i t. inner rest)
+
 -- In each statement's place the answer is exact: an assignment, also to an element of `if`, or an `if` with a statement behind it.
 pub exact_action : (limit left level : ℕ) → level + left ≡ limit → (ts : List Token) → Answers (Statements limit level) ts (action_at left ts)
-unfolding action_at
+unfolding action_at guarded_at
 exact_action limit zero level e ts =
-    let at : limit ≡ level = omega arith in
-    subst (λ z. Answers (Statements limit z) ts (best (ended (assign_at 0) ts) (ended (sunk is_if) ts))) at
-      (exact_best (Assign_at limit limit) (Guarded_at limit limit) (Statements limit limit) (from_assign limit limit) (from_guarded limit limit) (split_action limit limit) ts _ _
-        (exact_whole (Assign_at limit limit) (goes 0) (assign_at 0) (exact_assign limit 0 limit (omega arith)) ts)
-        (exact_whole (Guarded_at limit limit) never (sunk is_if) (sunk_guarded limit) ts))
+    exact_best (Assign_at limit level) (Guarded_at limit level) (Statements limit level) (from_assign limit level) (from_guarded limit level) (split_action limit level) ts _ _
+      (exact_whole (Assign_at limit level) (goes 0) (assign_at 0) (exact_assign limit 0 level e) ts) (guarded_zero limit level e ts)
 exact_action limit (suc left) level e ts =
     exact_best (Assign_at limit level) (Guarded_at limit level) (Statements limit level) (from_assign limit level) (from_guarded limit level) (split_action limit level) ts _ _
       (exact_whole (Assign_at limit level) (goes 0) (assign_at (suc left)) (exact_assign limit (suc left) level e) ts)
-      (exact_tail guarded (If_at limit level) (λ _. Statements limit (suc level)) (if_at (suc left)) (λ _. action_at left) never (exact_if limit (suc left) level e) (λ a b w h. never_stops (bare w))
-        (λ _. some_statement) (λ _. some_word limit (suc level)) (λ _. is_statement limit (suc level)) ts (λ a rest i t. exact_action limit left (suc level) (omega arith) rest))
+      (guarded_more limit left level e (exact_action limit left (suc level) (omega arith)) ts)
+
+pub exact_guarded : (limit left level : ℕ) → level + left ≡ limit → (ts : List Token) → Answers (Guarded_at limit level) ts (guarded_at left ts)
+exact_guarded limit zero level e = guarded_zero limit level e
+exact_guarded limit (suc left) level e = guarded_more limit left level e (exact_action limit left (suc level) (omega arith))

@@ -6,3 +6,5 @@ pub mod Tries
 pub mod Unique
 pub mod Loops
 pub mod Statements
+pub mod Moved
+pub mod Reasons

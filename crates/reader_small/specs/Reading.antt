@@ -1,6 +1,7 @@
 -- The reader, as functions on lists of tokens; so many levels are left.
-use Rattle.std.specs.Prelude.{ℕ, zero, suc, ◌≡◌, Bool, true, false, List, [], ◌∷◌, nat_eq}
+use Rattle.std.specs.Prelude.{ℕ, zero, suc, Bool, true, false, List, [], ◌∷◌, length, nat_eq, Option, None}
 use Rattle.reader_theory.specs.Words.{Verdict, found, fault}
+use Rattle.reader_theory.specs.Limits.{place_of, place_by, nearer, goes_through}
 use Rattle.reader_theory.specs.Readers.{token, mapped, joined, then, both, pick, many, sunk, ended, best, pair, behind, between}
 use Rattle.reader_small.specs.declared.token.Operator.{Operator}
 use Rattle.reader_small.specs.declared.token.Operator.TheVariants as operators
@@ -145,3 +146,12 @@ action_at (suc left) ts = best (ended (assign_at (suc left)) ts) (then guarded (
 unfoldable pub guarded_at : ℕ → Reader Action
 guarded_at zero ts = ended (sunk is_if) ts
 guarded_at (suc left) ts = then guarded (action_at left) (if_at (suc left) ts)
+
+-- Where the first token too deep stands, of all statements that begin with the text (its tokens up to a refusal): each
+-- alternative that sinks counts where it goes through the text when as many levels are left as there are tokens.
+abbrev pub sunk_assignment : ℕ → List Token → Option ℕ
+sunk_assignment left ts = place_of (goes_through (ended (assign_at (length ts)) ts)) ts (ended (assign_at left) ts)
+
+unfoldable pub first_sunk : ℕ → List Token → Option ℕ
+first_sunk zero ts = nearer (sunk_assignment zero ts) (place_by (goes_through (guarded_at (length ts) ts)) ts (λ e rest. None) (if_at zero ts))
+first_sunk (suc left) ts = nearer (sunk_assignment (suc left) ts) (place_by (goes_through (guarded_at (length ts) ts)) ts (λ e rest. first_sunk left rest) (if_at (suc left) ts))

@@ -1,5 +1,5 @@
 -- A choice by the first two tokens.
-use Rattle.std.proofs.Common.{◌≡◌, Bool, true, false, cond, List, [], ◌∷◌, ◌++◌, ◌⊎◌, inl, inr, refl, ap, sym, ◌∙◌, subst}
+use Rattle.std.proofs.Common.{◌≡◌, Bool, true, false, cond, List, [], ◌∷◌, ◌++◌, inl, inr, refl, ap, sym, ◌∙◌, subst}
 use Rattle.std.proofs.lemmas.Bool.{cases_Bool}
 use Rattle.reader_theory.specs.Words.{Mark, bare, Verdict}
 use Rattle.reader_theory.specs.Readers.{two_pass, ahead, rest_of}
@@ -32,9 +32,9 @@ module _ {T A : Type 0} (one two : T → Bool) (L M : A → List (Mark T) → Ty
 
   ahead_tells : (ts : List T) → Tells (Or L M) (ahead one two p q) ts (ahead one two p q ts)
   ahead_tells ts = elim (cases_Bool (two_pass one two ts)) [
-      | inl t ↦ subst (Tells (Or L M) (ahead one two p q) ts) (sym (taken ts t)) (carry L (Or L M) (λ a w. inl) p (ahead one two p q) ts (p ts) (there true p ts taken p_eats t) (x.tells ts))
-      | inr f ↦ subst (Tells (Or L M) (ahead one two p q) ts) (sym (left ts f)) (carry M (Or L M) (λ a w. inr) q (ahead one two p q) ts (q ts) (there false q ts left q_eats f) (y.tells ts))
-    ]
+    | inl t ↦ subst (Tells (Or L M) (ahead one two p q) ts) (sym (taken ts t)) (carry L (Or L M) (λ a w. inl) p (ahead one two p q) ts (p ts) (there true p ts taken p_eats t) (x.tells ts))
+    | inr f ↦ subst (Tells (Or L M) (ahead one two p q) ts) (sym (left ts f)) (carry M (Or L M) (λ a w. inr) q (ahead one two p q) ts (q ts) (there false q ts left q_eats f) (y.tells ts))
+  ]
 
   ahead_given : (a : A) (w : List (Mark T)) (rest : List T) → Or L M a w → Stops more rest → ahead one two p q (bare w ++ rest) ≡ judge w a rest
   ahead_given a w rest (inl h) stops = taken (bare w ++ rest) (pairs a w rest h) ∙ x.given a w rest h (wide rest stops)

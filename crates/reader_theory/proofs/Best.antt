@@ -1,8 +1,8 @@
 -- The better of two answers: what was read, or the fault that stands further on.
-use Rattle.std.proofs.Common.{◌≡◌, ◌<◌, Bool, true, false, cond, List, [], ◌∷◌, ◌++◌, ◌⊎◌, inl, inr, refl, ap, sym, ◌∙◌, subst, arith, append_assoc, length, nat_lt, ltb-true, ltb-false}
+use Rattle.std.proofs.Common.{◌≡◌, ◌<◌, true, cond, List, [], ◌∷◌, ◌++◌, ◌⊎◌, inl, inr, refl, ap, sym, ◌∙◌, subst, arith, append_assoc, length, nat_lt, ltb-true, ltb-false}
 use Rattle.std.proofs.lemmas.Bool.{cases_Bool, le-ltb, lt-ltb}
 use Rattle.std.proofs.lemmas.List.{length-append, append-nil}
-use Rattle.reader_theory.specs.Words.{Mark, bare, Shallow, Cause, expected, too_deep, Verdict, found, fault}
+use Rattle.reader_theory.specs.Words.{Mark, Cause, expected, too_deep, Verdict, found, fault}
 use Rattle.reader_theory.specs.Refusals.{Begins, Opens, StopsAt, Refused, Reads, Answers}
 use Rattle.reader_theory.specs.Readers.{joined, worse, further, best, rest_of}
 use Rattle.reader_theory.proofs.Marks.{same_front}
@@ -57,11 +57,13 @@ module _ {T A : Type 0} (L M K : A → List (Mark T) → Type 0) (from_first : (
     past_stops : (front : List T) (c : Cause) (r : List T) → ts ≡ front ++ r → length r < length s → StopsAt L front c r → StopsAt K front c r
     past_stops front c [] e l h = (h.0, λ a k. absurd (elim (reads_out front a k) [ inl i ↦ h.1 a i | inr i ↦ past front [] [] e l (subst (Begins M) (sym (append-nil front)) (read_begins M front a i)) ]))
     past_stops front expected (x ∷ r) e l h = (
-        λ b. absurd (elim (begins_out (front ++ x ∷ []) b) [ inl i ↦ h.0 i | inr i ↦ past front (x ∷ r) (x ∷ []) e l i ]),
-        λ o. absurd (elim (opens_out front x o) [ inl i ↦ h.1 i | inr i ↦ past front (x ∷ r) [] e l (subst (Begins M) (sym (append-nil front)) (opens_begins M front x i)) ]))
+      λ b. absurd (elim (begins_out (front ++ x ∷ []) b) [ inl i ↦ h.0 i | inr i ↦ past front (x ∷ r) (x ∷ []) e l i ]),
+      λ o. absurd (elim (opens_out front x o) [ inl i ↦ h.1 i | inr i ↦ past front (x ∷ r) [] e l (subst (Begins M) (sym (append-nil front)) (opens_begins M front x i)) ]),
+    )
     past_stops front too_deep (x ∷ r) e l h = (
-        λ b. absurd (elim (begins_out (front ++ x ∷ []) b) [ inl i ↦ h.0 i | inr i ↦ past front (x ∷ r) (x ∷ []) e l i ]),
-        opens_in front x h.1)
+      λ b. absurd (elim (begins_out (front ++ x ∷ []) b) [ inl i ↦ h.0 i | inr i ↦ past front (x ∷ r) (x ∷ []) e l i ]),
+      opens_in front x h.1,
+    )
 
     pub goes_further : (c : Cause) (r : List T) → Refused L ts c r → length r < length s → Refused K ts c r
     goes_further c r f l = record { front = f.front; split = f.split; begins = begins_in f.front f.begins; stops = past_stops f.front c r f.split l f.stops }
@@ -69,17 +71,21 @@ module _ {T A : Type 0} (L M K : A → List (Mark T) → Type 0) (from_first : (
   level_stops : (front : List T) (c d : Cause) (r : List T) → StopsAt L front c r → StopsAt M front d r → StopsAt K front (worse c d) r
   level_stops front c d [] h k = (ap (λ z. worse z d) h.0 ∙ k.0, λ a i. absurd (elim (reads_out front a i) [ inl j ↦ h.1 a j | inr j ↦ k.1 a j ]))
   level_stops front expected expected (x ∷ r) h k = (
-      λ b. absurd (elim (begins_out (front ++ x ∷ []) b) [ inl i ↦ h.0 i | inr i ↦ k.0 i ]),
-      λ o. absurd (elim (opens_out front x o) [ inl i ↦ h.1 i | inr i ↦ k.1 i ]))
+    λ b. absurd (elim (begins_out (front ++ x ∷ []) b) [ inl i ↦ h.0 i | inr i ↦ k.0 i ]),
+    λ o. absurd (elim (opens_out front x o) [ inl i ↦ h.1 i | inr i ↦ k.1 i ]),
+  )
   level_stops front expected too_deep (x ∷ r) h k = (
-      λ b. absurd (elim (begins_out (front ++ x ∷ []) b) [ inl i ↦ h.0 i | inr i ↦ k.0 i ]),
-      opens_in_second front x k.1)
+    λ b. absurd (elim (begins_out (front ++ x ∷ []) b) [ inl i ↦ h.0 i | inr i ↦ k.0 i ]),
+    opens_in_second front x k.1,
+  )
   level_stops front too_deep expected (x ∷ r) h k = (
-      λ b. absurd (elim (begins_out (front ++ x ∷ []) b) [ inl i ↦ h.0 i | inr i ↦ k.0 i ]),
-      opens_in front x h.1)
+    λ b. absurd (elim (begins_out (front ++ x ∷ []) b) [ inl i ↦ h.0 i | inr i ↦ k.0 i ]),
+    opens_in front x h.1,
+  )
   level_stops front too_deep too_deep (x ∷ r) h k = (
-      λ b. absurd (elim (begins_out (front ++ x ∷ []) b) [ inl i ↦ h.0 i | inr i ↦ k.0 i ]),
-      opens_in front x h.1)
+    λ b. absurd (elim (begins_out (front ++ x ∷ []) b) [ inl i ↦ h.0 i | inr i ↦ k.0 i ]),
+    opens_in front x h.1,
+  )
 
   pub level_fault : (ts : List T) (c d : Cause) (r s : List T) → Refused L ts c r → Refused M ts d s → length r ≡ length s → Refused K ts (worse c d) r
   level_fault ts c d r s f g l =
@@ -92,12 +98,12 @@ module _ {T A : Type 0} (L M K : A → List (Mark T) → Type 0) (from_first : (
 
   both_faults : (ts : List T) (c d : Cause) (r s : List T) → Refused L ts c r → Refused M ts d s → Answers K ts (further c r d s)
   both_faults ts c d r s f g = elim (cases_Bool (nat_lt (length r) (length s))) [
-      | inl t ↦ subst (λ b. Answers K ts (cond b (fault c r) (cond (nat_lt (length s) (length r)) (fault d s) (fault (worse c d) r)))) (sym t) (goes_further L M K from_first from_second out ts d s g c r f (ltb-true (length r) (length s) t))
-      | inr e ↦ subst (λ b. Answers K ts (cond b (fault c r) (cond (nat_lt (length s) (length r)) (fault d s) (fault (worse c d) r)))) (sym e) (elim (cases_Bool (nat_lt (length s) (length r))) [
-          | inl t ↦ subst (λ b. Answers K ts (cond b (fault d s) (fault (worse c d) r))) (sym t) (goes_further M L K from_second from_first turn ts c r f d s g (ltb-true (length s) (length r) t))
-          | inr i ↦ subst (λ b. Answers K ts (cond b (fault d s) (fault (worse c d) r))) (sym i) (level_fault L M K from_first from_second out ts c d r s f g (let x = ltb-false (length r) (length s) e in let y = ltb-false (length s) (length r) i in omega arith))
-        ])
-    ]
+    | inl t ↦ subst (λ b. Answers K ts (cond b (fault c r) (cond (nat_lt (length s) (length r)) (fault d s) (fault (worse c d) r)))) (sym t) (goes_further L M K from_first from_second out ts d s g c r f (ltb-true (length r) (length s) t))
+    | inr e ↦ subst (λ b. Answers K ts (cond b (fault c r) (cond (nat_lt (length s) (length r)) (fault d s) (fault (worse c d) r)))) (sym e) (elim (cases_Bool (nat_lt (length s) (length r))) [
+      | inl t ↦ subst (λ b. Answers K ts (cond b (fault d s) (fault (worse c d) r))) (sym t) (goes_further M L K from_second from_first turn ts c r f d s g (ltb-true (length s) (length r) t))
+      | inr i ↦ subst (λ b. Answers K ts (cond b (fault d s) (fault (worse c d) r))) (sym i) (level_fault L M K from_first from_second out ts c d r s f g (let x = ltb-false (length r) (length s) e in let y = ltb-false (length s) (length r) i in omega arith))
+    ])
+  ]
 
   -- the better of two exact answers is exact for both languages
   pub exact_best : (ts : List T) (v u : Verdict T A) → Answers L ts v → Answers M ts u → Answers K ts (best v u)
@@ -108,9 +114,9 @@ module _ {T A : Type 0} (L M K : A → List (Mark T) → Type 0) (from_first : (
   -- and each text has one reading, where no text has one in each
   pub one_of_best : ((ts : List T) (a b : A) → Reads L ts a → Reads L ts b → a ≡ b) → ((ts : List T) (a b : A) → Reads M ts a → Reads M ts b → a ≡ b) → ((ts : List T) (a b : A) → Reads L ts a → Reads M ts b → ⊥) → (ts : List T) (a b : A) → Reads K ts a → Reads K ts b → a ≡ b
   one_of_best l m apart ts a b h k = elim (reads_out L M K from_first from_second out ts a h) [
-      | inl i ↦ elim (reads_out L M K from_first from_second out ts b k) [ inl j ↦ l ts a b i j | inr j ↦ absurd (apart ts a b i j) ]
-      | inr i ↦ elim (reads_out L M K from_first from_second out ts b k) [ inl j ↦ absurd (apart ts b a j i) | inr j ↦ m ts a b i j ]
-    ]
+    | inl i ↦ elim (reads_out L M K from_first from_second out ts b k) [ inl j ↦ l ts a b i j | inr j ↦ absurd (apart ts a b i j) ]
+    | inr i ↦ elim (reads_out L M K from_first from_second out ts b k) [ inl j ↦ absurd (apart ts b a j i) | inr j ↦ m ts a b i j ]
+  ]
 
 -- The part that is read decides, where the other alternative's fault stands inside it.
 module _ {T A B C : Type 0} (f : A → B → C) (a : A) (c : Cause) (s : List T) where

@@ -1,5 +1,5 @@
 -- A choice by the first token, and a part that may be left out.
-use Rattle.std.proofs.Common.{◌≡◌, Bool, true, false, cond, List, [], ◌∷◌, ◌++◌, ◌⊎◌, inl, inr, refl, ap, sym, ◌∙◌, subst, Option, Some, None}
+use Rattle.std.proofs.Common.{◌≡◌, Bool, true, false, cond, List, [], ◌∷◌, ◌++◌, inl, inr, refl, ap, sym, ◌∙◌, subst, Option, Some, None}
 use Rattle.std.proofs.lemmas.Bool.{cases_Bool}
 use Rattle.reader_theory.specs.Words.{Mark, bare, Verdict, found}
 use Rattle.reader_theory.specs.Readers.{mapped, pick, optional}
@@ -26,9 +26,9 @@ module _ {T A : Type 0} (test : T → Bool) (L M : A → List (Mark T) → Type 
   pick_tells : (ts : List T) → Tells (Or L M) (pick test p q) ts (pick test p q ts)
   pick_tells [] = carry M (Or L M) (λ a w. inr) q (pick test p q) [] (q []) (λ front b y e stop. absurd (no_front front b y e)) (y.tells [])
   pick_tells (z ∷ rest) = elim (cases_Bool (test z)) [
-      | inl t ↦ subst (Tells (Or L M) (pick test p q) (z ∷ rest)) (sym (taken z rest t)) (carry L (Or L M) (λ a w. inl) p (pick test p q) (z ∷ rest) (p (z ∷ rest)) (λ front b y e stop. same_head p (pick test p q) z rest (λ u. taken z u t) front b y e) (x.tells (z ∷ rest)))
-      | inr f ↦ subst (Tells (Or L M) (pick test p q) (z ∷ rest)) (sym (left z rest f)) (carry M (Or L M) (λ a w. inr) q (pick test p q) (z ∷ rest) (q (z ∷ rest)) (λ front b y e stop. same_head q (pick test p q) z rest (λ u. left z u f) front b y e) (y.tells (z ∷ rest)))
-    ]
+    | inl t ↦ subst (Tells (Or L M) (pick test p q) (z ∷ rest)) (sym (taken z rest t)) (carry L (Or L M) (λ a w. inl) p (pick test p q) (z ∷ rest) (p (z ∷ rest)) (λ front b y e stop. same_head p (pick test p q) z rest (λ u. taken z u t) front b y e) (x.tells (z ∷ rest)))
+    | inr f ↦ subst (Tells (Or L M) (pick test p q) (z ∷ rest)) (sym (left z rest f)) (carry M (Or L M) (λ a w. inr) q (pick test p q) (z ∷ rest) (q (z ∷ rest)) (λ front b y e stop. same_head q (pick test p q) z rest (λ u. left z u f) front b y e) (y.tells (z ∷ rest)))
+  ]
 
   headed : (w : List (Mark T)) (rest : List T) → Heads test w → pick test p q (bare w ++ rest) ≡ p (bare w ++ rest)
   headed [] rest h = absurd h
@@ -67,9 +67,9 @@ module _ {T A : Type 0} (test : T → Bool) (L : A → List (Mark T) → Type 0)
   pub exact_optional : Exact (Optional L) more (optional test p)
   exact_optional = relabel Some_or_none (Optional L) (optional test p) more more
       (exact_pick test (Image Some L) (Nothing None) (mapped Some p) (found None) first never
-        (exact_mapped Some L (Image Some L) p first first x (λ a w h. (a, refl, h)) (λ o w h. h) (λ rest s. s))
-        (exact_nothing None) more
-        (λ o w (a, e, h). heads a w h)
-        (λ o w rest h stops. subst (λ z. Stops test (bare z ++ rest)) (sym h.1) (ends rest stops))
-        wide (λ rest s. never_stops rest))
+      (exact_mapped Some L (Image Some L) p first first x (λ a w h. (a, refl, h)) (λ o w h. h) (λ rest s. s))
+      (exact_nothing None) more
+      (λ o w (a, e, h). heads a w h)
+      (λ o w rest h stops. subst (λ z. Stops test (bare z ++ rest)) (sym h.1) (ends rest stops))
+      wide (λ rest s. never_stops rest))
       into from (λ rest s. s)

@@ -1,7 +1,7 @@
 -- Fronts of words; what is refused isn't read; the same words said otherwise, and of another tree.
 use Rattle.std.proofs.Common.{◌≡◌, true, List, [], ◌∷◌, ◌++◌, refl, ap, sym, ◌∙◌, subst, append_assoc}
 use Rattle.std.proofs.lemmas.List.{append-nil}
-use Rattle.reader_theory.specs.Words.{Mark, bare, Shallow, Cause, expected, too_deep, Verdict, found, fault}
+use Rattle.reader_theory.specs.Words.{Mark, Shallow, Cause, expected, too_deep, Verdict, found, fault}
 use Rattle.reader_theory.specs.Refusals.{Begins, Opens, StopsAt, Refused, Reads, Answers}
 use Rattle.reader_theory.specs.Readers.{turned}
 use Rattle.reader_theory.specs.Languages.{Image}

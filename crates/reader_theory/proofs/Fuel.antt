@@ -1,8 +1,8 @@
 -- A reader with as much fuel as there are tokens.
 use Rattle.std.proofs.Common.{◌≡◌, ℕ, ◌+◌, ◌≤◌, Bool, List, [], ◌∷◌, ◌++◌, refl, ap, sym, ◌∙◌, subst, arith, length}
 use Rattle.std.proofs.lemmas.List.{append_cancel_right, length-append}
-use Rattle.reader_theory.specs.Words.{Mark, bare, Cause, expected, too_deep, Verdict, found, fault}
-use Rattle.reader_theory.specs.Exactness.{judge, Stops, Local, Finds, Misses, Sinks, Tells, Exact}
+use Rattle.reader_theory.specs.Words.{Mark, bare, expected, too_deep, Verdict, found, fault}
+use Rattle.reader_theory.specs.Exactness.{judge, Stops, Local, Tells, Exact}
 
 abbrev pub fueled : {T A : Type 0} → (ℕ → List T → Verdict T A) → List T → Verdict T A
 fueled r ts = r (length ts) ts

@@ -1,5 +1,5 @@
 -- Tokens that are marked by their level: one token, what stands behind one or between two, and where no level is left for these.
-use Rattle.std.proofs.Common.{◌≡◌, ℕ, suc, ◌+◌, ◌-◌, ◌≤◌, Bool, true, false, List, [], ◌∷◌, ◌++◌, refl, ap, sym, ◌∙◌, subst, arith, nat_lt, zero, length}
+use Rattle.std.proofs.Common.{◌≡◌, ℕ, suc, ◌-◌, ◌≤◌, Bool, true, false, List, [], ◌∷◌, ◌++◌, refl, ap, sym, ◌∙◌, subst, arith, zero, length}
 use Rattle.std.proofs.lemmas.Bool.{le-ltb, lt-ltb}
 use Rattle.reader_theory.specs.Words.{Mark, bare, Shallow, ◌⟫◌, Verdict}
 use Rattle.reader_theory.specs.Readers.{token, both, first, second, behind, between, sunk}
@@ -38,7 +38,7 @@ module _ {T A : Type 0} (limit level : ℕ) (here : level ≤ limit) (opens clos
   closed : Exact Closed never (both first r (token closes))
   closed = relabel (Both first L (One closes limit level)) Closed _ never never
       (exact_both first L (One closes limit level) r (token closes) more never x (exact_one limit level closes closer closes_it here)
-        (λ y w rest h s. subst (λ z. Stops more (bare z ++ rest)) (sym h.1) (subst (λ z. more z ≡ false) (sym (alone_closes y h.0)) stops)))
+      (λ y w rest h s. subst (λ z. Stops more (bare z ++ rest)) (sym h.1) (subst (λ z. more z ≡ false) (sym (alone_closes y h.0)) stops)))
       (λ a w (b, o, e, (u, v, h, p, split)). (u, v, subst (λ z. L z u) (sym e) h, p.1 ∙ ap (λ z. mark limit level z ∷ []) (alone_closes o p.0), split))
       (λ a w (u, v, h, p, split). (a, closer, refl, (u, v, h, (closes_it, p), split)))
       (λ rest s. s)

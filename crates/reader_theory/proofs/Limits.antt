@@ -1,9 +1,9 @@
 -- The first place of a choice, of a part and what stands behind it, and the refusal with its reason.
-use Rattle.std.proofs.Common.{◌≡◌, ℕ, zero, suc, ◌+◌, ◌-◌, ◌<◌, ◌≤◌, Bool, true, false, cond, List, [], ◌∷◌, ◌++◌, ◌⊎◌, inl, inr, refl, ap, sym, ◌∙◌, subst, arith, append_assoc, length, min, nat_lt, ltb-true, ltb-false, Option, Some, None}
+use Rattle.std.proofs.Common.{◌≡◌, ℕ, ◌+◌, ◌-◌, ◌<◌, ◌≤◌, Bool, true, false, cond, List, [], ◌∷◌, ◌++◌, ◌⊎◌, inl, inr, refl, ap, sym, ◌∙◌, subst, arith, append_assoc, length, min, nat_lt, ltb-true, ltb-false, Option, Some, None}
 use Rattle.std.proofs.lemmas.Bool.{cases_Bool}
 use Rattle.std.proofs.lemmas.List.{append-nil, length-append, append_cancel_right}
 use Rattle.reader_theory.specs.Words.{Mark, bare, Shallow, Cause, expected, too_deep, Verdict, found, fault}
-use Rattle.reader_theory.specs.Refusals.{Reads, Begins, StopsAt, Refused}
+use Rattle.reader_theory.specs.Refusals.{Reads, Begins, Refused}
 use Rattle.reader_theory.specs.Limits.{Goes, SinksAt, FirstSunk, Reason, no_word, level_at, Because, Halts, RefusedFor, shifted, place_by, nearer, reason}
 use Rattle.reader_theory.specs.Exactness.{judge, Stops, Finds, Tells, Exact}
 use Rattle.reader_theory.specs.Languages.{By}
@@ -29,11 +29,12 @@ module _ {T A : Type 0} (L M K : A → List (Mark T) → Type 0) (from_first : (
   first_either None (Some e) h k = (sinks_second e k.0, λ d l s. elim (sinks_out d s) [ inl i ↦ h d i | inr i ↦ k.1 d l i ])
   first_either (Some d) None h k = (sinks_first d h.0, λ e l s. elim (sinks_out e s) [ inl i ↦ h.1 e l i | inr i ↦ k e i ])
   first_either (Some d) (Some e) h k = (
-      elim (cases_Bool (nat_lt d e)) [
-        | inl t ↦ (let l = ltb-true d e t in let n : d ≡ min d e = omega arith in subst (SinksAt K ts) n (sinks_first d h.0))
-        | inr f ↦ (let l = ltb-false d e f in let n : e ≡ min d e = omega arith in subst (SinksAt K ts) n (sinks_second e k.0))
-      ],
-      λ c l s. elim (sinks_out c s) [ inl i ↦ h.1 c (omega arith) i | inr i ↦ k.1 c (omega arith) i ])
+    elim (cases_Bool (nat_lt d e)) [
+      | inl t ↦ (let l = ltb-true d e t in let n : d ≡ min d e = omega arith in subst (SinksAt K ts) n (sinks_first d h.0))
+      | inr f ↦ (let l = ltb-false d e f in let n : e ≡ min d e = omega arith in subst (SinksAt K ts) n (sinks_second e k.0))
+    ],
+    λ c l s. elim (sinks_out c s) [ inl i ↦ h.1 c (omega arith) i | inr i ↦ k.1 c (omega arith) i ],
+  )
 
 -- a front that is no longer than another is a front of it
 front_of : {T : Type 0} (f g r s : List T) → f ++ r ≡ g ++ s → length g ≤ length f → (b : List T) × (f ≡ g ++ b) × (s ≡ b ++ r)
@@ -59,9 +60,9 @@ module _ {T A B C : Type 0} (f : A → B → C) (L : A → List (Mark T) → Typ
 
   sinks_tail : (ts : List T) (e : ℕ) → SinksAt (By f L M) ts e → In_first ts e ⊎ In_second ts e
   sinks_tail ts e (c, u, g, v, m, (a, b, is, (i, j, h, k, split)), here, s, deep, l) = elim (cases_Bool (nat_lt (length u) (length i))) [
-      | inl t ↦ inl (inside (ltb-true (length u) (length i) t))
-      | inr n ↦ inr (behind (ltb-false (length u) (length i) n))
-    ]
+    | inl t ↦ inl (inside (ltb-true (length u) (length i) t))
+    | inr n ↦ inr (behind (ltb-false (length u) (length i) n))
+  ]
     where
       text : ts ≡ bare u ++ m.token ∷ bare g
       text = here ∙ bare_append u (m ∷ g)
@@ -76,9 +77,11 @@ module _ {T A B C : Type 0} (f : A → B → C) (L : A → List (Mark T) → Typ
           let is_m : z.0 ≡ m = (let q = z.3 in cc) in
           let part : i ≡ u ++ m ∷ z.1 = z.2 ∙ ap (λ y. u ++ y ∷ z.1) is_m in
           let judged = judged_first a b i j h k ∙ (ap (λ y. judge y a (bare j)) part ∙ judge_at u z.1 m a (bare j) s deep) in
-          let whole : bare i ++ bare j ≡ bare u ++ m.token ∷ (bare z.1 ++ bare j) = ap (λ y. bare y ++ bare j) part ∙ (ap (λ y. y ++ bare j) (bare_append u (m ∷ z.1)) ∙ append_assoc (bare u) (m.token ∷ bare z.1) (bare j)) in
-          (m.token ∷ bare g, ap p text ∙ sunk_answer L more p x u m (bare z.1 ++ bare j) (bare g) (ap p (sym whole) ∙ judged),
-           ap length text ∙ (length-append (bare u) (m.token ∷ bare g) ∙ (let q = bare_length u in omega arith)))
+          let whole : bare i ++ bare j ≡ bare u ++ m.token ∷ (bare z.1 ++ bare j) = ap (λ y. bare y ++ bare j) part ∙ (ap (λ y. y ++ bare j) (bare_append u (m ∷ z.1)) ∙ append_assoc (bare u) (m.token ∷ bare z.1) (bare j)) in (
+            m.token ∷ bare g,
+            ap p text ∙ sunk_answer L more p x u m (bare z.1 ++ bare j) (bare g) (ap p (sym whole) ∙ judged),
+            ap length text ∙ (length-append (bare u) (m.token ∷ bare g) ∙ (let q = bare_length u in omega arith)),
+          )
 
       behind : length i ≤ length u → In_second ts e
       behind size =
@@ -90,18 +93,28 @@ module _ {T A B C : Type 0} (f : A → B → C) (L : A → List (Mark T) → Typ
           let rests : bare j ≡ bare z.0 ++ m.token ∷ bare (g ++ v) = ap bare z.2 ∙ bare_append z.0 (m ∷ (g ++ v)) in
           let local = local_at p (bare t.word) a (bare j) (bare z.0) m.token (bare (g ++ v)) (bare g) t.alone rests in
           let left : ts ≡ bare t.word ++ (bare z.0 ++ m.token ∷ bare g) =
-              text ∙ (ap (λ y. y ++ m.token ∷ bare g) (ap bare z.1 ∙ bare_append i z.0) ∙ (append_assoc (bare i) (bare z.0) (m.token ∷ bare g) ∙ ap (λ y. y ++ (bare z.0 ++ m.token ∷ bare g)) (sym same))) in
-          (a, bare z.0 ++ m.token ∷ bare g, length z.0, ap p left ∙ local,
-           (b, z.0, g, v, m, subst (M a b) (z.2 ∙ sym (append_assoc z.0 (m ∷ g) v)) k, sym (bare_append z.0 (m ∷ g)), shallow_back i z.0 flat, deep, refl),
-           (let q = ap length text ∙ length-append (bare u) (m.token ∷ bare g) in let r = bare_length u in let o = length-append (bare z.0) (m.token ∷ bare g) in let n = bare_length z.0 in omega arith))
+          text ∙ (ap (λ y. y ++ m.token ∷ bare g) (ap bare z.1 ∙ bare_append i z.0) ∙ (append_assoc (bare i) (bare z.0) (m.token ∷ bare g) ∙ ap (λ y. y ++ (bare z.0 ++ m.token ∷ bare g)) (sym same))) in (
+            a,
+            bare z.0 ++ m.token ∷ bare g,
+            length z.0,
+            ap p left ∙ local,
+            (b, z.0, g, v, m, subst (M a b) (z.2 ∙ sym (append_assoc z.0 (m ∷ g) v)) k, sym (bare_append z.0 (m ∷ g)), shallow_back i z.0 flat, deep, refl),
+            (let q = ap length text ∙ length-append (bare u) (m.token ∷ bare g) in let r = bare_length u in let o = length-append (bare z.0) (m.token ∷ bare g) in let n = bare_length z.0 in omega arith),
+          )
 
   sinks_behind : (ts : List T) (a : A) (rest : List T) (d : ℕ) → Finds L p ts a rest → SinksAt (M a) rest d → SinksAt (By f L M) ts (length ts - length rest + d)
   sinks_behind ts a rest d t (b, u, g, v, m, h, here, s, deep, l) = (
-      f a b, t.word ++ u, g, v, m,
-      (a, b, refl, (t.word, (u ++ m ∷ g) ++ v, t.is_word, h, ap (λ z. z ++ v) (append_assoc t.word u (m ∷ g)) ∙ append_assoc t.word (u ++ m ∷ g) v)),
-      t.split ∙ (ap (λ z. bare t.word ++ z) here ∙ (sym (bare_append t.word (u ++ m ∷ g)) ∙ ap bare (sym (append_assoc t.word u (m ∷ g))))),
-      shallow_append t.word u t.shallow s, deep,
-      length-append t.word u ∙ (let q = ap length t.split ∙ length-append (bare t.word) rest in let r = bare_length t.word in omega arith))
+    f a b,
+    t.word ++ u,
+    g,
+    v,
+    m,
+    (a, b, refl, (t.word, (u ++ m ∷ g) ++ v, t.is_word, h, ap (λ z. z ++ v) (append_assoc t.word u (m ∷ g)) ∙ append_assoc t.word (u ++ m ∷ g) v)),
+    t.split ∙ (ap (λ z. bare t.word ++ z) here ∙ (sym (bare_append t.word (u ++ m ∷ g)) ∙ ap bare (sym (append_assoc t.word u (m ∷ g))))),
+    shallow_append t.word u t.shallow s,
+    deep,
+    length-append t.word u ∙ (let q = ap length t.split ∙ length-append (bare t.word) rest in let r = bare_length t.word in omega arith),
+  )
 
   sinks_here : (ts rest : List T) → p ts ≡ fault too_deep rest → Goes (By f L M) ts → SinksAt (By f L M) ts (length ts - length rest)
   sinks_here ts rest e (c, w, v, (a, b, is, (i, j, h, k, split)), here) =
@@ -115,26 +128,32 @@ module _ {T A B C : Type 0} (f : A → B → C) (L : A → List (Mark T) → Typ
 
       of_found : (a : A) (rest : List T) → p ts ≡ found a rest → (o : Option ℕ) → FirstSunk (M a) rest o → FirstSunk (By f L M) ts (shifted (length ts - length rest) o)
       of_found a rest e None h = λ d s. elim (sinks_tail ts d s) [
-          | inl k ↦ absurd (let i = sym e ∙ k.1 in cc)
-          | inr k ↦ (let i = sym e ∙ k.3 in let j : k.0 ≡ a = cc in let n : k.1 ≡ rest = cc in h k.2 (subst (λ z. SinksAt (M a) z k.2) n (subst (λ z. SinksAt (M z) k.1 k.2) j k.4)))
-        ]
-      of_found a rest e (Some d) h = let t = subst (Tells L p ts) e (x.tells ts) in let fits = ap length t.split ∙ length-append (bare t.word) rest in (sinks_behind ts a rest d t h.0, λ c l s. elim (sinks_tail ts c s) [
+        | inl k ↦ absurd (let i = sym e ∙ k.1 in cc)
+        | inr k ↦ (let i = sym e ∙ k.3 in let j : k.0 ≡ a = cc in let n : k.1 ≡ rest = cc in h k.2 (subst (λ z. SinksAt (M a) z k.2) n (subst (λ z. SinksAt (M z) k.1 k.2) j k.4)))
+      ]
+      of_found a rest e (Some d) h = let t = subst (Tells L p ts) e (x.tells ts) in let fits = ap length t.split ∙ length-append (bare t.word) rest in (
+        sinks_behind ts a rest d t h.0,
+        λ c l s. elim (sinks_tail ts c s) [
           | inl k ↦ absurd (let i = sym e ∙ k.1 in cc)
           | inr k ↦ (
               let i = sym e ∙ k.3 in let j : k.0 ≡ a = cc in let n : k.1 ≡ rest = cc in let size = ap length n in let place = k.5 in
               h.1 k.2 (omega arith) (subst (λ z. SinksAt (M a) z k.2) n (subst (λ z. SinksAt (M z) k.1 k.2) j k.4)))
-        ])
+        ],
+      )
 
       by_answer : (v : Verdict T A) → p ts ≡ v → FirstSunk (By f L M) ts (place_by goes ts place v)
       by_answer (found a rest) e = of_found a rest e (place a rest) (later a rest e)
       by_answer (fault expected rest) e = λ d s. elim (sinks_tail ts d s) [ inl k ↦ absurd (let i = sym e ∙ k.1 in cc) | inr k ↦ absurd (let i = sym e ∙ k.3 in cc) ]
       by_answer (fault too_deep rest) e = elim (cases_Bool goes) [
-          | inl t ↦ subst (λ b. FirstSunk (By f L M) ts (cond b (Some (length ts - length rest)) None)) (sym t) (sinks_here ts rest e (does t), λ d l s. elim (sinks_tail ts d s) [
-              | inl k ↦ absurd (let i = sym e ∙ k.1 in let j : rest ≡ k.0 = cc in let n = ap length j in let m = k.2 in omega arith)
-              | inr k ↦ absurd (let i = sym e ∙ k.3 in cc)
-            ])
-          | inr n ↦ subst (λ b. FirstSunk (By f L M) ts (cond b (Some (length ts - length rest)) None)) (sym n) (λ d (c, u, g, v, m, h, here, s, deep, l). absurd (none n (c, u ++ m ∷ g, v, h, here)))
-        ]
+        | inl t ↦ subst (λ b. FirstSunk (By f L M) ts (cond b (Some (length ts - length rest)) None)) (sym t) (
+          sinks_here ts rest e (does t),
+          λ d l s. elim (sinks_tail ts d s) [
+            | inl k ↦ absurd (let i = sym e ∙ k.1 in let j : rest ≡ k.0 = cc in let n = ap length j in let m = k.2 in omega arith)
+            | inr k ↦ absurd (let i = sym e ∙ k.3 in cc)
+          ],
+        )
+        | inr n ↦ subst (λ b. FirstSunk (By f L M) ts (cond b (Some (length ts - length rest)) None)) (sym n) (λ d (c, u, g, v, m, h, here, s, deep, l). absurd (none n (c, u ++ m ∷ g, v, h, here)))
+      ]
 
 -- A text that is refused is so for the reason that its tokens up to the place tell.
 module _ {T A : Type 0} (L : A → List (Mark T) → Type 0) where
@@ -150,9 +169,9 @@ module _ {T A : Type 0} (L : A → List (Mark T) → Type 0) where
 
   because : (ts : List T) (o : Option ℕ) → (Begins L ts → ⊥) → FirstSunk L ts o → Because L ts (reason o)
   because ts None b h = λ (a, w, v, k, e). elim (shallow_or_sunk w) [
-      | inl s ↦ b (a, w, v, k, s, e)
-      | inr (f, g, m, split, s, d) ↦ h (length f) (a, f, g, v, m, subst (λ z. L a (z ++ v)) split k, e ∙ ap bare split, s, d, refl)
-    ]
+    | inl s ↦ b (a, w, v, k, s, e)
+    | inr (f, g, m, split, s, d) ↦ h (length f) (a, f, g, v, m, subst (λ z. L a (z ++ v)) split k, e ∙ ap bare split, s, d, refl)
+  ]
   because ts (Some d) b h = h
 
   pub refused_for : (ts : List T) (c : Cause) (x : T) (rest : List T) (o : Option ℕ) → (r : Refused L ts c (x ∷ rest)) → FirstSunk L (r.front ++ x ∷ []) o → RefusedFor L ts (reason o) (x ∷ rest)
@@ -180,12 +199,12 @@ module _ {T A : Type 0} (L : A → List (Mark T) → Type 0) where
   -- a text is refused at one place
   one_place : (ts r s : List T) (why also : Reason) (f : RefusedFor L ts why r) (g : RefusedFor L ts also s) → (r ≡ s) × (f.front ≡ g.front)
   one_place ts r s why also f g = elim (cases_Bool (nat_lt (length s) (length r))) [
-      | inl t ↦ absurd (by_longer r s f.front g.front why f.split g.split (ltb-true (length s) (length r) t) g.begins f.stops)
-      | inr n ↦ elim (cases_Bool (nat_lt (length r) (length s))) [
-        | inl t ↦ absurd (by_longer s r g.front f.front also g.split f.split (ltb-true (length r) (length s) t) f.begins g.stops)
-        | inr m ↦ (let k = same_front f.front g.front r s (sym f.split ∙ g.split) (let i = ltb-false (length s) (length r) n in let j = ltb-false (length r) (length s) m in omega arith) in (k.1, k.0))
-      ]
+    | inl t ↦ absurd (by_longer r s f.front g.front why f.split g.split (ltb-true (length s) (length r) t) g.begins f.stops)
+    | inr n ↦ elim (cases_Bool (nat_lt (length r) (length s))) [
+      | inl t ↦ absurd (by_longer s r g.front f.front also g.split f.split (ltb-true (length r) (length s) t) f.begins g.stops)
+      | inr m ↦ (let k = same_front f.front g.front r s (sym f.split ∙ g.split) (let i = ltb-false (length s) (length r) n in let j = ltb-false (length r) (length s) m in omega arith) in (k.1, k.0))
     ]
+  ]
     where
       by_longer : (r s f g : List T) (why : Reason) → ts ≡ f ++ r → ts ≡ g ++ s → length s < length r → Begins L g → Halts L f why r → ⊥
       by_longer [] s f g why e i l b h = absurd (omega arith)
@@ -203,12 +222,12 @@ module _ {T A : Type 0} (L : A → List (Mark T) → Type 0) where
       goes : SinksAt L (front ++ x ∷ []) d → Goes L (front ++ x ∷ [])
       goes (a, f, g, v, m, i, e, s, deep, l) = (a, f ++ m ∷ g, v, i, e)
   one_reason front (x ∷ r) (level_at d) (level_at e) h k = elim (cases_Bool (nat_lt d e)) [
-      | inl t ↦ absurd (k.1.1 d (ltb-true d e t) h.1.0)
-      | inr n ↦ elim (cases_Bool (nat_lt e d)) [
-        | inl t ↦ absurd (h.1.1 e (ltb-true e d t) k.1.0)
-        | inr m ↦ ap level_at (let i = ltb-false d e n in let j = ltb-false e d m in omega arith)
-      ]
+    | inl t ↦ absurd (k.1.1 d (ltb-true d e t) h.1.0)
+    | inr n ↦ elim (cases_Bool (nat_lt e d)) [
+      | inl t ↦ absurd (h.1.1 e (ltb-true e d t) k.1.0)
+      | inr m ↦ ap level_at (let i = ltb-false d e n in let j = ltb-false e d m in omega arith)
     ]
+  ]
 
   pub one_refusal : (ts r s : List T) (why also : Reason) → RefusedFor L ts why r → RefusedFor L ts also s → (why ≡ also) × (r ≡ s)
   one_refusal ts r s why also f g =

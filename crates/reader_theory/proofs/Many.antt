@@ -1,8 +1,8 @@
 -- Repetition, in which the items so far may decide what the next may be.
-use Rattle.std.proofs.Common.{◌≡◌, ℕ, zero, suc, ◌+◌, ◌≤◌, Bool, true, false, cond, List, [], ◌∷◌, ◌++◌, ◌⊎◌, inl, inr, refl, ap, sym, ◌∙◌, subst, arith, length}
+use Rattle.std.proofs.Common.{◌≡◌, ℕ, zero, suc, ◌≤◌, Bool, true, false, cond, List, [], ◌∷◌, ◌++◌, inl, inr, refl, ap, sym, ◌∙◌, subst, arith, length}
 use Rattle.std.proofs.lemmas.List.{length-append}
-use Rattle.reader_theory.specs.Words.{Mark, bare, ◌⟫◌, Verdict, found, fault}
-use Rattle.reader_theory.specs.Readers.{joined, then_by, both_by, pick, more_of, several_by, many_by, many}
+use Rattle.reader_theory.specs.Words.{Mark, bare, Verdict, found, fault}
+use Rattle.reader_theory.specs.Readers.{joined, then_by, both_by, more_of, several_by, many_by, many}
 use Rattle.reader_theory.specs.Exactness.{Stops, never, Heads, Finds, Tells, Exact}
 use Rattle.reader_theory.specs.Languages.{Nothing, Or, By, Items_by, Items}
 use Rattle.reader_theory.proofs.Marks.{bare_append, heads_more, never_stops}

@@ -1,5 +1,5 @@
 -- Words, cut and put together, and how they are judged.
-use Rattle.std.proofs.Common.{◌≡◌, ℕ, zero, suc, ◌+◌, ◌≤◌, Bool, true, false, cond, List, [], ◌∷◌, ◌++◌, ◌⊎◌, inl, inr, refl, ap, sym, ◌∙◌, arith, append_assoc, length}
+use Rattle.std.proofs.Common.{◌≡◌, suc, ◌≤◌, Bool, true, false, cond, List, [], ◌∷◌, ◌++◌, ◌⊎◌, inl, inr, refl, ap, sym, ◌∙◌, arith, append_assoc, length}
 use Rattle.std.proofs.lemmas.Bool.{cases_Bool}
 use Rattle.std.proofs.lemmas.List.{append-nil, length-append}
 use Rattle.reader_theory.specs.Words.{Mark, bare, Shallow, Cause, too_deep, Verdict, found, fault}
@@ -101,20 +101,20 @@ pub record Passed {T A : Type 0} (u : List (Mark T)) (a b : A) (z r : List T) : 
 pub judge_found : {T A : Type 0} (u : List (Mark T)) (a b : A) (z r : List T) → judge u a z ≡ found b r → Passed u a b z r
 judge_found [] a b z r e = record { shallow = tt; same_tree = cc; same_rest = cc }
 judge_found (m ∷ u) a b z r e = elim (cases_Bool m.deep) [
-    | inl t ↦ absurd (let k = sym (ap (λ d. cond d (fault too_deep (m.token ∷ bare u ++ z)) (judge u a z)) t) ∙ e in cc)
-    | inr f ↦ (let k = judge_found u a b z r (sym (ap (λ d. cond d (fault too_deep (m.token ∷ bare u ++ z)) (judge u a z)) f) ∙ e) in record { shallow = (f, k.shallow); same_tree = k.same_tree; same_rest = k.same_rest })
-  ]
+  | inl t ↦ absurd (let k = sym (ap (λ d. cond d (fault too_deep (m.token ∷ bare u ++ z)) (judge u a z)) t) ∙ e in cc)
+  | inr f ↦ (let k = judge_found u a b z r (sym (ap (λ d. cond d (fault too_deep (m.token ∷ bare u ++ z)) (judge u a z)) f) ∙ e) in record { shallow = (f, k.shallow); same_tree = k.same_tree; same_rest = k.same_rest })
+]
 
 -- what is too deep in a part is so in the whole
 pub judge_part : {T A C : Type 0} (u v : List (Mark T)) (a : A) (b : C) (c : Cause) (r : List T) → judge u a (bare v) ≡ fault c r → judge (u ++ v) b [] ≡ fault c r
 judge_part [] v a b c r e = absurd (cc)
 judge_part (m ∷ u) v a b c r e = elim (cases_Bool m.deep) [
-    | inl t ↦ (
-        let k = sym (ap (λ d. cond d (fault too_deep (m.token ∷ bare u ++ bare v)) (judge u a (bare v))) t) ∙ e in
-        let g : bare (u ++ v) ++ [] ≡ bare u ++ bare v = append-nil (bare (u ++ v)) ∙ bare_append u v in
-        let i : c ≡ too_deep = cc in
-        let j : m.token ∷ bare u ++ bare v ≡ r = cc in
-        ap (λ d. cond d (fault too_deep (m.token ∷ bare (u ++ v) ++ [])) (judge (u ++ v) b [])) t
-        ∙ (ap (λ z. fault too_deep (m.token ∷ z)) g ∙ (ap (fault too_deep) j ∙ ap (λ z. fault z r) (sym i))))
-    | inr f ↦ ap (λ d. cond d (fault too_deep (m.token ∷ bare (u ++ v) ++ [])) (judge (u ++ v) b [])) f ∙ judge_part u v a b c r (sym (ap (λ d. cond d (fault too_deep (m.token ∷ bare u ++ bare v)) (judge u a (bare v))) f) ∙ e)
-  ]
+  | inl t ↦ (
+      let k = sym (ap (λ d. cond d (fault too_deep (m.token ∷ bare u ++ bare v)) (judge u a (bare v))) t) ∙ e in
+      let g : bare (u ++ v) ++ [] ≡ bare u ++ bare v = append-nil (bare (u ++ v)) ∙ bare_append u v in
+      let i : c ≡ too_deep = cc in
+      let j : m.token ∷ bare u ++ bare v ≡ r = cc in
+      ap (λ d. cond d (fault too_deep (m.token ∷ bare (u ++ v) ++ [])) (judge (u ++ v) b [])) t
+      ∙ (ap (λ z. fault too_deep (m.token ∷ z)) g ∙ (ap (fault too_deep) j ∙ ap (λ z. fault z r) (sym i))))
+  | inr f ↦ ap (λ d. cond d (fault too_deep (m.token ∷ bare (u ++ v) ++ [])) (judge (u ++ v) b [])) f ∙ judge_part u v a b c r (sym (ap (λ d. cond d (fault too_deep (m.token ∷ bare u ++ bare v)) (judge u a (bare v))) f) ∙ e)
+]

@@ -1,7 +1,7 @@
 -- The same tokens under another limit and at other levels.
-use Rattle.std.proofs.Common.{◌≡◌, ℕ, zero, suc, ◌+◌, ◌-◌, ◌≤◌, Bool, List, [], ◌∷◌, ◌++◌, refl, ap, sym, ◌∙◌, subst, arith, length}
+use Rattle.std.proofs.Common.{◌≡◌, ℕ, zero, suc, ◌-◌, ◌≤◌, List, [], ◌∷◌, ◌++◌, refl, ap, sym, ◌∙◌, subst, arith, length}
 use Rattle.std.proofs.lemmas.Bool.{le-ltb}
-use Rattle.reader_theory.specs.Words.{Mark, bare, Shallow, ◌⟫◌}
+use Rattle.reader_theory.specs.Words.{Mark, bare, ◌⟫◌}
 use Rattle.reader_theory.specs.Refusals.{Begins}
 use Rattle.reader_theory.specs.Limits.{Goes}
 use Rattle.reader_theory.specs.Levels.{word, mark, ShallowFor, Moved}
@@ -37,9 +37,14 @@ module _ {T A : Type 0} (L M : A → List (Mark T) → Type 0) (ts : List T) whe
   pub moved_begins : (n : ℕ) → ((a : A) (w : List (Mark T)) → L a w → Moved (M a) n w) → length ts ≤ n → Goes L ts → Begins M ts
   moved_begins n move l (a, w, v, h, e) =
       let q = move a (w ++ v) h in
-      let c = cut q.moved ts (bare v) (q.same ∙ (bare_append w v ∙ ap (λ z. z ++ bare v) (sym e))) in
-      (a, c.one, c.two, subst (M a) c.joins q.is_word,
-       shallow_fronts n c.one c.two (let i = sym (bare_length c.one) ∙ ap length c.is_front in omega arith) (subst (ShallowFor n) c.joins q.shallow), sym c.is_front)
+      let c = cut q.moved ts (bare v) (q.same ∙ (bare_append w v ∙ ap (λ z. z ++ bare v) (sym e))) in (
+        a,
+        c.one,
+        c.two,
+        subst (M a) c.joins q.is_word,
+        shallow_fronts n c.one c.two (let i = sym (bare_length c.one) ∙ ap length c.is_front in omega arith) (subst (ShallowFor n) c.joins q.shallow),
+        sym c.is_front,
+      )
 
   pub moved_goes : ((a : A) (w : List (Mark T)) → M a w → Moved (L a) 0 w) → Begins M ts → Goes L ts
   moved_goes move (a, w, v, h, s, e) =

@@ -1,8 +1,8 @@
 -- One part behind another, which may depend on it.
 use Rattle.std.proofs.Common.{◌≡◌, Bool, true, false, cond, List, [], ◌∷◌, ◌++◌, refl, ap, sym, ◌∙◌, subst, append_assoc}
-use Rattle.reader_theory.specs.Words.{Mark, bare, Shallow, ◌⟫◌, Cause, expected, too_deep, Verdict, found, fault}
+use Rattle.reader_theory.specs.Words.{Mark, bare, Cause, expected, too_deep, Verdict, found, fault}
 use Rattle.reader_theory.specs.Readers.{joined, then_by, both_by, both}
-use Rattle.reader_theory.specs.Exactness.{judge, Stops, Local, Finds, Misses, Sinks, Tells, Exact}
+use Rattle.reader_theory.specs.Exactness.{judge, Stops, Local, Finds, Tells, Exact}
 use Rattle.reader_theory.specs.Languages.{By, Both}
 use Rattle.reader_theory.proofs.Marks.{shallow_append, regroup}
 
@@ -21,9 +21,9 @@ module _ {T A B C : Type 0} (f : A → B → C) (L : A → List (Mark T) → Typ
   then_judge : (a : A) (b : B) (u v : List (Mark T)) (rest : List T) → q a (bare v ++ rest) ≡ judge v b rest → then_by f q (judge u a (bare v ++ rest)) ≡ judge (u ++ v) (f a b) rest
   then_judge a b [] v rest e = ap (joined f a) e ∙ joined_judge a b v rest
   then_judge a b (m ∷ u) v rest e = elim m.deep as (λ d. then_by f q (cond d (fault too_deep (m.token ∷ bare u ++ (bare v ++ rest))) (judge u a (bare v ++ rest))) ≡ cond d (fault too_deep (m.token ∷ bare (u ++ v) ++ rest)) (judge (u ++ v) (f a b) rest)) [
-      | true ↦ ap (λ xs. fault too_deep (m.token ∷ xs)) (regroup u v rest)
-      | false ↦ then_judge a b u v rest e
-    ]
+    | true ↦ ap (λ xs. fault too_deep (m.token ∷ xs)) (regroup u v rest)
+    | false ↦ then_judge a b u v rest e
+  ]
 
   second_alone : (a : A) (b : B) (u v : List (Mark T)) (rest behind : List T) → Local p (bare u) (found a rest) → rest ≡ bare v ++ behind → Local (q a) (bare v) (found b behind) → Local (both_by f p q) (bare (u ++ v)) (found (f a b) behind)
   second_alone a b u v rest [] h e k = tt

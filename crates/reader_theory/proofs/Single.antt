@@ -1,9 +1,9 @@
 -- One token, nothing, the same words of other trees or said otherwise, and where more may go on.
 use Rattle.std.proofs.Common.{◌≡◌, Bool, true, false, cond, List, [], ◌∷◌, ◌++◌, inl, inr, refl, ap, sym, ◌∙◌, subst}
 use Rattle.std.proofs.lemmas.Bool.{cases_Bool}
-use Rattle.reader_theory.specs.Words.{Mark, bare, Shallow, Cause, expected, too_deep, Verdict, found, fault}
+use Rattle.reader_theory.specs.Words.{Mark, bare, Cause, expected, too_deep, Verdict, found, fault}
 use Rattle.reader_theory.specs.Readers.{token, turned, mapped, rest_of}
-use Rattle.reader_theory.specs.Exactness.{judge, Stops, never, Local, Finds, Misses, Sinks, Tells, Exact}
+use Rattle.reader_theory.specs.Exactness.{judge, Stops, never, Local, Misses, Tells, Exact}
 use Rattle.reader_theory.specs.Languages.{Single, Nothing}
 
 module _ {T : Type 0} (test : T → Bool) (sample : T) (fits : test sample ≡ true) where
@@ -25,15 +25,15 @@ module _ {T : Type 0} (test : T → Bool) (sample : T) (fits : test sample ≡ t
   token_tells : (ts : List T) → Tells (Single test) (token test) ts (token test ts)
   token_tells [] = token_misses [] [] refl tt
   token_tells (x ∷ rest) = elim (cases_Bool (test x)) [
-      | inl t ↦ subst (λ b. Tells (Single test) (token test) (x ∷ rest) (cond b (found x rest) (fault expected (x ∷ rest)))) (sym t) (record {
-          word = record { token = x; deep = false } ∷ [];
-          is_word = (t, refl);
-          shallow = (refl, tt);
-          split = refl;
-          alone = found_alone x rest t;
-        })
-      | inr f ↦ subst (λ b. Tells (Single test) (token test) (x ∷ rest) (cond b (found x rest) (fault expected (x ∷ rest)))) (sym f) (token_misses (x ∷ rest) (x ∷ rest) refl (λ v. ap (λ b. cond b (found x v) (fault expected (x ∷ v))) f))
-    ]
+    | inl t ↦ subst (λ b. Tells (Single test) (token test) (x ∷ rest) (cond b (found x rest) (fault expected (x ∷ rest)))) (sym t) (record {
+      word = record { token = x; deep = false } ∷ [];
+      is_word = (t, refl);
+      shallow = (refl, tt);
+      split = refl;
+      alone = found_alone x rest t;
+    })
+    | inr f ↦ subst (λ b. Tells (Single test) (token test) (x ∷ rest) (cond b (found x rest) (fault expected (x ∷ rest)))) (sym f) (token_misses (x ∷ rest) (x ∷ rest) refl (λ v. ap (λ b. cond b (found x v) (fault expected (x ∷ v))) f))
+  ]
 
   token_given : (a : T) (w : List (Mark T)) (rest : List T) → Single test a w → Stops never rest → token test (bare w ++ rest) ≡ judge w a rest
   token_given a w rest (e, split) stops = ap (λ z. token test (bare z ++ rest)) split ∙ (ap (λ b. cond b (found a rest) (fault expected (a ∷ rest))) e ∙ ap (λ z. judge z a rest) (sym split))

@@ -1,15 +1,12 @@
 -- Where the first token too deep stands, of all words that begin with a text.
-use Rattle.std.proofs.Common.{◌≡◌, ℕ, zero, suc, ◌+◌, ◌-◌, ◌<◌, ◌≤◌, Bool, true, false, cond, List, [], ◌∷◌, ◌++◌, ◌⊎◌, inl, inr, refl, ap, sym, ◌∙◌, subst, arith, append_assoc, length, min, Option, Some, None}
+use Rattle.std.proofs.Common.{◌≡◌, ℕ, suc, ◌+◌, ◌-◌, ◌<◌, Bool, true, false, cond, List, [], ◌∷◌, ◌++◌, inl, inr, refl, ap, sym, ◌∙◌, subst, arith, append_assoc, length, Some, None}
 use Rattle.std.proofs.lemmas.Bool.{cases_Bool}
 use Rattle.std.proofs.lemmas.List.{append-nil, length-append, append_cancel_right}
 use Rattle.reader_theory.specs.Words.{Mark, bare, Shallow, Cause, expected, too_deep, Verdict, found, fault}
-use Rattle.reader_theory.specs.Refusals.{Reads, Begins, StopsAt, Refused, Answers}
-use Rattle.reader_theory.specs.Limits.{Goes, SinksAt, FirstSunk, Reason, no_word, level_at, Because, Halts, RefusedFor, place_of, shifted, place_by, nearer, is_empty, goes_through, reason}
-use Rattle.reader_theory.specs.Readers.{then_by}
-use Rattle.reader_theory.specs.Exactness.{judge, Stops, Local, Finds, Misses, Sinks, Tells, Exact}
-use Rattle.reader_theory.specs.Languages.{By}
-use Rattle.reader_theory.proofs.Marks.{bare_append, bare_length, shallow_append, judge_shallow, judge_found}
-use Rattle.reader_theory.proofs.Sequence.{local_at}
+use Rattle.reader_theory.specs.Refusals.{Begins, StopsAt, Answers}
+use Rattle.reader_theory.specs.Limits.{Goes, SinksAt, FirstSunk, place_of, goes_through}
+use Rattle.reader_theory.specs.Exactness.{judge, Local, Sinks, Tells, Exact}
+use Rattle.reader_theory.proofs.Marks.{bare_append, bare_length, judge_shallow}
 use Rattle.reader_theory.proofs.Best.{longer_front}
 use Rattle.reader_theory.proofs.Fronts.{begins_front, read_begins}
 
@@ -44,10 +41,10 @@ pub record Deep {T : Type 0} (u : List (Mark T)) (r s : List T) : Type 0 where
 judge_deep : {T A : Type 0} (u : List (Mark T)) (a : A) (r : List T) (c : Cause) (s : List T) → judge u a r ≡ fault c s → Deep u r s
 judge_deep [] a r c s e = absurd (cc)
 judge_deep (m ∷ u) a r c s e = elim (cases_Bool m.deep) [
-    | inl t ↦ record { front = []; at = m; back = u; joins = refl; shallow = tt; deep = t; is_rest = (let k = sym (ap (λ d. cond d (fault too_deep (m.token ∷ bare u ++ r)) (judge u a r)) t) ∙ e in cc) }
-    | inr f ↦ (let k = judge_deep u a r c s (sym (ap (λ d. cond d (fault too_deep (m.token ∷ bare u ++ r)) (judge u a r)) f) ∙ e) in
-        record { front = m ∷ k.front; at = k.at; back = k.back; joins = ap (λ z. m ∷ z) k.joins; shallow = (f, k.shallow); deep = k.deep; is_rest = k.is_rest })
-  ]
+  | inl t ↦ record { front = []; at = m; back = u; joins = refl; shallow = tt; deep = t; is_rest = (let k = sym (ap (λ d. cond d (fault too_deep (m.token ∷ bare u ++ r)) (judge u a r)) t) ∙ e in cc) }
+  | inr f ↦ (let k = judge_deep u a r c s (sym (ap (λ d. cond d (fault too_deep (m.token ∷ bare u ++ r)) (judge u a r)) f) ∙ e) in
+      record { front = m ∷ k.front; at = k.at; back = k.back; joins = ap (λ z. m ∷ z) k.joins; shallow = (f, k.shallow); deep = k.deep; is_rest = k.is_rest })
+]
 
 pub judge_at : {T A : Type 0} (f g : List (Mark T)) (m : Mark T) (a : A) (r : List T) → Shallow f → m.deep ≡ true → judge (f ++ m ∷ g) a r ≡ fault too_deep (m.token ∷ bare g ++ r)
 judge_at f g m a r s d = judge_shallow a f (m ∷ g) r s ∙ ap (λ b. cond b (fault too_deep (m.token ∷ bare g ++ r)) (judge g a r)) d
@@ -74,7 +71,7 @@ module _ {T A : Type 0} (L : A → List (Mark T) → Type 0) (more : T → Bool)
   sinks_there : (ts : List T) (d : ℕ) → SinksAt L ts d → (rest : List T) × (p ts ≡ fault too_deep rest) × (length ts ≡ d + length rest)
   sinks_there ts d (a, f, g, v, m, h, e, s, deep, l) =
       let own : p (bare ((f ++ m ∷ g) ++ v)) ≡ fault too_deep (m.token ∷ bare (g ++ v) ++ []) =
-          ap p (sym (append-nil (bare ((f ++ m ∷ g) ++ v)))) ∙ (x.given a ((f ++ m ∷ g) ++ v) [] h tt ∙ (ap (λ z. judge z a []) (append_assoc f (m ∷ g) v) ∙ judge_at f (g ++ v) m a [] s deep)) in
+      ap p (sym (append-nil (bare ((f ++ m ∷ g) ++ v)))) ∙ (x.given a ((f ++ m ∷ g) ++ v) [] h tt ∙ (ap (λ z. judge z a []) (append_assoc f (m ∷ g) v) ∙ judge_at f (g ++ v) m a [] s deep)) in
       let parts : bare ((f ++ m ∷ g) ++ v) ≡ bare f ++ m.token ∷ bare (g ++ v) = ap bare (append_assoc f (m ∷ g) v) ∙ bare_append f (m ∷ (g ++ v)) in
       let plain : p (bare f ++ m.token ∷ bare (g ++ v)) ≡ fault too_deep (m.token ∷ bare (g ++ v)) = ap p (sym parts) ∙ (own ∙ ap (λ z. fault too_deep (m.token ∷ z)) (append-nil (bare (g ++ v)))) in
       let here : ts ≡ bare f ++ m.token ∷ bare g = e ∙ bare_append f (m ∷ g) in
@@ -118,7 +115,9 @@ module _ {T A : Type 0} (L : A → List (Mark T) → Type 0) (more : T → Bool)
       by_answer (found a rest) e = λ d h. absurd (let k = sinks_there ts d h in let i = sym e ∙ k.1 in cc)
       by_answer (fault expected rest) e = λ d h. absurd (let k = sinks_there ts d h in let i = sym e ∙ k.1 in cc)
       by_answer (fault too_deep rest) e = elim (cases_Bool goes) [
-          | inl t ↦ subst (λ b. FirstSunk L ts (cond b (Some (length ts - length rest)) None)) (sym t) (sinks_here ts rest e (does t),
-              λ d l h. absurd (let k = sinks_there ts d h in let i = sym e ∙ k.1 in let j : rest ≡ k.0 = cc in let n = ap length j in let m = k.2 in omega arith))
-          | inr f ↦ subst (λ b. FirstSunk L ts (cond b (Some (length ts - length rest)) None)) (sym f) (λ d h. absurd (none f (sink_goes d h)))
-        ]
+        | inl t ↦ subst (λ b. FirstSunk L ts (cond b (Some (length ts - length rest)) None)) (sym t) (
+          sinks_here ts rest e (does t),
+          λ d l h. absurd (let k = sinks_there ts d h in let i = sym e ∙ k.1 in let j : rest ≡ k.0 = cc in let n = ap length j in let m = k.2 in omega arith),
+        )
+        | inr f ↦ subst (λ b. FirstSunk L ts (cond b (Some (length ts - length rest)) None)) (sym f) (λ d h. absurd (none f (sink_goes d h)))
+      ]

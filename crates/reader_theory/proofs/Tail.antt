@@ -1,5 +1,5 @@
 -- A part, and behind it a whole text that may depend on it.
-use Rattle.std.proofs.Common.{◌≡◌, suc, Bool, true, cond, List, [], ◌∷◌, ◌++◌, inl, inr, refl, ap, sym, ◌∙◌, subst, arith, append_assoc, length}
+use Rattle.std.proofs.Common.{◌≡◌, suc, Bool, true, List, [], ◌∷◌, ◌++◌, inl, inr, refl, ap, sym, ◌∙◌, subst, arith, append_assoc, length}
 use Rattle.std.proofs.lemmas.List.{append-nil}
 use Rattle.reader_theory.specs.Words.{Mark, bare, Shallow, Cause, expected, too_deep, Verdict, found, fault}
 use Rattle.reader_theory.specs.Refusals.{Begins, Opens, StopsAt, Refused, Reads, Answers}

@@ -1,12 +1,12 @@
 -- Where the first token too deep stands in a text of parts.
-use Rattle.std.proofs.Common.{◌≡◌, ℕ, zero, suc, ◌+◌, ◌-◌, ◌<◌, ◌≤◌, Bool, true, false, List, [], ◌∷◌, ◌++◌, ◌⊎◌, inl, inr, refl, ap, sym, ◌∙◌, subst, arith, length, Option, Some, None}
+use Rattle.std.proofs.Common.{◌≡◌, ℕ, zero, suc, ◌<◌, ◌≤◌, Bool, true, false, List, [], ◌∷◌, ◌++◌, refl, ap, subst, arith, length, Option, Some, None}
 use Rattle.std.proofs.lemmas.List.{length-append}
-use Rattle.reader_theory.specs.Words.{Mark, bare, Shallow, ◌⟫◌, Verdict, found}
-use Rattle.reader_theory.specs.Limits.{Goes, SinksAt, FirstSunk, place_by, nearer}
+use Rattle.reader_theory.specs.Words.{Mark, bare, Verdict}
+use Rattle.reader_theory.specs.Limits.{Goes, SinksAt, FirstSunk, place_by}
 use Rattle.reader_theory.specs.Readers.{more_of}
-use Rattle.reader_theory.specs.Exactness.{never, Finds, Tells, Exact}
+use Rattle.reader_theory.specs.Exactness.{never, Tells, Exact}
 use Rattle.reader_theory.specs.Languages.{By}
-use Rattle.reader_theory.specs.Texts.{AnyOf, Rest, places, place_here}
+use Rattle.reader_theory.specs.Texts.{places, place_here}
 use Rattle.reader_theory.proofs.Marks.{never_stops}
 use Rattle.reader_theory.proofs.Texts.{Rest_at, Ways, first_way, later_way, which_way}
 use Rattle.reader_theory.proofs.Limits.{first_either, first_tail}
@@ -22,7 +22,7 @@ module _ {T A S I : Type 0} (L : I → A → List (Mark T) → Type 0) (p : I �
     one_place : (rest : S → List T → Option ℕ) (s : S) (i : I) (ts : List T) → Shorter (length ts) rest → FirstSunk (Way s i) ts (place_by (goes s i ts) ts (λ a. rest (next s a)) (p i ts))
     one_place rest s i ts shorter = first_tail more_of (L i) (λ a. Rest_at L forms next final (next s a)) (p i) never (x i) (λ a b w h. never_stops (bare w)) ts (goes s i ts) (does s i ts) (none s i ts) (λ a. rest (next s a))
         (λ a left e. let t = subst (Tells (L i) (p i) ts) e ((x i).tells ts) in
-          shorter (next s a) left (let k = longer i a t.word t.is_word in let l = ap length t.split in let m = length-append (bare t.word) left in omega arith))
+        shorter (next s a) left (let k = longer i a t.word t.is_word in let l = ap length t.split in let m = length-append (bare t.word) left in omega arith))
 
     any_place : (rest : S → List T → Option ℕ) (s : S) (is : List I) (ts : List T) → Shorter (length ts) rest → FirstSunk (Ways L forms next final s is) ts (places p next goes rest s is ts)
     any_place rest s [] ts shorter = λ d (ls, f, g, v, m, (a, b, e, (u, w, h, k, split)), here, sh, deep, l). h

@@ -1,8 +1,8 @@
 -- A text of parts, each of one of the forms that its place allows.
-use Rattle.std.proofs.Common.{◌≡◌, ℕ, zero, suc, ◌+◌, ◌<◌, ◌≤◌, Bool, true, false, cond, List, [], ◌∷◌, ◌++◌, ◌⊎◌, inl, inr, refl, ap, sym, ◌∙◌, subst, arith, length}
+use Rattle.std.proofs.Common.{◌≡◌, ℕ, zero, suc, ◌<◌, ◌≤◌, Bool, true, false, cond, List, [], ◌∷◌, ◌++◌, ◌⊎◌, inl, inr, refl, ap, sym, ◌∙◌, subst, arith, length}
 use Rattle.std.proofs.lemmas.Bool.{cases_Bool}
 use Rattle.std.proofs.lemmas.List.{length-append}
-use Rattle.reader_theory.specs.Words.{Mark, bare, Shallow, ◌⟫◌, Cause, expected, Verdict, found, fault}
+use Rattle.reader_theory.specs.Words.{Mark, bare, Shallow, expected, Verdict, found, fault}
 use Rattle.reader_theory.specs.Refusals.{Reads, Answers}
 use Rattle.reader_theory.specs.Readers.{then_by, more_of}
 use Rattle.reader_theory.specs.Exactness.{never, Exact}
@@ -106,9 +106,9 @@ module _ {T A S I : Type 0} (L : I → A → List (Mark T) → Type 0) (p : I �
 
   at_end : (s : S) → Answers (Rest_at L forms next final s) [] (cond (final s) (found [] []) (fault expected []))
   at_end s = elim (cases_Bool (final s)) [
-      | inl t ↦ subst (λ b. Answers (Rest_at L forms next final s) [] (cond b (found [] []) (fault expected []))) (sym t) (refl, ([], (t, refl), tt, refl))
-      | inr f ↦ subst (λ b. Answers (Rest_at L forms next final s) [] (cond b (found [] []) (fault expected []))) (sym f) (record { front = []; split = refl; begins = (some s, [], some_word s, is_some s, tt, refl); stops = (refl, nothing_left s f) })
-    ]
+    | inl t ↦ subst (λ b. Answers (Rest_at L forms next final s) [] (cond b (found [] []) (fault expected []))) (sym t) (refl, ([], (t, refl), tt, refl))
+    | inr f ↦ subst (λ b. Answers (Rest_at L forms next final s) [] (cond b (found [] []) (fault expected []))) (sym f) (record { front = []; split = refl; begins = (some s, [], some_word s, is_some s, tt, refl); stops = (refl, nothing_left s f) })
+  ]
 
   -- From each place on a text is read exactly where it is statements of the forms that the places allow, up to an end,
   -- else refused exactly at the first token with which no such text goes on.
@@ -116,12 +116,12 @@ module _ {T A S I : Type 0} (L : I → A → List (Mark T) → Type 0) (p : I �
   exact_rest_of_text zero s [] l = at_end s
   exact_rest_of_text zero s (t ∷ ts) l = absurd (omega arith)
   exact_rest_of_text (suc n) s ts l = elim (cases_Bool (final s)) [
-      | inl t ↦ subst (λ b. Answers (Rest_at L forms next final s) ts (cond b (tries_or_end p next (from_here p forms next final n) s (forms s) ts) (tries p next (from_here p forms next final n) s (forms s) ts))) (sym t)
-          (same_answers (Ways_or_end s (forms s)) (Rest_at L forms next final s) (from_end s t) (to_ways s) ts _ (end_answer (from_here p forms next final n) s (forms s) ts (λ r us k. exact_rest_of_text n r us (omega arith))))
-      | inr f ↦ subst (λ b. Answers (Rest_at L forms next final s) ts (cond b (tries_or_end p next (from_here p forms next final n) s (forms s) ts) (tries p next (from_here p forms next final n) s (forms s) ts))) (sym f)
-          (same_answers (Ways L forms next final s (forms s)) (Rest_at L forms next final s) (from_ways s) (only_ways s f) ts _
-            (let g = alive s f in subst (λ js. Answers (Ways L forms next final s js) ts (tries p next (from_here p forms next final n) s js ts)) (sym g.2) (tries_answer (from_here p forms next final n) s g.0 g.1 ts (λ r us k. exact_rest_of_text n r us (omega arith)))))
-    ]
+    | inl t ↦ subst (λ b. Answers (Rest_at L forms next final s) ts (cond b (tries_or_end p next (from_here p forms next final n) s (forms s) ts) (tries p next (from_here p forms next final n) s (forms s) ts))) (sym t)
+        (same_answers (Ways_or_end s (forms s)) (Rest_at L forms next final s) (from_end s t) (to_ways s) ts _ (end_answer (from_here p forms next final n) s (forms s) ts (λ r us k. exact_rest_of_text n r us (omega arith))))
+    | inr f ↦ subst (λ b. Answers (Rest_at L forms next final s) ts (cond b (tries_or_end p next (from_here p forms next final n) s (forms s) ts) (tries p next (from_here p forms next final n) s (forms s) ts))) (sym f)
+        (same_answers (Ways L forms next final s (forms s)) (Rest_at L forms next final s) (from_ways s) (only_ways s f) ts _
+        (let g = alive s f in subst (λ js. Answers (Ways L forms next final s js) ts (tries p next (from_here p forms next final n) s js ts)) (sym g.2) (tries_answer (from_here p forms next final n) s g.0 g.1 ts (λ r us k. exact_rest_of_text n r us (omega arith)))))
+  ]
 
 -- Each text has one reading, where no two parts that a place allows begin one text, and each is longer than none.
 module _ {T A S I : Type 0} (L : I → A → List (Mark T) → Type 0) (forms : S → List I) (next : S → A → S) (final : S → Bool) (longer : (s : S) (a : A) (w : List (Mark T)) → AnyOf L (forms s) a w → 1 ≤ length (bare w)) (one_part : (s : S) (a b : A) (u v : List (Mark T)) (r q : List T) → AnyOf L (forms s) a u → AnyOf L (forms s) b v → Shallow u → Shallow v → bare u ++ r ≡ bare v ++ q → (a ≡ b) × (r ≡ q)) where
@@ -134,7 +134,7 @@ module _ {T A S I : Type 0} (L : I → A → List (Mark T) → Type 0) (forms : 
   one_of_texts (a ∷ es) [] s ts (z, (u, v, k, l, split), j, g) (w, h, i, e) = absurd (not_none s a u v k (sym (e ∙ ap bare h.1) ∙ (g ∙ (ap bare split ∙ bare_append u v))))
   one_of_texts (a ∷ es) (b ∷ fs) s ts (w, (u, v, h, i, split), j, e) (w2, (u2, v2, h2, i2, split2), j2, e2) =
       let k = one_part s a b u u2 (bare v) (bare v2) h h2 (shallow_front u v (subst Shallow split j)) (shallow_front u2 v2 (subst Shallow split2 j2))
-          (sym (e ∙ (ap bare split ∙ bare_append u v)) ∙ (e2 ∙ (ap bare split2 ∙ bare_append u2 v2))) in
+      (sym (e ∙ (ap bare split ∙ bare_append u v)) ∙ (e2 ∙ (ap bare split2 ∙ bare_append u2 v2))) in
       let more = one_of_texts es fs (next s a) (bare v) (v, i, shallow_back u v (subst Shallow split j), refl)
-          (v2, subst (λ c. Rest L forms next final fs (next s c) v2) (sym k.0) i2, shallow_back u2 v2 (subst Shallow split2 j2), k.1) in
+      (v2, subst (λ c. Rest L forms next final fs (next s c) v2) (sym k.0) i2, shallow_back u2 v2 (subst Shallow split2 j2), k.1) in
       ap (λ c. c ∷ es) k.0 ∙ ap (λ gs. b ∷ gs) more

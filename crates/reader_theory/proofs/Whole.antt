@@ -1,8 +1,8 @@
 -- An exact reader answers each whole text exactly, and each has one reading.
-use Rattle.std.proofs.Common.{◌≡◌, Bool, true, false, cond, List, [], ◌∷◌, ◌++◌, ◌⊎◌, inl, inr, refl, ap, sym, ◌∙◌, subst, arith, append_assoc, length}
+use Rattle.std.proofs.Common.{◌≡◌, Bool, true, List, [], ◌∷◌, ◌++◌, ◌⊎◌, inl, inr, refl, ap, sym, ◌∙◌, subst, arith, append_assoc, length}
 use Rattle.std.proofs.lemmas.List.{append-nil}
 use Rattle.reader_theory.specs.Words.{Mark, bare, Shallow, Cause, expected, too_deep, Verdict, found, fault}
-use Rattle.reader_theory.specs.Refusals.{Begins, Opens, StopsAt, Refused, Reads, Answers}
+use Rattle.reader_theory.specs.Refusals.{Begins, Opens, Refused, Reads, Answers}
 use Rattle.reader_theory.specs.Readers.{ended_by, ended}
 use Rattle.reader_theory.specs.Exactness.{judge, Finds, Misses, Sinks, Tells, Exact}
 use Rattle.reader_theory.proofs.Marks.{bare_append, judge_shallow, judged}
@@ -27,17 +27,17 @@ module _ {T A : Type 0} (L : A → List (Mark T) → Type 0) (more : T → Bool)
 
   no_more : (front : List T) (y : T) → StopsAlone front y → Begins L (front ++ y ∷ []) → ⊥
   no_more front y (inl (b, alone)) (a, w, v, h, s, e) = elim (judged a v) [
-      | inl j ↦ absurd (let k = sym (alone (bare v)) ∙ (through front y a w v h s e ∙ j) in cc)
-      | inr (left, j, l) ↦ absurd (let k = sym (alone (bare v)) ∙ (through front y a w v h s e ∙ j) in cc)
-    ]
+    | inl j ↦ absurd (let k = sym (alone (bare v)) ∙ (through front y a w v h s e ∙ j) in cc)
+    | inr (left, j, l) ↦ absurd (let k = sym (alone (bare v)) ∙ (through front y a w v h s e ∙ j) in cc)
+  ]
   no_more front y (inr (c, alone)) (a, w, v, h, s, e) = elim (judged a v) [
-      | inl j ↦ absurd (let k = sym (alone (bare v)) ∙ (through front y a w v h s e ∙ j) in cc)
-      | inr (left, j, l) ↦ absurd (
-          let k = sym (alone (bare v)) ∙ (through front y a w v h s e ∙ j) in
-          let i : y ∷ bare v ≡ left = cc in
-          let n = ap length i in
-          omega arith)
-    ]
+    | inl j ↦ absurd (let k = sym (alone (bare v)) ∙ (through front y a w v h s e ∙ j) in cc)
+    | inr (left, j, l) ↦ absurd (
+        let k = sym (alone (bare v)) ∙ (through front y a w v h s e ∙ j) in
+        let i : y ∷ bare v ≡ left = cc in
+        let n = ap length i in
+        omega arith)
+  ]
 
   -- a word that opens a level too deep at y
   deep_there : (front : List T) (y : T) (a : A) (w v : List (Mark T)) → L a (w ++ record { token = y; deep = true } ∷ v) → Shallow w → front ≡ bare w → p (front ++ y ∷ bare v) ≡ fault too_deep (y ∷ bare v ++ [])

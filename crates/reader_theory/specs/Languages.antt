@@ -1,7 +1,6 @@
 -- The languages of readers that are put together.
-use Rattle.std.specs.Prelude.{ℕ, zero, suc, ◌≡◌, Bool, true, false, List, [], ◌∷◌, ◌⊎◌, Option, Some, None}
+use Rattle.std.specs.Prelude.{◌≡◌, Bool, true, false, List, [], ◌∷◌, ◌⊎◌, Option, Some, None}
 use Rattle.reader_theory.specs.Words.{Mark, ◌⟫◌}
-use Rattle.reader_theory.specs.Readers.{more_of}
 
 -- one token that passes the test
 abbrev pub Single : {T : Type 0} → (T → Bool) → T → List (Mark T) → Type 0

@@ -1,6 +1,6 @@
 -- What is proved of readers, languages and refusals: each statement is a clause of a function of the crate.
-use Rattle.std.specs.Prelude.{ℕ, suc, ◌≡◌, ◌≤◌, ◌<◌, Bool, true, false, List, [], ◌∷◌, ◌++◌, ◌⊎◌, length}
-use Rattle.reader_theory.specs.Words.{Mark, bare, Shallow, Cause, Verdict, found, fault}
+use Rattle.std.specs.Prelude.{ℕ, suc, ◌≡◌, ◌≤◌, ◌<◌, Bool, true, false, List, ◌∷◌, ◌++◌, ◌⊎◌, length}
+use Rattle.reader_theory.specs.Words.{Mark, bare, Cause, Verdict, found, fault}
 use Rattle.reader_theory.specs.Refusals.{Reads, Refused, Answers}
 use Rattle.reader_theory.specs.Readers.{token, sunk, mapped, joined, then_by, both_by, pick, two_pass, ahead, optional, many_by, behind, between, ended, best, rest_of}
 use Rattle.reader_theory.specs.Exactness.{Stops, never, Heads, Sunken, Eats, Finds, Exact}

@@ -2,7 +2,7 @@
 -- does has a token too deep, and the place is that of the first such token. (`StopsAt` says so where a level's first token
 -- can begin nothing else; where it can, as a keyword that may also be a name, it stops further on.)
 use Rattle.std.specs.Prelude.{ℕ, ◌≡◌, ◌+◌, ◌-◌, ◌<◌, Bool, true, false, cond, min, List, [], ◌∷◌, ◌++◌, length, Option, Some, None}
-use Rattle.reader_theory.specs.Words.{Mark, bare, Shallow, Cause, expected, too_deep, Verdict, found, fault}
+use Rattle.reader_theory.specs.Words.{Mark, bare, Shallow, expected, too_deep, Verdict, found, fault}
 use Rattle.reader_theory.specs.Refusals.{Reads, Begins}
 
 -- some word begins with these tokens, whatever its levels

@@ -1,5 +1,5 @@
 -- Readers, as functions on lists of tokens, and how they are put together.
-use Rattle.std.specs.Prelude.{ℕ, zero, suc, Bool, true, false, cond, List, [], ◌∷◌, length, nat_lt, Option, Some, None}
+use Rattle.std.specs.Prelude.{ℕ, zero, suc, Bool, false, cond, List, [], ◌∷◌, length, nat_lt, Option, Some, None}
 use Rattle.reader_theory.specs.Words.{Cause, expected, too_deep, Verdict, found, fault}
 
 -- a token that passes the test

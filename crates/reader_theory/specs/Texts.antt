@@ -1,5 +1,5 @@
 -- A text of parts, each of one of the forms that its place allows; the part that is read makes the next place of this one.
-use Rattle.std.specs.Prelude.{ℕ, zero, suc, ◌≡◌, Bool, true, false, cond, List, [], ◌∷◌, ◌⊎◌, Option, None}
+use Rattle.std.specs.Prelude.{ℕ, zero, suc, ◌≡◌, Bool, true, cond, List, [], ◌∷◌, ◌⊎◌, Option, None}
 use Rattle.reader_theory.specs.Limits.{place_by, nearer}
 use Rattle.reader_theory.specs.Words.{Mark, ◌⟫◌, expected, Verdict, found, fault}
 use Rattle.reader_theory.specs.Readers.{then_by, more_of, ended, best}

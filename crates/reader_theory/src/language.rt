@@ -16,6 +16,8 @@ pub trait Family<T, K, A> {
 /// The places of a text of parts: which forms a place allows, which place a part makes of it, and where the text may end.
 pub trait Places<S, I, A> {
     ghost forms: { S → List I };
+
     ghost next: { S → A → S };
+
     ghost may_end: { S → Bool };
 }

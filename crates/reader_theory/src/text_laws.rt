@@ -8,5 +8,4 @@ use crate::language::{Family, Places};
 pub fn texts_of_parts<T, A, S, I, L: Family<T, I, A>, P: Places<S, I, A>>()
     ensures exact { TextsAreExact L.words P.forms P.next P.may_end }
     ensures once { TextsReadOnce L.words P.forms P.next P.may_end }
-{
-}
+{}
