@@ -1,25 +1,23 @@
 -- Statements: the answer is exact.
-use Rattle.std.proofs.Common.{◌≡◌, ℕ, zero, suc, ◌+◌, ◌≤◌, Bool, true, List, [], ◌∷◌, ◌++◌, ◌⊎◌, inl, inr, refl, ap, sym, ◌∙◌, subst, arith, append_assoc}
-use Rattle.std.proofs.lemmas.Bool.{lt-ltb}
-use Rattle.reader_theory.specs.Words.{Mark, bare, ◌⟫◌, Verdict}
-use Rattle.reader_theory.specs.Refusals.{Reads, Answers}
-use Rattle.reader_theory.specs.Levels.{mark, word, Behind}
-use Rattle.reader_theory.specs.Readers.{both, then, ended, best, sunk, behind}
-use Rattle.reader_theory.specs.Exactness.{Stops, never, Sunken, Exact}
-use Rattle.reader_theory.specs.Languages.{Both, By}
+use Rattle.std.proofs.Common.{◌≡◌, ℕ, zero, suc, ◌+◌, List, [], ◌∷◌, ◌++◌, ◌⊎◌, inl, inr, refl, ap, sym, ◌∙◌, subst, arith, append_assoc}
+use Rattle.reader_theory.specs.Words.{Mark, bare}
+use Rattle.reader_theory.specs.Refusals.{Answers}
+use Rattle.reader_theory.specs.Levels.{mark, Behind}
+use Rattle.reader_theory.specs.Readers.{ended, sunk, behind}
+use Rattle.reader_theory.specs.Exactness.{Stops, never, Exact}
+use Rattle.reader_theory.specs.Languages.{Both}
 use Rattle.reader_theory.proofs.Marks.{never_stops}
 use Rattle.reader_theory.proofs.Sequence.{exact_both}
 use Rattle.reader_theory.proofs.Single.{relabel}
-use Rattle.reader_theory.proofs.Deep.{exact_sunk}
 use Rattle.reader_theory.proofs.Levels.{exact_behind, sunk_behind}
 use Rattle.reader_theory.proofs.Whole.{exact_whole}
 use Rattle.reader_theory.proofs.Best.{exact_best}
 use Rattle.reader_theory.proofs.Tail.{exact_tail}
 use Rattle.reader_small.specs.declared.token.Token.{Token}
 use Rattle.reader_small.specs.declared.token.Token.TheVariants as tokens
-use Rattle.reader_small.specs.Syntax.{Term, number, element, Terms, no_terms, Action, assign, guarded}
-use Rattle.reader_small.specs.Grammar.{spells, subscripts, if_name, asks, acts, Statements}
-use Rattle.reader_small.specs.Reading.{Reader, is_if, is_open, is_equals, sum_at, subscripts_at, place_at, assigned, assign_at, condition_at, if_at, action_at, guarded_at}
+use Rattle.reader_small.specs.Syntax.{Term, number, no_terms, Action, assign, guarded}
+use Rattle.reader_small.specs.Grammar.{if_name, asks, Statements}
+use Rattle.reader_small.specs.Reading.{is_if, is_open, is_equals, sum_at, subscripts_at, place_at, assigned, assign_at, condition_at, if_at, action_at, guarded_at}
 use Rattle.reader_small.proofs.Tokens.{alone_if, alone_equals, goes}
 use Rattle.reader_small.proofs.Terms.{Term_at, Place_at, Condition_at, exact_place, exact_term, exact_subscripts, exact_condition}
 
@@ -42,9 +40,13 @@ unfolding if_at
 exact_if limit zero level e =
     let at : limit ≡ level = omega arith in
     subst (λ z. Exact (If_at limit z) never (sunk is_if)) at
-      (sunk_behind limit is_if if_name refl alone_if (Condition_at limit (suc limit)) (number 0) _
-        (mark limit (suc (suc limit)) tokens.Open ∷ [], mark limit (suc (suc limit)) (tokens.Number 0) ∷ mark limit (suc (suc limit)) tokens.Close ∷ [], refl,
-          (mark limit (suc (suc limit)) (tokens.Number 0) ∷ [], mark limit (suc (suc limit)) tokens.Close ∷ [], refl, refl, refl), refl) never)
+    (sunk_behind limit is_if if_name refl alone_if (Condition_at limit (suc limit)) (number 0) _ (
+      mark limit (suc (suc limit)) tokens.Open ∷ [],
+      mark limit (suc (suc limit)) (tokens.Number 0) ∷ mark limit (suc (suc limit)) tokens.Close ∷ [],
+      refl,
+      (mark limit (suc (suc limit)) (tokens.Number 0) ∷ [], mark limit (suc (suc limit)) tokens.Close ∷ [], refl, refl, refl),
+      refl,
+    ) never)
 exact_if limit (suc left) level e =
     exact_behind limit (suc level) (omega arith) is_if if_name refl alone_if (Condition_at limit (suc level)) never (condition_at left) (exact_condition limit left (suc level) (omega arith))
 
@@ -72,15 +74,33 @@ some_word limit level = mark limit level (tokens.Name 0) ∷ mark limit level to
 pub is_statement : (limit level : ℕ) → Statements limit level some_statement (some_word limit level)
 unfolding some_statement some_word
 is_statement limit level = (
-    mark limit level (tokens.Name 0) ∷ [], mark limit level tokens.Equals ∷ mark limit level (tokens.Number 0) ∷ [],
-    (mark limit level (tokens.Name 0) ∷ [], [], refl, refl, refl),
-    (mark limit level tokens.Equals ∷ [], mark limit level (tokens.Number 0) ∷ [], refl, refl, refl), refl)
+  mark limit level (tokens.Name 0) ∷ [],
+  mark limit level tokens.Equals ∷ mark limit level (tokens.Number 0) ∷ [],
+  (mark limit level (tokens.Name 0) ∷ [], [], refl, refl, refl),
+  (mark limit level tokens.Equals ∷ [], mark limit level (tokens.Number 0) ∷ [], refl, refl, refl),
+  refl,
+)
 
 pub sunk_guarded : (limit : ℕ) → Exact (Guarded_at limit limit) never (sunk is_if)
 sunk_guarded limit = relabel (Behind limit (suc limit) if_name (Both guarded (Condition_at limit (suc limit)) (Statements limit (suc limit)))) (Guarded_at limit limit) (sunk is_if) never never
-    (sunk_behind limit is_if if_name refl alone_if (Both guarded (Condition_at limit (suc limit)) (Statements limit (suc limit))) (guarded (number 0) some_statement) _
-      (number 0, some_statement, refl, (_, some_word limit (suc limit), (mark limit (suc (suc limit)) tokens.Open ∷ [], mark limit (suc (suc limit)) (tokens.Number 0) ∷ mark limit (suc (suc limit)) tokens.Close ∷ [], refl,
-          (mark limit (suc (suc limit)) (tokens.Number 0) ∷ [], mark limit (suc (suc limit)) tokens.Close ∷ [], refl, refl, refl), refl), is_statement limit (suc limit), refl)) never)
+    (sunk_behind limit is_if if_name refl alone_if (Both guarded (Condition_at limit (suc limit)) (Statements limit (suc limit))) (guarded (number 0) some_statement) _ (
+      number 0,
+      some_statement,
+      refl,
+      (
+        _,
+        some_word limit (suc limit),
+        (
+          mark limit (suc (suc limit)) tokens.Open ∷ [],
+          mark limit (suc (suc limit)) (tokens.Number 0) ∷ mark limit (suc (suc limit)) tokens.Close ∷ [],
+          refl,
+          (mark limit (suc (suc limit)) (tokens.Number 0) ∷ [], mark limit (suc (suc limit)) tokens.Close ∷ [], refl, refl, refl),
+          refl,
+        ),
+        is_statement limit (suc limit),
+        refl,
+      ),
+    ) never)
     (λ a w (u, v, p, (t, b, e, (i, j, c, s, split2)), split). (t, b, e, (u ++ i, j, (u, i, p, c, refl), s, split ∙ (ap (λ z. u ++ z) split2 ∙ sym (append_assoc u i j)))))
     (λ a w (t, b, e, (x, y, (u, v, p, c, split2), s, split)). (u, v ++ y, p, (t, b, e, (v, y, c, s, refl)), split ∙ (ap (λ z. z ++ y) split2 ∙ append_assoc u v y)))
     (λ rest s. s)
@@ -95,18 +115,18 @@ guarded_more : (limit left level : ℕ) → level + suc left ≡ limit → ((ts 
 unfolding guarded_at
 guarded_more limit left level e inner ts =
     exact_tail guarded (If_at limit level) (λ _. Statements limit (suc level)) (if_at (suc left)) (λ _. action_at left) never (exact_if limit (suc left) level e) (λ a b w h. never_stops (bare w))
-      (λ _. some_statement) (λ _. some_word limit (suc level)) (λ _. is_statement limit (suc level)) ts (λ a rest i t. inner rest)
+    (λ _. some_statement) (λ _. some_word limit (suc level)) (λ _. is_statement limit (suc level)) ts (λ a rest i t. inner rest)
 
 -- In each statement's place the answer is exact: an assignment, also to an element of `if`, or an `if` with a statement behind it.
 pub exact_action : (limit left level : ℕ) → level + left ≡ limit → (ts : List Token) → Answers (Statements limit level) ts (action_at left ts)
 unfolding action_at guarded_at
 exact_action limit zero level e ts =
     exact_best (Assign_at limit level) (Guarded_at limit level) (Statements limit level) (from_assign limit level) (from_guarded limit level) (split_action limit level) ts _ _
-      (exact_whole (Assign_at limit level) (goes 0) (assign_at 0) (exact_assign limit 0 level e) ts) (guarded_zero limit level e ts)
+    (exact_whole (Assign_at limit level) (goes 0) (assign_at 0) (exact_assign limit 0 level e) ts) (guarded_zero limit level e ts)
 exact_action limit (suc left) level e ts =
     exact_best (Assign_at limit level) (Guarded_at limit level) (Statements limit level) (from_assign limit level) (from_guarded limit level) (split_action limit level) ts _ _
-      (exact_whole (Assign_at limit level) (goes 0) (assign_at (suc left)) (exact_assign limit (suc left) level e) ts)
-      (guarded_more limit left level e (exact_action limit left (suc level) (omega arith)) ts)
+    (exact_whole (Assign_at limit level) (goes 0) (assign_at (suc left)) (exact_assign limit (suc left) level e) ts)
+    (guarded_more limit left level e (exact_action limit left (suc level) (omega arith)) ts)
 
 pub exact_guarded : (limit left level : ℕ) → level + left ≡ limit → (ts : List Token) → Answers (Guarded_at limit level) ts (guarded_at left ts)
 exact_guarded limit zero level e = guarded_zero limit level e

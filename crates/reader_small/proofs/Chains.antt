@@ -1,10 +1,10 @@
 -- Operators of one strength, from the left: a chain of operands is exact.
-use Rattle.std.proofs.Common.{◌≡◌, ℕ, suc, ◌+◌, ◌<◌, ◌≤◌, Bool, true, false, List, [], ◌∷◌, ◌++◌, inl, inr, refl, ap, sym, ◌∙◌, subst, arith, append_assoc, nat_lt, nat_eq, ltb-false}
+use Rattle.std.proofs.Common.{◌≡◌, ℕ, suc, ◌≤◌, true, false, List, [], ◌∷◌, ◌++◌, inl, inr, refl, ap, sym, ◌∙◌, subst, arith, append_assoc, nat_eq, ltb-false}
 use Rattle.std.proofs.lemmas.Bool.{le-ltb}
 use Rattle.std.proofs.lemmas.Bool.Decides.{eqb_tells}
 use Rattle.std.proofs.lemmas.List.{append-nil}
-use Rattle.reader_theory.specs.Words.{Mark, bare, ◌⟫◌, Verdict}
-use Rattle.reader_theory.specs.Levels.{mark, word, One}
+use Rattle.reader_theory.specs.Words.{Mark, bare}
+use Rattle.reader_theory.specs.Levels.{mark, One}
 use Rattle.reader_theory.specs.Readers.{token, both, many, pair}
 use Rattle.reader_theory.specs.Exactness.{Stops, never, Heads, Exact}
 use Rattle.reader_theory.specs.Languages.{Both, Items}
@@ -19,7 +19,7 @@ use Rattle.reader_small.specs.declared.token.Token.TheVariants as tokens
 use Rattle.reader_small.specs.Syntax.{Term, number, group, element, binary}
 use Rattle.reader_small.specs.Grammar.{strength, rank, spells}
 use Rattle.reader_small.specs.Reading.{Reader, binds, operator_of, folded, chain}
-use Rattle.reader_small.proofs.Tokens.{sign_of, grip, goes, stops_more}
+use Rattle.reader_small.proofs.Tokens.{sign_of, goes, stops_more}
 
 -- the words of terms that bind at least so tightly
 abbrev pub At : ℕ → ℕ → ℕ → Term → List (Mark Token) → Type 0
@@ -54,7 +54,7 @@ module _ (k limit level : ℕ) where
       let s = sign_of (suc k) x px.0 in
       let strong = s.1 in
       let new : At (suc k) limit level (binary (operator_of x) h b) (u ++ v) =
-          (omega arith, ((let i = a.0 in omega arith), (let i = sb.0 in omega arith), (u, v, a.1, (p, q, px.1 ∙ ap (λ z. mark limit level z ∷ []) s.0, sb.1, split), refl))) in
+      (omega arith, ((let i = a.0 in omega arith), (let i = sb.0 in omega arith), (u, v, a.1, (p, q, px.1 ∙ ap (λ z. mark limit level z ∷ []) s.0, sb.1, split), refl))) in
       subst (λ z. At (suc k) limit level (binary (operator_of z.0) h z.1) (u ++ v)) (sym eq) new
 
   folded_in : (es : List (Token × Term)) (h : Term) (u v : List (Mark Token)) → At (suc k) limit level h u → Items Item es v → At (suc k) limit level (folded h es) (u ++ v)
@@ -70,9 +70,9 @@ module _ (k limit level : ℕ) where
   pull (group t) w l h = alone (group t) w (omega arith, h.1)
   pull (element n ts) w l h = alone (element n ts) w (omega arith, h.1)
   pull (binary o a b) w l h = elim (eqb_tells (strength o) (suc k)) [
-      | inl t ↦ snoc t.0 t.1 h.1 (pull a h.1.2.0 l (let i = h.1.0 in let s = t.1 in omega arith, h.1.2.2))
-      | inr f ↦ alone (binary o a b) w (let i = h.0 in not_same (strength o) i f.1, h.1)
-    ]
+    | inl t ↦ snoc t.0 t.1 h.1 (pull a h.1.2.0 l (let i = h.1.0 in let s = t.1 in omega arith, h.1.2.2))
+    | inr f ↦ alone (binary o a b) w (let i = h.0 in not_same (strength o) i f.1, h.1)
+  ]
     where
       not_same : (n : ℕ) → suc k ≤ n → (n ≡ suc k → ⊥) → suc (suc k) ≤ n
       not_same n i f = elim (eqb_tells n (suc k)) [ inl t ↦ absurd (f t.1) | inr g ↦ (let d = g.1 in omega arith) ]
@@ -104,9 +104,9 @@ module _ (k limit level : ℕ) where
   test_ends : (rest : List Token) → Stops (goes k) rest → Stops (binds (suc k)) rest
   test_ends [] h = tt
   test_ends (tokens.Sign o ∷ rest) h = elim (eqb_tells (strength o) (suc k)) [
-      | inl t ↦ absurd (let g = ltb-false k (strength o) h in let s = t.1 in omega arith)
-      | inr f ↦ f.0
-    ]
+    | inl t ↦ absurd (let g = ltb-false k (strength o) h in let s = t.1 in omega arith)
+    | inr f ↦ f.0
+  ]
   test_ends (x ∷ rest) h = refl
 
   module _ (here : level ≤ limit) (small : k ≤ 1) (r : Reader Term) (x : Exact (At (suc (suc k)) limit level) (goes (suc k)) r) (o : Operator) (fits : binds (suc k) (tokens.Sign o) ≡ true) where

@@ -1,17 +1,16 @@
 -- Loops that read, and levels.
-use Rattle.std.proofs.Common.{◌≡◌, ℕ, zero, suc, ◌+◌, ◌-◌, ◌<◌, Bool, true, false, cond, List, [], ◌∷◌, ◌++◌, refl, ap, sym, ◌∙◌, arith}
-use Rattle.reader_theory.specs.Words.{Verdict, found, fault, expected, too_deep}
-use Rattle.reader_theory.specs.Readers.{token, mapped, joined, then, both, pick, many, several, more_of, sunk, turned, pair, second, behind, between}
+use Rattle.std.proofs.Common.{◌≡◌, ℕ, zero, suc, ◌+◌, ◌-◌, ◌<◌, true, cond, List, [], ◌∷◌, ◌++◌, refl, ap, sym, ◌∙◌, arith}
+use Rattle.reader_theory.specs.Words.{Verdict, found, fault, expected}
+use Rattle.reader_theory.specs.Readers.{token, mapped, joined, then, both, many, several, more_of, sunk, turned, pair, second, behind, between}
 use Rattle.reader_theory.specs.Exactness.{Stops}
 use Rattle.reader_small.specs.declared.token.Token.{Token}
-use Rattle.reader_small.specs.declared.token.Token.TheVariants as tokens
 use Rattle.reader_small.specs.declared.error.ReadError.{ReadError}
 use Rattle.reader_small.specs.declared.error.ReadError.TheVariants as errors
 use Rattle.reader_small.specs.declared.tree.Expr.{Expr}
 use Rattle.reader_small.specs.Syntax.{Term, group, binary, Terms, no_terms, more_terms}
 use Rattle.reader_small.specs.Results.{Fails}
 use Rattle.reader_small.specs.TreeOf.{term, terms, appended}
-use Rattle.reader_small.specs.Reading.{Reader, listed, is_open, is_close, is_comma, maybe, list_of, binds, operator_of, folded, chain, sum, sum_at, group_at, subscripts_at, primary_at, product_at}
+use Rattle.reader_small.specs.Reading.{Reader, listed, is_open, is_close, is_comma, maybe, list_of, binds, operator_of, folded, sum_at, group_at, subscripts_at, product_at}
 
 append_none : (ts : Terms) → appended ts no_terms ≡ ts
 append_none no_terms = refl

@@ -1,10 +1,9 @@
 -- Why a statement is refused: where the first token too deep stands, of all statements that begin so.
-use Rattle.std.proofs.Common.{◌≡◌, ℕ, zero, suc, ◌+◌, ◌-◌, ◌≤◌, Bool, true, false, List, [], ◌∷◌, ◌++◌, refl, ap, sym, ◌∙◌, subst, arith, length, cond, Option, Some, None}
-use Rattle.reader_theory.specs.Words.{Mark, bare, Verdict, Cause, expected, too_deep, found, fault}
-use Rattle.reader_theory.specs.Refusals.{Begins, Answers}
+use Rattle.std.proofs.Common.{◌≡◌, ℕ, zero, suc, ◌+◌, ◌-◌, Bool, true, false, List, [], ◌∷◌, refl, subst, arith, length, cond, Option, None}
+use Rattle.reader_theory.specs.Words.{bare, Verdict, expected, too_deep, found, fault}
+use Rattle.reader_theory.specs.Refusals.{Answers}
 use Rattle.reader_theory.specs.Limits.{Goes, FirstSunk, place_of, place_by, nearer, goes_through}
-use Rattle.reader_theory.specs.Levels.{Moved}
-use Rattle.reader_theory.specs.Readers.{ended_by, ended, sunk}
+use Rattle.reader_theory.specs.Readers.{ended_by, ended}
 use Rattle.reader_theory.specs.Exactness.{never}
 use Rattle.reader_theory.proofs.Marks.{never_stops}
 use Rattle.reader_theory.proofs.Moved.{moved_begins, moved_goes, moved_less}
@@ -12,7 +11,7 @@ use Rattle.reader_theory.proofs.Whole.{exact_whole}
 use Rattle.reader_theory.proofs.Sinking.{through_begins, stopped_begins, first_whole}
 use Rattle.reader_theory.proofs.Limits.{first_either, first_tail}
 use Rattle.reader_small.specs.declared.token.Token.{Token}
-use Rattle.reader_small.specs.Syntax.{Term, Action, guarded}
+use Rattle.reader_small.specs.Syntax.{Term, guarded}
 use Rattle.reader_small.specs.Grammar.{Statements}
 use Rattle.reader_small.specs.Reading.{is_if, assign_at, if_at, guarded_at, sunk_assignment, first_sunk}
 use Rattle.reader_small.proofs.Tokens.{goes}
@@ -38,7 +37,7 @@ module _ (limit level : ℕ) (ts : List Token) where
   assign_stops : goes_through (ended (assign_at (length ts)) ts) ≡ false → Goes (Assign_at limit level) ts → ⊥
   assign_stops e g = stopped_begins (Assign_at (length ts) 0) ts (ended (assign_at (length ts)) ts) far_assign e
       (moved_begins (Assign_at limit level) (Assign_at (length ts) 0) ts (length ts)
-        (λ a w h. moved_less (Assign_at (length ts) 0 a) (length ts - 0) (length ts) w (omega arith) (assignment limit (length ts) level 0 a w h)) (omega arith) g)
+      (λ a w h. moved_less (Assign_at (length ts) 0 a) (length ts - 0) (length ts) w (omega arith) (assignment limit (length ts) level 0 a w h)) (omega arith) g)
 
   guarded_goes : goes_through (guarded_at (length ts) ts) ≡ true → Goes (Guarded_at limit level) ts
   guarded_goes e = moved_goes (Guarded_at limit level) (Guarded_at (length ts) 0) ts
@@ -48,7 +47,7 @@ module _ (limit level : ℕ) (ts : List Token) where
   guarded_stops : goes_through (guarded_at (length ts) ts) ≡ false → Goes (Guarded_at limit level) ts → ⊥
   guarded_stops e g = stopped_begins (Guarded_at (length ts) 0) ts (guarded_at (length ts) ts) (exact_guarded (length ts) (length ts) 0 (omega arith) ts) e
       (moved_begins (Guarded_at limit level) (Guarded_at (length ts) 0) ts (length ts)
-        (λ a w h. moved_less (Guarded_at (length ts) 0 a) (length ts - 0) (length ts) w (omega arith) (under_condition limit (length ts) level 0 a w h)) (omega arith) g)
+      (λ a w h. moved_less (Guarded_at (length ts) 0 a) (length ts - 0) (length ts) w (omega arith) (under_condition limit (length ts) level 0 a w h)) (omega arith) g)
 
   first_assign : (left : ℕ) → level + left ≡ limit → FirstSunk (Assign_at limit level) ts (sunk_assignment left ts)
   first_assign left e = subst (FirstSunk (Assign_at limit level) ts) (place_of_ended (goes_through (ended (assign_at (length ts)) ts)) ts (assign_at left ts))

@@ -1,6 +1,6 @@
 -- Statements by the levels that are left, and the better of two refusals.
-use Rattle.std.proofs.Common.{◌≡◌, ℕ, zero, suc, ◌+◌, ◌-◌, ◌<◌, Bool, List, [], ◌∷◌, refl, ap, sym, ◌∙◌, arith, subst, length, Result, Ok, Err}
-use Rattle.reader_theory.specs.Words.{Verdict, found, fault}
+use Rattle.std.proofs.Common.{◌≡◌, ℕ, zero, suc, ◌-◌, ◌<◌, List, [], ◌∷◌, refl, ap, sym, ◌∙◌, arith, subst, length, Result, Ok, Err}
+use Rattle.reader_theory.specs.Words.{found}
 use Rattle.reader_theory.specs.Refusals.{Answers}
 use Rattle.reader_theory.specs.Readers.{token, mapped, joined, then, ended_by, ended, best, sunk, second, behind, between}
 use Rattle.reader_small.specs.declared.token.Token.{Token}
@@ -8,7 +8,7 @@ use Rattle.reader_small.specs.declared.token.Token.TheVariants as tokens
 use Rattle.reader_small.specs.declared.tree.Statement.{Statement}
 use Rattle.reader_small.specs.declared.error.ReadError.{ReadError}
 use Rattle.reader_small.specs.declared.error.ReadError.TheVariants as errors
-use Rattle.reader_small.specs.Syntax.{Term, Terms, Action, assign, guarded}
+use Rattle.reader_small.specs.Syntax.{Term, Terms, assign, guarded}
 use Rattle.reader_small.specs.Grammar.{Statements}
 use Rattle.reader_small.specs.TreeOf.{action}
 use Rattle.reader_small.specs.Results.{Gives, AnswersStatement}

@@ -1,14 +1,14 @@
 -- Expressions: the reader is exact at each level.
-use Rattle.std.proofs.Common.{◌≡◌, ℕ, zero, suc, ◌+◌, ◌<◌, ◌≤◌, Bool, true, false, cond, List, [], ◌∷◌, ◌++◌, ◌⊎◌, inl, inr, refl, ap, sym, ◌∙◌, subst, arith, append_assoc}
+use Rattle.std.proofs.Common.{◌≡◌, ℕ, zero, suc, ◌+◌, ◌≤◌, Bool, true, false, cond, List, [], ◌∷◌, ◌++◌, inl, inr, refl, ap, sym, ◌∙◌, subst, arith, append_assoc}
 use Rattle.std.proofs.lemmas.Bool.{lt-ltb}
-use Rattle.reader_theory.specs.Words.{Mark, bare, ◌⟫◌, Verdict, found}
+use Rattle.reader_theory.specs.Words.{Mark, bare, found}
 use Rattle.reader_theory.specs.Levels.{mark, word, One, Behind, Between}
-use Rattle.reader_theory.specs.Readers.{token, both, many, mapped, pick, sunk, behind, between}
+use Rattle.reader_theory.specs.Readers.{token, many, mapped, pick, sunk, behind, between}
 use Rattle.reader_theory.specs.Exactness.{Stops, never, Heads, Sunken, Exact}
 use Rattle.reader_theory.specs.Languages.{Both, Items, Nothing, Or}
 use Rattle.reader_theory.proofs.Marks.{never_stops}
 use Rattle.reader_theory.proofs.Sequence.{exact_both}
-use Rattle.reader_theory.proofs.Single.{exact_mapped, exact_nothing, relabel, widen}
+use Rattle.reader_theory.proofs.Single.{exact_mapped, exact_nothing, relabel}
 use Rattle.reader_theory.proofs.Choice.{exact_pick}
 use Rattle.reader_theory.proofs.Deep.{exact_sunk}
 use Rattle.reader_theory.proofs.Many.{exact_many}
@@ -17,7 +17,7 @@ use Rattle.reader_small.specs.declared.token.Token.{Token}
 use Rattle.reader_small.specs.declared.token.Operator.TheVariants as operators
 use Rattle.reader_small.specs.declared.token.Token.TheVariants as tokens
 use Rattle.reader_small.specs.Syntax.{Term, number, group, element, binary, Terms, no_terms, more_terms}
-use Rattle.reader_small.specs.Grammar.{strength, rank, spells, subscripts, followed}
+use Rattle.reader_small.specs.Grammar.{rank, spells, subscripts, followed}
 use Rattle.reader_small.specs.Reading.{Reader, is_number, is_name, is_open, is_close, is_comma, number_of, name_of, placed, element_at, place, listed, rest_of, list_of, maybe, primary, sum, sum_at, subscripts_at, condition_at}
 use Rattle.reader_small.proofs.Tokens.{alone_open, alone_close, alone_comma, goes}
 use Rattle.reader_small.proofs.Chains.{At, exact_chain}
@@ -76,8 +76,8 @@ module _ (limit level : ℕ) (here : level ≤ limit) (r : Reader Term) (x : Exa
   exact_rest : Exact (Terms_at limit level) also (rest_of r)
   exact_rest = exact_mapped listed (Items Comma_item) (Terms_at limit level) (many is_comma (behind is_comma r)) also also
       (exact_many Comma_item (behind is_comma r) is_comma (goes 0) also (exact_behind limit level here is_comma tokens.Comma refl alone_comma (Term_at limit level) (goes 0) r x)
-        (λ t w (u, v, p, l, split). subst (Heads is_comma) (sym (split ∙ ap (λ z. z ++ v) p)) refl)
-        also_more also_comma (λ z e. subst (λ y. goes 0 y ≡ false) (sym (alone_comma z e)) refl))
+      (λ t w (u, v, p, l, split). subst (Heads is_comma) (sym (split ∙ ap (λ z. z ++ v) p)) refl)
+      also_more also_comma (λ z e. subst (λ y. goes 0 y ≡ false) (sym (alone_comma z e)) refl))
       into_list from_list (λ rest s. s)
 
   pub exact_list : Exact (List_at limit level) also (list_of r)
@@ -103,8 +103,8 @@ module _ (limit level : ℕ) where
     exact_maybe : Exact (Subscripts_at limit level) is_open (maybe r)
     exact_maybe = relabel (Or (Listed_at limit level) (Nothing no_terms)) (Subscripts_at limit level) (maybe r) is_open is_open
         (exact_pick is_open (Listed_at limit level) (Nothing no_terms) r (found no_terms) never never x (exact_nothing no_terms) is_open
-          (λ ts w (u, v, p, q, split). subst (Heads is_open) (sym (split ∙ ap (λ z. z ++ v) p)) refl)
-          (λ ts w rest h s. subst (λ z. Stops is_open (bare z ++ rest)) (sym h.1) s) (λ rest s. never_stops rest) (λ rest s. never_stops rest))
+        (λ ts w (u, v, p, q, split). subst (Heads is_open) (sym (split ∙ ap (λ z. z ++ v) p)) refl)
+        (λ ts w rest h s. subst (λ z. Stops is_open (bare z ++ rest)) (sym h.1) s) (λ rest s. never_stops rest) (λ rest s. never_stops rest))
         into_subscripts from_subscripts (λ rest s. s)
 
   module _ (here : level ≤ limit) (subs : Reader Terms) (x : Exact (Subscripts_at limit level) is_open subs) where
@@ -169,7 +169,7 @@ module _ (limit level : ℕ) where
       exact_primary : Exact (At 3 limit level) (goes 2) (primary in_brackets subs)
       exact_primary = relabel (Or Number_at (Or Element_at (Group_at limit level))) (At 3 limit level) (primary in_brackets subs) (goes 2) (goes 2)
           (exact_pick is_number Number_at (Or Element_at (Group_at limit level)) (mapped number_of (token is_number)) (pick is_name (mapped element_at (place subs)) in_brackets) never (goes 2) exact_number exact_named (goes 2)
-            (λ t w (n, e, p). subst (Heads is_number) (sym p) refl) other (λ rest s. never_stops rest) (λ rest s. s))
+          (λ t w (n, e, p). subst (Heads is_number) (sym p) refl) other (λ rest s. never_stops rest) (λ rest s. s))
           into from (λ rest s. s)
 
       exact_sum : Exact (Term_at limit level) (goes 0) (sum in_brackets subs)
@@ -224,12 +224,12 @@ unfolding sum_at
 exact_term limit zero level e =
     let at : limit ≡ level = omega arith in
     subst (λ z. Exact (Term_at limit z) (goes 0) (sum (sunk is_open) (maybe (sunk is_open)))) at
-      (exact_sum limit limit (omega arith) (maybe (sunk is_open)) (exact_maybe limit limit (sunk is_open) (sunk_list limit)) (sunk is_open) (sunk_group limit))
+    (exact_sum limit limit (omega arith) (maybe (sunk is_open)) (exact_maybe limit limit (sunk is_open) (sunk_list limit)) (sunk is_open) (sunk_group limit))
 exact_term limit (suc left) level e =
     let x = exact_term limit left (suc level) (omega arith) in
     exact_sum limit level (omega arith) (maybe (between is_open is_close (list_of (sum_at left))))
-      (exact_maybe limit level (between is_open is_close (list_of (sum_at left))) (exact_brackets limit level (omega arith) (sum_at left) x))
-      (mapped group (between is_open is_close (sum_at left))) (exact_group limit level (between is_open is_close (sum_at left)) (exact_round limit level (omega arith) (sum_at left) x))
+    (exact_maybe limit level (between is_open is_close (list_of (sum_at left))) (exact_brackets limit level (omega arith) (sum_at left) x))
+    (mapped group (between is_open is_close (sum_at left))) (exact_group limit level (between is_open is_close (sum_at left)) (exact_round limit level (omega arith) (sum_at left) x))
 
 pub exact_subscripts : (limit left level : ℕ) → level + left ≡ limit → Exact (Subscripts_at limit level) is_open (subscripts_at left)
 unfolding subscripts_at
@@ -248,5 +248,5 @@ unfolding condition_at
 exact_condition limit zero level e =
     let at : limit ≡ level = omega arith in
     subst (λ z. Exact (Condition_at limit z) never (sunk is_open)) at
-      (sunk_between limit is_open tokens.Open tokens.Close refl alone_open (Term_at limit (suc limit)) (number 0) (mark limit (suc limit) (tokens.Number 0) ∷ []) refl never)
+    (sunk_between limit is_open tokens.Open tokens.Close refl alone_open (Term_at limit (suc limit)) (number 0) (mark limit (suc limit) (tokens.Number 0) ∷ []) refl never)
 exact_condition limit (suc left) level e = exact_round limit level (omega arith) (sum_at left) (exact_term limit left (suc level) (omega arith))

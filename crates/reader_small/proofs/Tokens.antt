@@ -1,5 +1,5 @@
 -- Tokens, and what goes on behind a term.
-use Rattle.std.proofs.Common.{◌≡◌, ℕ, zero, suc, ◌+◌, ◌<◌, ◌≤◌, Bool, true, false, List, [], ◌∷◌, refl, ap, sym, ◌∙◌, arith, nat_lt, nat_eq, ltb-false}
+use Rattle.std.proofs.Common.{◌≡◌, ℕ, suc, Bool, true, List, [], ◌∷◌, refl, ap, arith, nat_lt, ltb-false}
 use Rattle.std.proofs.lemmas.Bool.{le-ltb, eqb-true}
 use Rattle.reader_theory.specs.Exactness.{Stops}
 use Rattle.reader_small.specs.declared.token.Token.{Token}

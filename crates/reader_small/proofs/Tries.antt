@@ -1,11 +1,10 @@
 -- Some texts, with their answers worked out by hand.
-use Rattle.std.proofs.Common.{◌≡◌, ℕ, List, [], ◌∷◌, refl}
-use Rattle.reader_theory.specs.Words.{expected, too_deep, Verdict, found, fault}
+use Rattle.std.proofs.Common.{◌≡◌, [], ◌∷◌, refl, Some, None}
+use Rattle.reader_theory.specs.Words.{expected, too_deep, found, fault}
 use Rattle.reader_small.specs.declared.token.Operator.TheVariants as operators
-use Rattle.reader_small.specs.declared.token.Token.{Token}
 use Rattle.reader_small.specs.declared.token.Token.TheVariants as tokens
-use Rattle.reader_small.specs.Syntax.{Term, number, group, element, binary, Terms, no_terms, more_terms, Action, assign, guarded}
-use Rattle.reader_small.specs.Reading.{sum_at, subscripts_at, condition_at, if_at, action_at}
+use Rattle.reader_small.specs.Syntax.{number, element, binary, no_terms, more_terms, assign, guarded}
+use Rattle.reader_small.specs.Reading.{sum_at, subscripts_at, condition_at, if_at, action_at, guarded_at, first_sunk}
 
 -- `if (1) = 5` is an assignment
 to_element : action_at 2 (tokens.Name 0 ∷ tokens.Open ∷ tokens.Number 1 ∷ tokens.Close ∷ tokens.Equals ∷ tokens.Number 5 ∷ []) ≡ found (assign 0 (more_terms (number 1) no_terms) (number 5)) []
@@ -46,3 +45,18 @@ second_bracket = refl
 no_level : action_at 0 (tokens.Name 0 ∷ tokens.Open ∷ tokens.Number 1 ∷ tokens.Close ∷ tokens.Name 7 ∷ []) ≡ fault too_deep (tokens.Open ∷ tokens.Number 1 ∷ tokens.Close ∷ tokens.Name 7 ∷ [])
 unfolding sum_at subscripts_at condition_at if_at action_at
 no_level = refl
+
+-- of `if (` with no level left the word is too deep, and the bracket where it is a subscript's: the word comes first
+word_first : first_sunk 0 (tokens.Name 0 ∷ tokens.Open ∷ []) ≡ Some 0
+unfolding sum_at subscripts_at condition_at if_at action_at guarded_at first_sunk
+word_first = refl
+
+-- and with one level left the bracket of a condition
+bracket_first : first_sunk 1 (tokens.Name 0 ∷ tokens.Open ∷ []) ≡ Some 1
+unfolding sum_at subscripts_at condition_at if_at action_at guarded_at first_sunk
+bracket_first = refl
+
+-- of `if (1, 2) x` no statement is one, whatever the levels
+none_at_all : first_sunk 3 (tokens.Name 0 ∷ tokens.Open ∷ tokens.Number 1 ∷ tokens.Comma ∷ tokens.Number 2 ∷ tokens.Close ∷ tokens.Name 7 ∷ []) ≡ None
+unfolding sum_at subscripts_at condition_at if_at action_at guarded_at first_sunk
+none_at_all = refl

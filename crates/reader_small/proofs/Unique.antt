@@ -1,10 +1,10 @@
 -- At most one tree for a text: what stands behind the first brackets tells the alternatives apart.
-use Rattle.std.proofs.Common.{◌≡◌, ℕ, zero, suc, List, [], ◌∷◌, ◌++◌, refl, ap, sym, ◌∙◌, subst, arith, append_assoc, ◌+◌}
-use Rattle.reader_theory.specs.Words.{Mark, bare, ◌⟫◌}
+use Rattle.std.proofs.Common.{◌≡◌, ℕ, zero, suc, List, [], ◌∷◌, ◌++◌, ap, sym, ◌∙◌, subst, arith, ◌+◌}
+use Rattle.reader_theory.specs.Words.{Mark, bare}
 use Rattle.reader_theory.specs.Refusals.{Reads}
 use Rattle.reader_theory.specs.Levels.{word}
 use Rattle.reader_theory.specs.Readers.{sunk}
-use Rattle.reader_theory.specs.Exactness.{never, Exact}
+use Rattle.reader_theory.specs.Exactness.{never}
 use Rattle.reader_theory.proofs.Marks.{bare_append, regroup, never_stops}
 use Rattle.reader_theory.proofs.Whole.{one_reading}
 use Rattle.reader_theory.proofs.Best.{one_of_best}
@@ -12,7 +12,7 @@ use Rattle.reader_theory.proofs.Tail.{one_of_tail}
 use Rattle.reader_small.specs.declared.token.Token.{Token}
 use Rattle.reader_small.specs.declared.token.Token.TheVariants as tokens
 use Rattle.reader_small.specs.Syntax.{Term, number, group, element, binary, Terms, no_terms, more_terms, Action, assign, guarded}
-use Rattle.reader_small.specs.Grammar.{spells, subscripts, followed, asks, acts, if_name, Statements}
+use Rattle.reader_small.specs.Grammar.{spells, subscripts, followed, acts, if_name, Statements}
 use Rattle.reader_small.specs.Reading.{is_if, assign_at, if_at}
 use Rattle.reader_small.proofs.Tokens.{goes}
 use Rattle.reader_small.proofs.Actions.{Assign_at, If_at, Guarded_at, exact_assign, exact_if, from_assign, from_guarded, split_action, sunk_guarded}
@@ -34,6 +34,7 @@ one_token n limit level x w rest h = ap (λ z. skip n (bare z ++ rest)) h
 
 mutual
   unfolding skip
+
   over_term : (t : Term) (limit level n : ℕ) (w : List (Mark Token)) (rest : List Token) → spells t limit level w → skip n (bare w ++ rest) ≡ skip n rest
   over_term (number k) limit level n w rest h = one_token n limit level (tokens.Number k) w rest h
   over_term (group t) limit level n w rest (u, v, p, (i, j, h, q, split2), split) =
@@ -85,9 +86,9 @@ unfolding kind behind skip
 guarded_kind e a limit level w (u, v, (i, j, p, (c, d, q, (x, y, h, r, split4), split3), split2), g, split) =
     let b = begins a limit (suc level) v g in
     let text : bare w ≡ if_name ∷ tokens.Open ∷ (bare d ++ bare v) =
-        ap bare split ∙ (bare_append u v ∙ ap (λ z. z ++ bare v) (led if_name limit (suc level) u i j p split2 ∙ ap (λ z. if_name ∷ z) (led tokens.Open limit (suc (suc level)) j c d q split3))) in
+    ap bare split ∙ (bare_append u v ∙ ap (λ z. z ++ bare v) (led if_name limit (suc level) u i j p split2 ∙ ap (λ z. if_name ∷ z) (led tokens.Open limit (suc (suc level)) j c d q split3))) in
     let over : skip 0 (bare d ++ bare v) ≡ tokens.Close ∷ bare v =
-        parts 0 d x y (bare v) _ split4 (over_term e limit (suc (suc level)) 0 x (bare y ++ bare v) h ∙ one_token 0 limit (suc (suc level)) tokens.Close y (bare v) r) in
+    parts 0 d x y (bare v) _ split4 (over_term e limit (suc (suc level)) 0 x (bare y ++ bare v) h ∙ one_token 0 limit (suc (suc level)) tokens.Close y (bare v) r) in
     ap kind text ∙ (ap behind over ∙ ap (λ z. behind (tokens.Close ∷ z)) b.2)
 
 assign_kind : (n : ℕ) (ts : Terms) (e : Term) (limit level : ℕ) (w : List (Mark Token)) → acts (assign n ts e) limit level w → kind (bare w) ≡ 0
@@ -96,11 +97,11 @@ assign_kind n no_terms e limit level w (u, v, (i, j, p, r, split2), (c, d, q, k,
     ap kind (ap bare split ∙ (bare_append u v ∙ (ap (λ z. z ++ bare v) (led (tokens.Name n) limit level u i j p split2 ∙ ap (λ z. tokens.Name n ∷ bare z) r) ∙ ap (λ z. tokens.Name n ∷ z) (led tokens.Equals limit level v c d q split3))))
 assign_kind n (more_terms t ts) e limit level w (u, v, (i, j, p, (f, g, x, (k, l, y, (m, o, z, c, split6), split5), split4), split2), (a, b, q, h, split3), split) =
     let text : bare w ≡ tokens.Name n ∷ tokens.Open ∷ (bare g ++ bare v) =
-        ap bare split ∙ (bare_append u v ∙ ap (λ s. s ++ bare v) (led (tokens.Name n) limit level u i j p split2 ∙ ap (λ s. tokens.Name n ∷ s) (led tokens.Open limit (suc level) j f g x split4))) in
+    ap bare split ∙ (bare_append u v ∙ ap (λ s. s ++ bare v) (led (tokens.Name n) limit level u i j p split2 ∙ ap (λ s. tokens.Name n ∷ s) (led tokens.Open limit (suc level) j f g x split4))) in
     let over : skip 0 (bare g ++ bare v) ≡ tokens.Close ∷ bare v =
-        parts 0 g k l (bare v) _ split5 (over_term t limit (suc level) 0 k (bare l ++ bare v) y
-        ∙ parts 0 l m o (bare v) _ split6 (over_more ts limit (suc level) 0 m (bare o ++ bare v) z
-        ∙ one_token 0 limit (suc level) tokens.Close o (bare v) c)) in
+    parts 0 g k l (bare v) _ split5 (over_term t limit (suc level) 0 k (bare l ++ bare v) y
+    ∙ parts 0 l m o (bare v) _ split6 (over_more ts limit (suc level) 0 m (bare o ++ bare v) z
+    ∙ one_token 0 limit (suc level) tokens.Close o (bare v) c)) in
     ap kind text ∙ (ap behind over ∙ ap (λ s. behind (tokens.Close ∷ s)) (led tokens.Equals limit level v a b q split3))
 
 apart : (limit level : ℕ) (ts : List Token) (a b : Action) → Reads (Assign_at limit level) ts a → Reads (Guarded_at limit level) ts b → ⊥
@@ -115,10 +116,10 @@ pub one_statement : (limit left level : ℕ) → level + left ≡ limit → (ts 
 one_statement limit zero level e =
     let at : limit ≡ level = omega arith in
     subst (λ z. (ts : List Token) (a b : Action) → Reads (Statements limit z) ts a → Reads (Statements limit z) ts b → a ≡ b) at
-      (one_of_best (Assign_at limit limit) (Guarded_at limit limit) (Statements limit limit) (from_assign limit limit) (from_guarded limit limit) (split_action limit limit)
-        (one_reading (Assign_at limit limit) (goes 0) (assign_at 0) (exact_assign limit 0 limit (omega arith))) (one_reading (Guarded_at limit limit) never (sunk is_if) (sunk_guarded limit)) (apart limit limit))
+    (one_of_best (Assign_at limit limit) (Guarded_at limit limit) (Statements limit limit) (from_assign limit limit) (from_guarded limit limit) (split_action limit limit)
+    (one_reading (Assign_at limit limit) (goes 0) (assign_at 0) (exact_assign limit 0 limit (omega arith))) (one_reading (Guarded_at limit limit) never (sunk is_if) (sunk_guarded limit)) (apart limit limit))
 one_statement limit (suc left) level e =
     one_of_best (Assign_at limit level) (Guarded_at limit level) (Statements limit level) (from_assign limit level) (from_guarded limit level) (split_action limit level)
-      (one_reading (Assign_at limit level) (goes 0) (assign_at (suc left)) (exact_assign limit (suc left) level e))
-      (one_of_tail guarded (If_at limit level) (λ _. Statements limit (suc level)) (if_at (suc left)) never (exact_if limit (suc left) level e) (λ a b w h. never_stops (bare w)) (λ _. one_statement limit left (suc level) (omega arith)))
-      (apart limit level)
+    (one_reading (Assign_at limit level) (goes 0) (assign_at (suc left)) (exact_assign limit (suc left) level e))
+    (one_of_tail guarded (If_at limit level) (λ _. Statements limit (suc level)) (if_at (suc left)) never (exact_if limit (suc left) level e) (λ a b w h. never_stops (bare w)) (λ _. one_statement limit left (suc level) (omega arith)))
+    (apart limit level)

@@ -3,3 +3,4 @@ pub mod Grammar
 pub mod Reading
 pub mod TreeOf
 pub mod Results
+pub mod Law

@@ -1,6 +1,6 @@
 -- The reader, as functions on lists of tokens; so many levels are left.
 use Rattle.std.specs.Prelude.{ℕ, zero, suc, Bool, true, false, List, [], ◌∷◌, length, nat_eq, Option, None}
-use Rattle.reader_theory.specs.Words.{Verdict, found, fault}
+use Rattle.reader_theory.specs.Words.{Verdict, found}
 use Rattle.reader_theory.specs.Limits.{place_of, place_by, nearer, goes_through}
 use Rattle.reader_theory.specs.Readers.{token, mapped, joined, then, both, pick, many, sunk, ended, best, pair, behind, between}
 use Rattle.reader_small.specs.declared.token.Operator.{Operator}

@@ -9,7 +9,6 @@ use Rattle.reader_small.specs.declared.error.Cause.TheVariants as causes
 use Rattle.reader_small.specs.declared.error.Refusal.{Refusal}
 use Rattle.reader_small.specs.declared.error.ReadError.{ReadError}
 use Rattle.reader_small.specs.declared.error.ReadError.TheVariants as errors
-use Rattle.reader_small.specs.Syntax.{Action}
 use Rattle.reader_small.specs.Grammar.{Statements}
 use Rattle.reader_small.specs.TreeOf.{action}
 

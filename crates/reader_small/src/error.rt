@@ -28,6 +28,7 @@ pub enum ReadError {
 impl From<AllocError> for ReadError {
     ghost use Rattle.std.specs.Prelude.{◌≡◌};
     ghost use Rattle.reader_small.specs.declared.error.ReadError.TheVariants.{Memory};
+
     ghost from_gives = { λ _ e. e ≡ Memory };
 
     fn from(_: AllocError) -> ReadError {
@@ -38,6 +39,7 @@ impl From<AllocError> for ReadError {
 impl<T: Drop> From<AllocFailed<T>> for ReadError {
     ghost use Rattle.std.specs.Prelude.{◌≡◌};
     ghost use Rattle.reader_small.specs.declared.error.ReadError.TheVariants.{Memory};
+
     ghost from_gives = { λ _ e. e ≡ Memory };
 
     fn from(_: AllocFailed<T>) -> ReadError {
@@ -49,12 +51,18 @@ impl<T: Drop> From<AllocFailed<T>> for ReadError {
 pub fn expected(left: usize) -> ReadError
     ensures { result ≡ ReadError.Refused (record { cause = Cause.Expected; left = left }) }
 {
-    ReadError::Refused(Refusal { cause: Cause::Expected, left })
+    ReadError::Refused(Refusal {
+        cause: Cause::Expected,
+        left,
+    })
 }
 
 /// The refusal of a text at the first of `left` tokens, at which a level too deep begins.
 pub fn too_deep(left: usize) -> ReadError
     ensures { result ≡ ReadError.Refused (record { cause = Cause.TooDeep; left = left }) }
 {
-    ReadError::Refused(Refusal { cause: Cause::TooDeep, left })
+    ReadError::Refused(Refusal {
+        cause: Cause::TooDeep,
+        left,
+    })
 }

@@ -93,7 +93,12 @@ pub fn sum(alloc: Global, tokens: &[Token], left: usize) -> Result<(Expr, &[Toke
 /// The same, where its first product is read.
 #[cycle(expr)]
 #[tactic(auto, using(crate::specs::TreeOf::forms, crate::proofs::Loops::level_laws))]
-fn sums(alloc: Global, first: Expr, tokens: &[Token], left: usize) -> Result<(Expr, &[Token]), ReadError>
+fn sums(
+    alloc: Global,
+    first: Expr,
+    tokens: &[Token],
+    left: usize,
+) -> Result<(Expr, &[Token]), ReadError>
     ensures { Gives (λ r. (term r.0, r.1.now)) result (reading.further 1 (reading.product_at left) (term first) tokens.now) }
 {
     let mut all = first;
@@ -131,7 +136,12 @@ fn product(alloc: Global, tokens: &[Token], left: usize) -> Result<(Expr, &[Toke
 /// The same, where its first operand is read.
 #[cycle(expr)]
 #[tactic(auto, using(crate::specs::TreeOf::forms, crate::proofs::Loops::level_laws))]
-fn products(alloc: Global, first: Expr, tokens: &[Token], left: usize) -> Result<(Expr, &[Token]), ReadError>
+fn products(
+    alloc: Global,
+    first: Expr,
+    tokens: &[Token],
+    left: usize,
+) -> Result<(Expr, &[Token]), ReadError>
     ensures { Gives (λ r. (term r.0, r.1.now)) result (reading.further 2 (reading.primary_at left) (term first) tokens.now) }
 {
     let mut all = first;
@@ -184,7 +194,11 @@ fn primary(alloc: Global, tokens: &[Token], left: usize) -> Result<(Expr, &[Toke
 /// A list in brackets, or nothing.
 #[cycle(expr)]
 #[tactic(auto, using(crate::specs::TreeOf::forms, crate::proofs::Loops::level_laws))]
-pub fn subscripts(alloc: Global, tokens: &[Token], left: usize) -> Result<(Vec<Expr>, &[Token]), ReadError>
+pub fn subscripts(
+    alloc: Global,
+    tokens: &[Token],
+    left: usize,
+) -> Result<(Vec<Expr>, &[Token]), ReadError>
     ensures { Gives (λ r. (terms r.0.items, r.1.now)) result (reading.subscripts_at left tokens.now) }
 {
     let Some((first, rest)) = tokens.split_first() else {
@@ -217,7 +231,12 @@ fn list(alloc: Global, tokens: &[Token], left: usize) -> Result<(Vec<Expr>, &[To
 /// Further sums, each with a comma before it.
 #[cycle(expr)]
 #[tactic(auto, using(crate::specs::TreeOf::forms, crate::proofs::Loops::level_laws))]
-fn items<'a>(alloc: Global, all: &mut Vec<Expr>, tokens: &'a [Token], left: usize) -> Result<&'a [Token], ReadError>
+fn items<'a>(
+    alloc: Global,
+    all: &mut Vec<Expr>,
+    tokens: &'a [Token],
+    left: usize,
+) -> Result<&'a [Token], ReadError>
     ensures { Gives (λ r. (terms all.new.items, r.now)) result (turned (appended (terms all.old.items)) (reading.rest_of (reading.sum_at left) tokens.now)) }
 {
     let mut rest = tokens;

@@ -7,6 +7,7 @@
 
 pub mod error;
 pub mod expr;
+pub mod law;
 pub mod statement;
 pub mod token;
 pub mod tree;

@@ -154,3 +154,46 @@ fn further(a: Refusal, b: Refusal) -> Refusal
         }
     }
 }
+
+#[cfg(test)]
+mod tests {
+    use super::*;
+
+    // `if (1) = 5` is an assignment, and `if (1) x = 5` isn't.
+    #[test]
+    fn reads_both(rt: HostRuntime) {
+        let to_element = [
+            Token::Name(0),
+            Token::Open,
+            Token::Number(1),
+            Token::Close,
+            Token::Equals,
+            Token::Number(5),
+        ];
+        let outcome = read(rt.alloc(), &to_element, 2);
+        assert!(rt; matches!(&outcome, Ok(Statement::Assign(0, _, Expr::Number(5)))));
+        let one_line = [
+            Token::Name(0),
+            Token::Open,
+            Token::Number(1),
+            Token::Close,
+            Token::Name(7),
+            Token::Equals,
+            Token::Number(5),
+        ];
+        let outcome = read(rt.alloc(), &one_line, 2);
+        assert!(rt; matches!(&outcome, Ok(Statement::If(Expr::Number(1), _))));
+    }
+
+    // `x = ((` with one level: the second bracket.
+    #[test]
+    fn refuses_a_level(rt: HostRuntime) {
+        let tokens = [Token::Name(7), Token::Equals, Token::Open, Token::Open];
+        let outcome = read(rt.alloc(), &tokens, 1);
+        let wanted = Refusal {
+            cause: Cause::TooDeep,
+            left: 1,
+        };
+        assert!(rt; matches!(&outcome, Err(ReadError::Refused(refusal)) if *refusal == wanted));
+    }
+}

@@ -1,4 +1,4 @@
-use Rattle.std.proofs.Common.{rules, arith, ◌≡◌, ◌∷◌, [], List, true, false, subst, sym}
+use Rattle.std.proofs.Common.{rules, arith, ◌≡◌, ◌∷◌, [], true, false, subst, sym}
 use Rattle.std.proofs.lemmas.Grind.{common_steps}
 use Rattle.reader_theory.specs.Words.{found}
 use Rattle.reader_theory.specs.Exactness.{Stops}

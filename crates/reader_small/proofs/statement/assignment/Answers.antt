@@ -1,8 +1,7 @@
-use Rattle.std.proofs.Common.{rules, ◌≡◌, length, List, [], ◌∙◌, ap, sym}
+use Rattle.std.proofs.Common.{rules, ◌≡◌, length, [], ◌∙◌, ap, sym}
 use Rattle.reader_theory.specs.Words.{found}
-use Rattle.reader_theory.specs.Readers.{token, mapped, ended}
-use Rattle.reader_small.specs.Syntax.{assign}
-use Rattle.reader_small.specs.TreeOf.{term, terms, action, action_assign}
+use Rattle.reader_theory.specs.Readers.{token, mapped}
+use Rattle.reader_small.specs.TreeOf.{term, terms, action_assign}
 use Rattle.reader_small.specs.Reading.{is_name, is_equals, name_of, sum_at, subscripts_at}
 use Rattle.reader_small.proofs.Statements.{assign_found}
 use Rattle.reader_small.proofs.statement.assignment.Goals as goal
