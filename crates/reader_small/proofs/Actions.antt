@@ -2,14 +2,14 @@
 use Rattle.std.proofs.Common.{◌≡◌, ℕ, zero, suc, ◌+◌, List, [], ◌∷◌, ◌++◌, ◌⊎◌, inl, inr, refl, ap, sym, ◌∙◌, subst, arith, append_assoc}
 use Rattle.reader_theory.specs.Words.{Mark, bare}
 use Rattle.reader_theory.specs.Refusals.{Answers}
-use Rattle.reader_theory.specs.Levels.{mark, Behind}
+use Rattle.reader_theory.specs.Levels.{mark, Behind, Between}
 use Rattle.reader_theory.specs.Readers.{ended, sunk, behind}
 use Rattle.reader_theory.specs.Exactness.{Stops, never, Exact}
 use Rattle.reader_theory.specs.Languages.{Both}
 use Rattle.reader_theory.proofs.Marks.{never_stops}
 use Rattle.reader_theory.proofs.Sequence.{exact_both}
 use Rattle.reader_theory.proofs.Single.{relabel}
-use Rattle.reader_theory.proofs.Levels.{exact_behind, sunk_behind}
+use Rattle.reader_theory.proofs.Levels.{exact_behind, sunk_behind, sunk_between}
 use Rattle.reader_theory.proofs.Whole.{exact_whole}
 use Rattle.reader_theory.proofs.Best.{exact_best}
 use Rattle.reader_theory.proofs.Tail.{exact_tail}
@@ -18,8 +18,8 @@ use Rattle.reader_small.specs.declared.token.Token.TheVariants as tokens
 use Rattle.reader_small.specs.Syntax.{Term, number, no_terms, Action, assign, guarded}
 use Rattle.reader_small.specs.Grammar.{if_name, asks, Statements}
 use Rattle.reader_small.specs.Reading.{is_if, is_open, is_equals, sum_at, subscripts_at, place_at, assigned, assign_at, condition_at, if_at, action_at, guarded_at}
-use Rattle.reader_small.proofs.Tokens.{alone_if, alone_equals, goes}
-use Rattle.reader_small.proofs.Terms.{Term_at, Place_at, Condition_at, exact_place, exact_term, exact_subscripts, exact_condition}
+use Rattle.reader_small.proofs.Tokens.{alone_open, alone_if, alone_equals, goes}
+use Rattle.reader_small.proofs.Terms.{Term_at, Place_at, exact_place, exact_term, exact_subscripts, exact_round}
 
 -- assignments
 abbrev pub Assign_at : ℕ → ℕ → Action → List (Mark Token) → Type 0
@@ -30,6 +30,18 @@ exact_assign limit left level e = exact_both assigned (Place_at limit level) (Be
     (exact_place limit level (omega arith) (subscripts_at left) (exact_subscripts limit left level e))
     (exact_behind limit level (omega arith) is_equals tokens.Equals refl alone_equals (Term_at limit level) (goes 0) (sum_at left) (exact_term limit left level e))
     (λ t w rest (u, v, p, h, split) s. subst (λ z. Stops is_open (bare z ++ rest)) (sym (split ∙ ap (λ z. z ++ v) p)) refl)
+
+-- a condition in brackets, whose level begins behind this one
+abbrev pub Condition_at : ℕ → ℕ → Term → List (Mark Token) → Type 0
+Condition_at limit level = Between limit (suc level) tokens.Open tokens.Close (Term_at limit (suc level))
+
+pub exact_condition : (limit left level : ℕ) → level + left ≡ limit → Exact (Condition_at limit level) never (condition_at left)
+unfolding condition_at
+exact_condition limit zero level e =
+    let at : limit ≡ level = omega arith in
+    subst (λ z. Exact (Condition_at limit z) never (sunk is_open)) at
+    (sunk_between limit is_open tokens.Open tokens.Close refl alone_open (Term_at limit (suc limit)) (number 0) (mark limit (suc limit) (tokens.Number 0) ∷ []) refl never)
+exact_condition limit (suc left) level e = exact_round limit level (omega arith) (sum_at left) (exact_term limit left (suc level) (omega arith))
 
 -- `if` and its condition
 abbrev pub If_at : ℕ → ℕ → Term → List (Mark Token) → Type 0

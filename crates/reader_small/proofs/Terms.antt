@@ -18,7 +18,7 @@ use Rattle.reader_small.specs.declared.token.Operator.TheVariants as operators
 use Rattle.reader_small.specs.declared.token.Token.TheVariants as tokens
 use Rattle.reader_small.specs.Syntax.{Term, number, group, element, binary, Terms, no_terms, more_terms}
 use Rattle.reader_small.specs.Grammar.{rank, spells, subscripts, followed}
-use Rattle.reader_small.specs.Reading.{Reader, is_number, is_name, is_open, is_close, is_comma, number_of, name_of, placed, element_at, place, listed, rest_of, list_of, maybe, primary, sum, sum_at, subscripts_at, condition_at}
+use Rattle.reader_small.specs.Reading.{Reader, is_number, is_name, is_open, is_close, is_comma, number_of, name_of, placed, element_at, place, listed, rest_of, list_of, maybe, primary, sum, sum_at, subscripts_at}
 use Rattle.reader_small.proofs.Tokens.{alone_open, alone_close, alone_comma, goes}
 use Rattle.reader_small.proofs.Chains.{At, exact_chain}
 
@@ -213,7 +213,7 @@ sunk_group limit = exact_sunk (Group_at limit limit) is_open (group (number 0)) 
     same x e = ap (λ b. record { token = tokens.Open; deep = b }) (lt-ltb limit (suc limit) (omega arith)) ∙ ap (λ z. record { token = z; deep = true }) (sym (alone_open x e))
 
 -- brackets round a term, where a level is left for them
-exact_round : (limit level : ℕ) → suc level ≤ limit → (r : Reader Term) → Exact (Term_at limit (suc level)) (goes 0) r → Exact (Between limit (suc level) tokens.Open tokens.Close (Term_at limit (suc level))) never (between is_open is_close r)
+pub exact_round : (limit level : ℕ) → suc level ≤ limit → (r : Reader Term) → Exact (Term_at limit (suc level)) (goes 0) r → Exact (Between limit (suc level) tokens.Open tokens.Close (Term_at limit (suc level))) never (between is_open is_close r)
 exact_round limit level here r x = exact_between limit (suc level) here is_open is_close tokens.Open tokens.Close refl alone_open refl alone_close (Term_at limit (suc level)) (goes 0) r x refl
 
 exact_brackets : (limit level : ℕ) → suc level ≤ limit → (r : Reader Term) → Exact (Term_at limit (suc level)) (goes 0) r → Exact (Listed_at limit level) never (between is_open is_close (list_of r))
@@ -238,15 +238,3 @@ exact_subscripts limit zero level e =
     subst (λ z. Exact (Subscripts_at limit z) is_open (maybe (sunk is_open))) at (exact_maybe limit limit (sunk is_open) (sunk_list limit))
 exact_subscripts limit (suc left) level e =
     exact_maybe limit level (between is_open is_close (list_of (sum_at left))) (exact_brackets limit level (omega arith) (sum_at left) (exact_term limit left (suc level) (omega arith)))
-
--- a condition in brackets, whose level begins behind this one
-abbrev pub Condition_at : ℕ → ℕ → Term → List (Mark Token) → Type 0
-Condition_at limit level = Between limit (suc level) tokens.Open tokens.Close (Term_at limit (suc level))
-
-pub exact_condition : (limit left level : ℕ) → level + left ≡ limit → Exact (Condition_at limit level) never (condition_at left)
-unfolding condition_at
-exact_condition limit zero level e =
-    let at : limit ≡ level = omega arith in
-    subst (λ z. Exact (Condition_at limit z) never (sunk is_open)) at
-    (sunk_between limit is_open tokens.Open tokens.Close refl alone_open (Term_at limit (suc limit)) (number 0) (mark limit (suc limit) (tokens.Number 0) ∷ []) refl never)
-exact_condition limit (suc left) level e = exact_round limit level (omega arith) (sum_at left) (exact_term limit left (suc level) (omega arith))

@@ -2,9 +2,9 @@
 use Rattle.std.specs.Prelude.{ℕ, suc, ◌≡◌, ◌≤◌, ◌<◌, Bool, true, false, List, ◌∷◌, ◌++◌, ◌⊎◌, length}
 use Rattle.reader_theory.specs.Words.{Mark, bare, Cause, Verdict, found, fault}
 use Rattle.reader_theory.specs.Refusals.{Reads, Refused, Answers}
-use Rattle.reader_theory.specs.Readers.{token, sunk, mapped, joined, then_by, both_by, pick, two_pass, ahead, optional, many_by, behind, between, ended, best, rest_of}
+use Rattle.reader_theory.specs.Readers.{token, sunk, turned, mapped, joined, then_by, both_by, pick, two_pass, ahead, optional, many_by, behind, between, ended, best, rest_of}
 use Rattle.reader_theory.specs.Exactness.{Stops, never, Heads, Sunken, Eats, Finds, Exact}
-use Rattle.reader_theory.specs.Languages.{Single, Nothing, By, Or, Optional, Items_by}
+use Rattle.reader_theory.specs.Languages.{Single, Nothing, Image, By, Or, Optional, Items_by}
 use Rattle.reader_theory.specs.Levels.{One, Behind, Between}
 
 -- a language: which words spell which tree
@@ -60,6 +60,10 @@ abbrev pub ImageIsExact : {T A B : Type 0} → Words T A → Words T B → Type 
 ImageIsExact {T} {A} {B} L M =
     (f : A → B) (p : List T → Verdict T A) (more also : T → Bool) → Exact L more p → ((a : A) (w : List (Mark T)) → L a w → M (f a) w)
     → ((b : B) (w : List (Mark T)) → M b w → (a : A) × (b ≡ f a) × L a w) → Wider also more → Exact M also (mapped f p)
+
+-- and so the answers to whole texts
+abbrev pub ImageAnswers : {T A B : Type 0} → Words T A → (A → B) → Type 0
+ImageAnswers {T} {A} L f = (ts : List T) (v : Verdict T A) → Answers L ts v → Answers (Image f L) ts (turned f v)
 
 abbrev pub SaidOtherwise : {T A : Type 0} → Words T A → Words T A → Type 0
 SaidOtherwise {T} {A} L M = (p : List T → Verdict T A) (more also : T → Bool) → Exact L more p → SameWords L M → Wider also more → Exact M also p

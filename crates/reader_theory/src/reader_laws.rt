@@ -1,7 +1,7 @@
 //! Laws of exact readers: how they compose, and what they answer to whole texts.
 
 ghost use Rattle.std.specs.Prelude.{List};
-ghost use Rattle.reader_theory.specs.Laws.{RefusedIsNotRead, WholeTexts, WholeTextsOnce, TokenIsExact, TokenAtLevel, NothingIsExact, ImageIsExact, SaidOtherwise, SequenceIsExact, ChoiceIsExact, ChoiceAheadIsExact, OptionIsExact, RepetitionIsExact, SunkIsExact, BehindIsExact, BetweenIsExact, SunkBetweenIsExact, BetterIsExact, BetterReadsOnce, TailIsExact, TailReadsOnce, ReadPartDecides};
+ghost use Rattle.reader_theory.specs.Laws.{RefusedIsNotRead, WholeTexts, WholeTextsOnce, TokenIsExact, TokenAtLevel, NothingIsExact, ImageIsExact, ImageAnswers, SaidOtherwise, SequenceIsExact, ChoiceIsExact, ChoiceAheadIsExact, OptionIsExact, RepetitionIsExact, SunkIsExact, BehindIsExact, BetweenIsExact, SunkBetweenIsExact, BetterIsExact, BetterReadsOnce, TailIsExact, TailReadsOnce, ReadPartDecides};
 
 use crate::language::{Family, Language};
 
@@ -27,9 +27,10 @@ pub fn nothing<T, A>()
     ensures { NothingIsExact T A }
 {}
 
-/// The same words, of other trees.
+/// The same words, of other trees; so the answers to whole texts too.
 pub fn other_trees<T, A, B, L: Language<T, A>, M: Language<T, B>>()
-    ensures { ImageIsExact L.words M.words }
+    ensures exact { ImageIsExact L.words M.words }
+    ensures whole { (f : A → B) → ImageAnswers L.words f }
 {}
 
 /// The same words, said otherwise.
