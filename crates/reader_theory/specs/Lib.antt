@@ -1,0 +1,10 @@
+pub mod Words
+pub mod Levels
+pub mod Refusals
+pub mod Limits
+pub mod Readers
+pub mod Exactness
+pub mod Languages
+pub mod Texts
+pub mod Laws
+pub mod TextLaws
