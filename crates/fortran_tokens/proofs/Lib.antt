@@ -9,3 +9,4 @@ pub mod LastPlaces
 pub mod Widths
 pub mod Cutting
 pub mod Wrongs
+pub mod Same

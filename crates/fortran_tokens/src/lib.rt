@@ -8,6 +8,7 @@
 pub mod byte;
 pub mod cut;
 pub mod fault;
+pub mod law;
 pub mod limit;
 pub mod place;
 pub mod scan;
