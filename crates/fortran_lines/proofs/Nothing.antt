@@ -1,5 +1,5 @@
 -- A blank line or a comment line that is put in.
-use Rattle.std.proofs.Common.{◌≡◌, ℕ, ◌+◌, Bool, true, false, cond, List, [], ◌∷◌, ◌++◌, map, refl, ap, sym, ◌∙◌, subst}
+use Rattle.std.proofs.Common.{◌≡◌, ℕ, ◌+◌, true, cond, List, [], ◌∷◌, ◌++◌, map, refl, ap, sym, ◌∙◌}
 use Rattle.std.specs.List.{flat_map}
 use Rattle.std.specs.Str.Lines.{lines}
 use Rattle.caf_base.specs.declared.place.Pos.{Pos}
@@ -9,7 +9,7 @@ use Rattle.fortran_lines.specs.declared.context.Before.TheVariants.{Start, Conti
 use Rattle.fortran_lines.specs.Marks.{marks_from, numbered}
 use Rattle.fortran_lines.specs.Lines.{is_nothing, part_of, by_next, joined, pieces, statements_of}
 use Rattle.fortran_lines.specs.Texts.{codes_of, texts_of}
-use Rattle.fortran_lines.proofs.Places.{moved, all_moved, texts_moved, joined_moved, pieces_moved, nothing_all}
+use Rattle.fortran_lines.proofs.Places.{all_moved, texts_moved, joined_moved, pieces_moved, nothing_all}
 
 by_next_same : (one two : Before → List Mark → List (List Mark)) → ((b : Before) (t : List Mark) → one b t ≡ two b t) → (t : List Mark) (b : Before) → by_next one t b ≡ by_next two t b
 by_next_same one two same t Start = ap (λ ls. t ∷ ls) (same Start [])

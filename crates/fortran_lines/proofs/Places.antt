@@ -1,15 +1,13 @@
 -- Places do not matter to how lines join: with other places there are the same statements, with those places.
-use Rattle.std.proofs.Common.{◌≡◌, ℕ, Bool, true, false, cond, not, ◌&&◌, nat_eq, List, [], ◌∷◌, ◌++◌, map, Option, Some, None, refl, ap, sym, ◌∙◌}
-use Rattle.std.specs.Prelude.{filter}
+use Rattle.std.proofs.Common.{◌≡◌, Bool, true, false, cond, not, ◌&&◌, nat_eq, List, [], ◌∷◌, ◌++◌, map, Option, Some, None, refl, ap, sym, ◌∙◌}
 use Rattle.std.specs.List.{flat_map, onto_first}
-use Rattle.std.specs.Option.{option_map}
 use Rattle.caf_base.specs.declared.place.Pos.{Pos}
 use Rattle.fortran_lines.specs.declared.mark.Mark.{Mark}
 use Rattle.fortran_lines.specs.declared.context.Context.{Context}
 use Rattle.fortran_lines.specs.declared.context.Context.TheVariants.{Outside, Inside, Closed}
 use Rattle.fortran_lines.specs.declared.context.Before.{Before}
 use Rattle.fortran_lines.specs.declared.context.Before.TheVariants.{Start, Continued}
-use Rattle.fortran_lines.specs.Marks.{is_blank, is_quote, all_blank, blank_at}
+use Rattle.fortran_lines.specs.Marks.{is_blank, is_quote, all_blank}
 use Rattle.fortran_lines.specs.Contexts.{is_inside, opened, behind, context_behind}
 use Rattle.fortran_lines.specs.Lines.{Part, is_nothing, code_part, put_before, before_amp, behind_amp, open_quote, part_by, part_from, resumed, spaced, continued, part_of, by_next, joined, separates, cut, kept, pieces}
 

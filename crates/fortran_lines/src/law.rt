@@ -10,5 +10,4 @@ ghost use Rattle.fortran_lines.specs.Texts.{texts_of};
 pub fn nothing_put_in()
     ensures { (bytes bytes' : List ℕ) (front back : List (List ℕ)) (line : List ℕ) → lines bytes ≡ front ++ back → lines bytes' ≡ front ++ line ∷ back
         → is_nothing (marks_from 1 1 line) ≡ true → texts_of bytes' ≡ texts_of bytes }
-{
-}
+{}

@@ -1,5 +1,5 @@
 -- A token is the one that begins where it begins.
-use Rattle.std.proofs.Common.{◌≡◌, ℕ, zero, suc, ◌+◌, ◌<◌, ◌≤◌, Bool, true, false, cond, not, ◌&&◌, List, [], ◌∷◌, length, take, drop, get_or, map, Option, Some, None, ◌⊎◌, inl, inr, refl, ap, sym, ◌∙◌, subst, arith, add-one}
+use Rattle.std.proofs.Common.{◌≡◌, ℕ, zero, suc, ◌+◌, ◌<◌, ◌≤◌, Bool, true, false, cond, not, ◌&&◌, List, [], ◌∷◌, length, take, drop, get_or, map, Option, Some, None, inl, inr, refl, ap, sym, ◌∙◌, subst, arith, add-one}
 use Rattle.std.specs.Prelude.{slice_index}
 use Rattle.std.specs.List.{list_all}
 use Rattle.std.specs.Char.{to_ascii_lowercase}
@@ -12,7 +12,7 @@ use Rattle.fortran_tokens.specs.declared.token.Sign.{Sign}
 use Rattle.fortran_tokens.specs.declared.token.TokenKind.{TokenKind}
 use Rattle.fortran_tokens.specs.declared.token.TokenKind.TheVariants.{Name, Number, Literal, Fixed}
 use Rattle.fortran_tokens.specs.declared.cut.Piece.{Piece}
-use Rattle.fortran_tokens.specs.Bytes.{is_letter, is_digit, is_quote, is_name_byte, is_blank, sort_of}
+use Rattle.fortran_tokens.specs.Bytes.{is_letter, is_digit, is_quote, is_name_byte, is_blank}
 use Rattle.fortran_tokens.specs.Forms.{HasForm, Spells, spellings, is_number_rest, is_literal_rest}
 use Rattle.fortran_tokens.specs.Cuts.{IsLongest, IsToken, IsCut, AreBlanks}
 use Rattle.fortran_tokens.proofs.Sorts.{sort_of_kind, form_begins, form_some}
@@ -130,12 +130,12 @@ begins_within text from p n t =
 -- where a token begins, blanks end
 not_later : (text : List ℕ) (from i j : ℕ) (k : TokenKind) (n : ℕ) → from ≤ i → i < length text → IsLongest (drop i text) k n → AreBlanks text from j → j ≤ i
 not_later text from i j k n h w l b = elim (cases_order i j) [
-    | inl e ↦ omega arith
-    | inr c ↦ elim c [
-        | inl less ↦ absurd (let ink = token_ink text i k n w l in let blank = b.blanks i h less in let e = sym ink ∙ blank in cc)
-        | inr more ↦ omega arith
-      ]
+  | inl e ↦ omega arith
+  | inr c ↦ elim c [
+    | inl less ↦ absurd (let ink = token_ink text i k n w l in let blank = b.blanks i h less in let e = sym ink ∙ blank in cc)
+    | inr more ↦ omega arith
   ]
+]
 
 same_start : (text : List ℕ) (from : ℕ) (p q : Piece) (m n : ℕ) → AreBlanks text from p.from → AreBlanks text from q.from → IsToken (drop p.from text) p.kind m → IsToken (drop q.from text) q.kind n → p.from ≡ q.from
 same_start text from p q m n b c t u =

@@ -7,5 +7,4 @@ ghost use Rattle.fortran_tokens.specs.Cuts.{IsCut};
 /// A text is cut into tokens in one way at most.
 pub fn one_cutting()
     ensures { (text : List ℕ) (ps qs : List Piece) → IsCut text 0 ps (length text) → IsCut text 0 qs (length text) → ps ≡ qs }
-{
-}
+{}
