@@ -4,5 +4,6 @@ pub mod Lines
 pub mod Faults
 pub mod Statements
 pub mod Causes
+pub mod Texts
 pub mod Readings
 pub mod Parts

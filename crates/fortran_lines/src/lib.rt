@@ -8,6 +8,7 @@
 pub mod context;
 pub mod fault;
 pub mod join;
+pub mod law;
 pub mod line;
 pub mod mark;
 pub mod reading;

@@ -1,0 +1,5 @@
+pub mod Bytes
+pub mod Forms
+pub mod Scans
+pub mod Cuts
+pub mod Tokens
