@@ -1,8 +1,9 @@
 //! The ordered run: steps one after the other, chosen by the rotation, until none can be made.
 
-ghost use Rattle.std.specs.Prelude.{◌≡◌, ◌<◌, ◌≤◌, ◌+◌, ◌-◌, ◌^◌, ◌↔◌, ℕ, suc, List, [], ◌∷◌, ◌++◌, length, IfOk, OnOk, OnErr, IfSome, IfNone, IsTrue, Some, None, true, false, slice_index_or, MatchOption};
+ghost use Rattle.std.specs.Prelude.{◌≡◌, ◌<◌, ◌≤◌, ◌+◌, ◌-◌, ◌^◌, ◌↔◌, ℕ, suc, List, [], ◌∷◌, ◌++◌, length, map, IfOk, OnOk, OnErr, IfSome, IfNone, IsTrue, Some, None, true, false, slice_index_or, MatchOption};
 ghost use Rattle.caf_events.specs.Events.{EndsRun};
 ghost use Rattle.caf_events.specs.declared.event.Event.{Event};
+ghost use Rattle.image_core.specs.Lists.{IsWoven};
 ghost use Rattle.image_core.specs.Moments.{can_step, Steps};
 ghost use Rattle.image_core.specs.Parts.{rules, moment_of, event_lists, AreNumbered, IsBounded, IsPrepared, total};
 ghost use Rattle.image_core.specs.Orders.{last_choice, Picks, NoneCan, AllEnded, OneWaits, Advances, IsOrderRun, MatchesIdle, IsFirstOf, AreFewer};
@@ -130,9 +131,11 @@ impl<M: Walker, O: Object, B: Object> PartsOf<M, O, B> {
         requires few { length self.old.images.items < 2 ^ 31 }
         requires numbered { AreNumbered self.old.images.items }
         requires bounded { IsBounded M.asks_left (moment_of M.config O.made O.history B.made B.history self.old) }
+        requires woven { IsWoven (event_lists self.old.images.items) (B.history self.old.board) (map O.history self.old.memories.items) }
         ensures numbered { AreNumbered self.new.images.items }
         ensures bounded { IsBounded M.asks_left (moment_of M.config O.made O.history B.made B.history self.new) }
         ensures count { length self.new.images.items ≡ length self.old.images.items }
+        ensures woven { IsWoven (event_lists self.new.images.items) (B.history self.new.board) (map O.history self.new.memories.items) }
         ensures run { IsOrderRun (rules M.step O.ready_after O.reply_after B.ready_after B.reply_after) (last_choice choices.old) (moment_of M.config O.made O.history B.made B.history self.old) (last_choice choices.new) (moment_of M.config O.made O.history B.made B.history self.new) result }
     {
         match choices {

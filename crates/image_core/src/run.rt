@@ -6,8 +6,9 @@ ghost use Rattle.image_core.specs.Lists.{last_of};
 use crate::prepared::Prepared;
 use caf_base::place::ImageNo;
 use caf_base::refusal::NoMemory;
+use caf_events::ask::Ask;
 use caf_events::event::Event;
-use caf_events::walker::Walker;
+use caf_events::walker::{Next, Walker};
 
 /// One image: its number from 1, its machine, its events with the last one's stamp, and what is set aside for its next step.
 #[derive(Drop)]
@@ -36,6 +37,17 @@ impl<M: Walker> ImageRun<M> {
         ensures { result.now ≡ self.now.events.items }
     {
         self.events.as_slice()
+    }
+
+    /// The line and the ask of the image's next step; None where the image has ended.
+    pub fn waiting(&self) -> Result<Option<(u32, Ask)>, NoMemory> {
+        match self.machine.next() {
+            Next::Ended => Ok(None),
+            Next::Ask(_) => {
+                let ask = self.machine.ask()?;
+                Ok(Some((self.machine.line(), ask)))
+            }
+        }
     }
 
     // Room for one event more.
