@@ -2,7 +2,7 @@
 use Rattle.std.proofs.Common.{◌≡◌, ◌≢◌, ℕ, zero, suc, ◌+◌, ◌-◌, ◌^◌, ◌<◌, ◌≤◌, Bool, true, false, ◌&&◌, nat_eq, nat_le, cond, List, [], ◌∷◌, ◌++◌, map, length, replicate, IsTrue, refl, ap, sym, ◌∙◌, arith, add_assoc, length-set}
 use Rattle.std.specs.Prelude.{◌↔◌, slice_index, slice_index_or, slice_set}
 use Rattle.std.specs.List.{All, AllByRecursion, list_all, range_with_len}
-use Rattle.std.proofs.lemmas.Bool.{and_parts, and_from, leb-true, le-leb, ne_eqb, eq-eqb}
+use Rattle.std.proofs.lemmas.Bool.{false≢true, and_parts, and_from, leb-true, le-leb, ne_eqb, eq-eqb}
 use Rattle.std.proofs.lemmas.Bool.Decides.{same_from_decides, Decides-by_and}
 use Rattle.std.proofs.lemmas.List.Elements.{recursion_from_All}
 use Rattle.std.proofs.lemmas.List.Folds.{list_all-map}
@@ -15,6 +15,7 @@ use Rattle.caf_events.specs.declared.round.Arriving.{Arriving}
 use Rattle.caf_events.specs.declared.reply.Reply.{Reply}
 use Rattle.caf_events.specs.declared.reply.Reply.TheVariants as replies
 use Rattle.caf_events.specs.declared.event.Entry.{Entry}
+use Rattle.caf_events.specs.Answers.{Answers}
 use Rattle.caf_events.specs.Rounds.{arrives_on, is_arrival, arrivals, all_arrived}
 use Rattle.caf_events.proofs.Growing.{arrivals_more}
 use Rattle.thin_parts.specs.ThinBoard.{images_of, is_image, is_sync, can_leave, board_ready, board_reply, joined_by, counted, counted_reply, CanCount}
@@ -165,3 +166,10 @@ pub same_reply : (n : ℕ) (h es : List Entry) (image : ℕ) (ask : Ask) → All
 same_reply n h es image (asks.Arrive team arriving) others = ap (λ k. replies.Round (k + 1)) (own_arrivals image h es others)
 same_reply n h es image (asks.Leave team round) others = refl
 same_reply n h es image ask others = refl
+
+-- each reply answers its ask
+pub board_answers : (n : ℕ) (h : List Entry) (image : ℕ) (ask : Ask) → IsTrue (board_ready n h image ask) → Answers ask (board_reply n h image ask)
+board_answers n h image (asks.Arrive team arriving) r = tt
+board_answers n h image (asks.Leave team round) r = tt
+board_answers n h image (asks.Stop code) r = tt
+board_answers n h image ask r = absurd (false≢true r)

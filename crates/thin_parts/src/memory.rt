@@ -48,7 +48,7 @@ impl Model for ThinMemory {
 
 impl ThinMemory {
     /// The memory of this image at the start of a run of the program: each coarray is 0 (a choice of this project for
-    /// what the standard leaves undefined, ISO/IEC 1539-1:2018, 19.6.6), and no step was made.
+    /// what the standard leaves undefined, ISO/IEC 1539-1:2018, 19.6.4), and no step was made.
     pub fn new(alloc: Global, owner: ImageNo, program: &ThinProgram) -> Result<ThinMemory, NoMemory>
         ensures made { IfOk result (λ m. m.declared ≡ declared_memory owner program.now) }
         ensures history { IfOk result (λ m. m.history ≡ []) }

@@ -18,19 +18,45 @@ use std::alloc::Global;
 use std::process::Abort;
 use std::test::Fail;
 
-// One step of an image, whose last stamp is `after`.
+// Gives up a value, in a function that knows no variants.
+fn give_up<T: Drop>(_value: T) {}
+
+fn is_equal<T: PartialEq + Drop>(left: T, right: T) -> bool {
+    left == right
+}
+
+fn is_ready<O: Object>(object: &O, image: ImageNo, ask: Ask) -> bool {
+    let is_ready = object.ready(image, &ask);
+    give_up(ask);
+    is_ready
+}
+
+// One step of an image, whose last stamp is `after`: the reply, and the stamp.
 fn step<O: Object>(
     rt: &impl Abort,
     object: &mut O,
     image: ImageNo,
     ask: Ask,
     after: u64,
-) -> Result<Event, NoMemory> {
+) -> Result<(Reply, u64), NoMemory> {
     assert!(rt; object.ready(image, &ask));
     assert!(rt; object.last_stamp() < 1_000);
     assert!(rt; after < 1_000);
-    let spare = object.reserve(image, &ask)?;
-    Ok(object.apply(image, ask, spare, 3, after))
+    let spare = match object.reserve(image, &ask) {
+        Ok(spare) => spare,
+        Err(error) => {
+            give_up(ask);
+            return Err(error);
+        }
+    };
+    let Event {
+        ask,
+        reply,
+        stamp,
+        ..
+    } = object.apply(image, ask, spare, 3, after);
+    give_up(ask);
+    Ok((reply, stamp))
 }
 
 // `integer :: x`, `integer :: a[*]`
@@ -59,78 +85,69 @@ fn cell(alloc: Global, coarray: u32) -> Span {
     }
 }
 
+fn read(alloc: Global, coarray: u32) -> Ask {
+    Ask::Read {
+        owner: ImageNo(2),
+        span: cell(alloc, coarray),
+    }
+}
+
 #[test]
 fn a_read_gives_the_last_write(rt: HostRuntime) -> Result<(), Fail> {
     let alloc = rt.alloc();
     let mut memory = ThinMemory::new(alloc, ImageNo(2), &program(alloc)?)?;
-    let read = Ask::Read {
-        owner: ImageNo(2),
-        span: cell(alloc, 1),
-    };
-    let first = step(&rt, &mut memory, ImageNo(1), read, 6)?;
-    assert_eq!(rt; first.stamp, 7);
-    assert_eq!(rt; first.line, 3);
-    assert_eq!(rt;
-        first.reply,
-        Reply::Values {
-            values: Listing::of_one(alloc, Value::Int(0))?
-        }
-    );
+    assert!(rt; !is_ready(&memory, ImageNo(2), read(alloc, 0)));
+
+    let values = Listing::of_one(alloc, Value::Int(0))?;
+    let (reply, stamp) = step(&rt, &mut memory, ImageNo(1), read(alloc, 1), 6)?;
+    assert!(rt; is_equal(reply, Reply::Values { values }));
+    assert_eq!(rt; stamp, 7);
+
     let write = Ask::Write {
         owner: ImageNo(2),
         span: cell(alloc, 1),
         values: Listing::of_one(alloc, Value::Int(-5))?,
     };
-    let second = step(&rt, &mut memory, ImageNo(2), write, 0)?;
-    assert_eq!(rt; second.stamp, 8);
-    assert_eq!(rt; second.reply, Reply::Done);
-    let again = Ask::Read {
-        owner: ImageNo(2),
-        span: cell(alloc, 1),
-    };
-    let third = step(&rt, &mut memory, ImageNo(3), again, 0)?;
-    assert_eq!(rt;
-        third.reply,
-        Reply::Values {
-            values: Listing::of_one(alloc, Value::Int(-5))?
-        }
-    );
+    let (reply, stamp) = step(&rt, &mut memory, ImageNo(2), write, 0)?;
+    assert!(rt; is_equal(reply, Reply::Done));
+    assert_eq!(rt; stamp, 8);
+
+    let values = Listing::of_one(alloc, Value::Int(-5))?;
+    let (reply, _) = step(&rt, &mut memory, ImageNo(3), read(alloc, 1), 0)?;
+    assert!(rt; is_equal(reply, Reply::Values { values }));
     assert_eq!(rt; memory.last_stamp(), 9);
-    let local = Ask::Read {
-        owner: ImageNo(2),
-        span: cell(alloc, 0),
-    };
-    assert!(rt; !memory.ready(ImageNo(2), &local));
     Ok(())
+}
+
+fn arrive() -> Ask {
+    Ask::Arrive {
+        team: INITIAL_TEAM,
+        arriving: Arriving::Sync,
+    }
+}
+
+fn leave() -> Ask {
+    Ask::Leave {
+        team: INITIAL_TEAM,
+        round: 1,
+    }
 }
 
 #[test]
 fn a_round_is_left_once_all_have_arrived(rt: HostRuntime) -> Result<(), Fail> {
     let mut board = ThinBoard::new(rt.alloc(), 2)?;
-    let leave = Ask::Leave {
-        team: INITIAL_TEAM,
-        round: 1,
-    };
     for image in 1..3 {
-        assert!(rt; !board.ready(ImageNo(1), &leave));
-        let arrive = Ask::Arrive {
-            team: INITIAL_TEAM,
-            arriving: Arriving::Sync,
-        };
-        let arrival = step(&rt, &mut board, ImageNo(image), arrive, 0)?;
-        assert_eq!(rt; arrival.reply, Reply::Round { round: 1 });
+        assert!(rt; !is_ready(&board, ImageNo(1), leave()));
+        let (reply, _) = step(&rt, &mut board, ImageNo(image), arrive(), 0)?;
+        assert!(rt; is_equal(reply, Reply::Round { round: 1 }));
     }
-    let departure = step(&rt, &mut board, ImageNo(1), leave, 1)?;
-    assert_eq!(rt; departure.stamp, 3);
-    assert_eq!(rt;
-        departure.reply,
-        Reply::Left {
-            status: 0,
-            teams: Listing::new(rt.alloc())
-        }
-    );
-    let stop = step(&rt, &mut board, ImageNo(2), Ask::Stop { code: 0 }, 2)?;
-    assert_eq!(rt; stop.reply, Reply::Done);
-    assert_eq!(rt; stop.stamp, 4);
+    let (reply, stamp) = step(&rt, &mut board, ImageNo(1), leave(), 1)?;
+    let teams = Listing::new(rt.alloc());
+    assert!(rt; is_equal(reply, Reply::Left { status: 0, teams }));
+    assert_eq!(rt; stamp, 3);
+
+    let (reply, stamp) = step(&rt, &mut board, ImageNo(2), Ask::Stop { code: 0 }, 6)?;
+    assert!(rt; is_equal(reply, Reply::Done));
+    assert_eq!(rt; stamp, 7);
     Ok(())
 }
