@@ -5,6 +5,7 @@
 //! read whole, or the cause is told; bytes are written whole, or a proper front of them and the cause is told.
 #![tactic(auto)]
 
+pub mod due;
 pub mod reading;
 pub mod words;
 pub mod writing;

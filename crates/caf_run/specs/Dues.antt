@@ -1,0 +1,78 @@
+-- What a call of the program owes: the status and the text that are due, and what the words, the file and the run have to do with them.
+use Rattle.std.specs.Prelude.{ℕ, ◌≡◌, ◌≤◌, ◌+◌, ◌⊎◌, List, [], ◌++◌, length, codes, Option, None, Some, ⊤, IsNone, OnOk, IfOk}
+use Rattle.std.specs.Fmt.{decimal}
+use Rattle.std.specs.Io.KnownBytes.{Appends, Keeps}
+use Rattle.caf_base.specs.declared.thin.ThinProgram.{ThinProgram}
+use Rattle.caf_base.specs.Outside.{Files, Rose, MayNotBegin}
+use Rattle.caf_report.specs.declared.report.Report.{Report}
+use Rattle.caf_report.specs.Ends.{status_of}
+use Rattle.caf_report.specs.ReportText.{report_text}
+use Rattle.fortran_reader.specs.Reads.{Reads}
+use Rattle.caf_run.specs.Words.{Word, IsRun, IsValid, UsageIs}
+use Rattle.caf_run.specs.Reading.{IsWhole, HasNothingLeft, IsLonger}
+use Rattle.caf_run.specs.Writing.{GrewByProperPrefix}
+
+-- the text where the words aren't valid
+abbrev pub usage_text : ℕ → List ℕ
+usage_text k = codes "usage: word " ++ decimal k ++ codes "\n"
+
+-- the text where the source isn't a thin program
+abbrev pub refusal_text : List ℕ
+refusal_text = codes "refused 10 at 1:1\n"
+
+-- a status with which a run ends
+abbrev pub IsRunStatus : ℕ → Type 0
+IsRunStatus s = (s ≡ 0) ⊎ ((4 ≤ s) × (s ≤ 9))
+
+-- the name of the file that valid words name
+abbrev pub NamesFile : List Word → Word → Type 0
+NamesFile words file = (n : ℕ) × (seed : ℕ) × IsRun words n seed file
+
+-- Usage: status 2 is due where the words are no valid list, with their usage number; elsewhere they are one.
+pub record UsageClause (words : List Word) (status : ℕ) (text : List ℕ) : Type 0 where
+  pub wrong : status ≡ 2 → (k : ℕ) × UsageIs words k × (text ≡ usage_text k)
+  pub valid : (status ≡ 2 → ⊥) → IsValid words
+
+-- Refusal: status 3 is due where the file's bytes, read to their end, are no thin program; a run is one of the program that they are.
+pub record RefusalClause (words : List Word) (files : Option Files) (status : ℕ) (text : List ℕ) : Type 0 where
+  pub refused : status ≡ 3 → (file : Word) × (bytes : List ℕ) × NamesFile words file × IsWhole files file bytes × ((p : ThinProgram) → Reads bytes p → ⊥) × (text ≡ refusal_text)
+  pub run : IsRunStatus status → (file : Word) × (bytes : List ℕ) × (p : ThinProgram) × NamesFile words file × IsWhole files file bytes × Reads bytes p
+
+-- Input: after a run or a refusal nothing of the file is left.
+abbrev pub InputClause : Option Files → Option (List ℕ) → ℕ → Type 0
+InputClause files left status = IsRunStatus status ⊎ (status ≡ 3) → HasNothingLeft files left
+
+-- Causes: a read fault comes only where the count of faults rose or the files haven't the name, and only a longer file is too long.
+pub record CausesClause (words : List Word) (files : Option Files) (faults faults' status : ℕ) (text : List ℕ) : Type 0 where
+  pub read_fault : status ≡ 10 → (file : Word) × NamesFile words file × MayNotBegin files file faults faults' × (text ≡ codes "read fault\n")
+  pub too_long : status ≡ 13 → (file : Word) × NamesFile words file × IsLonger files file 65536 × (text ≡ codes "too long\n")
+
+-- Report: one is there exactly where a run's status is due, which is that of its end, and the text due is its text.
+abbrev pub ReportClause : Option Report → ℕ → List ℕ → Type 0
+ReportClause None status text = (status ≡ 2) ⊎ (status ≡ 3) ⊎ (status ≡ 10) ⊎ (status ≡ 13)
+ReportClause (Some r) status text = IsRunStatus status × (status ≡ status_of r.end) × (text ≡ report_text r)
+
+-- all that is due for these words over this source
+pub record IsDue (words : List Word) (files : Option Files) (left' : Option (List ℕ)) (faults faults' status : ℕ) (text : List ℕ) (report : Option Report) : Type 0 where
+  pub usage : UsageClause words status text
+  pub refusal : RefusalClause words files status text
+  pub input : InputClause files left' status
+  pub causes : CausesClause words files faults faults' status text
+  pub reported : ReportClause report status text
+
+-- Output: the status and the text that are due, or status 11 and a proper prefix of the text after a fault of the sink.
+abbrev pub OutputClause : Option (List ℕ) → Option (List ℕ) → ℕ → ℕ → ℕ → ℕ → List ℕ → Type 0
+OutputClause written written' faults faults' answered status text =
+    ((answered ≡ status) × Appends written written' text) ⊎ ((answered ≡ 11) × Rose faults faults' × GrewByProperPrefix written written' text)
+
+-- what the call did: all that is due, written out, or want of memory with nothing written
+pub record IsDone (words : List Word) (files : Option Files) (left' : Option (List ℕ)) (faults faults' : ℕ) (written written' : Option (List ℕ)) (sink_faults sink_faults' answered : ℕ) (report : Option Report) : Type 0 where
+  pub status : ℕ
+  pub text : List ℕ
+  pub due : IsDue words files left' faults faults' status text report
+  pub output : OutputClause written written' sink_faults sink_faults' answered status text
+
+abbrev pub IsAnswer : List Word → Option Files → Option (List ℕ) → ℕ → ℕ → Option (List ℕ) → Option (List ℕ) → ℕ → ℕ → ℕ → Option Report → Type 0
+IsAnswer words files left' faults faults' written written' sink_faults sink_faults' answered report =
+    IsDone words files left' faults faults' written written' sink_faults sink_faults' answered report
+    ⊎ ((answered ≡ 12) × IsNone report × Keeps written written')
