@@ -2,3 +2,4 @@ pub mod Numbers
 pub mod Readings
 pub mod Usages
 pub mod Written
+pub mod WhatIsDue

@@ -76,3 +76,20 @@ abbrev pub IsAnswer : List Word → Option Files → Option (List ℕ) → ℕ �
 IsAnswer words files left' faults faults' written written' sink_faults sink_faults' answered report =
     IsDone words files left' faults faults' written written' sink_faults sink_faults' answered report
     ⊎ ((answered ≡ 12) × IsNone report × Keeps written written')
+
+-- what is due for the bytes of a file
+pub record BytesDue (bytes : List ℕ) (status : ℕ) (text : List ℕ) (report : Option Report) : Type 0 where
+  pub known : IsRunStatus status ⊎ (status ≡ 3)
+  pub refused : status ≡ 3 → ((p : ThinProgram) → Reads bytes p → ⊥) × (text ≡ refusal_text)
+  pub run : IsRunStatus status → (p : ThinProgram) × Reads bytes p
+  pub reported : ReportClause report status text
+
+-- what is due for a named file
+pub record FileDue (files : Option Files) (file : Word) (left' : Option (List ℕ)) (faults faults' status : ℕ) (text : List ℕ) (report : Option Report) : Type 0 where
+  pub usage : status ≡ 2 → ⊥
+  pub refused : status ≡ 3 → (bytes : List ℕ) × IsWhole files file bytes × ((p : ThinProgram) → Reads bytes p → ⊥) × (text ≡ refusal_text)
+  pub run : IsRunStatus status → (bytes : List ℕ) × (p : ThinProgram) × IsWhole files file bytes × Reads bytes p
+  pub input : InputClause files left' status
+  pub read_fault : status ≡ 10 → MayNotBegin files file faults faults' × (text ≡ codes "read fault\n")
+  pub too_long : status ≡ 13 → IsLonger files file 65536 × (text ≡ codes "too long\n")
+  pub reported : ReportClause report status text

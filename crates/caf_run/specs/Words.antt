@@ -40,6 +40,17 @@ IsValid words = (n : ℕ) × (seed : ℕ) × (file : Word) × IsRun words n seed
 abbrev pub Means : List Word → Command → Type 0
 Means words (Run (File word) n (Order seed)) = (file : Word) × IsRun words n seed file × (word ≡ length words)
 
+-- where the command has its file among the words, from 1, and how many images it wants
+abbrev pub place_of_file : Command → ℕ
+place_of_file (Run (File word) n (Order seed)) = word
+
+abbrev pub count_of_images : Command → ℕ
+count_of_images (Run (File word) n (Order seed)) = n
+
+-- the words run the file whose name has this number among them, from 1, on so many images
+abbrev pub IsRunAt : List Word → ℕ → ℕ → Type 0
+IsRunAt words number n = (seed : ℕ) × (file : Word) × IsRun words n seed file × (number ≡ length words)
+
 -- some valid list of words begins with these
 abbrev pub BeginsValid : List Word → Type 0
 BeginsValid front = (rest : List Word) × IsValid (front ++ rest)

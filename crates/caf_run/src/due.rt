@@ -1,13 +1,13 @@
 //! What is due for the words and the source: a status, a text, and the report of a run.
 
-ghost use Rattle.std.specs.Prelude.{◌≡◌, ◌≤◌, ◌<◌, ◌+◌, ◌^◌, ◌++◌, ℕ, List, Option, IfOk, OnOk, OnErr, Some, None, length, map, codes, string_bytes};
+ghost use Rattle.std.specs.Prelude.{◌≡◌, ◌≤◌, ◌<◌, ◌+◌, ◌^◌, ◌++◌, ℕ, List, Option, IfOk, OnOk, OnErr, Some, None, length, codes, slice_get, ◌-◌};
 ghost use Rattle.std.specs.Arc.{arc_value};
 ghost use Rattle.std.specs.Fmt.{decimal};
 ghost use Rattle.caf_base.specs.Thin.{counts};
 ghost use Rattle.caf_report.specs.Ends.{status_of};
 ghost use Rattle.caf_report.specs.ReportText.{report_text};
-ghost use Rattle.caf_run.specs.Dues.{usage_text, IsDue, ReportClause};
-ghost use Rattle.caf_run.specs.Words.{words_in};
+ghost use Rattle.caf_run.specs.Dues.{usage_text, IsDue, BytesDue, FileDue, ReportClause};
+ghost use Rattle.caf_run.specs.Words.{words_in, IsValid, IsRunAt, place_of_file, count_of_images};
 ghost use Rattle.caf_report.specs.declared.report.Report.{Report};
 
 use crate::reading::{ReadEnd, read_file};
@@ -90,4 +90,101 @@ fn run_due(alloc: Global, program: ThinProgram, n: u32) -> Result<Due, NoMemory>
         text,
         report: Some(report),
     })
+}
+
+// What is due for the bytes of a file.
+fn bytes_due(alloc: Global, bytes: &[u8], n: u32) -> Result<Due, NoMemory>
+    requires images { (1 ≤ n) × (n ≤ 64) }
+    requires short { length bytes.now ≤ 65536 }
+    ensures { IfOk result (λ d. BytesDue bytes.now d.status d.text.items d.report) }
+{
+    match read(alloc, bytes) {
+        Ok(program) => run_due(alloc, program, n),
+        Err(Refusal::Cause(_)) => said(alloc, 3, b"refused 10 at 1:1\n"),
+        Err(Refusal::NoMemory) => Err(NoMemory),
+    }
+}
+
+// What is due for a named file.
+fn file_due<S: Source>(alloc: Global, source: &mut S, name: &str, n: u32) -> Result<Due, NoMemory>
+    requires images { (1 ≤ n) × (n ≤ 64) }
+    ensures files { S.files source.new ≡ S.files source.old }
+    ensures later { S.faults source.old ≤ S.faults source.new }
+    ensures due { IfOk result (λ d. FileDue (S.files source.old) name.now (S.left source.new) (S.faults source.old) (S.faults source.new) d.status d.text.items d.report) }
+{
+    match read_file(alloc, source, name, THIN_SOURCE_BYTES) {
+        Ok(bytes) => bytes_due(alloc, bytes.as_slice(), n),
+        Err(ReadEnd::Fault) => said(alloc, 10, b"read fault\n"),
+        Err(ReadEnd::TooLong) => said(alloc, 13, b"too long\n"),
+        Err(ReadEnd::NoMemory) => Err(NoMemory),
+    }
+}
+
+// The place of FILE among the words that a command was made of, from 1.
+fn file_place(command: &Command) -> u32
+    ensures { result ≡ place_of_file command.now }
+{
+    match command {
+        Command::Run {
+            input: Input::File { word },
+            ..
+        } => *word,
+    }
+}
+
+// The number of images that a command wants.
+fn image_count(command: &Command) -> u32
+    ensures { result ≡ count_of_images command.now }
+{
+    match command {
+        Command::Run { n, .. } => *n,
+    }
+}
+
+// The word of a number from 1.
+fn word_at(words: &[String], number: u32) -> &str
+    requires { (0 < number) × (number ≤ length words.now) }
+    ensures { slice_get (words_in words.now) (number - 1) ≡ Some result.now }
+{
+    words[(number - 1) as usize].as_str()
+}
+
+// What is due for words whose last one is a file's name.
+fn run_named<S: Source>(
+    alloc: Global,
+    words: &[String],
+    source: &mut S,
+    number: u32,
+    n: u32,
+) -> Result<Due, NoMemory>
+    requires { IsRunAt (words_in words.now) number n }
+    ensures files { S.files source.new ≡ S.files source.old }
+    ensures later { S.faults source.old ≤ S.faults source.new }
+    ensures due { IfOk result (λ d. IsDue (words_in words.now) (S.files source.old) (S.left source.new) (S.faults source.old) (S.faults source.new) d.status d.text.items d.report) }
+{
+    file_due(alloc, source, word_at(words, number), n)
+}
+
+/// What is due for the words over a source. Words that aren't valid leave the source as it was.
+pub fn what_is_due<S: Source>(
+    alloc: Global,
+    words: &[String],
+    source: &mut S,
+) -> Result<Due, NoMemory>
+    ensures files { S.files source.new ≡ S.files source.old }
+    ensures later { S.faults source.old ≤ S.faults source.new }
+    ensures untouched { ¬ IsValid (words_in words.now) → source.new ≡ source.old }
+    ensures due { IfOk result (λ d. IsDue (words_in words.now) (S.files source.old) (S.left source.new) (S.faults source.old) (S.faults source.new) d.status d.text.items d.report) }
+{
+    match words_of(words) {
+        Ok(command) => run_named(
+            alloc,
+            words,
+            source,
+            file_place(&command),
+            image_count(&command),
+        ),
+        Err(Refusal::Cause(usage)) => usage_due(alloc, usage.word),
+        Err(Refusal::NoMemory) => Err(NoMemory),
+    }
 }

@@ -7,5 +7,6 @@
 
 pub mod due;
 pub mod reading;
+pub mod top;
 pub mod words;
 pub mod writing;

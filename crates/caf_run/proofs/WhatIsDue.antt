@@ -1,0 +1,147 @@
+-- What is due, case by case.
+use Rattle.std.proofs.Common.{◌≡◌, ℕ, ◌≤◌, ◌<◌, ◌-◌, length, ap, List, ◌⊎◌, inl, inr, refl, sym, ◌∙◌, subst, arith}
+use Rattle.std.specs.Prelude.{Option, None, Some, codes, Result, Ok, Err, IfOk, slice_get}
+use Rattle.caf_base.specs.declared.refusal.Refusal.TheVariants.{Cause}
+use Rattle.caf_base.specs.declared.thin.ThinProgram.{ThinProgram}
+use Rattle.caf_base.specs.Outside.{Files, MayNotBegin}
+use Rattle.caf_report.specs.declared.report.Report.{Report}
+use Rattle.fortran_reader.specs.Reads.{Reads, Refuses}
+use Rattle.fortran_reader.specs.declared.reader.ReadFault.{ReadFault}
+use Rattle.fortran_reader.specs.declared.reader.ReadFault.TheVariants.{NotBuilt}
+use Rattle.caf_run.specs.declared.words.Command.{Command}
+use Rattle.caf_run.specs.declared.words.Command.TheVariants.{Run}
+use Rattle.caf_run.specs.declared.words.Input.TheVariants.{File}
+use Rattle.caf_run.specs.declared.words.Way.TheVariants.{Order}
+use Rattle.caf_run.specs.Words.{Word, IsRun, IsValid, UsageIs, Means, IsRunAt, place_of_file, count_of_images}
+use Rattle.caf_run.specs.Reading.{IsWhole, HasNothingLeft, IsLonger}
+use Rattle.caf_run.specs.Dues.{usage_text, refusal_text, IsRunStatus, NamesFile, IsDue, BytesDue, FileDue, ReportClause}
+
+not_run : (s : ℕ) → IsRunStatus s → (s ≡ 2) ⊎ (s ≡ 3) ⊎ (s ≡ 10) ⊎ (s ≡ 13) → ⊥
+not_run s (inl h) (inl k) = omega arith
+not_run s (inl h) (inr (inl k)) = omega arith
+not_run s (inl h) (inr (inr (inl k))) = omega arith
+not_run s (inl h) (inr (inr (inr k))) = omega arith
+not_run s (inr h) (inl k) = omega arith
+not_run s (inr h) (inr (inl k)) = omega arith
+not_run s (inr h) (inr (inr (inl k))) = omega arith
+not_run s (inr h) (inr (inr (inr k))) = omega arith
+
+-- the bytes are no thin program
+pub refused_bytes : (bytes : List ℕ) (status : ℕ) (text : List ℕ) (report : Option Report) → ((p : ThinProgram) → Reads bytes p → ⊥) → status ≡ 3 → text ≡ refusal_text → report ≡ None → BytesDue bytes status text report
+refused_bytes bytes status text report none s t r = record {
+  known = inr s;
+  refused = λ _. (none, t);
+  run = λ h. absurd (not_run status h (inr (inl s)));
+  reported = subst (λ v. ReportClause v status text) (sym r) (inr (inl s));
+}
+
+-- they are, and the program was run
+pub run_bytes : (bytes : List ℕ) (p : ThinProgram) (status : ℕ) (text : List ℕ) (report : Option Report) → Reads bytes p → (r : Report) × (report ≡ Some r) × ReportClause report status text → BytesDue bytes status text report
+run_bytes bytes p status text report reads (r, is, clause) =
+    let c = subst (λ v. ReportClause v status text) is clause in
+    record {
+      known = inl c.0;
+      refused = λ s. absurd (not_run status c.0 (inr (inl s)));
+      run = λ _. (p, reads);
+      reported = clause;
+    }
+
+-- a file that was read whole
+pub whole_file : (files : Option Files) (file : Word) (left' : Option (List ℕ)) (faults faults' : ℕ) (bytes : List ℕ) (status : ℕ) (text : List ℕ) (report : Option Report) → IsWhole files file bytes → HasNothingLeft files left' → BytesDue bytes status text report → FileDue files file left' faults faults' status text report
+whole_file files file left' faults faults' bytes status text report whole nothing b = record {
+  usage = λ s. other (inl s);
+  refused = λ s. (bytes, whole, (b.refused s).0, (b.refused s).1);
+  run = λ s. (bytes, (b.run s).0, whole, (b.run s).1);
+  input = λ _. nothing;
+  read_fault = λ s. absurd (other (inr (inl s)));
+  too_long = λ s. absurd (other (inr (inr s)));
+  reported = b.reported;
+}
+  where
+    other : (status ≡ 2) ⊎ (status ≡ 10) ⊎ (status ≡ 13) → ⊥
+    other h = by_known b.known h
+      where
+        by_known : IsRunStatus status ⊎ (status ≡ 3) → (status ≡ 2) ⊎ (status ≡ 10) ⊎ (status ≡ 13) → ⊥
+        by_known (inl r) (inl k) = not_run status r (inl k)
+        by_known (inl r) (inr (inl k)) = not_run status r (inr (inr (inl k)))
+        by_known (inl r) (inr (inr k)) = not_run status r (inr (inr (inr k)))
+        by_known (inr s) (inl k) = omega arith
+        by_known (inr s) (inr (inl k)) = omega arith
+        by_known (inr s) (inr (inr k)) = omega arith
+
+-- a file that could not be read
+pub fault_file : (files : Option Files) (file : Word) (left' : Option (List ℕ)) (faults faults' status : ℕ) (text : List ℕ) (report : Option Report) → MayNotBegin files file faults faults' → status ≡ 10 → text ≡ codes "read fault\n" → report ≡ None → FileDue files file left' faults faults' status text report
+fault_file files file left' faults faults' status text report may s t r = record {
+  usage = λ k. omega arith;
+  refused = λ k. absurd (omega arith);
+  run = λ h. absurd (not_run status h (inr (inr (inl s))));
+  input = λ h. absurd (elim h [ inl a ↦ not_run status a (inr (inr (inl s))) | inr k ↦ omega arith ]);
+  read_fault = λ _. (may, t);
+  too_long = λ k. absurd (omega arith);
+  reported = subst (λ v. ReportClause v status text) (sym r) (inr (inr (inl s)));
+}
+
+-- a file that is too long
+pub long_file : (files : Option Files) (file : Word) (left' : Option (List ℕ)) (faults faults' status : ℕ) (text : List ℕ) (report : Option Report) → IsLonger files file 65536 → status ≡ 13 → text ≡ codes "too long\n" → report ≡ None → FileDue files file left' faults faults' status text report
+long_file files file left' faults faults' status text report longer s t r = record {
+  usage = λ k. omega arith;
+  refused = λ k. absurd (omega arith);
+  run = λ h. absurd (not_run status h (inr (inr (inr s))));
+  input = λ h. absurd (elim h [ inl a ↦ not_run status a (inr (inr (inr s))) | inr k ↦ omega arith ]);
+  read_fault = λ k. absurd (omega arith);
+  too_long = λ _. (longer, t);
+  reported = subst (λ v. ReportClause v status text) (sym r) (inr (inr (inr s)));
+}
+
+-- words that name a file
+pub file_named : (words : List Word) (n seed : ℕ) (file : Word) (files : Option Files) (left' : Option (List ℕ)) (faults faults' status : ℕ) (text : List ℕ) (report : Option Report) → IsRun words n seed file → FileDue files file left' faults faults' status text report → IsDue words files left' faults faults' status text report
+file_named words n seed file files left' faults faults' status text report valid f = record {
+  usage = record { wrong = λ s. absurd (f.usage s); valid = λ _. (n, seed, file, valid) };
+  refusal = record {
+    refused = λ s. (let h = f.refused s in (file, h.0, (n, seed, valid), h.1, h.2, h.3));
+    run = λ s. (let h = f.run s in (file, h.0, h.1, (n, seed, valid), h.2, h.3));
+  };
+  input = f.input;
+  causes = record {
+    read_fault = λ s. (let h = f.read_fault s in (file, (n, seed, valid), h.0, h.1));
+    too_long = λ s. (let h = f.too_long s in (file, (n, seed, valid), h.0, h.1));
+  };
+  reported = f.reported;
+}
+
+-- words that are no valid list
+pub usage_wrong : (words : List Word) (k : ℕ) (files : Option Files) (left' : Option (List ℕ)) (faults faults' status : ℕ) (text : List ℕ) (report : Option Report) → UsageIs words k → status ≡ 2 → text ≡ usage_text k → report ≡ None → IsDue words files left' faults faults' status text report
+usage_wrong words k files left' faults faults' status text report usage s t r = record {
+  usage = record { wrong = λ _. (k, usage, t); valid = λ h. absurd (h s) };
+  refusal = record { refused = λ h. absurd (omega arith); run = λ h. absurd (not_run status h (inl s)) };
+  input = λ h. absurd (elim h [ inl a ↦ not_run status a (inl s) | inr q ↦ omega arith ]);
+  causes = record { read_fault = λ h. absurd (omega arith); too_long = λ h. absurd (omega arith) };
+  reported = subst (λ v. ReportClause v status text) (sym r) (inl s);
+}
+
+-- what is refused isn't read
+pub refused_none : (bytes : List ℕ) (f : ReadFault) → Refuses bytes (Cause f) → (p : ThinProgram) → Reads bytes p → ⊥
+refused_none bytes (NotBuilt at) h = h.1
+
+pub if_ok_map : {A E : Type 0} (v : Result A E) (P Q : A → Type 0) → ((a : A) → P a → Q a) → IfOk v P → IfOk v Q
+if_ok_map (Ok a) P Q f h = f a h
+if_ok_map (Err e) P Q f h = h
+
+-- a command that the words mean runs the file that it names
+pub means_at : (words : List Word) (command : Command) → Means words command → IsRunAt words (place_of_file command) (count_of_images command)
+means_at words (Run (File word) n (Order seed)) (file, valid, last) = (seed, file, valid, last)
+
+-- the file is the last of the words
+pub last_word : (words : List Word) (number n : ℕ) (name : Word) (r : IsRunAt words number n) → slice_get words (number - 1) ≡ Some name → name ≡ r.1
+last_word words number n name (seed, file, valid, last) h =
+    let f = valid.form in
+    let e : number ≡ 6 = last ∙ ap length f in
+    let g = subst (λ m. slice_get words (m - 1) ≡ Some name) e h in
+    let k = subst (λ ws. slice_get ws 5 ≡ Some name) f g in
+    cc
+
+pub words_within : (words : List Word) (number n : ℕ) → IsRunAt words number n → (0 < number) × (number ≤ length words)
+words_within words number n (seed, file, valid, last) = let e = last ∙ ap length valid.form in (omega arith, omega arith)
+
+pub images_within : (words : List Word) (number n : ℕ) → IsRunAt words number n → (1 ≤ n) × (n ≤ 64)
+images_within words number n (seed, file, valid, last) = valid.images

@@ -1,0 +1,50 @@
+//! The top call: all that the program does.
+
+ghost use Rattle.std.specs.Prelude.{◌≡◌, ◌≤◌, ℕ, List, Option};
+ghost use Rattle.caf_run.specs.Dues.{IsAnswer};
+ghost use Rattle.caf_run.specs.Words.{words_in, IsValid};
+
+use crate::due::{Due, what_is_due};
+use crate::writing::write_all;
+use caf_base::outside::{Sink, Source};
+use caf_report::report::Report;
+use std::alloc::Global;
+
+/// What a call answers: the exit status, and the report of a run where the status due is that of a run.
+#[derive(Drop)]
+pub struct Done {
+    pub status: u8,
+    pub report: Option<Report>,
+}
+
+/// All that the program does with the words behind its name: it judges them, reads the file that they name to its end,
+/// reads the program, runs it, and writes what is due. Status 0 Finished, 2 usage, 3 refused, 4 error stop, 6 stuck,
+/// 7 limit, 8 run fault, 9 clash, 10 read fault, 11 write fault, 12 want of memory, 13 too long.
+pub fn caf<S: Source, K: Sink>(
+    alloc: Global,
+    words: &Vec<String>,
+    source: &mut S,
+    sink: &mut K,
+) -> Done
+    ensures files { S.files source.new ≡ S.files source.old }
+    ensures untouched { ¬ IsValid (words_in words.now.items) → source.new ≡ source.old }
+    ensures answer { IsAnswer (words_in words.now.items) (S.files source.old) (S.left source.new) (S.faults source.old) (S.faults source.new)
+        (K.written sink.old) (K.written sink.new) (K.faults sink.old) (K.faults sink.new) result.status result.report }
+{
+    match what_is_due(alloc, words.as_slice(), source) {
+        Ok(
+            Due {
+                status,
+                text,
+                report,
+            },
+        ) => match write_all(sink, text.as_slice()) {
+            Ok(()) => Done { status, report },
+            Err(_) => Done { status: 11, report },
+        },
+        Err(_) => Done {
+            status: 12,
+            report: None,
+        },
+    }
+}

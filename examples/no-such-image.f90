@@ -1,0 +1,3 @@
+integer :: x[*]
+print *, x[3]
+end
