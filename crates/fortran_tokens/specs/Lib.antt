@@ -1,5 +1,0 @@
-pub mod Bytes
-pub mod Forms
-pub mod Scans
-pub mod Cuts
-pub mod Tokens
