@@ -1,5 +1,5 @@
 -- A line that is parted by a continuation.
-use Rattle.std.proofs.Common.{◌≡◌, ℕ, Bool, true, false, cond, not, ◌&&◌, nat_eq, List, [], ◌∷◌, ◌++◌, map, Option, Some, None, refl, ap, sym, ◌∙◌, subst, arith}
+use Rattle.std.proofs.Common.{◌≡◌, ℕ, Bool, true, false, cond, not, ◌&&◌, nat_eq, List, [], ◌∷◌, ◌++◌, Option, Some, None, refl, ap, sym, ◌∙◌, arith}
 use Rattle.std.specs.List.{flat_map}
 use Rattle.std.specs.Str.Lines.{lines}
 use Rattle.std.proofs.lemmas.List.Folds.{list_all-append}
@@ -8,12 +8,12 @@ use Rattle.std.proofs.lemmas.Bool.{and_from, and_right}
 use Rattle.std.proofs.lemmas.Bool.Decides.{nat_tests}
 use Rattle.fortran_lines.specs.declared.mark.Mark.{Mark}
 use Rattle.fortran_lines.specs.declared.context.Context.{Context}
-use Rattle.fortran_lines.specs.declared.context.Context.TheVariants.{Outside, Inside, Closed}
+use Rattle.fortran_lines.specs.declared.context.Context.TheVariants.{Outside, Inside}
 use Rattle.fortran_lines.specs.declared.context.Before.{Before}
 use Rattle.fortran_lines.specs.declared.context.Before.TheVariants.{Start, Continued}
 use Rattle.fortran_lines.specs.Marks.{is_blank, is_quote, all_blank}
 use Rattle.fortran_lines.specs.Contexts.{is_inside, behind, context_behind}
-use Rattle.fortran_lines.specs.Lines.{Part, is_nothing, code_part, put_before, before_amp, behind_amp, part_by, part_from, continued, part_of, by_next, joined, pieces}
+use Rattle.fortran_lines.specs.Lines.{is_nothing, code_part, put_before, before_amp, behind_amp, part_by, part_from, continued, part_of, by_next, joined, pieces}
 use Rattle.fortran_lines.specs.Texts.{texts_of, codes_of, plain, before_next, CanBeParted}
 use Rattle.fortran_lines.proofs.LineLemmas.{before_amp-amp, amp_no_blank, not_all_blank}
 use Rattle.fortran_lines.proofs.Nothing.{all_plain, plain_texts, plain_append}
@@ -90,7 +90,7 @@ code_of_part k code (Some r) = refl
 -- the second part behind the first one makes what the whole makes
 same_end : (ls : List (List Mark)) (one d : List Mark) (o : Option (List Mark × Mark))
     → by_next (joined ls) (part_by Outside (one ++ d) (in_front one o)).text (part_by Outside (one ++ d) (in_front one o)).next
-      ≡ by_next (joined ls) (one ++ (part_by (context_behind Outside one) d o).text) (part_by (context_behind Outside one) d o).next
+    ≡ by_next (joined ls) (one ++ (part_by (context_behind Outside one) d o).text) (part_by (context_behind Outside one) d o).next
 same_end ls one d None = refl
 same_end ls one d (Some r) = ap (λ k. joined ls (Continued r.1 k) (one ++ r.0)) (fold-append behind Outside one r.0)
 
@@ -118,7 +118,7 @@ second one two a c k back amp inked =
     let rest : behind_amp (c ∷ two) ≡ Some (two, c) = ap (λ b. cond b (behind_amp two) (cond (nat_eq c.code 38) (Some (two, c)) None)) no_blank ∙ ap (λ b. cond b (Some (two, c)) None) amp in
     let code = ap all_blank (code_of_part k d (before_amp d)) ∙ inked in
     let part : part_of (Continued a k) (c ∷ two) ≡ part_from k two =
-        ap (continued a k (c ∷ two)) rest ∙ ap (λ b. cond b (record { code = (part_from k two).code; text = []; next = Continued c k; left_open = None }) (part_from k two)) code in
+    ap (continued a k (c ∷ two)) rest ∙ ap (λ b. cond b (record { code = (part_from k two).code; text = []; next = Continued c k; left_open = None }) (part_from k two)) code in
     ap (λ b. cond b (joined back (Continued a k) one) (by_next (joined back) (one ++ (part_of (Continued a k) (c ∷ two)).text) (part_of (Continued a k) (c ∷ two)).next)) thing
     ∙ ap (λ p. by_next (joined back) (one ++ p.text) p.next) part
 

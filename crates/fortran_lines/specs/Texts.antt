@@ -1,9 +1,9 @@
 -- The texts of statements without their places.
-use Rattle.std.specs.Prelude.{ℕ, ◌≡◌, Bool, true, false, cond, List, [], ◌∷◌, ◌++◌, map}
+use Rattle.std.specs.Prelude.{ℕ, ◌≡◌, false, cond, List, [], ◌∷◌, map}
 use Rattle.fortran_lines.specs.declared.mark.Mark.{Mark}
 use Rattle.fortran_lines.specs.declared.context.Context.TheVariants.{Outside}
 use Rattle.fortran_lines.specs.declared.context.Before.{Before}
-use Rattle.fortran_lines.specs.declared.context.Before.TheVariants.{Start, Continued}
+use Rattle.fortran_lines.specs.declared.context.Before.TheVariants.{Start}
 use Rattle.fortran_lines.specs.Marks.{all_blank}
 use Rattle.fortran_lines.specs.Contexts.{context_behind}
 use Rattle.fortran_lines.specs.Lines.{is_nothing, code_part, part_of, statements_of}

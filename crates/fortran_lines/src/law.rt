@@ -16,5 +16,4 @@ pub fn nothing_put_in()
 pub fn continuation_put_in()
     ensures { (bytes bytes' : List ℕ) (front back : List (List ℕ)) (one two : List ℕ) → lines bytes ≡ front ++ (one ++ two) ∷ back → lines bytes' ≡ front ++ (one ++ 38 ∷ []) ∷ (38 ∷ two) ∷ back
         → CanBeParted front one two → texts_of bytes' ≡ texts_of bytes }
-{
-}
+{}

@@ -61,3 +61,13 @@ cut_few text from (p ∷ ps) to (b, n, s, t, rest) =
     let next = cut_few text p.to ps to rest in
     let before = b.ordered in
     omega arith
+
+-- blanks behind a blank are blanks from it on
+pub blanks_earlier : (text : List ℕ) (at to : ℕ) → is_blank (slice_index text at) ≡ true → AreBlanks text (at + 1) to → AreBlanks text at to
+blanks_earlier text at to e h = record { ordered = (let k = h.ordered in omega arith); blanks = each }
+  where
+    each : (i : ℕ) → at ≤ i → i < to → is_blank (slice_index text i) ≡ true
+    each i a b = elim (cases_eq i at) [
+      | inl s ↦ ap (λ j. is_blank (slice_index text j)) s ∙ e
+      | inr n ↦ h.blanks i (omega arith) b
+    ]

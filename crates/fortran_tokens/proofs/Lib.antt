@@ -10,3 +10,4 @@ pub mod Widths
 pub mod Cutting
 pub mod Wrongs
 pub mod Same
+pub mod Again

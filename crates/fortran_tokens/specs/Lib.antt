@@ -3,3 +3,4 @@ pub mod Forms
 pub mod Scans
 pub mod Cuts
 pub mod Tokens
+pub mod Words
