@@ -4,3 +4,4 @@ pub mod Feeds
 pub mod FirstFaults
 pub mod Places
 pub mod Nothing
+pub mod Parting

@@ -21,7 +21,7 @@ all_blank-blank : (code : List Mark) (m : Mark) → is_blank m ≡ true → all_
 all_blank-blank code m h = list_all-append is_blank code (m ∷ []) ∙ (ap (λ b. all_blank code && (b && true)) h ∙ and-true (all_blank code))
 
 -- with another byte more they are not
-not_all_blank : (code : List Mark) (m : Mark) (b : Bool) → is_blank m ≡ false → (b && all_blank (code ++ m ∷ [])) ≡ false
+pub not_all_blank : (code : List Mark) (m : Mark) (b : Bool) → is_blank m ≡ false → (b && all_blank (code ++ m ∷ [])) ≡ false
 not_all_blank code m b h = and_right b (all_blank (code ++ m ∷ [])) (list_all-append is_blank code (m ∷ []) ∙ (ap (λ b. all_blank code && (b && true)) h ∙ and_right (all_blank code) false refl))
 
 -- a blank more

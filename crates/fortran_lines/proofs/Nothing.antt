@@ -8,7 +8,7 @@ use Rattle.fortran_lines.specs.declared.context.Before.{Before}
 use Rattle.fortran_lines.specs.declared.context.Before.TheVariants.{Start, Continued}
 use Rattle.fortran_lines.specs.Marks.{marks_from, numbered}
 use Rattle.fortran_lines.specs.Lines.{is_nothing, part_of, by_next, joined, pieces, statements_of}
-use Rattle.fortran_lines.specs.Texts.{codes_of, texts_of}
+use Rattle.fortran_lines.specs.Texts.{codes_of, texts_of, plain}
 use Rattle.fortran_lines.proofs.Places.{all_moved, texts_moved, joined_moved, pieces_moved, nothing_all}
 
 by_next_same : (one two : Before → List Mark → List (List Mark)) → ((b : Before) (t : List Mark) → one b t ≡ two b t) → (t : List Mark) (b : Before) → by_next one t b ≡ by_next two t b
@@ -26,12 +26,7 @@ put_in (l ∷ front) line back e b t =
 origin : Pos → Pos
 origin p = record { line = 0; col = 0 }
 
--- bytes at that place
-abbrev plain : List ℕ → List Mark
-plain [] = []
-plain (b ∷ bs) = record { code = b; at = record { line = 0; col = 0 } } ∷ plain bs
-
-abbrev all_plain : List (List ℕ) → List (List Mark)
+abbrev pub all_plain : List (List ℕ) → List (List Mark)
 all_plain ls = map plain ls
 
 plain_marks : (line col : ℕ) (bs : List ℕ) → all_moved origin (marks_from line col bs) ≡ plain bs
@@ -56,7 +51,7 @@ pub plain_texts : (bytes : List ℕ) → texts_of bytes ≡ codes_of (flat_map p
 plain_texts bytes =
     sym (ap codes_of (ap (flat_map pieces) (ap (λ ls. joined ls Start []) (sym (plain_lines 1 (lines bytes))) ∙ joined_moved origin (numbered 1 (lines bytes)) Start []) ∙ pieces_moved origin (joined (numbered 1 (lines bytes)) Start [])) ∙ codes_texts (statements_of bytes))
 
-plain_append : (xs ys : List (List ℕ)) → all_plain (xs ++ ys) ≡ all_plain xs ++ all_plain ys
+pub plain_append : (xs ys : List (List ℕ)) → all_plain (xs ++ ys) ≡ all_plain xs ++ all_plain ys
 plain_append [] ys = refl
 plain_append (x ∷ xs) ys = ap (λ l. plain x ∷ l) (plain_append xs ys)
 

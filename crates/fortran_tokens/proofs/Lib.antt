@@ -1,0 +1,13 @@
+pub mod Fronts
+pub mod Names
+pub mod Numbers
+pub mod Literals
+pub mod Signs
+pub mod Sorts
+pub mod Longest
+pub mod LastPlaces
+pub mod Widths
+pub mod Cutting
+pub mod Wrongs
+pub mod Same
+pub mod Again

@@ -1,0 +1,17 @@
+//! Laws of tokens that no caller runs.
+
+ghost use Rattle.std.specs.Prelude.{ℕ, ◌≡◌, List, length};
+ghost use Rattle.fortran_tokens.specs.declared.cut.Piece.{Piece};
+ghost use Rattle.fortran_tokens.specs.Cuts.{IsCut};
+ghost use Rattle.fortran_tokens.specs.Words.{words_of, spaced};
+
+/// A text is cut into tokens in one way at most.
+pub fn one_cutting()
+    ensures { (text : List ℕ) (ps qs : List Piece) → IsCut text 0 ps (length text) → IsCut text 0 qs (length text) → ps ≡ qs }
+{}
+
+/// The texts of a text's tokens, with a blank behind each, are cut into the same tokens again: of the same kinds, with the same texts.
+pub fn read_again()
+    ensures { (text : List ℕ) (ps : List Piece) → IsCut text 0 ps (length text)
+        → (qs : List Piece) × IsCut (spaced (words_of text ps)) 0 qs (length (spaced (words_of text ps))) × (words_of (spaced (words_of text ps)) qs ≡ words_of text ps) }
+{}
