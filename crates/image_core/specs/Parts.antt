@@ -21,16 +21,6 @@ use Rattle.image_core.specs.Lists.{list_at, last_of}
 use Rattle.image_core.specs.Moments.{Rules, Moment, can_step, HasEnded, item_at, with_item}
 use Rattle.image_core.specs.Prepared.{IsServed}
 
--- the rules of a run from those of its machines, its memories and its board
-abbrev pub rules : {C M B : Type 0} → (C → Move C Ask Reply) → (M → List Entry → ℕ → Ask → Bool) → (M → List Entry → ℕ → Ask → Reply) → (B → List Entry → ℕ → Ask → Bool) → (B → List Entry → ℕ → Ask → Reply) → Rules C M B
-rules step memory_ready memory_reply board_ready board_reply = record {
-  step = step;
-  memory_ready = memory_ready;
-  memory_reply = memory_reply;
-  board_ready = board_ready;
-  board_reply = board_reply;
-}
-
 -- the events of each image
 abbrev pub event_lists : {M : Type 0} → List (ImageRun M) → List (List Event)
 event_lists images = map (λ r. r.events.items) images

@@ -4,7 +4,7 @@ use Rattle.caf_events.specs.declared.event.Event.{Event}
 use Rattle.caf_events.specs.declared.event.Entry.{Entry}
 use Rattle.trace_theory.specs.Entries.{of, Rises, IsTraceOrder}
 use Rattle.trace_theory.specs.Runs.{TraceOf}
-use Rattle.image_core.specs.Lists.{image_of, key_of, stamp_of, entries_of, history_of}
+use Rattle.core_runs.specs.Lists.{image_of, key_of, stamp_of, entries_of, history_of}
 
 -- each image's events have rising stamps
 abbrev pub EachRises : List (List Event) → Type 0

@@ -11,7 +11,7 @@ use Rattle.caf_events.specs.Asks.{place_of}
 use Rattle.caf_events.specs.Histories.{last_stamp_of}
 use Rattle.caf_events.specs.Walkers.{IsAtAsk, IsOver, AsksNext, IsAtLine, Continues}
 use Rattle.trace_theory.specs.Machines.{Move, asks, goes, over, Stops}
-use Rattle.image_core.specs.Lists.{list_at, entry, last_of}
+use Rattle.core_runs.specs.Lists.{list_at, entry, last_of}
 
 -- how the images go on, and how the memories and the board serve them
 pub record Rules (C M B : Type 0) : Type 0 where
@@ -20,6 +20,16 @@ pub record Rules (C M B : Type 0) : Type 0 where
   pub memory_reply : M → List Entry → ℕ → Ask → Reply
   pub board_ready : B → List Entry → ℕ → Ask → Bool
   pub board_reply : B → List Entry → ℕ → Ask → Reply
+
+-- the rules of a run from those of its machines, its memories and its board
+abbrev pub rules : {C M B : Type 0} → (C → Move C Ask Reply) → (M → List Entry → ℕ → Ask → Bool) → (M → List Entry → ℕ → Ask → Reply) → (B → List Entry → ℕ → Ask → Bool) → (B → List Entry → ℕ → Ask → Reply) → Rules C M B
+rules step memory_ready memory_reply board_ready board_reply = record {
+  step = step;
+  memory_ready = memory_ready;
+  memory_reply = memory_reply;
+  board_ready = board_ready;
+  board_reply = board_reply;
+}
 
 -- where each image stands and the events that it made, and what each object was made with and its history
 pub record Moment (C M B : Type 0) : Type 0 where

@@ -1,0 +1,9 @@
+pub mod Beginnings
+pub mod CoreRuns
+pub mod Kept
+pub mod Lists
+pub mod Moments
+pub mod Orders
+pub mod Sequences
+pub mod Traces
+pub mod Waits
