@@ -1,0 +1,7 @@
+pub mod Numbered
+pub mod Weaves
+pub mod Beginnings
+pub mod Lanes
+pub mod KeptMore
+pub mod CoreRuns
+pub mod Waits

@@ -4,6 +4,7 @@ use Rattle.std.specs.Prelude.{ℕ, ◌≡◌, List, [], length, map, Some}
 use Rattle.caf_base.specs.declared.place.Place.TheVariants.{Own}
 use Rattle.caf_events.specs.declared.reply.Reply.TheVariants as replies
 use Rattle.caf_events.specs.declared.event.Event.{Event}
+use Rattle.caf_events.specs.Answers.{Answers}
 use Rattle.caf_events.specs.Asks.{place_of}
 use Rattle.caf_events.specs.Histories.{Served}
 use Rattle.trace_theory.specs.Entries.{Each}
@@ -11,15 +12,19 @@ use Rattle.trace_theory.specs.Machines.{WalkTo, Stops}
 use Rattle.core_runs.specs.Lists.{said, list_at, IsWoven}
 use Rattle.core_runs.specs.Moments.{Rules, Moment, item_at}
 use Rattle.core_runs.specs.Beginnings.{Beginning, IsImage, IsPlace, numbers_to}
+use Rattle.core_runs.specs.CoreRuns.{IsFit}
 
--- the events are a walk of the image's program to where it stands, at an ask or its end; each stands at a place of the run, and its own are done
+-- the events are a walk of the image's program to where it stands, at an ask or its end; each stands at a place of the run and has a reply that answers it,
+-- and the image's own are done
 pub record IsLane {C M B : Type 0} (r : Rules C M B) (b : Beginning C M B) (i : ℕ) (es : List Event) (c : C) : Type 0 where
   pub walks : WalkTo r.step (b.first i) (map said es) c
   pub rests : Stops (r.step c)
   pub places : Each (λ e. IsPlace b (place_of e.ask)) es
+  pub answered : Each (λ e. Answers e.ask e.reply) es
   pub alone : Each (λ e. place_of e.ask ≡ Own → e.reply ≡ replies.Done) es
 
 pub record IsKept {C M B : Type 0} (r : Rules C M B) (b : Beginning C M B) (m : Moment C M B) : Type 0 where
+  pub fit : IsFit r b
   pub count : length m.configs ≡ b.images
   pub event_count : length m.events ≡ b.images
   pub history_count : length m.histories ≡ b.images

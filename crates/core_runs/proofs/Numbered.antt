@@ -1,9 +1,8 @@
 -- Lists whose items are counted from 1, where one item is written again.
 use Rattle.std.proofs.Common.{◌≡◌, ℕ, zero, suc, ◌+◌, ◌-◌, ◌<◌, ◌≤◌, List, [], ◌∷◌, ◌++◌, ◌⊎◌, inl, inr, length, refl, ap, sym, ◌∙◌, subst, arith}
 use Rattle.std.specs.Prelude.{slice_index_or, slice_get, slice_set, Option, Some, None}
-use Rattle.image_core.specs.Lists.{list_at}
-use Rattle.image_core.specs.Moments.{item_at, with_item}
-use Rattle.image_core.specs.Parts.{total}
+use Rattle.core_runs.specs.Lists.{list_at}
+use Rattle.core_runs.specs.Moments.{item_at, with_item}
 
 pub item_within : {A : Type 0} (xs : List A) (k : ℕ) (x : A) → slice_get xs k ≡ Some x → k < length xs
 item_within [] k x h = absurd (cc)
@@ -44,9 +43,3 @@ pub list_other : {A : Type 0} (ls : List (List A)) (i j : ℕ) (x : List A) → 
 list_other ls zero j x n = refl
 list_other ls (suc k) zero x n = refl
 list_other ls (suc k) (suc j) x n = index_other ls k j x [] (λ e. n (ap suc e))
-
--- a sum with one item written again
-pub total_set : {A : Type 0} (f : A → ℕ) (xs : List A) (k : ℕ) (x y : A) → slice_get xs k ≡ Some x → total f (slice_set xs k y) + f x ≡ total f xs + f y
-total_set f [] k x y h = absurd (cc)
-total_set f (z ∷ zs) zero x y h = let e : z ≡ x = cc in rw e (omega arith)
-total_set f (z ∷ zs) (suc k) x y h = let r = total_set f zs k x y h in omega arith

@@ -12,12 +12,11 @@ use Rattle.caf_events.specs.Histories.{last_stamp_of, last_stamp_from}
 use Rattle.trace_theory.specs.Entries.{last_or}
 use Rattle.trace_theory.specs.Runs.{Woven, Adds, place_last}
 use Rattle.trace_theory.proofs.More.{woven_more}
-use Rattle.image_core.specs.Lists.{image_of, key_of, stamp_of, entry, list_at, entries_of, history_of, last_of, IsWoven}
-use Rattle.image_core.specs.Moments.{Rules, Moment, item_at, with_item, ready_there, memory_ready_at, history_there, histories_with, board_with, Steps}
-use Rattle.image_core.specs.Orders.{Ordered}
-use Rattle.image_core.proofs.Numbered.{item_within, index_same, index_other, list_other}
+use Rattle.core_runs.specs.Lists.{image_of, key_of, stamp_of, entry, list_at, entries_of, history_of, last_of, IsWoven}
+use Rattle.core_runs.specs.Moments.{Rules, Moment, item_at, with_item, ready_there, memory_ready_at, history_there, histories_with, board_with, Steps}
+use Rattle.core_runs.proofs.Numbered.{item_within, index_same, index_other, list_other}
 
-map_append : {A B : Type 0} (f : A → B) (xs ys : List A) → map f (xs ++ ys) ≡ map f xs ++ map f ys
+pub map_append : {A B : Type 0} (f : A → B) (xs ys : List A) → map f (xs ++ ys) ≡ map f xs ++ map f ys
 map_append f [] ys = refl
 map_append f (x ∷ xs) ys = ap (λ zs. f x ∷ zs) (map_append f xs ys)
 
@@ -130,26 +129,17 @@ module _ {C M B : Type 0} (r : Rules C M B) (m m' : Moment C M B) (k : ℕ) (e :
   pub woven_step : IsWoven m.events m.board_history m.histories → IsWoven m'.events m'.board_history m'.histories
   woven_step w = woven_more Entry image_of key_of stamp_of (entries_of m.events) (history_of m.board_history m.histories) (entries_of m'.events) (history_of m'.board_history m'.histories) (entry (suc k) e) w adds
 
-with_length : {A : Type 0} (xs : List A) (n : ℕ) (x : A) → length (with_item xs n x) ≡ length xs
+-- the count of items stays
+pub with_length : {A : Type 0} (xs : List A) (n : ℕ) (x : A) → length (with_item xs n x) ≡ length xs
 with_length xs zero x = refl
 with_length xs (suc k) x = length-set xs k x
 
-histories_length : (q : Place) (hs : List (List Entry)) (x : Entry) → length (histories_with q hs x) ≡ length hs
+pub histories_length : (q : Place) (hs : List (List Entry)) (x : Entry) → length (histories_with q hs x) ≡ length hs
 histories_length (places.Memory owner) hs x = with_length hs owner.0 (list_at hs owner.0 ++ x ∷ [])
 histories_length places.Board hs x = refl
 histories_length places.Own hs x = refl
 
-woven_by : {C M B : Type 0} (r : Rules C M B) (m m' : Moment C M B) (n : ℕ) (e : Event) → length m.events ≡ length m.configs → length m.histories ≡ length m.memories → Steps r m n e m' → IsWoven m.events m.board_history m.histories → IsWoven m'.events m'.board_history m'.histories
+-- a step keeps the lists those of one run, whatever its image's number
+pub woven_by : {C M B : Type 0} (r : Rules C M B) (m m' : Moment C M B) (n : ℕ) (e : Event) → length m.events ≡ length m.configs → length m.histories ≡ length m.memories → Steps r m n e m' → IsWoven m.events m.board_history m.histories → IsWoven m'.events m'.board_history m'.histories
 woven_by r m m' zero e as_many as_many_histories s w = absurd (let h = s.stands in cc)
 woven_by r m m' (suc k) e as_many as_many_histories s w = woven_step r m m' k e as_many as_many_histories s w
-
--- an ordered run keeps the lists those of one run
-pub ordered_woven : {C M B : Type 0} (r : Rules C M B) (last : ℕ) (m : Moment C M B) (xs : List Entry) (last' : ℕ) (m' : Moment C M B) → Ordered r last m xs last' m' → length m.events ≡ length m.configs → length m.histories ≡ length m.memories
-    → IsWoven m.events m.board_history m.histories → IsWoven m'.events m'.board_history m'.histories
-ordered_woven r last m [] last' m' (p, q) as_many as_many_histories w = subst (λ v. IsWoven v.events v.board_history v.histories) (sym q) w
-ordered_woven r last m (x ∷ xs) last' m' (p, next, s, rest) as_many as_many_histories w =
-    let a = ap length s.events ∙ with_length m.events x.image.0 (list_at m.events x.image.0 ++ x.event ∷ []) in
-    let b = ap length s.configs ∙ with_length m.configs x.image.0 s.to in
-    let c = ap length s.histories ∙ histories_length (place_of x.event.ask) m.histories (entry x.image.0 x.event) in
-    let d = ap length s.memories in
-    ordered_woven r x.image.0 next xs last' m' rest (a ∙ as_many ∙ sym b) (c ∙ as_many_histories ∙ sym d) (woven_by r m next x.image.0 x.event as_many as_many_histories s w)
