@@ -5,3 +5,4 @@ pub mod Lanes
 pub mod KeptMore
 pub mod CoreRuns
 pub mod Waits
+pub mod OrderTraces

@@ -13,8 +13,8 @@ use Rattle.thin_parts.specs.ThinMemory.{MemoryMeaning}
 use Rattle.thin_parts.specs.ThinBoard.{BoardMeaning}
 use Rattle.image_core.specs.declared.run.ImageRun.{ImageRun}
 use Rattle.image_core.specs.declared.parts.PartsOf.{PartsOf}
-use Rattle.image_core.specs.Lists.{image_of, key_of, stamp_of, list_at, entries_of, history_of, last_of, IsWoven}
-use Rattle.image_core.specs.Moments.{Moment}
+use Rattle.core_runs.specs.Lists.{image_of, key_of, stamp_of, list_at, entries_of, history_of, last_of, IsWoven}
+use Rattle.core_runs.specs.Moments.{Moment}
 use Rattle.image_core.specs.Parts.{EachAt, AreNumbered, IsBounded, moment_of, event_lists, total, steps_made}
 use Rattle.image_core.specs.Starts.{IsFresh, IsNewMemory, IsStart}
 

@@ -10,11 +10,12 @@ use Rattle.caf_events.specs.declared.event.Entry.{Entry}
 use Rattle.caf_events.specs.Asks.{place_of}
 use Rattle.caf_events.specs.Histories.{last_stamp_of}
 use Rattle.caf_events.proofs.Serving.{last_stamp_more}
-use Rattle.image_core.specs.Lists.{list_at, entry, last_of}
-use Rattle.image_core.specs.Moments.{Rules, Moment, item_at, with_item, history_there, histories_with, board_with, Steps}
+use Rattle.core_runs.specs.Lists.{list_at, entry, last_of}
+use Rattle.core_runs.specs.Moments.{Rules, Moment, item_at, with_item, history_there, histories_with, board_with, Steps}
 use Rattle.image_core.specs.Parts.{total, steps_made, IsBounded, Spends}
 use Rattle.image_core.proofs.Last.{last_more}
-use Rattle.image_core.proofs.Numbered.{item_within, index_same, index_either, list_other, total_set}
+use Rattle.image_core.proofs.Totals.{total_set}
+use Rattle.core_runs.proofs.Numbered.{item_within, index_same, index_either, list_other}
 
 get_index : {A : Type 0} (xs : List A) (k : ℕ) (d : A) → k < length xs → slice_get xs k ≡ Some (slice_index_or xs k d)
 get_index [] k d h = absurd (omega arith)

@@ -2,11 +2,10 @@ pub mod Beginnings
 pub mod Bounds
 pub mod Heads
 pub mod Last
-pub mod Numbered
 pub mod PartSteps
 pub mod Readiness
 pub mod Slices
+pub mod Totals
 pub mod Turns
-pub mod Weaves
 pub mod Traces
 pub mod WholeSteps

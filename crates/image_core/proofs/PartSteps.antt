@@ -13,10 +13,11 @@ use Rattle.caf_events.specs.Histories.{last_stamp_of}
 use Rattle.trace_theory.specs.Machines.{Move, Stops}
 use Rattle.image_core.specs.declared.run.ImageRun.{ImageRun}
 use Rattle.image_core.specs.declared.parts.PartsOf.{PartsOf}
-use Rattle.image_core.specs.Lists.{list_at, last_of}
-use Rattle.image_core.specs.Moments.{Moment, Steps}
+use Rattle.core_runs.specs.Lists.{list_at, last_of}
+use Rattle.core_runs.specs.Moments.{Moment, Steps}
 use Rattle.image_core.specs.Prepared.{StepsAt, StepsAlone, place_aside}
-use Rattle.image_core.specs.Parts.{rules, moment_of, event_lists, EachAt, AreNumbered, IsBounded, Spends, IsPreparedRun}
+use Rattle.core_runs.specs.Moments.{rules}
+use Rattle.image_core.specs.Parts.{moment_of, event_lists, EachAt, AreNumbered, IsBounded, Spends, IsPreparedRun}
 use Rattle.image_core.proofs.Slices.{map_set, map_index, map_get, map_length}
 use Rattle.image_core.proofs.WholeSteps.{aside_place, aside_within, own_steps, board_steps, memory_steps}
 

@@ -20,10 +20,11 @@ use Rattle.image_core.specs.declared.run.ImageRun.{ImageRun}
 use Rattle.image_core.specs.declared.parts.PartsOf.{PartsOf}
 use Rattle.image_core.specs.declared.prepared.Prepared.{Prepared}
 use Rattle.image_core.specs.declared.prepared.Prepared.TheVariants as prepareds
-use Rattle.image_core.specs.Lists.{list_at}
-use Rattle.image_core.specs.Moments.{Rules, Moment, item_at, ready_there, memory_ready_at, can_move, can_move_from, can_step, HasEnded, HasEndedFrom}
+use Rattle.core_runs.specs.Lists.{list_at}
+use Rattle.core_runs.specs.Moments.{Rules, Moment, item_at, ready_there, memory_ready_at, can_move, can_move_from, can_step, HasEnded, HasEndedFrom}
 use Rattle.image_core.specs.Prepared.{AsksAt, IsServedNext}
-use Rattle.image_core.specs.Parts.{rules, moment_of, event_lists, IsPreparedRun, IsSetAside, IsServedThere}
+use Rattle.core_runs.specs.Moments.{rules}
+use Rattle.image_core.specs.Parts.{moment_of, event_lists, IsPreparedRun, IsSetAside, IsServedThere}
 use Rattle.image_core.proofs.Slices.{map_index, map_get, map_length, map_same, index_set}
 
 abbrev build : {C M B : Type 0} → List C → List (List Event) → List M → List (List Entry) → B → List Entry → Moment C M B

@@ -7,14 +7,15 @@ use Rattle.caf_events.specs.declared.event.Event.{Event}
 use Rattle.caf_events.specs.declared.event.Entry.{Entry}
 use Rattle.caf_events.specs.Events.{EndsRun}
 use Rattle.trace_theory.specs.Entries.{Each}
-use Rattle.image_core.specs.Lists.{entry, list_at}
-use Rattle.image_core.specs.Moments.{Rules, Moment, item_at, can_move_from, can_step, Steps}
+use Rattle.core_runs.specs.Lists.{entry, list_at}
+use Rattle.core_runs.specs.Moments.{Rules, Moment, item_at, can_move_from, can_step, Steps}
 use Rattle.image_core.specs.declared.choices.RunEnd.TheVariants.{Ending}
 use Rattle.image_core.specs.Orders.{IsOrderRun, IsNext, IsFirstOf, Picks, NoneCan, Ordered, NoneEnds, Advances}
 use Rattle.image_core.specs.Orders.{AreFewer}
 use Rattle.image_core.specs.Parts.{total, IsBounded, Spends}
 use Rattle.image_core.proofs.Bounds.{bounded_more}
-use Rattle.image_core.proofs.Numbered.{item_within, index_same, total_set}
+use Rattle.image_core.proofs.Totals.{total_set}
+use Rattle.core_runs.proofs.Numbered.{item_within, index_same}
 
 -- an ordered run goes on by one step
 pub ordered_more : {C M B : Type 0} (r : Rules C M B) (last : ℕ) (m : Moment C M B) (xs : List Entry) (last' : ℕ) (m' m'' : Moment C M B) (i : ℕ) (e : Event) → Ordered r last m xs last' m' → Picks r m' last' i → Steps r m' i e m'' → Ordered r last m (xs ++ entry i e ∷ []) i m''

@@ -15,12 +15,13 @@ use Rattle.caf_events.specs.Walkers.{IsAtAsk, AsksNext, IsAtLine, Continues}
 use Rattle.trace_theory.specs.Machines.{Move, asks, goes, over, Stops}
 use Rattle.image_core.specs.declared.run.ImageRun.{ImageRun}
 use Rattle.image_core.specs.declared.parts.PartsOf.{PartsOf}
-use Rattle.image_core.specs.Lists.{list_at, entry, last_of}
-use Rattle.image_core.specs.Moments.{Rules, Moment, item_at, history_there, ready_there, reply_there, memory_ready_at, memory_reply_at, with_item, histories_with, board_with, IsDue, Steps}
+use Rattle.core_runs.specs.Lists.{list_at, entry, last_of}
+use Rattle.core_runs.specs.Moments.{Rules, Moment, item_at, history_there, ready_there, reply_there, memory_ready_at, memory_reply_at, with_item, histories_with, board_with, IsDue, Steps}
 use Rattle.image_core.specs.declared.prepared.Prepared.{Prepared}
 use Rattle.image_core.specs.declared.prepared.Prepared.TheVariants as prepareds
 use Rattle.image_core.specs.Prepared.{StepsAt, StepsAlone, IsServed, IsServedNext, IsOwnNext, place_aside}
-use Rattle.image_core.specs.Parts.{rules, moment_of, event_lists, IsSetAside, IsServedThere}
+use Rattle.core_runs.specs.Moments.{rules}
+use Rattle.image_core.specs.Parts.{moment_of, event_lists, IsSetAside, IsServedThere}
 use Rattle.image_core.proofs.Slices.{map_set, map_index, map_get, map_length, map_same}
 
 -- two names of the next ask are one

@@ -17,8 +17,8 @@ use Rattle.image_core.specs.declared.parts.Ready.{Ready}
 use Rattle.image_core.specs.declared.parts.Ready.TheVariants as answers
 use Rattle.image_core.specs.declared.prepared.Prepared.{Prepared}
 use Rattle.image_core.specs.declared.prepared.Prepared.TheVariants as prepareds
-use Rattle.image_core.specs.Lists.{list_at, last_of}
-use Rattle.image_core.specs.Moments.{Rules, Moment, can_step, HasEnded, item_at, with_item}
+use Rattle.core_runs.specs.Lists.{list_at, last_of}
+use Rattle.core_runs.specs.Moments.{Rules, Moment, can_step, HasEnded, item_at, with_item}
 use Rattle.image_core.specs.Prepared.{IsServed}
 
 -- the events of each image

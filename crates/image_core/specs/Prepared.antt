@@ -14,8 +14,8 @@ use Rattle.caf_events.specs.Walkers.{IsOver, AsksNext, IsAtLine, Continues, Ends
 use Rattle.trace_theory.specs.Machines.{Move, asks, goes, over, Stops}
 use Rattle.image_core.specs.declared.prepared.Prepared.{Prepared}
 use Rattle.image_core.specs.declared.prepared.Prepared.TheVariants as prepareds
-use Rattle.image_core.specs.Lists.{entry, last_of}
-use Rattle.image_core.specs.Moments.{item_at}
+use Rattle.core_runs.specs.Lists.{entry, last_of}
+use Rattle.core_runs.specs.Moments.{item_at}
 
 -- how an object serves: what it was made with, its history, its room, when it is ready and what it replies
 module _ {O M : Type 0} (made : O → M) (history : O → List Entry) (has_room : O → ℕ → Ask → Type 0) (test : M → List Entry → ℕ → Ask → Bool) (answer : M → List Entry → ℕ → Ask → Reply) where

@@ -1,15 +1,18 @@
-//! The ordered run: steps one after the other, chosen by the rotation, until none can be made.
+//! The ordered run: steps one after the other, each by the image that is chosen among the candidates, until none can be made.
 
-ghost use Rattle.std.specs.Prelude.{◌≡◌, ◌<◌, ◌≤◌, ◌+◌, ◌-◌, ◌^◌, ◌↔◌, ℕ, suc, List, [], ◌∷◌, ◌++◌, length, map, IfOk, OnOk, OnErr, IfSome, IfNone, IsTrue, Some, None, true, false, slice_index_or, MatchOption};
+ghost use Rattle.std.specs.Prelude.{◌≡◌, ◌<◌, ◌≤◌, ◌+◌, ◌-◌, ◌^◌, ◌↔◌, ℕ, suc, List, [], ◌∷◌, ◌++◌, length, map, IfOk, OnOk, OnErr, IfSome, IfNone, IsTrue, Some, None, true, false, slice_index, slice_index_or, MatchOption};
 ghost use Rattle.caf_events.specs.Events.{EndsRun};
 ghost use Rattle.caf_events.specs.declared.event.Event.{Event};
-ghost use Rattle.image_core.specs.Lists.{IsWoven};
-ghost use Rattle.image_core.specs.Moments.{can_step, Steps};
-ghost use Rattle.image_core.specs.Parts.{rules, moment_of, event_lists, AreNumbered, IsBounded, IsPrepared, total};
-ghost use Rattle.image_core.specs.Orders.{last_choice, Picks, NoneCan, AllEnded, OneWaits, Advances, IsOrderRun, MatchesIdle, IsFirstOf, AreFewer};
+ghost use Rattle.core_runs.specs.Moments.{can_step, rules};
+ghost use Rattle.core_runs.specs.Beginnings.{Beginning};
+ghost use Rattle.core_runs.specs.Kept.{IsKept};
+ghost use Rattle.core_runs.specs.Orders.{candidates};
+ghost use Rattle.image_core.specs.Parts.{moment_of, event_lists, AreNumbered, IsBounded, IsPrepared, total};
+ghost use Rattle.image_core.specs.Choosing.{chosen_by, drawn};
+ghost use Rattle.image_core.specs.Orders.{IsNextBehind, NoneCan, AllEnded, OneWaits, PicksOne, Advances, IsOrderRun, MatchesIdle, IsFirstOf, AreFewer};
 ghost use Rattle.image_core.specs.declared.run.ImageRun.{ImageRun};
 
-use crate::choices::{Choices, RunEnd};
+use crate::choices::{Choices, RunEnd, generator_step};
 use crate::parts::{PartsOf, Ready};
 use caf_base::place::ImageNo;
 use caf_base::refusal::NoMemory;
@@ -35,13 +38,13 @@ impl<M: Walker, O: Object, B: Object> PartsOf<M, O, B> {
         Ok(None)
     }
 
-    // The image that the rotation chooses behind the last one, with its step set aside; none where no image can step.
-    fn pick(&mut self, last: u32) -> Result<Option<ImageNo>, NoMemory>
+    // The image behind the last one that can step now, with its step set aside; none where no image can step.
+    fn next_behind(&mut self, last: u32) -> Result<Option<ImageNo>, NoMemory>
         requires few { length self.old.images.items < 2 ^ 31 }
         requires numbered { AreNumbered self.old.images.items }
         ensures numbered { AreNumbered self.new.images.items }
         ensures same { moment_of M.config O.made O.history B.made B.history self.new ≡ moment_of M.config O.made O.history B.made B.history self.old }
-        ensures picked { IfOk result (λ o. MatchOption o (NoneCan (rules M.step O.ready_after O.reply_after B.ready_after B.reply_after) (moment_of M.config O.made O.history B.made B.history self.old)) (λ i. Picks (rules M.step O.ready_after O.reply_after B.ready_after B.reply_after) (moment_of M.config O.made O.history B.made B.history self.old) last i.0)) }
+        ensures picked { IfOk result (λ o. MatchOption o (NoneCan (rules M.step O.ready_after O.reply_after B.ready_after B.reply_after) (moment_of M.config O.made O.history B.made B.history self.old)) (λ i. IsNextBehind (rules M.step O.ready_after O.reply_after B.ready_after B.reply_after) (moment_of M.config O.made O.history B.made B.history self.old) last i.0)) }
         ensures within { IfOk result (λ o. IfSome o (λ i. (0 < i.0) × (i.0 ≤ length self.old.images.items))) }
         ensures prepared { IfOk result (λ o. IfSome o (λ i. IsPrepared M.config M.step O.made O.history O.has_room O.ready_after O.reply_after B.made B.history B.has_room B.ready_after B.reply_after self.new (i.0 - 1))) }
     {
@@ -54,23 +57,99 @@ impl<M: Walker, O: Object, B: Object> PartsOf<M, O, B> {
         self.first_ready(1, last.min(count) + 1)
     }
 
-    // One step of the ordered run; none where no image can step.
-    fn advance(&mut self, last: u32) -> Result<Option<ImageNo>, NoMemory>
+    // How many candidates there are.
+    fn count_candidates(&mut self) -> Result<u32, NoMemory>
+        requires few { length self.old.images.items < 2 ^ 31 }
+        requires numbered { AreNumbered self.old.images.items }
+        ensures numbered { AreNumbered self.new.images.items }
+        ensures same { moment_of M.config O.made O.history B.made B.history self.new ≡ moment_of M.config O.made O.history B.made B.history self.old }
+        ensures count { IfOk result (λ n. n ≡ length (candidates (rules M.step O.ready_after O.reply_after B.ready_after B.reply_after) (moment_of M.config O.made O.history B.made B.history self.old))) }
+    {
+        let mut count: u32 = 0;
+        for image in 1..self.images.len() as u32 + 1 {
+            if let Ready::Can = self.prepare(ImageNo(image))? {
+                count += 1;
+            }
+        }
+        Ok(count)
+    }
+
+    // The candidate at a place, from 0, with its step set aside.
+    fn candidate_at(&mut self, place: u32) -> Result<ImageNo, NoMemory>
+        requires few { length self.old.images.items < 2 ^ 31 }
+        requires numbered { AreNumbered self.old.images.items }
+        requires place { place < length (candidates (rules M.step O.ready_after O.reply_after B.ready_after B.reply_after) (moment_of M.config O.made O.history B.made B.history self.old)) }
+        ensures numbered { AreNumbered self.new.images.items }
+        ensures same { moment_of M.config O.made O.history B.made B.history self.new ≡ moment_of M.config O.made O.history B.made B.history self.old }
+        ensures it { IfOk result (λ i. i.0 ≡ slice_index (candidates (rules M.step O.ready_after O.reply_after B.ready_after B.reply_after) (moment_of M.config O.made O.history B.made B.history self.old)) place) }
+        ensures within { IfOk result (λ i. (0 < i.0) × (i.0 ≤ length self.old.images.items)) }
+        ensures prepared { IfOk result (λ i. IsPrepared M.config M.step O.made O.history O.has_room O.ready_after O.reply_after B.made B.history B.has_room B.ready_after B.reply_after self.new (i.0 - 1)) }
+    {
+        let mut left = place;
+        for image in 1..self.images.len() as u32 + 1 {
+            if let Ready::Can = self.prepare(ImageNo(image))? {
+                if left == 0 {
+                    return Ok(ImageNo(image));
+                }
+                left -= 1;
+            }
+        }
+        unreachable!()
+    }
+
+    // The candidate that this state of the generator gives, with its step set aside; none where there is no candidate.
+    fn pick_drawn(&mut self, state: u32) -> Result<Option<ImageNo>, NoMemory>
+        requires few { length self.old.images.items < 2 ^ 31 }
+        requires numbered { AreNumbered self.old.images.items }
+        ensures numbered { AreNumbered self.new.images.items }
+        ensures same { moment_of M.config O.made O.history B.made B.history self.new ≡ moment_of M.config O.made O.history B.made B.history self.old }
+        ensures picked { IfOk result (PicksOne (rules M.step O.ready_after O.reply_after B.ready_after B.reply_after) (moment_of M.config O.made O.history B.made B.history self.old) (drawn state)) }
+        ensures within { IfOk result (λ o. IfSome o (λ i. (0 < i.0) × (i.0 ≤ length self.old.images.items))) }
+        ensures prepared { IfOk result (λ o. IfSome o (λ i. IsPrepared M.config M.step O.made O.history O.has_room O.ready_after O.reply_after B.made B.history B.has_room B.ready_after B.reply_after self.new (i.0 - 1))) }
+    {
+        let count = self.count_candidates()?;
+        if count == 0 {
+            return Ok(None);
+        }
+        let image = self.candidate_at(state / 65_536 % count)?;
+        Ok(Some(image))
+    }
+
+    // The candidate that is chosen, with its step set aside; none where there is no candidate.
+    fn pick(&mut self, choices: &Choices) -> Result<Option<ImageNo>, NoMemory>
+        requires few { length self.old.images.items < 2 ^ 31 }
+        requires numbered { AreNumbered self.old.images.items }
+        ensures numbered { AreNumbered self.new.images.items }
+        ensures same { moment_of M.config O.made O.history B.made B.history self.new ≡ moment_of M.config O.made O.history B.made B.history self.old }
+        ensures picked { IfOk result (PicksOne (rules M.step O.ready_after O.reply_after B.ready_after B.reply_after) (moment_of M.config O.made O.history B.made B.history self.old) (chosen_by choices.now)) }
+        ensures within { IfOk result (λ o. IfSome o (λ i. (0 < i.0) × (i.0 ≤ length self.old.images.items))) }
+        ensures prepared { IfOk result (λ o. IfSome o (λ i. IsPrepared M.config M.step O.made O.history O.has_room O.ready_after O.reply_after B.made B.history B.has_room B.ready_after B.reply_after self.new (i.0 - 1))) }
+    {
+        match choices {
+            Choices::Rotate { last } => self.next_behind(*last),
+            Choices::Seed { state } => self.pick_drawn(generator_step(*state)),
+        }
+    }
+
+    // One step of the ordered run; none where there is no candidate.
+    fn advance(&mut self, choices: &mut Choices) -> Result<Option<ImageNo>, NoMemory>
         requires few { length self.old.images.items < 2 ^ 31 }
         requires numbered { AreNumbered self.old.images.items }
         requires bounded { IsBounded M.asks_left (moment_of M.config O.made O.history B.made B.history self.old) }
         ensures numbered { AreNumbered self.new.images.items }
         ensures bounded { IsBounded M.asks_left (moment_of M.config O.made O.history B.made B.history self.new) }
         ensures count { length self.new.images.items ≡ length self.old.images.items }
-        ensures advances { IfOk result (Advances (rules M.step O.ready_after O.reply_after B.ready_after B.reply_after) last (moment_of M.config O.made O.history B.made B.history self.old) (moment_of M.config O.made O.history B.made B.history self.new)) }
+        ensures advances { IfOk result (Advances (rules M.step O.ready_after O.reply_after B.ready_after B.reply_after) choices.old (moment_of M.config O.made O.history B.made B.history self.old) choices.new (moment_of M.config O.made O.history B.made B.history self.new)) }
         ensures within { IfOk result (λ o. IfSome o (λ i. (0 < i.0) × (i.0 ≤ length self.old.images.items))) }
         ensures fewer { IfOk result (λ o. IfSome o (λ _. AreFewer M.asks_left (moment_of M.config O.made O.history B.made B.history self.old) (moment_of M.config O.made O.history B.made B.history self.new))) }
         ensures err { OnErr result (moment_of M.config O.made O.history B.made B.history self.new ≡ moment_of M.config O.made O.history B.made B.history self.old) }
+        ensures err_choices { OnErr result (choices.new ≡ choices.old) }
     {
-        match self.pick(last)? {
+        match self.pick(choices)? {
             None => Ok(None),
             Some(image) => {
                 self.commit(image);
+                choices.settle(image);
                 Ok(Some(image))
             }
         }
@@ -100,30 +179,6 @@ impl<M: Walker, O: Object, B: Object> PartsOf<M, O, B> {
         }
     }
 
-    // The ordered run behind the last choice.
-    fn run_behind(&mut self, last: &mut u32) -> Result<RunEnd, NoMemory>
-        requires few { length self.old.images.items < 2 ^ 31 }
-        requires numbered { AreNumbered self.old.images.items }
-        requires bounded { IsBounded M.asks_left (moment_of M.config O.made O.history B.made B.history self.old) }
-        ensures numbered { AreNumbered self.new.images.items }
-        ensures bounded { IsBounded M.asks_left (moment_of M.config O.made O.history B.made B.history self.new) }
-        ensures count { length self.new.images.items ≡ length self.old.images.items }
-        ensures run { IsOrderRun (rules M.step O.ready_after O.reply_after B.ready_after B.reply_after) last.old (moment_of M.config O.made O.history B.made B.history self.old) last.new (moment_of M.config O.made O.history B.made B.history self.new) result }
-    {
-        loop {
-            match self.advance(*last)? {
-                None if self.all_ended() => return Ok(RunEnd::AllOver),
-                None => return Ok(RunEnd::AllWait),
-                Some(image) => {
-                    *last = image.0;
-                    if self.ended_run((image.0 - 1) as usize) {
-                        return Ok(RunEnd::Ending(image));
-                    }
-                }
-            }
-        }
-    }
-
     /// Steps one after the other, each by the image that the choices give, until an image makes a step that ends the run
     /// (`Ending`), every image has ended (`AllOver`), or none can step and one hasn't ended (`AllWait`). After want of
     /// memory the steps made stand and no other.
@@ -131,15 +186,22 @@ impl<M: Walker, O: Object, B: Object> PartsOf<M, O, B> {
         requires few { length self.old.images.items < 2 ^ 31 }
         requires numbered { AreNumbered self.old.images.items }
         requires bounded { IsBounded M.asks_left (moment_of M.config O.made O.history B.made B.history self.old) }
-        requires woven { IsWoven (event_lists self.old.images.items) (B.history self.old.board) (map O.history self.old.memories.items) }
         ensures numbered { AreNumbered self.new.images.items }
         ensures bounded { IsBounded M.asks_left (moment_of M.config O.made O.history B.made B.history self.new) }
         ensures count { length self.new.images.items ≡ length self.old.images.items }
-        ensures woven { IsWoven (event_lists self.new.images.items) (B.history self.new.board) (map O.history self.new.memories.items) }
-        ensures run { IsOrderRun (rules M.step O.ready_after O.reply_after B.ready_after B.reply_after) (last_choice choices.old) (moment_of M.config O.made O.history B.made B.history self.old) (last_choice choices.new) (moment_of M.config O.made O.history B.made B.history self.new) result }
+        ensures run { IsOrderRun (rules M.step O.ready_after O.reply_after B.ready_after B.reply_after) choices.old (moment_of M.config O.made O.history B.made B.history self.old) choices.new (moment_of M.config O.made O.history B.made B.history self.new) result }
+        ensures kept { (b : Beginning M.Config O.Made B.Made) → IsKept (rules M.step O.ready_after O.reply_after B.ready_after B.reply_after) b (moment_of M.config O.made O.history B.made B.history self.old) → IsKept (rules M.step O.ready_after O.reply_after B.ready_after B.reply_after) b (moment_of M.config O.made O.history B.made B.history self.new) }
     {
-        match choices {
-            Choices::Rotate { last } => self.run_behind(last),
+        loop {
+            match self.advance(choices)? {
+                None if self.all_ended() => return Ok(RunEnd::AllOver),
+                None => return Ok(RunEnd::AllWait),
+                Some(image) => {
+                    if self.ended_run((image.0 - 1) as usize) {
+                        return Ok(RunEnd::Ending(image));
+                    }
+                }
+            }
         }
     }
 }

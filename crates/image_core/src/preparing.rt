@@ -2,8 +2,9 @@
 
 ghost use Rattle.std.specs.Prelude.{◌≡◌, ◌<◌, ◌≤◌, ◌+◌, ◌-◌, ◌^◌, ◌↔◌, ℕ, suc, List, [], ◌∷◌, ◌++◌, length, IfOk, OnOk, OnErr, true, false, slice_index_or};
 ghost use Rattle.caf_base.specs.declared.place.Place.TheVariants as places;
-ghost use Rattle.image_core.specs.Moments.{can_step};
-ghost use Rattle.image_core.specs.Parts.{rules, moment_of, AreNumbered, IsPrepared, AnswersReady};
+ghost use Rattle.core_runs.specs.Moments.{can_step};
+ghost use Rattle.core_runs.specs.Moments.{rules};
+ghost use Rattle.image_core.specs.Parts.{moment_of, AreNumbered, IsPrepared, AnswersReady};
 ghost use Rattle.image_core.specs.Prepared.{AsksAt};
 ghost use Rattle.image_core.specs.declared.run.ImageRun.{ImageRun};
 

@@ -1,7 +1,7 @@
 //! One image of a run: its machine, and the steps that it made.
 
 ghost use Rattle.std.specs.Prelude.{◌≡◌, ◌<◌, ◌≤◌, ◌+◌, ◌^◌, ◌↔◌, ℕ, List, [], ◌∷◌, ◌++◌, IfOk, OnOk, OnErr, vec_len, vec_capacity};
-ghost use Rattle.image_core.specs.Lists.{last_of};
+ghost use Rattle.core_runs.specs.Lists.{last_of};
 
 use crate::prepared::Prepared;
 use caf_base::place::ImageNo;

@@ -5,7 +5,7 @@ ghost use Rattle.std.specs.Arc.{arc_value};
 ghost use Rattle.caf_base.specs.Thin.{counts};
 ghost use Rattle.image_core.specs.Starts.{IsFresh, IsNewMemory, IsStart};
 ghost use Rattle.image_core.specs.Parts.{EachAt, AreNumbered, IsBounded, moment_of, event_lists};
-ghost use Rattle.image_core.specs.Lists.{IsWoven};
+ghost use Rattle.core_runs.specs.Lists.{IsWoven};
 ghost use Rattle.thin_parts.specs.ThinWalk.{moves_left};
 
 use crate::parts::PartsOf;

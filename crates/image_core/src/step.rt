@@ -7,7 +7,7 @@ ghost use Rattle.caf_events.specs.Asks.{place_of};
 ghost use Rattle.caf_events.specs.Histories.{last_stamp_of};
 ghost use Rattle.caf_events.specs.Walkers.{IsAtAsk, IsOver, AsksNext, IsAtLine, Continues, EndsAfter};
 ghost use Rattle.caf_events.specs.declared.event.Event.{Event};
-ghost use Rattle.image_core.specs.Lists.{last_of};
+ghost use Rattle.core_runs.specs.Lists.{last_of};
 ghost use Rattle.image_core.specs.Prepared.{IsServedNext, StepsAt, IsOwnNext, StepsAlone};
 
 use crate::prepared::Prepared;

@@ -4,8 +4,9 @@ ghost use Rattle.std.specs.Prelude.{◌≡◌, ◌<◌, ◌≤◌, ◌+◌, ◌-
 ghost use Rattle.caf_base.specs.declared.place.ImageNo.{ImageNo};
 ghost use Rattle.caf_base.specs.declared.place.Place.TheVariants as places;
 ghost use Rattle.caf_events.specs.declared.event.Event.{Event};
-ghost use Rattle.image_core.specs.Moments.{Steps};
-ghost use Rattle.image_core.specs.Parts.{rules, moment_of, AreNumbered, IsBounded, IsPrepared, AnswersReady, Spends};
+ghost use Rattle.core_runs.specs.Moments.{Steps};
+ghost use Rattle.core_runs.specs.Moments.{rules};
+ghost use Rattle.image_core.specs.Parts.{moment_of, AreNumbered, IsBounded, IsPrepared, AnswersReady, Spends};
 ghost use Rattle.image_core.specs.Prepared.{place_aside};
 ghost use Rattle.image_core.specs.declared.run.ImageRun.{ImageRun};
 

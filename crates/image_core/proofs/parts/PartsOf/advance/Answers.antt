@@ -1,6 +1,7 @@
 use Rattle.std.proofs.Common.{◌≡◌, ◌∙◌, sym, subst, length}
 use Rattle.image_core.specs.Orders.{AreFewer}
-use Rattle.image_core.specs.Parts.{rules, moment_of, IsBounded}
+use Rattle.core_runs.specs.Moments.{rules}
+use Rattle.image_core.specs.Parts.{moment_of, IsBounded}
 use Rattle.image_core.proofs.Slices.{map_length}
 use Rattle.image_core.proofs.Turns.{bounded_by, fewer_by}
 use Rattle.image_core.proofs.parts.PartsOf.advance.Goals as goal

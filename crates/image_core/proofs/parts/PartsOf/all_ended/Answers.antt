@@ -1,7 +1,8 @@
 use Rattle.std.proofs.Common.{◌≡◌, ◌≤◌, ◌<◌, ◌∙◌, sym, ap, subst, length, suc, arith, get_or}
 use borrow.Author.Count.{below_more}
-use Rattle.image_core.specs.Moments.{HasEnded}
-use Rattle.image_core.specs.Parts.{rules, moment_of}
+use Rattle.core_runs.specs.Moments.{HasEnded}
+use Rattle.core_runs.specs.Moments.{rules}
+use Rattle.image_core.specs.Parts.{moment_of}
 use Rattle.image_core.proofs.Slices.{map_length}
 use Rattle.image_core.proofs.Readiness.{ended, not_ended, at_place, over_now}
 use Rattle.image_core.proofs.parts.PartsOf.all_ended.Goals as goal

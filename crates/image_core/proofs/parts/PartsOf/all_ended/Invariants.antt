@@ -1,6 +1,7 @@
 use Rattle.std.proofs.Common.{◌≡◌, ◌≤◌, ◌<◌, ℕ, suc}
-use Rattle.image_core.specs.Moments.{HasEnded}
-use Rattle.image_core.specs.Parts.{rules, moment_of}
+use Rattle.core_runs.specs.Moments.{HasEnded}
+use Rattle.core_runs.specs.Moments.{rules}
+use Rattle.image_core.specs.Parts.{moment_of}
 use Rattle.image_core.proofs.parts.PartsOf.all_ended.Given as goal
 
 abbrev pub invariant-loop-run : goal.invariant-loop-run

@@ -1,6 +1,7 @@
 use Rattle.std.proofs.Common.{◌≡◌, ◌≤◌, ◌<◌, ℕ, false}
-use Rattle.image_core.specs.Moments.{can_step}
-use Rattle.image_core.specs.Parts.{rules, moment_of, AreNumbered}
+use Rattle.core_runs.specs.Moments.{can_step}
+use Rattle.core_runs.specs.Moments.{rules}
+use Rattle.image_core.specs.Parts.{moment_of, AreNumbered}
 use Rattle.image_core.proofs.parts.PartsOf.first_ready.Given as goal
 
 abbrev pub invariant-loop-image : goal.invariant-loop-image

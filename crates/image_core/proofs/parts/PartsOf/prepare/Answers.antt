@@ -1,6 +1,7 @@
 use Rattle.std.proofs.Common.{◌∙◌, sym, subst, arith, ◌≡◌, ◌<◌, ◌≤◌, ◌-◌, length, suc, false}
-use Rattle.image_core.specs.Moments.{can_step, HasEnded}
-use Rattle.image_core.specs.Parts.{rules, moment_of}
+use Rattle.core_runs.specs.Moments.{can_step, HasEnded}
+use Rattle.core_runs.specs.Moments.{rules}
+use Rattle.image_core.specs.Parts.{moment_of}
 use Rattle.image_core.proofs.Readiness.{ended, not_ended, at_place, over_now}
 use Rattle.image_core.proofs.parts.PartsOf.prepare.Goals as goal
 

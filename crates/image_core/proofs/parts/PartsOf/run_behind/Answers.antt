@@ -1,7 +1,8 @@
 use Rattle.std.proofs.Common.{◌≡◌, ◌≤◌, ◌<◌, ◌∙◌, sym, subst, length}
 use Rattle.std.specs.Prelude.{IfSome}
 use Rattle.image_core.specs.Orders.{Advances}
-use Rattle.image_core.specs.Parts.{rules, moment_of}
+use Rattle.core_runs.specs.Moments.{rules}
+use Rattle.image_core.specs.Parts.{moment_of}
 use Rattle.image_core.proofs.Slices.{map_length}
 use Rattle.image_core.proofs.Turns.{turn_on, turn_ends}
 use Rattle.image_core.proofs.parts.PartsOf.run_behind.Goals as goal

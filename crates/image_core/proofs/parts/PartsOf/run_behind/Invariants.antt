@@ -1,7 +1,8 @@
 use Rattle.std.proofs.Common.{◌≡◌, ◌≤◌, ◌<◌, ℕ, List, length}
 use Rattle.caf_events.specs.declared.event.Entry.{Entry}
 use Rattle.image_core.specs.Orders.{Ordered, NoneEnds}
-use Rattle.image_core.specs.Parts.{rules, moment_of, total, AreNumbered, IsBounded}
+use Rattle.core_runs.specs.Moments.{rules}
+use Rattle.image_core.specs.Parts.{moment_of, total, AreNumbered, IsBounded}
 use Rattle.image_core.proofs.parts.PartsOf.run_behind.Given as goal
 
 abbrev pub invariant-loop-self : goal.invariant-loop-self

@@ -1,7 +1,8 @@
 use Rattle.std.proofs.Common.{◌∙◌, sym}
-use Rattle.image_core.specs.Parts.{rules, moment_of}
+use Rattle.core_runs.specs.Moments.{rules}
+use Rattle.image_core.specs.Parts.{moment_of}
 use Rattle.image_core.proofs.Slices.{map_length}
-use Rattle.image_core.proofs.Weaves.{ordered_woven}
+use Rattle.core_runs.proofs.Weaves.{ordered_woven}
 use Rattle.image_core.proofs.parts.PartsOf.run_order.Goals as goal
 
 pub returns-clause-woven : goal.returns-clause-woven
