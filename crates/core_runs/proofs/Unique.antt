@@ -1,6 +1,6 @@
 -- There is one ordered run from a beginning, and so one trace of it.
-use Rattle.std.proofs.Common.{◌≡◌, ℕ, zero, suc, ◌+◌, ◌-◌, ◌<◌, ◌≤◌, Bool, true, false, IsTrue, Option, Some, None, List, [], ◌∷◌, ◌++◌, ◌⊎◌, inl, inr, length, map, replicate, slice_get, refl, ap, sym, ◌∙◌, subst, arith, nat_eq, max}
-use Rattle.std.proofs.lemmas.Option.{slice_get_within, slice_get_cases}
+use Rattle.std.proofs.Common.{◌≡◌, ℕ, zero, suc, ◌+◌, ◌-◌, ◌<◌, ◌≤◌, Bool, true, false, IsTrue, Some, List, [], ◌∷◌, ◌++◌, ◌⊎◌, inl, inr, length, slice_get, refl, ap, sym, ◌∙◌, subst, arith, max}
+use Rattle.std.proofs.lemmas.Option.{slice_get_within}
 use Rattle.std.proofs.lemmas.Bool.{cases_Bool, cases_eq, cases_order}
 use Rattle.std.specs.List.{filter, range_with_len}
 use Rattle.caf_events.specs.declared.ask.Ask.{Ask}
@@ -9,7 +9,7 @@ use Rattle.caf_events.specs.declared.event.Event.{Event}
 use Rattle.caf_events.specs.declared.event.Entry.{Entry}
 use Rattle.caf_events.specs.Asks.{place_of}
 use Rattle.caf_events.specs.Walkers.{AsksNext, IsAtLine, Continues}
-use Rattle.trace_theory.specs.Machines.{Move, asks, goes, over, Said, go, goes_on, Stops}
+use Rattle.trace_theory.specs.Machines.{Move, asks, goes, over, go, goes_on, Stops}
 use Rattle.trace_theory.proofs.Machines.{go_more, stays}
 use Rattle.trace_theory.proofs.Orders.{one_trace}
 use Rattle.caf_events.specs.Histories.{last_stamp_of}
@@ -49,6 +49,7 @@ module _ {C A R : Type 0} (step : C → Move C A R) where
       ]
 
 module _ (C M B : Type 0) (r : Rules C M B) where
+  -- there is one moment before the first step
   pub one_first : (b : Beginning C M B) (m n : Moment C M B) → IsFirst r b m → IsFirst r b n → m ≡ n
   one_first b m n f g =
       let configs = same_items b.images m.configs n.configs f.count g.count (λ k c d p q. (let x = f.starts k c p in let y = g.starts k d q in one_rest r.step x.0 y.0 (b.first (suc k)) c d x.1 y.1 (f.rests k c p) (g.rests k d q))) in
@@ -59,6 +60,7 @@ module _ (C M B : Type 0) (r : Rules C M B) where
       let board_history = f.board_history ∙ sym g.board_history in
       λ i. record { configs = configs i; events = events i; memories = memories i; histories = histories i; board = board i; board_history = board_history i }
 
+  -- a move asks one thing, at one line
   one_ask : (m : Move C Ask Reply) (a b : Ask) → AsksNext m a → AsksNext m b → a ≡ b
   one_ask (goes c) a b p q = absurd p
   one_ask (asks x l k) a b p q = p ∙ sym q
@@ -69,6 +71,7 @@ module _ (C M B : Type 0) (r : Rules C M B) where
   one_line (asks x l k) a b p q = p ∙ sym q
   one_line over a b p q = absurd p
 
+  -- after a reply a move goes on to one place of rest
   one_next : (m : Move C Ask Reply) (a : Reply) (d e : C) → Continues r.step m a d → Continues r.step m a e → Stops (r.step d) → Stops (r.step e) → d ≡ e
   one_next (goes c) a d e p q s t = absurd p
   one_next (asks x l k) a d e (i, p) (j, q) s t = one_rest r.step i j (k a) d e p q s t
@@ -117,12 +120,13 @@ item_within : {A : Type 0} (xs : List A) (i : ℕ) (x : A) → item_at xs i ≡ 
 item_within xs zero x h = absurd (cc)
 item_within xs (suc k) x h = let l = slice_get_within xs k x h in (omega arith, omega arith)
 
--- with one more at its end a list has a step
+-- a list with one more at its end isn't empty
 not_empty : {A : Type 0} (xs : List A) (x : A) → [] ≡ xs ++ x ∷ [] → ⊥
 not_empty [] x h = cc
 not_empty (y ∷ xs) x h = cc
 
 module _ (C M B S : Type 0) (r : Rules C M B) (ch : Chooser S) where
+  -- a move whose ask is ready can be made
   ready_moves : (m : Moment C M B) (i : ℕ) (v : Move C Ask Reply) (a : Ask) → AsksNext v a → IsTrue (ready_there r m i a (place_of a)) → IsTrue (can_move r m i v)
   ready_moves m i (goes c) a at t = absurd at
   ready_moves m i (asks b l k) a at t = subst (λ x. IsTrue (ready_there r m i x (place_of x))) at t
