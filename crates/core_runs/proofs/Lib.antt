@@ -6,3 +6,5 @@ pub mod KeptMore
 pub mod CoreRuns
 pub mod Waits
 pub mod OrderTraces
+pub mod Fronts
+pub mod Unique

@@ -10,13 +10,14 @@ use Rattle.trace_theory.specs.Entries.{of}
 use Rattle.core_runs.specs.Lists.{entry, image_of, list_at, entries_of}
 use Rattle.core_runs.specs.Moments.{Rules, Moment, Steps}
 use Rattle.core_runs.specs.Beginnings.{Beginning, IsFirst}
-use Rattle.core_runs.specs.CoreRuns.{of_image}
+use Rattle.core_runs.specs.CoreRuns.{of_image, IsCoreRun, IsFit}
 use Rattle.core_runs.specs.Kept.{IsKept}
 use Rattle.core_runs.specs.Orders.{Chooser, candidates, Ordered, IsWhole, OrderRun, IsOrderTrace}
 use Rattle.core_runs.specs.Traces.{IsTraceOf}
 use Rattle.core_runs.proofs.Numbered.{item_within, index_same, list_other}
 use Rattle.core_runs.proofs.Weaves.{map_append, with_length}
-use Rattle.core_runs.proofs.Beginnings.{empty_at}
+use Rattle.core_runs.proofs.Beginnings.{empty_at, first_kept}
+use Rattle.core_runs.proofs.CoreRuns.{core_run}
 use Rattle.core_runs.proofs.KeptMore.{kept_more}
 
 -- an ordered run keeps all that is kept
@@ -71,3 +72,17 @@ order_trace r b ch s m xs s' m' t first ordered whole trace = record {
       ∙ (ordered_events r ch s m xs s' m' ordered (ap length first.events ∙ length-replicate b.images [] ∙ sym first.count) i
       ∙ ap (λ es. es ++ of_image i xs) (ap (map (entry i)) (empty_at m.events b.images i first.events)));
 }
+
+-- the trace of an ordered run is a core run
+pub order_core : {C M B S : Type 0} (r : Rules C M B) (b : Beginning C M B) (ch : Chooser S) (s : S) (t : List Entry) → IsFit r b → IsOrderTrace r b ch s t → IsCoreRun r b t
+order_core r b ch s t fit o =
+    let m = o.run.from in
+    let first = o.run.begins in
+    let kept = ordered_kept r b ch s m o.steps o.run.last o.run.to o.run.ordered (first_kept r b m fit first) in
+    core_run r b o.run.to t kept (record {
+      images = λ i.
+          o.same i
+          ∙ sym (ordered_events r ch s m o.steps o.run.last o.run.to o.run.ordered (ap length first.events ∙ length-replicate b.images [] ∙ sym first.count) i
+          ∙ ap (λ es. es ++ of_image i o.steps) (ap (map (entry i)) (empty_at m.events b.images i first.events)));
+      ordered = o.ordered;
+    })
