@@ -1,5 +1,6 @@
 pub mod Beginnings
 pub mod Bounds
+pub mod Choosing
 pub mod Heads
 pub mod Last
 pub mod PartSteps

@@ -10,22 +10,15 @@ use Rattle.trace_theory.specs.Entries.{Each}
 use Rattle.core_runs.specs.Lists.{entry, list_at}
 use Rattle.core_runs.specs.Moments.{Rules, Moment, item_at, can_move_from, can_step, Steps}
 use Rattle.image_core.specs.declared.choices.RunEnd.TheVariants.{Ending}
-use Rattle.image_core.specs.Orders.{IsOrderRun, IsNext, IsFirstOf, Picks, NoneCan, Ordered, NoneEnds, Advances}
-use Rattle.image_core.specs.Orders.{AreFewer}
+use Rattle.core_runs.specs.Orders.{Ordered, NoneEnds, candidates}
+use Rattle.core_runs.proofs.OrderTraces.{ordered_more}
+use Rattle.image_core.specs.declared.choices.Choices.{Choices}
+use Rattle.image_core.specs.Choosing.{choosing, settled}
+use Rattle.image_core.specs.Orders.{IsOrderRun, IsNext, IsFirstOf, IsNextBehind, NoneCan, Advances, AreFewer}
 use Rattle.image_core.specs.Parts.{total, IsBounded, Spends}
 use Rattle.image_core.proofs.Bounds.{bounded_more}
 use Rattle.image_core.proofs.Totals.{total_set}
 use Rattle.core_runs.proofs.Numbered.{item_within, index_same}
-
--- an ordered run goes on by one step
-pub ordered_more : {C M B : Type 0} (r : Rules C M B) (last : ℕ) (m : Moment C M B) (xs : List Entry) (last' : ℕ) (m' m'' : Moment C M B) (i : ℕ) (e : Event) → Ordered r last m xs last' m' → Picks r m' last' i → Steps r m' i e m'' → Ordered r last m (xs ++ entry i e ∷ []) i m''
-ordered_more r last m [] last' m' m'' i e (p, q) picks steps =
-    (subst (λ v. Picks r v last i) q (subst (λ n. Picks r m' n i) p picks), m'', subst (λ v. Steps r v i e m'') q steps, (refl, refl))
-ordered_more r last m (x ∷ xs) last' m' m'' i e (p, next, s, rest) picks steps = (p, next, s, ordered_more r x.image.0 next xs last' m' m'' i e rest picks steps)
-
-pub none_more : (xs : List Entry) (x : Entry) → NoneEnds xs → (EndsRun x.event → ⊥) → NoneEnds (xs ++ x ∷ [])
-none_more [] x h n = (n, tt)
-none_more (y ∷ ys) x h n = (h.0, none_more ys x h.1 n)
 
 -- the event of a step is the last one of its image
 pub new_event : {C M B : Type 0} (r : Rules C M B) (m m' : Moment C M B) (k : ℕ) (e : Event) → length m.events ≡ length m.configs → Steps r m (suc k) e m' → slice_index_or m'.events k [] ≡ list_at m.events (suc k) ++ e ∷ []
@@ -45,7 +38,7 @@ none_outside r m (suc k) h = ap (can_move_from r m (suc k)) (get_past m.configs 
 
 module _ {C M B : Type 0} (r : Rules C M B) (m : Moment C M B) (last : ℕ) where
   -- the first one behind the last choice
-  pub picks_behind : (high : ℕ) (i : ImageNo) → IsFirstOf (can_step r m) (last + 1) high (Some i) → Picks r m last i.0
+  pub picks_behind : (high : ℕ) (i : ImageNo) → IsFirstOf (can_step r m) (last + 1) high (Some i) → IsNextBehind r m last i.0
   picks_behind high i (low, under, can, none) =
       record { can = can; next = inl (omega arith, λ j a b. none j (omega arith) b) }
 
@@ -60,7 +53,7 @@ module _ {C M B : Type 0} (r : Rules C M B) (m : Moment C M B) (last : ℕ) wher
   pub none_above : (count : ℕ) → count ≡ length m.configs → ((j : ℕ) → last + 1 ≤ j → j < count + 1 → can_step r m j ≡ false) → (j : ℕ) → last < j → can_step r m j ≡ false
   none_above count c none j h = elim (cases_lt count j) [ inl l ↦ none_outside r m j (omega arith) | inr g ↦ none j (omega arith) (omega arith) ]
 
-  pub picks_from_the_first : (count : ℕ) → count ≡ length m.configs → ((j : ℕ) → last < j → can_step r m j ≡ false) → (o : Option ImageNo) → IsFirstOf (can_step r m) 1 (min last count + 1) o → MatchOption o (NoneCan r m) (λ i. Picks r m last i.0)
+  pub picks_from_the_first : (count : ℕ) → count ≡ length m.configs → ((j : ℕ) → last < j → can_step r m j ≡ false) → (o : Option ImageNo) → IsFirstOf (can_step r m) 1 (min last count + 1) o → MatchOption o (NoneCan r m) (λ i. IsNextBehind r m last i.0)
   picks_from_the_first count c above None none =
       λ j. elim (cases_lt last j) [
         | inl l ↦ above j l
@@ -85,32 +78,35 @@ fewer_by left m m' (suc k) p =
     let f = p.falls in
     omega arith
 
+none_ends_more : (xs : List Entry) (x : Entry) → NoneEnds xs → (EndsRun x.event → ⊥) → NoneEnds (xs ++ x ∷ [])
+none_ends_more [] x h n = (n, tt)
+none_ends_more (y ∷ ys) x h n = (h.0, none_ends_more ys x h.1 n)
+
 -- one turn of the ordered run
-module _ {C M B : Type 0} (r : Rules C M B) (last : ℕ) (m m' m'' : Moment C M B) (last' : ℕ) (image : ImageNo) (as_many : length m'.events ≡ length m'.configs)
-    (run : (xs : List Entry) × Ordered r last m xs last' m' × NoneEnds xs) (advances : Advances r last' m' m'' (Some image)) (low : 0 < image.0) where
-  event_is : slice_index_or m''.events (image.0 - 1) [] ≡ list_at m'.events image.0 ++ advances.1 ∷ []
+module _ {C M B : Type 0} (r : Rules C M B) (s s' s'' : Choices) (m m' m'' : Moment C M B) (image : ImageNo) (as_many : length m'.events ≡ length m'.configs)
+    (run : (xs : List Entry) × Ordered r choosing s m xs s' m' × NoneEnds xs) (advances : Advances r s' m' s'' m'' (Some image)) (low : 0 < image.0) where
+  made : Event
+  made = advances.2
+
+  event_is : slice_index_or m''.events (image.0 - 1) [] ≡ list_at m'.events image.0 ++ made ∷ []
   event_is =
       let q : image.0 ≡ suc (image.0 - 1) = omega arith in
-      subst (λ n. slice_index_or m''.events (image.0 - 1) [] ≡ list_at m'.events n ++ advances.1 ∷ []) (sym q)
-      (new_event r m' m'' (image.0 - 1) advances.1 as_many (subst (λ n. Steps r m' n advances.1 m'') q advances.2))
+      subst (λ n. slice_index_or m''.events (image.0 - 1) [] ≡ list_at m'.events n ++ made ∷ []) (sym q)
+      (new_event r m' m'' (image.0 - 1) made as_many (subst (λ n. Steps r m' n made m'') q advances.3))
 
-  ordered_on : Ordered r last m (run.0 ++ entry image.0 advances.1 ∷ []) image.0 m''
-  ordered_on = ordered_more r last m run.0 last' m' m'' image.0 advances.1 run.1 advances.0 advances.2
+  one : Ordered r choosing s' m' (entry image.0 made ∷ []) s'' m''
+  one = (advances.0, m'', advances.3, (advances.1 ∙ ap (λ i. settled s' i) advances.0, refl))
 
-  pub turn_on : (b : Bool) → b ≡ false → ((es : List Event) (e : Event) → slice_index_or m''.events (image.0 - 1) [] ≡ es ++ e ∷ [] → (IsTrue b ↔ EndsRun e)) → (xs : List Entry) × Ordered r last m xs image.0 m'' × NoneEnds xs
+  ordered_on : Ordered r choosing s m (run.0 ++ entry image.0 made ∷ []) s'' m''
+  ordered_on = ordered_more r choosing s m run.0 s' s'' m' m'' (entry image.0 made) run.1 one
+
+  pub turn_on : (b : Bool) → b ≡ false → ((es : List Event) (e : Event) → slice_index_or m''.events (image.0 - 1) [] ≡ es ++ e ∷ [] → (IsTrue b ↔ EndsRun e)) → (xs : List Entry) × Ordered r choosing s m xs s'' m'' × NoneEnds xs
   turn_on b f ended =
-      (run.0 ++ entry image.0 advances.1 ∷ [], ordered_on, none_more run.0 (entry image.0 advances.1) run.2 (λ h. absurd (let t = (ended (list_at m'.events image.0) advances.1 event_is).1 h in cc)))
+      (run.0 ++ entry image.0 made ∷ [], ordered_on, none_ends_more run.0 (entry image.0 made) run.2 (λ h. absurd (let t = (ended (list_at m'.events image.0) made event_is).1 h in cc)))
 
-  pub turn_ends : {E : Type 0} (b : Bool) → b ≡ true → ((es : List Event) (e : Event) → slice_index_or m''.events (image.0 - 1) [] ≡ es ++ e ∷ [] → (IsTrue b ↔ EndsRun e)) → IsOrderRun {E = E} r last m image.0 m'' (Ok (Ending image))
+  pub turn_ends : {E : Type 0} (b : Bool) → b ≡ true → ((es : List Event) (e : Event) → slice_index_or m''.events (image.0 - 1) [] ≡ es ++ e ∷ [] → (IsTrue b ↔ EndsRun e)) → IsOrderRun {E = E} r s m s'' m'' (Ok (Ending image))
   turn_ends b f ended = record {
-    steps = run.0 ++ entry image.0 advances.1 ∷ [];
+    steps = run.0 ++ entry image.0 made ∷ [];
     ordered = ordered_on;
-    so = record {
-      before = run.0;
-      last = entry image.0 advances.1;
-      all = refl;
-      none = run.2;
-      ends = (ended (list_at m'.events image.0) advances.1 event_is).0 f;
-      whose = refl;
-    };
+    so = ((run.0, entry image.0 made, refl, run.2, (ended (list_at m'.events image.0) made event_is).0 f), refl);
   }
