@@ -1,3 +1,4 @@
 pub mod ThinCells
 pub mod ThinRounds
 pub mod ThinSteps
+pub mod ThinWalks

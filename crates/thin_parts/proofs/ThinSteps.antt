@@ -1,9 +1,7 @@
 -- A step of a thin program leaves fewer of them, and the last one is an ask that ends the image.
 use Rattle.std.proofs.Common.{◌≡◌, ℕ, zero, suc, ◌+◌, ◌-◌, ◌*◌, ◌<◌, ◌≤◌, Bool, true, false, cond, List, [], ◌∷◌, length, drop, refl, ap, sym, subst, arith}
-use Rattle.std.specs.Prelude.{◌↔◌, ℤ, pos, nat_eq, nat_le, ◌&&◌, Option, Some, None, slice_get, sum_by}
+use Rattle.std.specs.Prelude.{◌↔◌, ℤ, pos, nat_eq, nat_le, ◌&&◌, Option, Some, None, slice_get}
 use Rattle.std.proofs.lemmas.Option.{slice_get_within}
-use Rattle.std.proofs.lemmas.List.Sums.{sum_by-cons}
-use Rattle.std.proofs.Math.ListN.{length-map}
 use Rattle.trace_theory.specs.Machines.{Move, goes, asks, over, go, Stops}
 use Rattle.caf_base.specs.declared.thin.ThinAddend.{ThinAddend}
 use Rattle.caf_base.specs.declared.thin.ThinTerm.{ThinTerm}
