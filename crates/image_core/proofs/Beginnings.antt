@@ -1,6 +1,11 @@
 -- What holds before the first step.
 use Rattle.std.proofs.Common.{◌≡◌, ℕ, zero, suc, ◌+◌, ◌*◌, ◌<◌, ◌≤◌, ◌^◌, max, List, [], ◌∷◌, ◌++◌, length, refl, ap, sym, ◌∙◌, subst, arith}
-use Rattle.std.specs.Prelude.{map, slice_index_or}
+use Rattle.std.specs.Prelude.{map, replicate, slice_get, slice_index_or, Some}
+use Rattle.std.specs.List.{range_with_len}
+use Rattle.trace_theory.specs.Machines.{go, goes, Stops}
+use Rattle.core_runs.specs.Beginnings.{IsFirst}
+use Rattle.thin_parts.specs.ThinRuns.{thin_rules, thin_beginning}
+use Rattle.image_core.proofs.Slices.{map_length}
 use Rattle.caf_base.specs.declared.thin.ThinProgram.{ThinProgram}
 use Rattle.caf_base.specs.Thin.{counts}
 use Rattle.caf_events.specs.declared.event.Event.{Event}
@@ -8,8 +13,8 @@ use Rattle.caf_events.specs.declared.event.Entry.{Entry}
 use Rattle.caf_events.specs.Histories.{last_stamp_of}
 use Rattle.trace_theory.specs.Entries.{Each, Rises, of}
 use Rattle.trace_theory.specs.Runs.{Woven}
-use Rattle.thin_parts.specs.ThinWalk.{Config, moves_left}
-use Rattle.thin_parts.specs.ThinMemory.{MemoryMeaning}
+use Rattle.thin_parts.specs.ThinWalk.{Config, thin_step, start_of, moves_left}
+use Rattle.thin_parts.specs.ThinMemory.{MemoryMeaning, declared_memory}
 use Rattle.thin_parts.specs.ThinBoard.{BoardMeaning}
 use Rattle.image_core.specs.declared.run.ImageRun.{ImageRun}
 use Rattle.image_core.specs.declared.parts.PartsOf.{PartsOf}
@@ -25,27 +30,32 @@ each_more P [] x h p (suc k) y l q = absurd (omega arith)
 each_more P (z ∷ zs) x h p zero y l q = h zero y (omega arith) q
 each_more P (z ∷ zs) x h p (suc k) y l q = each_more (λ n. P (suc n)) zs x (λ n v m e. h (suc n) v (omega arith) e) p k y (omega arith) q
 
-not_cons : {A : Type 0} (g g' : List A) (e : A) → [] ≡ g ++ e ∷ g' → ⊥
-not_cons [] g' e h = cc
-not_cons (x ∷ g) g' e h = cc
-
--- lists without an entry are of one run
-empty_woven : (ls : List (List Event)) (board : List Entry) (hs : List (List Entry)) → ((i : ℕ) → entries_of ls i ≡ []) → ((o : ℕ) → history_of board hs o ≡ []) → IsWoven ls board hs
-empty_woven ls board hs no_events no_entries = record {
-  mine = λ i. subst (Each (λ e. image_of e ≡ i)) (sym (no_events i)) tt;
-  there = λ o. subst (Each (λ e. key_of e ≡ suc o)) (sym (no_entries (suc o))) tt;
-  image_rises = λ i. subst (Rises stamp_of) (sym (no_events i)) tt;
-  object_rises = λ o. subst (Rises stamp_of) (sym (no_entries (suc o))) tt;
-  agree = λ i o. ap (of image_of i) (no_entries (suc o)) ∙ sym (ap (of key_of (suc o)) (no_events i));
-  fits = λ i o g g' h h' e p q. absurd (not_cons g g' e (sym (no_events i) ∙ p));
-  own_fits = λ i g g' e z p. absurd (not_cons g g' e (sym (no_events i) ∙ p));
-}
-
 -- each list that a view gives is empty
 views_empty : {A B : Type 0} (f : A → List B) (xs : List A) → EachAt (λ k x. f x ≡ []) xs → (k : ℕ) → slice_index_or (map f xs) k [] ≡ []
 views_empty f [] h k = refl
 views_empty f (x ∷ xs) h zero = h zero x (omega arith) refl
 views_empty f (x ∷ xs) h (suc k) = views_empty f xs (λ n y l q. h (suc n) y (omega arith) q) k
+
+all_empty : {A B : Type 0} (f : A → List B) (xs : List A) (n : ℕ) → length xs ≡ n → EachAt (λ k x. f x ≡ []) xs → map f xs ≡ replicate n []
+all_empty f [] zero l h = refl
+all_empty f [] (suc n) l h = absurd (omega arith)
+all_empty f (x ∷ xs) zero l h = absurd (omega arith)
+all_empty f (x ∷ xs) (suc n) l h = ap (λ y. y ∷ map f xs) (h zero x (omega arith) refl) ∙ ap (λ ys. [] ∷ ys) (all_empty f xs n (omega arith) (λ k y m q. h (suc k) y (omega arith) q))
+
+all_numbered : {A B : Type 0} (f : A → B) (g : ℕ → B) (xs : List A) (a n : ℕ) → length xs ≡ n → EachAt (λ k x. f x ≡ g (a + k)) xs → map f xs ≡ map g (range_with_len a n)
+all_numbered f g [] a zero l h = refl
+all_numbered f g [] a (suc n) l h = absurd (omega arith)
+all_numbered f g (x ∷ xs) a zero l h = absurd (omega arith)
+all_numbered f g (x ∷ xs) a (suc n) l h =
+    let e : a + 0 ≡ a = omega arith in
+    ap (λ y. y ∷ map f xs) (h zero x (omega arith) refl ∙ ap g e)
+    ∙ ap (λ ys. g a ∷ ys) (all_numbered f g xs (a + 1) n (omega arith) (λ k y m q. (let d : a + suc k ≡ a + 1 + k = omega arith in h (suc k) y (omega arith) q ∙ ap g d)))
+
+-- what holds of each item's view holds of the one that stands there
+view_holds : {A B : Type 0} (f : A → B) (P : ℕ → B → Type 0) (xs : List A) → EachAt (λ k x. P k (f x)) xs → (k : ℕ) (y : B) → slice_get (map f xs) k ≡ Some y → P k y
+view_holds f P [] h k y at = absurd (cc)
+view_holds f P (x ∷ xs) h zero y at = (let e : f x ≡ y = cc in subst (P 0) e (h zero x (omega arith) refl))
+view_holds f P (x ∷ xs) h (suc k) y at = view_holds f (λ j. P (suc j)) xs (λ j z l q. h (suc j) z (omega arith) q) k y at
 
 lengths_zero : {A B : Type 0} (f : A → List B) (xs : List A) → EachAt (λ k x. f x ≡ []) xs → total length (map f xs) ≡ 0
 lengths_zero f [] h = refl
@@ -71,17 +81,18 @@ module _ (p : ThinProgram) (n : ℕ) (parts : PartsOf Config MemoryMeaning Board
   no_memory_entries : EachAt (λ k (m : MemoryMeaning). m.history ≡ []) parts.memories.items
   no_memory_entries k m l q = (s.memories k m l q).history
 
-  no_events : (i : ℕ) → entries_of (event_lists parts.images.items) i ≡ []
-  no_events zero = refl
-  no_events (suc k) = ap (map _) (views_empty (λ (r : ImageRun Config). r.events.items) parts.images.items no_image_events k)
-
-  no_entries : (o : ℕ) → history_of parts.board.history (map (λ (m : MemoryMeaning). m.history) parts.memories.items) o ≡ []
-  no_entries zero = refl
-  no_entries (suc zero) = s.board_history
-  no_entries (suc (suc k)) = views_empty (λ (m : MemoryMeaning). m.history) parts.memories.items no_memory_entries k
-
-  pub woven_start : IsWoven (event_lists parts.images.items) parts.board.history (map (λ (m : MemoryMeaning). m.history) parts.memories.items)
-  woven_start = empty_woven (event_lists parts.images.items) parts.board.history (map (λ (m : MemoryMeaning). m.history) parts.memories.items) no_events no_entries
+  -- the parts before the first step are those of the run's first moment
+  pub first_start : IsFirst thin_rules (thin_beginning p n) (moment_of (λ (m : Config). m) (λ (o : MemoryMeaning). o.declared) (λ (o : MemoryMeaning). o.history) (λ (b : BoardMeaning). b.images) (λ (b : BoardMeaning). b.history) parts)
+  first_start = record {
+    count = map_length (λ (r : ImageRun Config). r.machine) parts.images.items ∙ s.image_count;
+    starts = λ k c at. (view_holds (λ (r : ImageRun Config). r.machine) (λ j d. (x : ℕ) × (go thin_step x (start_of p (suc j) n) ≡ goes d)) parts.images.items (λ j r l q. (s.images j r l q).starts) k c at);
+    rests = λ k c at. (view_holds (λ (r : ImageRun Config). r.machine) (λ j d. Stops (thin_step d)) parts.images.items (λ j r l q. (s.images j r l q).rests) k c at);
+    events = all_empty (λ (r : ImageRun Config). r.events.items) parts.images.items n s.image_count no_image_events;
+    memories = all_numbered (λ (m : MemoryMeaning). m.declared) (λ i. declared_memory (record { 0 = i }) p) parts.memories.items 1 n s.memory_count (λ k m l q. (let e : suc k ≡ 1 + k = omega arith in (s.memories k m l q).made ∙ ap (λ i. declared_memory (record { 0 = i }) p) e));
+    histories = all_empty (λ (m : MemoryMeaning). m.history) parts.memories.items n s.memory_count no_memory_entries;
+    board = s.board;
+    board_history = s.board_history;
+  }
 
   -- no step was made, and few may come
   pub bounded_start : n ≤ 64 → counts p ≤ 262000 → IsBounded moves_left (moment_of (λ (m : Config). m) (λ (o : MemoryMeaning). o.declared) (λ (o : MemoryMeaning). o.history) (λ (b : BoardMeaning). b.images) (λ (b : BoardMeaning). b.history) parts)

@@ -89,12 +89,14 @@ module _ {C M B : Type 0} (r : Rules C M B) (s s' s'' : Choices) (m m' m'' : Mom
   made = advances.2
 
   event_is : slice_index_or m''.events (image.0 - 1) [] ≡ list_at m'.events image.0 ++ made ∷ []
+  unfolding made
   event_is =
       let q : image.0 ≡ suc (image.0 - 1) = omega arith in
       subst (λ n. slice_index_or m''.events (image.0 - 1) [] ≡ list_at m'.events n ++ made ∷ []) (sym q)
       (new_event r m' m'' (image.0 - 1) made as_many (subst (λ n. Steps r m' n made m'') q advances.3))
 
   one : Ordered r choosing s' m' (entry image.0 made ∷ []) s'' m''
+  unfolding made
   one = (advances.0, m'', advances.3, (advances.1 ∙ ap (λ i. settled s' i) advances.0, refl))
 
   ordered_on : Ordered r choosing s m (run.0 ++ entry image.0 made ∷ []) s'' m''

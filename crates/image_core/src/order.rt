@@ -57,6 +57,21 @@ impl<M: Walker, O: Object, B: Object> PartsOf<M, O, B> {
         self.first_ready(1, last.min(count) + 1)
     }
 
+    // Whether an image can step now; its step is set aside then.
+    fn is_candidate(&mut self, image: ImageNo) -> Result<bool, NoMemory>
+        requires image { (0 < image.0) × (image.0 ≤ length self.old.images.items) }
+        requires numbered { AreNumbered self.old.images.items }
+        ensures numbered { AreNumbered self.new.images.items }
+        ensures same { moment_of M.config O.made O.history B.made B.history self.new ≡ moment_of M.config O.made O.history B.made B.history self.old }
+        ensures can { IfOk result (λ b. b ≡ can_step (rules M.step O.ready_after O.reply_after B.ready_after B.reply_after) (moment_of M.config O.made O.history B.made B.history self.old) image.0) }
+        ensures prepared { IfOk result (λ b. b ≡ true → IsPrepared M.config M.step O.made O.history O.has_room O.ready_after O.reply_after B.made B.history B.has_room B.ready_after B.reply_after self.new (image.0 - 1)) }
+    {
+        match self.prepare(image)? {
+            Ready::Can => Ok(true),
+            Ready::NotYet | Ready::Over => Ok(false),
+        }
+    }
+
     // How many candidates there are.
     fn count_candidates(&mut self) -> Result<u32, NoMemory>
         requires few { length self.old.images.items < 2 ^ 31 }
@@ -67,7 +82,7 @@ impl<M: Walker, O: Object, B: Object> PartsOf<M, O, B> {
     {
         let mut count: u32 = 0;
         for image in 1..self.images.len() as u32 + 1 {
-            if let Ready::Can = self.prepare(ImageNo(image))? {
+            if self.is_candidate(ImageNo(image))? {
                 count += 1;
             }
         }
@@ -87,7 +102,7 @@ impl<M: Walker, O: Object, B: Object> PartsOf<M, O, B> {
     {
         let mut left = place;
         for image in 1..self.images.len() as u32 + 1 {
-            if let Ready::Can = self.prepare(ImageNo(image))? {
+            if self.is_candidate(ImageNo(image))? {
                 if left == 0 {
                     return Ok(ImageNo(image));
                 }
@@ -179,6 +194,29 @@ impl<M: Walker, O: Object, B: Object> PartsOf<M, O, B> {
         }
     }
 
+    // The ordered run from here on.
+    fn go_on(&mut self, choices: &mut Choices) -> Result<RunEnd, NoMemory>
+        requires few { length self.old.images.items < 2 ^ 31 }
+        requires numbered { AreNumbered self.old.images.items }
+        requires bounded { IsBounded M.asks_left (moment_of M.config O.made O.history B.made B.history self.old) }
+        ensures numbered { AreNumbered self.new.images.items }
+        ensures bounded { IsBounded M.asks_left (moment_of M.config O.made O.history B.made B.history self.new) }
+        ensures count { length self.new.images.items ≡ length self.old.images.items }
+        ensures run { IsOrderRun (rules M.step O.ready_after O.reply_after B.ready_after B.reply_after) choices.old (moment_of M.config O.made O.history B.made B.history self.old) choices.new (moment_of M.config O.made O.history B.made B.history self.new) result }
+    {
+        loop {
+            match self.advance(choices)? {
+                None if self.all_ended() => return Ok(RunEnd::AllOver),
+                None => return Ok(RunEnd::AllWait),
+                Some(image) => {
+                    if self.ended_run((image.0 - 1) as usize) {
+                        return Ok(RunEnd::Ending(image));
+                    }
+                }
+            }
+        }
+    }
+
     /// Steps one after the other, each by the image that the choices give, until an image makes a step that ends the run
     /// (`Ending`), every image has ended (`AllOver`), or none can step and one hasn't ended (`AllWait`). After want of
     /// memory the steps made stand and no other.
@@ -192,16 +230,6 @@ impl<M: Walker, O: Object, B: Object> PartsOf<M, O, B> {
         ensures run { IsOrderRun (rules M.step O.ready_after O.reply_after B.ready_after B.reply_after) choices.old (moment_of M.config O.made O.history B.made B.history self.old) choices.new (moment_of M.config O.made O.history B.made B.history self.new) result }
         ensures kept { (b : Beginning M.Config O.Made B.Made) → IsKept (rules M.step O.ready_after O.reply_after B.ready_after B.reply_after) b (moment_of M.config O.made O.history B.made B.history self.old) → IsKept (rules M.step O.ready_after O.reply_after B.ready_after B.reply_after) b (moment_of M.config O.made O.history B.made B.history self.new) }
     {
-        loop {
-            match self.advance(choices)? {
-                None if self.all_ended() => return Ok(RunEnd::AllOver),
-                None => return Ok(RunEnd::AllWait),
-                Some(image) => {
-                    if self.ended_run((image.0 - 1) as usize) {
-                        return Ok(RunEnd::Ending(image));
-                    }
-                }
-            }
-        }
+        self.go_on(choices)
     }
 }

@@ -1,6 +1,6 @@
 //! One image of a run: its machine, and the steps that it made.
 
-ghost use Rattle.std.specs.Prelude.{◌≡◌, ◌<◌, ◌≤◌, ◌+◌, ◌^◌, ◌↔◌, ℕ, List, [], ◌∷◌, ◌++◌, IfOk, OnOk, OnErr, vec_len, vec_capacity};
+ghost use Rattle.std.specs.Prelude.{◌≡◌, ◌<◌, ◌≤◌, ◌+◌, ◌^◌, ◌↔◌, ℕ, List, [], ◌∷◌, ◌++◌, IfOk, OnOk, OnErr, MatchOption, vec_len, vec_capacity};
 ghost use Rattle.core_runs.specs.Lists.{last_of};
 
 use crate::prepared::Prepared;
@@ -22,7 +22,7 @@ pub struct ImageRun<M> {
 }
 
 impl<M: Walker> ImageRun<M> {
-    ghost use Rattle.caf_events.specs.Walkers.{IsAtAsk, IsOver, EndsAfter, Continues};
+    ghost use Rattle.caf_events.specs.Walkers.{IsAtAsk, IsAtLine, IsOver, AsksNext, EndsAfter, Continues};
     ghost use Rattle.trace_theory.specs.Machines.{Stops};
 
     /// The image's number.
@@ -40,7 +40,9 @@ impl<M: Walker> ImageRun<M> {
     }
 
     /// The line and the ask of the image's next step; None where the image has ended.
-    pub fn waiting(&self) -> Result<Option<(u32, Ask)>, NoMemory> {
+    pub fn waiting(&self) -> Result<Option<(u32, Ask)>, NoMemory>
+        ensures { IfOk result (λ o. MatchOption o (IsOver (M.step (M.config self.now.machine))) (λ w. IsAtLine (M.step (M.config self.now.machine)) w.0 × AsksNext (M.step (M.config self.now.machine)) w.1)) }
+    {
         match self.machine.next() {
             Next::Ended => Ok(None),
             Next::Ask(_) => {

@@ -6,6 +6,8 @@ ghost use Rattle.caf_base.specs.declared.place.Place.TheVariants as places;
 ghost use Rattle.caf_events.specs.declared.event.Event.{Event};
 ghost use Rattle.core_runs.specs.Moments.{Steps};
 ghost use Rattle.core_runs.specs.Moments.{rules};
+ghost use Rattle.core_runs.specs.Beginnings.{Beginning};
+ghost use Rattle.core_runs.specs.Kept.{IsKept};
 ghost use Rattle.image_core.specs.Parts.{moment_of, AreNumbered, IsBounded, IsPrepared, AnswersReady, Spends};
 ghost use Rattle.image_core.specs.Prepared.{place_aside};
 ghost use Rattle.image_core.specs.declared.run.ImageRun.{ImageRun};
@@ -83,6 +85,8 @@ impl<M: Walker, O: Object, B: Object> PartsOf<M, O, B> {
         requires prepared { IsPrepared M.config M.step O.made O.history O.has_room O.ready_after O.reply_after B.made B.history B.has_room B.ready_after B.reply_after self.old (image.0 - 1) }
         ensures numbered { AreNumbered self.new.images.items }
         ensures step { (e : Event) × Steps (rules M.step O.ready_after O.reply_after B.ready_after B.reply_after) (moment_of M.config O.made O.history B.made B.history self.old) image.0 e (moment_of M.config O.made O.history B.made B.history self.new) }
+        ensures kept { (b : Beginning M.Config O.Made B.Made) → IsKept (rules M.step O.ready_after O.reply_after B.ready_after B.reply_after) b (moment_of M.config O.made O.history B.made B.history self.old)
+            → IsKept (rules M.step O.ready_after O.reply_after B.ready_after B.reply_after) b (moment_of M.config O.made O.history B.made B.history self.new) }
         ensures spends { Spends M.asks_left (moment_of M.config O.made O.history B.made B.history self.old) image.0 (moment_of M.config O.made O.history B.made B.history self.new) }
     {
         let k = (image.0 - 1) as usize;

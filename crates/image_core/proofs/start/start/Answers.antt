@@ -1,5 +1,8 @@
 use Rattle.std.specs.Arc.{arc_value}
-use Rattle.image_core.proofs.Beginnings.{bounded_start, woven_start, numbered_start}
+use Rattle.core_runs.proofs.Beginnings.{first_kept}
+use Rattle.thin_parts.specs.ThinRuns.{thin_rules, thin_beginning}
+use Rattle.thin_parts.proofs.ThinFits.{thin_fit}
+use Rattle.image_core.proofs.Beginnings.{bounded_start, first_start, numbered_start}
 use Rattle.image_core.proofs.Readiness.{if_ok_map}
 use Rattle.image_core.proofs.start.start.Goals as goal
 
@@ -10,5 +13,9 @@ pub returns-clause-bounded : goal.returns-clause-bounded
 returns-clause-bounded c =
     if_ok_map c.first_parts.result _ _ (λ p s. bounded_start (arc_value c.args.program) c.args.n p s c.requires.images.1 c.requires.few) c.first_parts.ensures
 
-pub returns-clause-woven : goal.returns-clause-woven
-returns-clause-woven c = if_ok_map c.first_parts.result _ _ (λ p s. woven_start (arc_value c.args.program) c.args.n p s) c.first_parts.ensures
+pub returns-clause-first : goal.returns-clause-first
+returns-clause-first c = if_ok_map c.first_parts.result _ _ (λ p s. first_start (arc_value c.args.program) c.args.n p s) c.first_parts.ensures
+
+pub returns-clause-kept : goal.returns-clause-kept
+returns-clause-kept c =
+    if_ok_map c.first_parts.result _ _ (λ p s. first_kept thin_rules (thin_beginning (arc_value c.args.program) c.args.n) _ (thin_fit (arc_value c.args.program) c.args.n) (first_start (arc_value c.args.program) c.args.n p s)) c.first_parts.ensures

@@ -4,7 +4,7 @@ use Rattle.core_runs.specs.Moments.{rules}
 use Rattle.core_runs.specs.Orders.{Ordered, NoneEnds}
 use Rattle.image_core.specs.Choosing.{choosing}
 use Rattle.image_core.specs.Parts.{moment_of, total, AreNumbered, IsBounded}
-use Rattle.image_core.proofs.parts.PartsOf.run_order.Given as goal
+use Rattle.image_core.proofs.parts.PartsOf.go_on.Given as goal
 
 abbrev pub invariant-loop-self : goal.invariant-loop-self
 invariant-loop-self g l = record {
