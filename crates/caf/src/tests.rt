@@ -1,125 +1,214 @@
 //! The worked rows of the first path, through the top call over a source and a sink in memory.
 
+ghost use Rattle.std.specs.Prelude.{◌≤◌};
+
 use caf_io::mem_sink::MemSink;
 use caf_io::mem_source::MemSource;
 use caf_run::top::caf;
-use std::alloc::{AllocError, Global};
+use std::alloc::Global;
+use std::test::Fail;
 
-/// What a row says: the words, the source, and what is written with which status.
+/// How many bytes a read and a write move at most, and which writes fail, counted from 1.
 #[derive(Clone, Copy)]
-struct Row {
-    images: &'static str,
-    source: &'static [u8],
-    text: &'static [u8],
-    status: u8,
+struct Pace {
+    read: usize,
+    write: usize,
+    failing: &'static [u64],
 }
 
-fn bytes_of(alloc: Global, bytes: &[u8]) -> Result<Vec<u8>, AllocError> {
-    Vec::from_slice(alloc, bytes)
-}
+/// Image 1 reads the number that its fourth neighbour has.
+const NEIGHBOUR: &[u8] =
+    b"integer :: x[*]\nx = this_image()\nsync all\nif (this_image() == 1) print *, x[4]\nend\n";
 
-fn word(alloc: Global, text: &str) -> Result<String, AllocError> {
-    String::from_str(alloc, text)
-}
-
-fn source_of(alloc: Global, bytes: &[u8]) -> Result<MemSource, AllocError> {
+// The status of a call with these words over the file `a.f90`, and what it wrote.
+fn paced(alloc: Global, words: &[&str], file: &[u8], pace: Pace) -> Result<(u8, Vec<u8>), Fail>
+    requires { (1 ≤ pace.read) × (1 ≤ pace.write) }
+{
+    let mut texts = Vec::new(alloc);
+    for word in words {
+        texts.push(String::from_str(alloc, word)?)?;
+    }
     let mut files = Vec::new(alloc);
-    files.push((bytes_of(alloc, b"a.f90")?, bytes_of(alloc, bytes)?))?;
-    Ok(MemSource::new(files, Vec::new(alloc), 4096))
+    files.push((
+        Vec::from_slice(alloc, b"a.f90")?,
+        Vec::from_slice(alloc, file)?,
+    ))?;
+    let mut source = MemSource::new(files, Vec::new(alloc), pace.read);
+    let failing = Vec::from_slice(alloc, pace.failing)?;
+    let mut sink = MemSink::new(alloc, failing, pace.write, 4096)?;
+    let done = caf(alloc, &texts, &mut source, &mut sink);
+    Ok((done.status, Vec::from_slice(alloc, sink.bytes())?))
 }
 
-fn words_of_row(alloc: Global, row: Row) -> Result<Vec<String>, AllocError> {
-    let mut words = Vec::new(alloc);
-    for text in ["run", "-n", row.images, "--order", "0", "a.f90"] {
-        words.push(word(alloc, text)?)?;
-    }
-    Ok(words)
+// The same, where no call fails and each moves all that it can.
+fn answer(alloc: Global, words: &[&str], file: &[u8]) -> Result<(u8, Vec<u8>), Fail> {
+    let pace = Pace {
+        read: 4096,
+        write: 4096,
+        failing: &[],
+    };
+    paced(alloc, words, file, pace)
 }
 
-fn holds(alloc: Global, row: Row) -> Result<bool, AllocError> {
-    let words = words_of_row(alloc, row)?;
-    let mut source = source_of(alloc, row.source)?;
-    match MemSink::new(alloc, Vec::new(alloc), 4096, 4096) {
-        Ok(mut sink) => {
-            let done = caf(alloc, &words, &mut source, &mut sink);
-            Ok(done.status == row.status && sink.bytes() == row.text)
+#[test]
+fn empty_program(rt: HostRuntime) -> Result<(), Fail> {
+    let words = ["run", "-n", "1", "--order", "0", "a.f90"];
+    let (status, text) = answer(rt.alloc(), &words, b"end\n")?;
+    assert_eq!(rt; status, 0);
+    assert_eq!(rt; text.as_slice(), b"".as_slice());
+    Ok(())
+}
+
+#[test]
+fn neighbour_read(rt: HostRuntime) -> Result<(), Fail> {
+    let words = ["run", "-n", "4", "--order", "0", "a.f90"];
+    let (status, text) = answer(rt.alloc(), &words, NEIGHBOUR)?;
+    assert_eq!(rt; status, 0);
+    assert_eq!(rt; text.as_slice(), b"1: 4\n".as_slice());
+    Ok(())
+}
+
+#[test]
+fn neighbour_read_byte_by_byte(rt: HostRuntime) -> Result<(), Fail> {
+    let words = ["run", "-n", "4", "--order", "0", "a.f90"];
+    let pace = Pace {
+        read: 1,
+        write: 4096,
+        failing: &[],
+    };
+    let (status, text) = paced(rt.alloc(), &words, NEIGHBOUR, pace)?;
+    assert_eq!(rt; status, 0);
+    assert_eq!(rt; text.as_slice(), b"1: 4\n".as_slice());
+    Ok(())
+}
+
+#[test]
+fn short_sink(rt: HostRuntime) -> Result<(), Fail> {
+    let words = ["run", "-n", "4", "--order", "0", "a.f90"];
+    let broken = Pace {
+        read: 4096,
+        write: 4,
+        failing: &[2],
+    };
+    let (status, text) = paced(rt.alloc(), &words, NEIGHBOUR, broken)?;
+    assert_eq!(rt; status, 11);
+    assert_eq!(rt; text.as_slice(), b"1: 4".as_slice());
+
+    let sound = Pace {
+        read: 4096,
+        write: 4,
+        failing: &[],
+    };
+    let (status, text) = paced(rt.alloc(), &words, NEIGHBOUR, sound)?;
+    assert_eq!(rt; status, 0);
+    assert_eq!(rt; text.as_slice(), b"1: 4\n".as_slice());
+    Ok(())
+}
+
+#[test]
+fn overflow_of_a_sum(rt: HostRuntime) -> Result<(), Fail> {
+    let words = ["run", "-n", "1", "--order", "0", "a.f90"];
+    let file = b"integer :: a\na = 2147483647\nprint *, a + 1\nend\n";
+    let (status, text) = answer(rt.alloc(), &words, file)?;
+    assert_eq!(rt; status, 8);
+    assert_eq!(rt;
+        text.as_slice(),
+        b"fault image 1 line 3 Overflow\n".as_slice()
+    );
+    Ok(())
+}
+
+#[test]
+fn read_of_no_image(rt: HostRuntime) -> Result<(), Fail> {
+    let words = ["run", "-n", "2", "--order", "0", "a.f90"];
+    let file = b"integer :: x[*]\nprint *, x[3]\nend\n";
+    let (status, text) = answer(rt.alloc(), &words, file)?;
+    assert_eq!(rt; status, 8);
+    assert_eq!(rt;
+        text.as_slice(),
+        b"fault image 1 line 2 CoBounds\n".as_slice()
+    );
+    Ok(())
+}
+
+#[test]
+fn undeclared_name(rt: HostRuntime) -> Result<(), Fail> {
+    let words = ["run", "-n", "1", "--order", "0", "a.f90"];
+    let (status, text) = answer(rt.alloc(), &words, b"y = 1\nend\n")?;
+    assert_eq!(rt; status, 3);
+    assert_eq!(rt; text.as_slice(), b"refused 10 at 1:1\n".as_slice());
+    Ok(())
+}
+
+#[test]
+fn unknown_file(rt: HostRuntime) -> Result<(), Fail> {
+    let words = ["run", "-n", "1", "--order", "0", "b.f90"];
+    let (status, text) = answer(rt.alloc(), &words, b"end\n")?;
+    assert_eq!(rt; status, 10);
+    assert_eq!(rt; text.as_slice(), b"read fault\n".as_slice());
+    Ok(())
+}
+
+#[test]
+fn too_long_file(rt: HostRuntime) -> Result<(), Fail> {
+    let words = ["run", "-n", "1", "--order", "0", "a.f90"];
+    let mut file = vec![in rt.alloc(); b'\n'; 65_533]?;
+    file.extend_from_slice(b"end")?;
+    let (status, text) = answer(rt.alloc(), &words, file.as_slice())?;
+    assert_eq!(rt; status, 0);
+    assert_eq!(rt; text.as_slice(), b"".as_slice());
+
+    file.push(b'\n')?;
+    let (status, text) = answer(rt.alloc(), &words, file.as_slice())?;
+    assert_eq!(rt; status, 13);
+    assert_eq!(rt; text.as_slice(), b"too long\n".as_slice());
+    Ok(())
+}
+
+#[test]
+fn valid_words(rt: HostRuntime) -> Result<(), Fail> {
+    for n in ["1", "2", "10", "64"] {
+        for seed in ["0", "1", "7", "10", "2147483646", "2147483647"] {
+            let words = ["run", "-n", n, "--order", seed, "a.f90"];
+            let (status, text) = answer(rt.alloc(), &words, b"end\n")?;
+            assert_eq!(rt; status, 0, "{n} {seed}");
+            assert_eq!(rt; text.as_slice(), b"".as_slice(), "{n} {seed}");
         }
-        Err(_) => Ok(false),
     }
-}
-
-#[test]
-fn empty_program(rt: HostRuntime) -> Result<(), AllocError> {
-    let row = Row {
-        images: "1",
-        source: b"end\n",
-        text: b"",
-        status: 0,
-    };
-    assert!(rt; holds(rt.alloc(), row)?);
     Ok(())
 }
 
 #[test]
-fn neighbour_read(rt: HostRuntime) -> Result<(), AllocError> {
-    let source =
-        b"integer :: x[*]\nx = this_image()\nsync all\nif (this_image() == 1) print *, x[4]\nend\n";
-    let row = Row {
-        images: "4",
-        source,
-        text: b"1: 4\n",
-        status: 0,
-    };
-    assert!(rt; holds(rt.alloc(), row)?);
-    Ok(())
-}
-
-#[test]
-fn overflow_of_a_sum(rt: HostRuntime) -> Result<(), AllocError> {
-    let source = b"integer :: a\na = 2147483647\nprint *, a + 1\nend\n";
-    let row = Row {
-        images: "1",
-        source,
-        text: b"fault image 1 line 3 Overflow\n",
-        status: 8,
-    };
-    assert!(rt; holds(rt.alloc(), row)?);
-    Ok(())
-}
-
-#[test]
-fn read_of_no_image(rt: HostRuntime) -> Result<(), AllocError> {
-    let source = b"integer :: x[*]\nprint *, x[3]\nend\n";
-    let row = Row {
-        images: "2",
-        source,
-        text: b"fault image 1 line 2 CoBounds\n",
-        status: 8,
-    };
-    assert!(rt; holds(rt.alloc(), row)?);
-    Ok(())
-}
-
-#[test]
-fn undeclared_name(rt: HostRuntime) -> Result<(), AllocError> {
-    let row = Row {
-        images: "1",
-        source: b"y = 1\nend\n",
-        text: b"refused 10 at 1:1\n",
-        status: 3,
-    };
-    assert!(rt; holds(rt.alloc(), row)?);
-    Ok(())
-}
-
-#[test]
-fn usage_with_65_images(rt: HostRuntime) -> Result<(), AllocError> {
-    let row = Row {
-        images: "65",
-        source: b"end\n",
-        text: b"usage: word 3\n",
-        status: 2,
-    };
-    assert!(rt; holds(rt.alloc(), row)?);
+fn usage(rt: HostRuntime) -> Result<(), Fail> {
+    let table: [(u32, &[&str]); 22] = [
+        (1, &[]),
+        (1, &["check", "a.f90"]),
+        (2, &["run"]),
+        (2, &["run", "a.f90"]),
+        (3, &["run", "-n"]),
+        (3, &["run", "-n", "65", "--order", "0", "a.f90"]),
+        (3, &["run", "-n", "0", "--order", "0", "a.f90"]),
+        (3, &["run", "-n", "02", "--order", "0", "a.f90"]),
+        (3, &["run", "-n", "+2", "--order", "0", "a.f90"]),
+        (3, &["run", "-n", "", "--order", "0", "a.f90"]),
+        (4, &["run", "-n", "2", "a.f90"]),
+        (5, &["run", "-n", "2", "--order"]),
+        (5, &["run", "-n", "2", "--order", "2147483648", "a.f90"]),
+        (5, &["run", "-n", "2", "--order", "4294967296", "a.f90"]),
+        (5, &["run", "-n", "2", "--order", "00", "a.f90"]),
+        (5, &["run", "-n", "2", "--order", "07", "a.f90"]),
+        (5, &["run", "-n", "2", "--order", "+7", "a.f90"]),
+        (5, &["run", "-n", "2", "--order", "-1", "a.f90"]),
+        (6, &["run", "-n", "2", "--order", "0"]),
+        (6, &["run", "-n", "2", "--order", "0", ""]),
+        (6, &["run", "-n", "2", "--order", "0", "-a.f90"]),
+        (7, &["run", "-n", "2", "--order", "0", "a.f90", "b.f90"]),
+    ];
+    for (word, words) in table {
+        let (status, text) = answer(rt.alloc(), words, b"end\n")?;
+        let wanted = format!(in rt.alloc(); "usage: word {word}\n")?;
+        assert_eq!(rt; status, 2, "{words:?}");
+        assert_eq!(rt; text.as_slice(), wanted.as_bytes(), "{words:?}");
+    }
     Ok(())
 }

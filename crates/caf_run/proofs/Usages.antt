@@ -1,6 +1,6 @@
--- Words that fit in their places one by one, and the usage number of those that don't.
-use Rattle.std.proofs.Common.{◌≡◌, ◌≢◌, ℕ, zero, suc, ◌+◌, ◌<◌, ◌≤◌, List, [], ◌∷◌, ◌++◌, length, take, drop, get_or, Some, Result, Err, IfErr, refl, sym, ap, ◌∙◌, subst, inl, inr, arith, zero-add, append_assoc, take-append-drop}
-use Rattle.std.specs.Prelude.{codes, slice_get}
+-- The usage number of words that don't fit in their places.
+use Rattle.std.proofs.Common.{◌≡◌, ◌≢◌, ℕ, zero, suc, ◌+◌, ◌<◌, ◌≤◌, List, [], ◌∷◌, ◌++◌, length, take, drop, get_or, Some, Result, Err, IfErr, refl, sym, ap, ◌∙◌, inl, inr, arith, zero-add, append_assoc, take-append-drop}
+use Rattle.std.specs.Prelude.{slice_get}
 use Rattle.std.specs.Fmt.{decimal}
 use Rattle.std.proofs.lemmas.Option.{slice_get_within, slice_get-get_or}
 use Rattle.std.proofs.lemmas.List.{length-take-le, take-take, take_all}
@@ -14,143 +14,7 @@ use Rattle.caf_base.specs.declared.refusal.Refusal.{Refusal}
 use Rattle.caf_base.specs.declared.refusal.Refusal.TheVariants.{Cause}
 use Rattle.caf_run.specs.declared.words.Command.{Command}
 use Rattle.caf_run.specs.declared.words.Usage.{Usage}
-
--- a number in decimal within bounds
-abbrev pub IsNumberFrom : ℕ → ℕ → Word → Type 0
-IsNumberFrom least most word = (n : ℕ) × (least ≤ n) × (n ≤ most) × (word ≡ decimal n)
-
--- a word fits in a place of a valid list, from 0
-abbrev pub Fits : ℕ → Word → Type 0
-Fits zero word = word ≡ codes "run"
-Fits (suc zero) word = word ≡ codes "-n"
-Fits (suc (suc zero)) word = IsNumberFrom 1 64 word
-Fits (suc (suc (suc zero))) word = word ≡ codes "--order"
-Fits (suc (suc (suc (suc zero)))) word = IsNumberFrom 0 0 word
-Fits (suc (suc (suc (suc (suc zero))))) word = IsFileName word
-Fits (suc (suc (suc (suc (suc (suc place)))))) word = ⊥
-
-fits_inside : (place : ℕ) (word : Word) → Fits place word → place < 6
-fits_inside zero word fits = omega arith
-fits_inside (suc zero) word fits = omega arith
-fits_inside (suc (suc zero)) word fits = omega arith
-fits_inside (suc (suc (suc zero))) word fits = omega arith
-fits_inside (suc (suc (suc (suc zero)))) word fits = omega arith
-fits_inside (suc (suc (suc (suc (suc zero))))) word fits = omega arith
-fits_inside (suc (suc (suc (suc (suc (suc place)))))) word fits = absurd fits
-
--- these words fit from a place on
-abbrev pub Front : ℕ → List Word → Type 0
-Front place [] = place ≤ 6
-Front place (word ∷ words) = Fits place word × Front (suc place) words
-
--- they fit from a place on, to the last
-abbrev pub Whole : ℕ → List Word → Type 0
-Whole place [] = place ≡ 6
-Whole place (word ∷ words) = Fits place word × Whole (suc place) words
-
--- words that fit from a place on
-example : ℕ → List Word
-example zero = codes "run" ∷ codes "-n" ∷ decimal 1 ∷ codes "--order" ∷ decimal 0 ∷ codes "a" ∷ []
-example (suc zero) = codes "-n" ∷ decimal 1 ∷ codes "--order" ∷ decimal 0 ∷ codes "a" ∷ []
-example (suc (suc zero)) = decimal 1 ∷ codes "--order" ∷ decimal 0 ∷ codes "a" ∷ []
-example (suc (suc (suc zero))) = codes "--order" ∷ decimal 0 ∷ codes "a" ∷ []
-example (suc (suc (suc (suc zero)))) = decimal 0 ∷ codes "a" ∷ []
-example (suc (suc (suc (suc (suc zero))))) = codes "a" ∷ []
-example (suc (suc (suc (suc (suc (suc place)))))) = []
-
-a_is_name : IsFileName (codes "a")
-a_is_name = λ (e : 97 ≡ 45). omega arith
-
-one : IsNumberFrom 1 64 (decimal 1)
-one = (1, omega arith, omega arith, refl)
-
-none : IsNumberFrom 0 0 (decimal 0)
-none = (0, omega arith, omega arith, refl)
-
-example_whole : (place : ℕ) → place ≤ 6 → Whole place (example place)
-unfolding example
-example_whole zero few = (refl, (refl, (one, (refl, (none, (a_is_name, refl))))))
-example_whole (suc zero) few = (refl, (one, (refl, (none, (a_is_name, refl)))))
-example_whole (suc (suc zero)) few = (one, (refl, (none, (a_is_name, refl))))
-example_whole (suc (suc (suc zero))) few = (refl, (none, (a_is_name, refl)))
-example_whole (suc (suc (suc (suc zero)))) few = (none, (a_is_name, refl))
-example_whole (suc (suc (suc (suc (suc zero))))) few = (a_is_name, refl)
-example_whole (suc (suc (suc (suc (suc (suc place)))))) few = omega arith
-
--- words that fit are the front of a valid list
-goes_on : (place : ℕ) (words : List Word) → Front place words → Whole place (words ++ example (place + length words))
-goes_on place [] few = let e : place + 0 ≡ place = omega arith in rw e (example_whole place few)
-goes_on place (word ∷ words) fit =
-    let e : place + suc (length words) ≡ suc place + length words = omega arith in
-    (fit.0, rw e (goes_on (suc place) words fit.1))
-
--- the front of words that fit to the last fits
-whole_front : (place : ℕ) (front rest : List Word) → Whole place (front ++ rest) → Front place front
-whole_front place [] [] whole = omega arith
-whole_front place [] (word ∷ rest) whole = let inside = fits_inside place word whole.0 in omega arith
-whole_front place (word ∷ front) rest whole = (whole.0, whole_front (suc place) front rest whole.1)
-
--- one more word
-front_more : (place : ℕ) (front : List Word) (word : Word) → Front place front → Fits (place + length front) word → Front place (front ++ word ∷ [])
-front_more place [] word few fits =
-    let e : place + 0 ≡ place = omega arith in
-    let here = rw e at fits in
-    let inside = fits_inside place word here in
-    (here, omega arith)
-front_more place (first ∷ front) word fit fits =
-    let e : place + suc (length front) ≡ suc place + length front = omega arith in
-    (fit.0, front_more (suc place) front word fit.1 (rw e at fits))
-
--- the last of words that fit
-front_last : (place : ℕ) (front : List Word) (word : Word) → Front place (front ++ word ∷ []) → Fits (place + length front) word
-front_last place [] word fit = let e : place + 0 ≡ place = omega arith in rw e fit.0
-front_last place (first ∷ front) word fit =
-    let e : place + suc (length front) ≡ suc place + length front = omega arith in
-    rw e (front_last (suc place) front word fit.1)
-
-front_few : (place : ℕ) (words : List Word) → Front place words → place ≤ 6
-front_few place [] few = few
-front_few place (word ∷ words) fit = let inside = fits_inside place word fit.0 in omega arith
-
--- fewer words
-front_take : (place : ℕ) (words : List Word) (j : ℕ) → Front place words → Front place (take j words)
-front_take place words zero fit = front_few place words fit
-front_take place [] (suc j) fit = fit
-front_take place (word ∷ words) (suc j) fit = (fit.0, front_take (suc place) words j fit.1)
-
-whole_length : (place : ℕ) (words : List Word) → Whole place words → place + length words ≡ 6
-whole_length place [] whole = omega arith
-whole_length place (word ∷ words) whole = let more = whole_length (suc place) words whole.1 in omega arith
-
--- to be valid is to fit from the first place to the last
-valid_whole : (words : List Word) → IsValid words → Whole 0 words
-valid_whole words valid =
-    let run = valid.3 in
-    let second : IsNumberFrom 1 64 (decimal valid.0) = (valid.0, run.images.0, run.images.1, refl) in
-    let fourth : IsNumberFrom 0 0 (decimal valid.1) = (valid.1, omega arith, omega (arith, run.order), refl) in
-    subst (Whole 0) (sym run.form) (refl, (refl, (second, (refl, (fourth, (run.name, refl))))))
-
-whole_valid : (words : List Word) → Whole 0 words → IsValid words
-whole_valid [] whole = absurd (omega arith)
-whole_valid (a ∷ []) whole = absurd (omega (arith, whole.1))
-whole_valid (a ∷ b ∷ []) whole = absurd (omega (arith, whole.1.1))
-whole_valid (a ∷ b ∷ c ∷ []) whole = absurd (omega (arith, whole.1.1.1))
-whole_valid (a ∷ b ∷ c ∷ d ∷ []) whole = absurd (omega (arith, whole.1.1.1.1))
-whole_valid (a ∷ b ∷ c ∷ d ∷ e ∷ []) whole = absurd (omega (arith, whole.1.1.1.1.1))
-whole_valid (a ∷ b ∷ c ∷ d ∷ e ∷ f ∷ []) whole =
-    let n = whole.1.1.0 in
-    let seed = whole.1.1.1.1.0 in (
-      n.0,
-      seed.0,
-      f,
-      record {
-        form = cc (whole.0, whole.1.0, n.3, whole.1.1.1.0, seed.3);
-        images = (n.1, n.2);
-        order = omega (arith, seed.2);
-        name = whole.1.1.1.1.1.0;
-      },
-    )
-whole_valid (a ∷ b ∷ c ∷ d ∷ e ∷ f ∷ g ∷ words) whole = absurd whole.1.1.1.1.1.1.0
+use Rattle.caf_run.proofs.Places.{IsNumberFrom, Fits, Front, example, goes_on, whole_front, front_more, front_last, front_take, whole_length, valid_whole, whole_valid}
 
 -- the first words fit in their places
 pub record Fitting (words : List Word) (place : ℕ) : Type 0 where
@@ -242,7 +106,7 @@ usage_once words j k first second = elim first [
 
 -- six words that fit are a run
 pub run_from : (words : List Word) (n seed : ℕ) → StandsAt words 0 (Fits 0) → StandsAt words 1 (Fits 1) → slice_get words 2 ≡ Some (decimal n)
-    → StandsAt words 3 (Fits 3) → slice_get words 4 ≡ Some (decimal seed) → StandsAt words 5 IsFileName → length words ≤ 6 → (1 ≤ n) × (n ≤ 64) → seed ≡ 0
+    → StandsAt words 3 (Fits 3) → slice_get words 4 ≡ Some (decimal seed) → StandsAt words 5 IsFileName → length words ≤ 6 → (1 ≤ n) × (n ≤ 64) → seed ≤ 2147483647
     → (file : Word) × IsRun words n seed file × (6 ≡ length words)
 run_from [] n seed a b c d e f few images order = cc
 run_from (u ∷ []) n seed a b c d e f few images order = cc
@@ -275,6 +139,7 @@ one_meaning words (Run (File word) n (Order seed)) (Run (File word') n' (Order s
     let forms = sym first.1.form ∙ second.1.form in
     let number : decimal n ≡ decimal n' = cc forms in
     let same_n : n ≡ n' = decimal_injective n n' (omega (arith, first.1.images)) (omega (arith, second.1.images)) number in
-    let same_seed : seed ≡ seed' = first.1.order ∙ sym second.1.order in
+    let order : decimal seed ≡ decimal seed' = cc forms in
+    let same_seed : seed ≡ seed' = decimal_injective seed seed' (omega (arith, first.1.order)) (omega (arith, second.1.order)) order in
     let same_word : word ≡ word' = first.2 ∙ sym second.2 in
     cc

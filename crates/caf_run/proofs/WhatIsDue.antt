@@ -1,9 +1,9 @@
 -- What is due, case by case.
-use Rattle.std.proofs.Common.{◌≡◌, ℕ, ◌≤◌, ◌<◌, ◌-◌, length, ap, List, ◌⊎◌, inl, inr, refl, sym, ◌∙◌, subst, arith}
+use Rattle.std.proofs.Common.{◌≡◌, ℕ, ◌≤◌, ◌-◌, length, ap, List, ◌⊎◌, inl, inr, sym, ◌∙◌, subst, arith}
 use Rattle.std.specs.Prelude.{Option, None, Some, codes, Result, Ok, Err, IfOk, slice_get}
 use Rattle.caf_base.specs.declared.refusal.Refusal.TheVariants.{Cause}
 use Rattle.caf_base.specs.declared.thin.ThinProgram.{ThinProgram}
-use Rattle.caf_base.specs.Outside.{Files, MayNotBegin}
+use Rattle.caf_base.specs.Outside.{Files, HaveNot, MayNotBegin}
 use Rattle.caf_report.specs.declared.report.Report.{Report}
 use Rattle.fortran_reader.specs.Reads.{Reads, Refuses}
 use Rattle.fortran_reader.specs.declared.reader.ReadFault.{ReadFault}
@@ -12,22 +12,14 @@ use Rattle.caf_run.specs.declared.words.Command.{Command}
 use Rattle.caf_run.specs.declared.words.Command.TheVariants.{Run}
 use Rattle.caf_run.specs.declared.words.Input.TheVariants.{File}
 use Rattle.caf_run.specs.declared.words.Way.TheVariants.{Order}
-use Rattle.caf_run.specs.Words.{Word, IsRun, IsValid, UsageIs, Means, IsRunAt, place_of_file, count_of_images}
-use Rattle.caf_run.specs.Reading.{IsWhole, HasNothingLeft, IsLonger}
-use Rattle.caf_run.specs.Dues.{usage_text, refusal_text, IsRunStatus, NamesFile, IsDue, BytesDue, FileDue, ReportClause}
-
-not_run : (s : ℕ) → IsRunStatus s → (s ≡ 2) ⊎ (s ≡ 3) ⊎ (s ≡ 10) ⊎ (s ≡ 13) → ⊥
-not_run s (inl h) (inl k) = omega arith
-not_run s (inl h) (inr (inl k)) = omega arith
-not_run s (inl h) (inr (inr (inl k))) = omega arith
-not_run s (inl h) (inr (inr (inr k))) = omega arith
-not_run s (inr h) (inl k) = omega arith
-not_run s (inr h) (inr (inl k)) = omega arith
-not_run s (inr h) (inr (inr (inl k))) = omega arith
-not_run s (inr h) (inr (inr (inr k))) = omega arith
+use Rattle.caf_run.specs.Words.{Word, IsRun, UsageIs, Means, IsRunAt, place_of_file, count_of_images, seed_of}
+use Rattle.caf_run.specs.Reading.{IsWhole, HasBytes, HasNothingLeft, IsLonger}
+use Rattle.caf_run.specs.Dues.{usage_text, refusal_text, IsRunStatus, IsNoProgram, IsDue, BytesDue, FileDue, ReportClause}
+use Rattle.caf_run.proofs.Usages.{usage_invalid}
+use Rattle.caf_run.proofs.Settled.{not_run, whole_has, longer_has, fault_settles, whole_settles, longer_settles, one_file}
 
 -- the bytes are no thin program
-pub refused_bytes : (bytes : List ℕ) (status : ℕ) (text : List ℕ) (report : Option Report) → ((p : ThinProgram) → Reads bytes p → ⊥) → status ≡ 3 → text ≡ refusal_text → report ≡ None → BytesDue bytes status text report
+pub refused_bytes : (bytes : List ℕ) (status : ℕ) (text : List ℕ) (report : Option Report) → IsNoProgram bytes → status ≡ 3 → text ≡ refusal_text → report ≡ None → BytesDue bytes status text report
 refused_bytes bytes status text report none s t r = record {
   known = inr s;
   refused = λ _. (none, t);
@@ -47,14 +39,16 @@ run_bytes bytes p status text report reads (r, is, clause) =
     }
 
 -- a file that was read whole
-pub whole_file : (files : Option Files) (file : Word) (left' : Option (List ℕ)) (faults faults' : ℕ) (bytes : List ℕ) (status : ℕ) (text : List ℕ) (report : Option Report) → IsWhole files file bytes → HasNothingLeft files left' → BytesDue bytes status text report → FileDue files file left' faults faults' status text report
-whole_file files file left' faults faults' bytes status text report whole nothing b = record {
+pub whole_file : (files : Option Files) (file : Word) (left' : Option (List ℕ)) (faults faults' : ℕ) (bytes : List ℕ) (status : ℕ) (text : List ℕ) (report : Option Report) → IsWhole files file bytes → length bytes ≤ 65536 → HasNothingLeft files left' → BytesDue bytes status text report → FileDue files file left' faults faults' status text report
+whole_file files file left' faults faults' bytes status text report whole few nothing b = record {
   usage = λ s. other (inl s);
   refused = λ s. (bytes, whole, (b.refused s).0, (b.refused s).1);
   run = λ s. (bytes, (b.run s).0, whole, (b.run s).1);
   input = λ _. nothing;
   read_fault = λ s. absurd (other (inr (inl s)));
   too_long = λ s. absurd (other (inr (inr s)));
+  absent = λ none. absurd (whole_has files file bytes whole none);
+  settled = λ told has. inl (whole_settles files file bytes told status text report whole has few b);
   reported = b.reported;
 }
   where
@@ -78,6 +72,8 @@ fault_file files file left' faults faults' status text report may s t r = record
   input = λ h. absurd (elim h [ inl a ↦ not_run status a (inr (inr (inl s))) | inr k ↦ omega arith ]);
   read_fault = λ _. (may, t);
   too_long = λ k. absurd (omega arith);
+  absent = λ _. s;
+  settled = λ told has. inr (s, fault_settles files file told faults faults' may has);
   reported = subst (λ v. ReportClause v status text) (sym r) (inr (inr (inl s)));
 }
 
@@ -90,6 +86,8 @@ long_file files file left' faults faults' status text report longer s t r = reco
   input = λ h. absurd (elim h [ inl a ↦ not_run status a (inr (inr (inr s))) | inr k ↦ omega arith ]);
   read_fault = λ k. absurd (omega arith);
   too_long = λ _. (longer, t);
+  absent = λ none. absurd (longer_has files file 65536 longer none);
+  settled = λ told has. inl (longer_settles files file told status longer has s);
   reported = subst (λ v. ReportClause v status text) (sym r) (inr (inr (inr s)));
 }
 
@@ -106,6 +104,10 @@ file_named words n seed file files left' faults faults' status text report valid
     read_fault = λ s. (let h = f.read_fault s in (file, (n, seed, valid), h.0, h.1));
     too_long = λ s. (let h = f.too_long s in (file, (n, seed, valid), h.0, h.1));
   };
+  exact = record {
+    absent = λ other named none. f.absent (subst (HaveNot files) (one_file words other file named (n, seed, valid)) none);
+    settled = λ other bytes named has. f.settled bytes (subst (λ v. HasBytes files v bytes) (one_file words other file named (n, seed, valid)) has);
+  };
   reported = f.reported;
 }
 
@@ -116,6 +118,10 @@ usage_wrong words k files left' faults faults' status text report usage s t r = 
   refusal = record { refused = λ h. absurd (omega arith); run = λ h. absurd (not_run status h (inl s)) };
   input = λ h. absurd (elim h [ inl a ↦ not_run status a (inl s) | inr q ↦ omega arith ]);
   causes = record { read_fault = λ h. absurd (omega arith); too_long = λ h. absurd (omega arith) };
+  exact = record {
+    absent = λ file named none. absurd (usage_invalid words k usage (named.0, named.1, file, named.2));
+    settled = λ file bytes named has. absurd (usage_invalid words k usage (named.0, named.1, file, named.2));
+  };
   reported = subst (λ v. ReportClause v status text) (sym r) (inl s);
 }
 
@@ -128,20 +134,17 @@ if_ok_map (Ok a) P Q f h = f a h
 if_ok_map (Err e) P Q f h = h
 
 -- a command that the words mean runs the file that it names
-pub means_at : (words : List Word) (command : Command) → Means words command → IsRunAt words (place_of_file command) (count_of_images command)
-means_at words (Run (File word) n (Order seed)) (file, valid, last) = (seed, file, valid, last)
+pub means_at : (words : List Word) (command : Command) → Means words command → IsRunAt words (place_of_file command) (count_of_images command) (seed_of command)
+means_at words (Run (File word) n (Order seed)) means = means
 
 -- the file is the last of the words
-pub last_word : (words : List Word) (number n : ℕ) (name : Word) (r : IsRunAt words number n) → slice_get words (number - 1) ≡ Some name → name ≡ r.1
-last_word words number n name (seed, file, valid, last) h =
+pub last_word : (words : List Word) (number n seed : ℕ) (name : Word) (r : IsRunAt words number n seed) → slice_get words (number - 1) ≡ Some name → name ≡ r.0
+last_word words number n seed name (file, valid, last) h =
     let f = valid.form in
     let e : number ≡ 6 = last ∙ ap length f in
     let g = subst (λ m. slice_get words (m - 1) ≡ Some name) e h in
     let k = subst (λ ws. slice_get ws 5 ≡ Some name) f g in
     cc
 
-pub words_within : (words : List Word) (number n : ℕ) → IsRunAt words number n → (0 < number) × (number ≤ length words)
-words_within words number n (seed, file, valid, last) = let e = last ∙ ap length valid.form in (omega arith, omega arith)
-
-pub images_within : (words : List Word) (number n : ℕ) → IsRunAt words number n → (1 ≤ n) × (n ≤ 64)
-images_within words number n (seed, file, valid, last) = valid.images
+pub images_within : (words : List Word) (number n seed : ℕ) → IsRunAt words number n seed → (1 ≤ n) × (n ≤ 64)
+images_within words number n seed (file, valid, last) = valid.images

@@ -1,15 +1,15 @@
 -- What a call of the program owes: the status and the text that are due, and what the words, the file and the run have to do with them.
-use Rattle.std.specs.Prelude.{ℕ, ◌≡◌, ◌≤◌, ◌+◌, ◌⊎◌, List, [], ◌++◌, length, codes, Option, None, Some, ⊤, IsNone, OnOk, IfOk}
+use Rattle.std.specs.Prelude.{ℕ, ◌≡◌, ◌≤◌, ◌<◌, ◌⊎◌, ◌↔◌, List, ◌++◌, length, codes, Option, None, Some, IsNone}
 use Rattle.std.specs.Fmt.{decimal}
 use Rattle.std.specs.Io.KnownBytes.{Appends, Keeps}
 use Rattle.caf_base.specs.declared.thin.ThinProgram.{ThinProgram}
-use Rattle.caf_base.specs.Outside.{Files, Rose, MayNotBegin}
+use Rattle.caf_base.specs.Outside.{Files, Rose, HaveNot, MayNotBegin}
 use Rattle.caf_report.specs.declared.report.Report.{Report}
 use Rattle.caf_report.specs.Ends.{status_of}
 use Rattle.caf_report.specs.ReportText.{report_text}
 use Rattle.fortran_reader.specs.Reads.{Reads}
 use Rattle.caf_run.specs.Words.{Word, IsRun, IsValid, UsageIs}
-use Rattle.caf_run.specs.Reading.{IsWhole, HasNothingLeft, IsLonger}
+use Rattle.caf_run.specs.Reading.{IsWhole, HasBytes, HasNothingLeft, IsLonger}
 use Rattle.caf_run.specs.Writing.{GrewByProperPrefix}
 
 -- the text where the words aren't valid
@@ -28,6 +28,10 @@ IsRunStatus s = (s ≡ 0) ⊎ ((4 ≤ s) × (s ≤ 9))
 abbrev pub NamesFile : List Word → Word → Type 0
 NamesFile words file = (n : ℕ) × (seed : ℕ) × IsRun words n seed file
 
+-- the bytes are no thin program
+abbrev pub IsNoProgram : List ℕ → Type 0
+IsNoProgram bytes = (p : ThinProgram) → Reads bytes p → ⊥
+
 -- Usage: status 2 is due where the words are no valid list, with their usage number; elsewhere they are one.
 pub record UsageClause (words : List Word) (status : ℕ) (text : List ℕ) : Type 0 where
   pub wrong : status ≡ 2 → (k : ℕ) × UsageIs words k × (text ≡ usage_text k)
@@ -35,7 +39,7 @@ pub record UsageClause (words : List Word) (status : ℕ) (text : List ℕ) : Ty
 
 -- Refusal: status 3 is due where the file's bytes, read to their end, are no thin program; a run is one of the program that they are.
 pub record RefusalClause (words : List Word) (files : Option Files) (status : ℕ) (text : List ℕ) : Type 0 where
-  pub refused : status ≡ 3 → (file : Word) × (bytes : List ℕ) × NamesFile words file × IsWhole files file bytes × ((p : ThinProgram) → Reads bytes p → ⊥) × (text ≡ refusal_text)
+  pub refused : status ≡ 3 → (file : Word) × (bytes : List ℕ) × NamesFile words file × IsWhole files file bytes × IsNoProgram bytes × (text ≡ refusal_text)
   pub run : IsRunStatus status → (file : Word) × (bytes : List ℕ) × (p : ThinProgram) × NamesFile words file × IsWhole files file bytes × Reads bytes p
 
 -- Input: after a run or a refusal nothing of the file is left.
@@ -46,6 +50,17 @@ InputClause files left status = IsRunStatus status ⊎ (status ≡ 3) → HasNot
 pub record CausesClause (words : List Word) (files : Option Files) (faults faults' status : ℕ) (text : List ℕ) : Type 0 where
   pub read_fault : status ≡ 10 → (file : Word) × NamesFile words file × MayNotBegin files file faults faults' × (text ≡ codes "read fault\n")
   pub too_long : status ≡ 13 → (file : Word) × NamesFile words file × IsLonger files file 65536 × (text ≡ codes "too long\n")
+
+-- the bytes settle the status: 13 exactly where they are more than 65,536, else 3 exactly where they are no thin program, that of a run exactly where they are one
+pub record Settle (bytes : List ℕ) (status : ℕ) : Type 0 where
+  pub too_long : (status ≡ 13) ↔ (65536 < length bytes)
+  pub refused : (status ≡ 3) ↔ ((length bytes ≤ 65536) × IsNoProgram bytes)
+  pub run : IsRunStatus status ↔ ((length bytes ≤ 65536) × (p : ThinProgram) × Reads bytes p)
+
+-- Exactness: where the files are told, 10 is due where they haven't the name; where they have it, its bytes settle the status, or 10 stands in its place after a rise of the count of faults.
+pub record ExactClause (words : List Word) (files : Option Files) (faults faults' status : ℕ) : Type 0 where
+  pub absent : (file : Word) → NamesFile words file → HaveNot files file → status ≡ 10
+  pub settled : (file : Word) (bytes : List ℕ) → NamesFile words file → HasBytes files file bytes → Settle bytes status ⊎ ((status ≡ 10) × Rose faults faults')
 
 -- Report: one is there exactly where a run's status is due, which is that of its end, and the text due is its text.
 abbrev pub ReportClause : Option Report → ℕ → List ℕ → Type 0
@@ -58,6 +73,7 @@ pub record IsDue (words : List Word) (files : Option Files) (left' : Option (Lis
   pub refusal : RefusalClause words files status text
   pub input : InputClause files left' status
   pub causes : CausesClause words files faults faults' status text
+  pub exact : ExactClause words files faults faults' status
   pub reported : ReportClause report status text
 
 -- Output: the status and the text that are due, or status 11 and a proper prefix of the text after a fault of the sink.
@@ -77,19 +93,27 @@ IsAnswer words files left' faults faults' written written' sink_faults sink_faul
     IsDone words files left' faults faults' written written' sink_faults sink_faults' answered report
     ⊎ ((answered ≡ 12) × IsNone report × Keeps written written')
 
+-- Completeness: valid words, a thin program of at most 65,536 bytes and no rise of either count of faults give a report and exactly the status of its end, or want of memory.
+abbrev pub CompletenessClause : List Word → Option Files → ℕ → ℕ → ℕ → ℕ → ℕ → Option Report → Type 0
+CompletenessClause words files faults faults' sink_faults sink_faults' answered report =
+    (file : Word) (bytes : List ℕ) (p : ThinProgram) → NamesFile words file → HasBytes files file bytes → length bytes ≤ 65536 → Reads bytes p
+    → (Rose faults faults' → ⊥) → (Rose sink_faults sink_faults' → ⊥) → ((r : Report) × (report ≡ Some r) × (answered ≡ status_of r.end)) ⊎ (answered ≡ 12)
+
 -- what is due for the bytes of a file
 pub record BytesDue (bytes : List ℕ) (status : ℕ) (text : List ℕ) (report : Option Report) : Type 0 where
   pub known : IsRunStatus status ⊎ (status ≡ 3)
-  pub refused : status ≡ 3 → ((p : ThinProgram) → Reads bytes p → ⊥) × (text ≡ refusal_text)
+  pub refused : status ≡ 3 → IsNoProgram bytes × (text ≡ refusal_text)
   pub run : IsRunStatus status → (p : ThinProgram) × Reads bytes p
   pub reported : ReportClause report status text
 
 -- what is due for a named file
 pub record FileDue (files : Option Files) (file : Word) (left' : Option (List ℕ)) (faults faults' status : ℕ) (text : List ℕ) (report : Option Report) : Type 0 where
   pub usage : status ≡ 2 → ⊥
-  pub refused : status ≡ 3 → (bytes : List ℕ) × IsWhole files file bytes × ((p : ThinProgram) → Reads bytes p → ⊥) × (text ≡ refusal_text)
+  pub refused : status ≡ 3 → (bytes : List ℕ) × IsWhole files file bytes × IsNoProgram bytes × (text ≡ refusal_text)
   pub run : IsRunStatus status → (bytes : List ℕ) × (p : ThinProgram) × IsWhole files file bytes × Reads bytes p
   pub input : InputClause files left' status
   pub read_fault : status ≡ 10 → MayNotBegin files file faults faults' × (text ≡ codes "read fault\n")
   pub too_long : status ≡ 13 → IsLonger files file 65536 × (text ≡ codes "too long\n")
+  pub absent : HaveNot files file → status ≡ 10
+  pub settled : (bytes : List ℕ) → HasBytes files file bytes → Settle bytes status ⊎ ((status ≡ 10) × Rose faults faults')
   pub reported : ReportClause report status text

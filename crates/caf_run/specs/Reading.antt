@@ -7,6 +7,11 @@ abbrev pub IsWhole : Option Files → List ℕ → List ℕ → Type 0
 IsWhole None name bytes = ⊤
 IsWhole (Some files) name bytes = file_of name files ≡ Some bytes
 
+-- the files are told, and these are the bytes of the first one of that name
+abbrev pub HasBytes : Option Files → List ℕ → List ℕ → Type 0
+HasBytes None name bytes = ⊥
+HasBytes (Some files) name bytes = file_of name files ≡ Some bytes
+
 -- where the files are told, no byte is still to come
 abbrev pub HasNothingLeft : Option Files → Option (List ℕ) → Type 0
 HasNothingLeft None left = ⊤

@@ -29,7 +29,7 @@ IsFileName (c ∷ cs) = c ≢ 45
 pub record IsRun (words : List Word) (n seed : ℕ) (file : Word) : Type 0 where
   pub form : words ≡ codes "run" ∷ codes "-n" ∷ decimal n ∷ codes "--order" ∷ decimal seed ∷ file ∷ []
   pub images : (1 ≤ n) × (n ≤ IMAGES)
-  pub order : seed ≡ 0
+  pub order : seed ≤ 2147483647
   pub name : IsFileName file
 
 -- a list of words is valid
@@ -40,16 +40,19 @@ IsValid words = (n : ℕ) × (seed : ℕ) × (file : Word) × IsRun words n seed
 abbrev pub Means : List Word → Command → Type 0
 Means words (Run (File word) n (Order seed)) = (file : Word) × IsRun words n seed file × (word ≡ length words)
 
--- where the command has its file among the words, from 1, and how many images it wants
+-- where the command has its file among the words, from 1, how many images it wants, and in the order of which seed
 abbrev pub place_of_file : Command → ℕ
 place_of_file (Run (File word) n (Order seed)) = word
 
 abbrev pub count_of_images : Command → ℕ
 count_of_images (Run (File word) n (Order seed)) = n
 
--- the words run the file whose name has this number among them, from 1, on so many images
-abbrev pub IsRunAt : List Word → ℕ → ℕ → Type 0
-IsRunAt words number n = (seed : ℕ) × (file : Word) × IsRun words n seed file × (number ≡ length words)
+abbrev pub seed_of : Command → ℕ
+seed_of (Run (File word) n (Order seed)) = seed
+
+-- the words run the file whose name has this number among them, from 1, on so many images in the order of this seed
+abbrev pub IsRunAt : List Word → ℕ → ℕ → ℕ → Type 0
+IsRunAt words number n seed = (file : Word) × IsRun words n seed file × (number ≡ length words)
 
 -- some valid list of words begins with these
 abbrev pub BeginsValid : List Word → Type 0

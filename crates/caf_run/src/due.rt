@@ -7,11 +7,11 @@ ghost use Rattle.caf_base.specs.Thin.{counts};
 ghost use Rattle.caf_report.specs.Ends.{status_of};
 ghost use Rattle.caf_report.specs.ReportText.{report_text};
 ghost use Rattle.caf_run.specs.Dues.{usage_text, IsDue, BytesDue, FileDue, ReportClause};
-ghost use Rattle.caf_run.specs.Words.{words_in, IsValid, IsRunAt, place_of_file, count_of_images};
+ghost use Rattle.caf_run.specs.Words.{words_in, IsValid, IsRunAt, place_of_file, count_of_images, seed_of};
 ghost use Rattle.caf_report.specs.declared.report.Report.{Report};
 
 use crate::reading::{ReadEnd, read_file};
-use crate::words::{Command, Input, words_of};
+use crate::words::{Command, Input, Way, words_of};
 use caf_base::listing::Listing;
 use caf_base::outside::Source;
 use caf_base::place::ImageNo;
@@ -73,14 +73,21 @@ fn waits(alloc: Global, parts: &Parts) -> Result<Listing<Waiting>, NoMemory> {
     Ok(waits)
 }
 
-// The run of a program on n images, by the rotation, and its report.
-fn run_due(alloc: Global, program: ThinProgram, n: u32) -> Result<Due, NoMemory>
+// The choices of the order of a seed. TO BE REPLACED when the orders of seeds are built: now every seed's are the rotation.
+fn choices_of(_seed: u32) -> Choices
+    ensures { result ≡ Choices.Rotate 0 }
+{
+    Choices::Rotate { last: 0 }
+}
+
+// The run of a program on n images, in the order of a seed, and its report.
+fn run_due(alloc: Global, program: ThinProgram, n: u32, seed: u32) -> Result<Due, NoMemory>
     requires images { (1 ≤ n) × (n ≤ 64) }
     requires few { counts program ≤ 262000 }
     ensures { IfOk result (λ d. (r : Report) × (d.report ≡ Some r) × ReportClause d.report d.status d.text.items) }
 {
     let mut parts = start(alloc, Arc::new(alloc, program)?, n)?;
-    let mut choices = Choices::Rotate { last: 0 };
+    let mut choices = choices_of(seed);
     parts.run_order(&mut choices)?;
     let trace = parts.trace(alloc)?;
     let report = Report::new(n, trace, waits(alloc, &parts)?);
@@ -93,27 +100,33 @@ fn run_due(alloc: Global, program: ThinProgram, n: u32) -> Result<Due, NoMemory>
 }
 
 // What is due for the bytes of a file.
-fn bytes_due(alloc: Global, bytes: &[u8], n: u32) -> Result<Due, NoMemory>
+fn bytes_due(alloc: Global, bytes: &[u8], n: u32, seed: u32) -> Result<Due, NoMemory>
     requires images { (1 ≤ n) × (n ≤ 64) }
     requires short { length bytes.now ≤ 65536 }
     ensures { IfOk result (λ d. BytesDue bytes.now d.status d.text.items d.report) }
 {
     match read(alloc, bytes) {
-        Ok(program) => run_due(alloc, program, n),
+        Ok(program) => run_due(alloc, program, n, seed),
         Err(Refusal::Cause(_)) => said(alloc, 3, b"refused 10 at 1:1\n"),
         Err(Refusal::NoMemory) => Err(NoMemory),
     }
 }
 
 // What is due for a named file.
-fn file_due<S: Source>(alloc: Global, source: &mut S, name: &str, n: u32) -> Result<Due, NoMemory>
+fn file_due<S: Source>(
+    alloc: Global,
+    source: &mut S,
+    name: &str,
+    n: u32,
+    seed: u32,
+) -> Result<Due, NoMemory>
     requires images { (1 ≤ n) × (n ≤ 64) }
     ensures files { S.files source.new ≡ S.files source.old }
     ensures later { S.faults source.old ≤ S.faults source.new }
     ensures due { IfOk result (λ d. FileDue (S.files source.old) name.now (S.left source.new) (S.faults source.old) (S.faults source.new) d.status d.text.items d.report) }
 {
     match read_file(alloc, source, name, THIN_SOURCE_BYTES) {
-        Ok(bytes) => bytes_due(alloc, bytes.as_slice(), n),
+        Ok(bytes) => bytes_due(alloc, bytes.as_slice(), n, seed),
         Err(ReadEnd::Fault) => said(alloc, 10, b"read fault\n"),
         Err(ReadEnd::TooLong) => said(alloc, 13, b"too long\n"),
         Err(ReadEnd::NoMemory) => Err(NoMemory),
@@ -141,6 +154,18 @@ fn image_count(command: &Command) -> u32
     }
 }
 
+// The seed of a command's order.
+fn order_seed(command: &Command) -> u32
+    ensures { result ≡ seed_of command.now }
+{
+    match command {
+        Command::Run {
+            way: Way::Order(seed),
+            ..
+        } => *seed,
+    }
+}
+
 // The word of a number from 1.
 fn word_at(words: &[String], number: u32) -> &str
     requires { (0 < number) × (number ≤ length words.now) }
@@ -156,13 +181,14 @@ fn run_named<S: Source>(
     source: &mut S,
     number: u32,
     n: u32,
+    seed: u32,
 ) -> Result<Due, NoMemory>
-    requires { IsRunAt (words_in words.now) number n }
+    requires { IsRunAt (words_in words.now) number n seed }
     ensures files { S.files source.new ≡ S.files source.old }
     ensures later { S.faults source.old ≤ S.faults source.new }
     ensures due { IfOk result (λ d. IsDue (words_in words.now) (S.files source.old) (S.left source.new) (S.faults source.old) (S.faults source.new) d.status d.text.items d.report) }
 {
-    file_due(alloc, source, word_at(words, number), n)
+    file_due(alloc, source, word_at(words, number), n, seed)
 }
 
 /// What is due for the words over a source. Words that aren't valid leave the source as it was.
@@ -183,6 +209,7 @@ pub fn what_is_due<S: Source>(
             source,
             file_place(&command),
             image_count(&command),
+            order_seed(&command),
         ),
         Err(Refusal::Cause(usage)) => usage_due(alloc, usage.word),
         Err(Refusal::NoMemory) => Err(NoMemory),

@@ -1,8 +1,8 @@
-//! The lower half of the program `caf`: the words of its command line, a named file read whole, bytes written whole.
-//! It stands on `caf_base` alone, whose traits `Source` and `Sink` are the outside.
-//! The program's top call stands on it.
-//! Its main contracts: a list of words gives its command where it is valid and its usage number elsewhere; a file is
-//! read whole, or the cause is told; bytes are written whole, or a proper front of them and the cause is told.
+//! All of the program `caf` but its `main`: the words of its command line, a file read whole, its run, a text written whole.
+//! It stands on the reader, the run and the report, and on `caf_base`, whose traits `Source` and `Sink` are the outside.
+//! The program `caf` stands on it.
+//! Its main contract is that of `top::caf`: each status with its cause and each cause with its status, the text that is due
+//! and what of it is written. Below it: the words and their usage number, a file read whole, bytes written whole.
 #![tactic(auto)]
 
 pub mod due;

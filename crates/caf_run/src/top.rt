@@ -1,7 +1,8 @@
 //! The top call: all that the program does.
 
 ghost use Rattle.std.specs.Prelude.{◌≡◌, ◌≤◌, ℕ, List, Option};
-ghost use Rattle.caf_run.specs.Dues.{IsAnswer};
+ghost use Rattle.caf_base.specs.Outside.{Rose};
+ghost use Rattle.caf_run.specs.Dues.{IsAnswer, CompletenessClause};
 ghost use Rattle.caf_run.specs.Words.{words_in, IsValid};
 
 use crate::due::{Due, what_is_due};
@@ -20,6 +21,9 @@ pub struct Done {
 /// All that the program does with the words behind its name: it judges them, reads the file that they name to its end,
 /// reads the program, runs it, and writes what is due. Status 0 Finished, 2 usage, 3 refused, 4 error stop, 6 stuck,
 /// 7 limit, 8 run fault, 9 clash, 10 read fault, 11 write fault, 12 want of memory, 13 too long.
+///
+/// Where the source tells its files and its count of faults doesn't rise in this call, the words and the file settle the status
+/// that is due; where the sink's doesn't rise either, that is the answer, or 12.
 pub fn caf<S: Source, K: Sink>(
     alloc: Global,
     words: &Vec<String>,
@@ -30,6 +34,9 @@ pub fn caf<S: Source, K: Sink>(
     ensures untouched { ¬ IsValid (words_in words.now.items) → source.new ≡ source.old }
     ensures answer { IsAnswer (words_in words.now.items) (S.files source.old) (S.left source.new) (S.faults source.old) (S.faults source.new)
         (K.written sink.old) (K.written sink.new) (K.faults sink.old) (K.faults sink.new) result.status result.report }
+    ensures write_fault { result.status ≡ 11 → Rose (K.faults sink.old) (K.faults sink.new) }
+    ensures complete { CompletenessClause (words_in words.now.items) (S.files source.old) (S.faults source.old) (S.faults source.new)
+        (K.faults sink.old) (K.faults sink.new) result.status result.report }
 {
     match what_is_due(alloc, words.as_slice(), source) {
         Ok(

@@ -15,6 +15,9 @@ pub struct Usage {
     pub word: u32,
 }
 
+/// The greatest seed of an order.
+pub const GREATEST_SEED: u32 = 2_147_483_647;
+
 /// What the words ask for.
 #[derive(Debug, PartialEq, Drop)]
 pub enum Command {
@@ -32,12 +35,13 @@ pub enum Input {
 /// How the images take turns.
 #[derive(Clone, Copy, PartialEq, Eq, Debug)]
 pub enum Way {
-    /// In the order of this seed, which is 0.
+    /// In the order of this seed, from 0 to 2147483647.
     Order(u32),
 }
 
-/// The command that the words mean. They are valid as `run -n N --order 0 FILE`, with N from 1 to 64, both numbers
-/// without a sign and without a leading zero, and with a FILE that isn't empty and doesn't begin with `-`.
+/// The command that the words mean. They are valid as `run -n N --order SEED FILE`, with N from 1 to 64 and SEED from 0 to
+/// 2147483647, both in decimal digits without a sign and without a leading zero other than `0` itself, and with a FILE that
+/// isn't empty and doesn't begin with `-`.
 /// Other words have a usage number. Want of memory comes only where there are more words than a number can tell.
 pub fn words_of(words: &[String]) -> Result<Command, Refusal<Usage>>
     ensures means { IfOk result (Means (words_in words.now)) }
@@ -50,7 +54,7 @@ pub fn words_of(words: &[String]) -> Result<Command, Refusal<Usage>>
     take_text(words, 1, "-n")?;
     let n = take_number(words, 2, 1, IMAGES)?;
     take_text(words, 3, "--order")?;
-    let seed = take_number(words, 4, 0, 0)?;
+    let seed = take_number(words, 4, 0, GREATEST_SEED)?;
     take_file(words, 5)?;
     take_end(words, 6)?;
     Ok(Command::Run {
@@ -180,17 +184,21 @@ mod tests {
 
     #[test]
     fn valid_words_mean_a_run(rt: HostRuntime) -> Result<(), Fail> {
-        for (n, number) in [("1", 1), ("2", 2), ("10", 10), ("64", 64)] {
-            let got = answer(&rt, &["run", "-n", n, "--order", "0", "a.f90"])?;
+        let table: [(&str, u32, &str, u32); 6] = [
+            ("1", 1, "0", 0),
+            ("2", 2, "1", 1),
+            ("10", 10, "7", 7),
+            ("64", 64, "10", 10),
+            ("4", 4, "2147483646", 2_147_483_646),
+            ("4", 4, "2147483647", 2_147_483_647),
+        ];
+        for (images, n, order, seed) in table {
+            let got = answer(&rt, &["run", "-n", images, "--order", order, "a.f90"])?;
             let input = Input::File { word: 6 };
-            let way = Way::Order(0);
+            let way = Way::Order(seed);
             assert!(rt;
-                got == Ok(Command::Run {
-                    input,
-                    n: number,
-                    way
-                }),
-                "{n}"
+                got == Ok(Command::Run { input, n, way }),
+                "{images} {order}"
             );
         }
         Ok(())
@@ -198,7 +206,7 @@ mod tests {
 
     #[test]
     fn other_words_have_a_usage_number(rt: HostRuntime) -> Result<(), Fail> {
-        let table: [(u32, &[&str]); 17] = [
+        let table: [(u32, &[&str]); 22] = [
             (1, &[]),
             (1, &["check", "a.f90"]),
             (2, &["run"]),
@@ -210,8 +218,13 @@ mod tests {
             (3, &["run", "-n", "+2", "--order", "0", "a.f90"]),
             (3, &["run", "-n", "", "--order", "0", "a.f90"]),
             (4, &["run", "-n", "2", "a.f90"]),
-            (5, &["run", "-n", "2", "--order", "7", "a.f90"]),
+            (5, &["run", "-n", "2", "--order", "2147483648", "a.f90"]),
+            (5, &["run", "-n", "2", "--order", "4294967296", "a.f90"]),
             (5, &["run", "-n", "2", "--order", "00", "a.f90"]),
+            (5, &["run", "-n", "2", "--order", "07", "a.f90"]),
+            (5, &["run", "-n", "2", "--order", "+7", "a.f90"]),
+            (5, &["run", "-n", "2", "--order", "-1", "a.f90"]),
+            (5, &["run", "-n", "2", "--order"]),
             (6, &["run", "-n", "2", "--order", "0"]),
             (6, &["run", "-n", "2", "--order", "0", ""]),
             (6, &["run", "-n", "2", "--order", "0", "-a.f90"]),

@@ -1,17 +1,17 @@
-use Rattle.std.proofs.Common.{subst, ◌∙◌, sym, ◌≡◌, length}
+use Rattle.std.proofs.Common.{subst}
 use Rattle.caf_run.specs.Dues.{FileDue}
 use Rattle.caf_run.specs.Words.{words_in}
 use Rattle.caf_run.proofs.WhatIsDue.{file_named, last_word, images_within, if_ok_map}
 use Rattle.caf_run.proofs.due.run_named.Goals as goal
 
 pub file_due-requires : goal.file_due-requires
-file_due-requires g c = record { images = images_within (words_in c.args.words.now) c.args.number c.args.n c.requires }
+file_due-requires g c = record { images = images_within (words_in c.args.words.now) c.args.number c.args.n c.args.seed c.requires }
 
 pub returns-clause-due : goal.returns-clause-due
 returns-clause-due g c =
     if_ok_map c.file_due.result _ _
-    (λ d f. file_named (words_in c.args.words.now) c.args.n c.requires.0 c.requires.1 (g.S.Source.files c.args.source.now) (g.S.Source.left c.file_due.new.source) (g.S.Source.faults c.args.source.now) (g.S.Source.faults c.file_due.new.source)
-    d.status d.text.items d.report c.requires.2
+    (λ d f. file_named (words_in c.args.words.now) c.args.n c.args.seed c.requires.0 (g.S.Source.files c.args.source.now) (g.S.Source.left c.file_due.new.source) (g.S.Source.faults c.args.source.now) (g.S.Source.faults c.file_due.new.source)
+    d.status d.text.items d.report c.requires.1
     (subst (λ name. FileDue (g.S.Source.files c.args.source.now) name (g.S.Source.left c.file_due.new.source) (g.S.Source.faults c.args.source.now) (g.S.Source.faults c.file_due.new.source) d.status d.text.items d.report)
-    (last_word (words_in c.args.words.now) c.args.number c.args.n c.word_at.result.now c.requires c.word_at.ensures) f))
+    (last_word (words_in c.args.words.now) c.args.number c.args.n c.args.seed c.word_at.result.now c.requires c.word_at.ensures) f))
     c.file_due.ensures.due

@@ -65,7 +65,7 @@ returns-in_err-seed-clause-refused c =
     let f3 = fitting_more 2 f2 (number_stands (words_in c.args.words.now) 2 1 64 c.in_ok-n.n c.in_ok-n.ensures.bounds c.in_ok-n.ensures.stands) in
     let f4 = fitting_more 3 f3 c.in_ok-take_text-3.ensures.stands in
     let exit = err_from_is_err_and c.from_residual-in_err-seed.result c.from_residual-in_err-seed.ensures.1 in
-    (refuses 5 c.from_residual-in_err-seed.result c.in_err-seed.field-0.0 exit c.in_err-seed.ensures.refusal (usage_within 4 f4 (no_number_stands (words_in c.args.words.now) 4 0 0 c.in_err-seed.ensures.wrong) (omega arith))).0
+    (refuses 5 c.from_residual-in_err-seed.result c.in_err-seed.field-0.0 exit c.in_err-seed.ensures.refusal (usage_within 4 f4 (no_number_stands (words_in c.args.words.now) 4 0 2147483647 c.in_err-seed.ensures.wrong) (omega arith))).0
 
 pub returns-in_err-seed-clause-usage : goal.returns-in_err-seed-clause-usage
 returns-in_err-seed-clause-usage c =
@@ -74,7 +74,7 @@ returns-in_err-seed-clause-usage c =
     let f3 = fitting_more 2 f2 (number_stands (words_in c.args.words.now) 2 1 64 c.in_ok-n.n c.in_ok-n.ensures.bounds c.in_ok-n.ensures.stands) in
     let f4 = fitting_more 3 f3 c.in_ok-take_text-3.ensures.stands in
     let exit = err_from_is_err_and c.from_residual-in_err-seed.result c.from_residual-in_err-seed.ensures.1 in
-    λ k is small. (refuses 5 c.from_residual-in_err-seed.result c.in_err-seed.field-0.0 exit c.in_err-seed.ensures.refusal (usage_within 4 f4 (no_number_stands (words_in c.args.words.now) 4 0 0 c.in_err-seed.ensures.wrong) (omega arith))).1 k is
+    λ k is small. (refuses 5 c.from_residual-in_err-seed.result c.in_err-seed.field-0.0 exit c.in_err-seed.ensures.refusal (usage_within 4 f4 (no_number_stands (words_in c.args.words.now) 4 0 2147483647 c.in_err-seed.ensures.wrong) (omega arith))).1 k is
 
 pub returns-in_err-take_file-clause-refused : goal.returns-in_err-take_file-clause-refused
 returns-in_err-take_file-clause-refused c =
@@ -82,7 +82,7 @@ returns-in_err-take_file-clause-refused c =
     let f2 = fitting_more 1 f1 c.in_ok-take_text-2.ensures.stands in
     let f3 = fitting_more 2 f2 (number_stands (words_in c.args.words.now) 2 1 64 c.in_ok-n.n c.in_ok-n.ensures.bounds c.in_ok-n.ensures.stands) in
     let f4 = fitting_more 3 f3 c.in_ok-take_text-3.ensures.stands in
-    let f5 = fitting_more 4 f4 (number_stands (words_in c.args.words.now) 4 0 0 c.in_ok-seed.seed c.in_ok-seed.ensures.bounds c.in_ok-seed.ensures.stands) in
+    let f5 = fitting_more 4 f4 (number_stands (words_in c.args.words.now) 4 0 2147483647 c.in_ok-seed.seed c.in_ok-seed.ensures.bounds c.in_ok-seed.ensures.stands) in
     let exit = err_from_is_err_and c.from_residual-in_err-take_file.result c.from_residual-in_err-take_file.ensures.1 in
     (refuses 6 c.from_residual-in_err-take_file.result c.in_err-take_file.field-0.0 exit c.in_err-take_file.ensures.refusal (usage_within 5 f5 c.in_err-take_file.ensures.wrong (omega arith))).0
 
@@ -92,7 +92,7 @@ returns-in_err-take_file-clause-usage c =
     let f2 = fitting_more 1 f1 c.in_ok-take_text-2.ensures.stands in
     let f3 = fitting_more 2 f2 (number_stands (words_in c.args.words.now) 2 1 64 c.in_ok-n.n c.in_ok-n.ensures.bounds c.in_ok-n.ensures.stands) in
     let f4 = fitting_more 3 f3 c.in_ok-take_text-3.ensures.stands in
-    let f5 = fitting_more 4 f4 (number_stands (words_in c.args.words.now) 4 0 0 c.in_ok-seed.seed c.in_ok-seed.ensures.bounds c.in_ok-seed.ensures.stands) in
+    let f5 = fitting_more 4 f4 (number_stands (words_in c.args.words.now) 4 0 2147483647 c.in_ok-seed.seed c.in_ok-seed.ensures.bounds c.in_ok-seed.ensures.stands) in
     let exit = err_from_is_err_and c.from_residual-in_err-take_file.result c.from_residual-in_err-take_file.ensures.1 in
     λ k is small. (refuses 6 c.from_residual-in_err-take_file.result c.in_err-take_file.field-0.0 exit c.in_err-take_file.ensures.refusal (usage_within 5 f5 c.in_err-take_file.ensures.wrong (omega arith))).1 k is
 
@@ -102,7 +102,7 @@ returns-in_err-take_end-clause-refused c =
     let f2 = fitting_more 1 f1 c.in_ok-take_text-2.ensures.stands in
     let f3 = fitting_more 2 f2 (number_stands (words_in c.args.words.now) 2 1 64 c.in_ok-n.n c.in_ok-n.ensures.bounds c.in_ok-n.ensures.stands) in
     let f4 = fitting_more 3 f3 c.in_ok-take_text-3.ensures.stands in
-    let f5 = fitting_more 4 f4 (number_stands (words_in c.args.words.now) 4 0 0 c.in_ok-seed.seed c.in_ok-seed.ensures.bounds c.in_ok-seed.ensures.stands) in
+    let f5 = fitting_more 4 f4 (number_stands (words_in c.args.words.now) 4 0 2147483647 c.in_ok-seed.seed c.in_ok-seed.ensures.bounds c.in_ok-seed.ensures.stands) in
     let f6 = fitting_more 5 f5 c.in_ok-take_file.ensures.stands in
     let exit = err_from_is_err_and c.from_residual-in_err-take_end.result c.from_residual-in_err-take_end.ensures.1 in
     (refuses 7 c.from_residual-in_err-take_end.result c.in_err-take_end.field-0.0 exit c.in_err-take_end.ensures.refusal (usage_at_end f6 (omega (arith, length-map c.args.words.now string_bytes, c.in_err-take_end.ensures.wrong)))).0
@@ -113,16 +113,16 @@ returns-in_err-take_end-clause-usage c =
     let f2 = fitting_more 1 f1 c.in_ok-take_text-2.ensures.stands in
     let f3 = fitting_more 2 f2 (number_stands (words_in c.args.words.now) 2 1 64 c.in_ok-n.n c.in_ok-n.ensures.bounds c.in_ok-n.ensures.stands) in
     let f4 = fitting_more 3 f3 c.in_ok-take_text-3.ensures.stands in
-    let f5 = fitting_more 4 f4 (number_stands (words_in c.args.words.now) 4 0 0 c.in_ok-seed.seed c.in_ok-seed.ensures.bounds c.in_ok-seed.ensures.stands) in
+    let f5 = fitting_more 4 f4 (number_stands (words_in c.args.words.now) 4 0 2147483647 c.in_ok-seed.seed c.in_ok-seed.ensures.bounds c.in_ok-seed.ensures.stands) in
     let f6 = fitting_more 5 f5 c.in_ok-take_file.ensures.stands in
     let exit = err_from_is_err_and c.from_residual-in_err-take_end.result c.from_residual-in_err-take_end.ensures.1 in
     λ k is small. (refuses 7 c.from_residual-in_err-take_end.result c.in_err-take_end.field-0.0 exit c.in_err-take_end.ensures.refusal (usage_at_end f6 (omega (arith, length-map c.args.words.now string_bytes, c.in_err-take_end.ensures.wrong)))).1 k is
 
 pub returns-clause-means : goal.returns-clause-means
 returns-clause-means c =
-    run_from (words_in c.args.words.now) c.in_ok-n.n c.in_ok-seed.seed c.in_ok-take_text.ensures.stands c.in_ok-take_text-2.ensures.stands c.in_ok-n.ensures.stands c.in_ok-take_text-3.ensures.stands c.in_ok-seed.ensures.stands c.in_ok-take_file.ensures.stands (omega (arith, length-map c.args.words.now string_bytes, c.in_ok-take_end.ensures.end)) c.in_ok-n.ensures.bounds (omega (arith, c.in_ok-seed.ensures.bounds))
+    run_from (words_in c.args.words.now) c.in_ok-n.n c.in_ok-seed.seed c.in_ok-take_text.ensures.stands c.in_ok-take_text-2.ensures.stands c.in_ok-n.ensures.stands c.in_ok-take_text-3.ensures.stands c.in_ok-seed.ensures.stands c.in_ok-take_file.ensures.stands (omega (arith, length-map c.args.words.now string_bytes, c.in_ok-take_end.ensures.end)) c.in_ok-n.ensures.bounds c.in_ok-seed.ensures.bounds.1
 
 pub returns-clause-usage : goal.returns-clause-usage
 returns-clause-usage c =
-    let run = run_from (words_in c.args.words.now) c.in_ok-n.n c.in_ok-seed.seed c.in_ok-take_text.ensures.stands c.in_ok-take_text-2.ensures.stands c.in_ok-n.ensures.stands c.in_ok-take_text-3.ensures.stands c.in_ok-seed.ensures.stands c.in_ok-take_file.ensures.stands (omega (arith, length-map c.args.words.now string_bytes, c.in_ok-take_end.ensures.end)) c.in_ok-n.ensures.bounds (omega (arith, c.in_ok-seed.ensures.bounds)) in
+    let run = run_from (words_in c.args.words.now) c.in_ok-n.n c.in_ok-seed.seed c.in_ok-take_text.ensures.stands c.in_ok-take_text-2.ensures.stands c.in_ok-n.ensures.stands c.in_ok-take_text-3.ensures.stands c.in_ok-seed.ensures.stands c.in_ok-take_file.ensures.stands (omega (arith, length-map c.args.words.now string_bytes, c.in_ok-take_end.ensures.end)) c.in_ok-n.ensures.bounds c.in_ok-seed.ensures.bounds.1 in
     λ k is small. absurd (usage_invalid (words_in c.args.words.now) k is (c.in_ok-n.n, c.in_ok-seed.seed, run.0, run.1))

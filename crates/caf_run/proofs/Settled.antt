@@ -1,0 +1,76 @@
+-- How a file's bytes settle the status.
+use Rattle.std.proofs.Common.{◌≡◌, ℕ, ◌≤◌, ◌<◌, List, length, ◌⊎◌, inl, inr, sym, ◌∙◌, subst, arith}
+use Rattle.std.specs.Prelude.{Option, None, Some}
+use Rattle.caf_base.specs.Outside.{Files, Rose, HaveNot, MayNotBegin}
+use Rattle.caf_report.specs.declared.report.Report.{Report}
+use Rattle.caf_run.specs.Words.{Word}
+use Rattle.caf_run.specs.Reading.{IsWhole, HasBytes, IsLonger}
+use Rattle.caf_run.specs.Dues.{IsRunStatus, NamesFile, Settle, BytesDue}
+
+-- the status of a run is none of the others
+pub not_run : (s : ℕ) → IsRunStatus s → (s ≡ 2) ⊎ (s ≡ 3) ⊎ (s ≡ 10) ⊎ (s ≡ 13) → ⊥
+not_run s (inl h) (inl k) = omega arith
+not_run s (inl h) (inr (inl k)) = omega arith
+not_run s (inl h) (inr (inr (inl k))) = omega arith
+not_run s (inl h) (inr (inr (inr k))) = omega arith
+not_run s (inr h) (inl k) = omega arith
+not_run s (inr h) (inr (inl k)) = omega arith
+not_run s (inr h) (inr (inr (inl k))) = omega arith
+not_run s (inr h) (inr (inr (inr k))) = omega arith
+
+-- files that have bytes under a name have the name
+pub whole_has : (files : Option Files) (file : Word) (bytes : List ℕ) → IsWhole files file bytes → HaveNot files file → ⊥
+whole_has None file bytes whole none = none
+whole_has (Some fs) file bytes whole none = cc
+
+pub longer_has : (files : Option Files) (file : Word) (limit : ℕ) → IsLonger files file limit → HaveNot files file → ⊥
+longer_has None file limit longer none = none
+longer_has (Some fs) file limit longer none = cc (longer.1, none)
+
+told_has : (files : Option Files) (file : Word) (bytes : List ℕ) → HasBytes files file bytes → HaveNot files file → ⊥
+told_has None file bytes has none = none
+told_has (Some fs) file bytes has none = cc
+
+-- a fault at a file that is there comes of a rise
+pub fault_settles : (files : Option Files) (file : Word) (bytes : List ℕ) (faults faults' : ℕ) → MayNotBegin files file faults faults' → HasBytes files file bytes → Rose faults faults'
+fault_settles files file bytes faults faults' (inl rose) has = rose
+fault_settles files file bytes faults faults' (inr none) has = absurd (told_has files file bytes has none)
+
+-- bytes that were read settle the status
+bytes_settle : (bytes : List ℕ) (status : ℕ) (text : List ℕ) (report : Option Report) → length bytes ≤ 65536 → BytesDue bytes status text report → Settle bytes status
+bytes_settle bytes status text report few b = record {
+  too_long = (λ s. absurd (elim b.known [ inl r ↦ not_run status r (inr (inr (inr s))) | inr k ↦ omega arith ]), λ long. absurd (omega arith));
+  refused = (λ s. (few, (b.refused s).0), λ h. elim b.known [ inl r ↦ absurd (h.1 (b.run r).0 (b.run r).1) | inr s ↦ s ]);
+  run = (λ r. (few, (b.run r).0, (b.run r).1), λ h. elim b.known [ inl r ↦ r | inr s ↦ absurd ((b.refused s).0 h.1 h.2) ]);
+}
+
+-- they are the file's
+same_bytes : (files : Option Files) (file : Word) (bytes told : List ℕ) → IsWhole files file bytes → HasBytes files file told → bytes ≡ told
+same_bytes None file bytes told whole has = absurd has
+same_bytes (Some fs) file bytes told whole has = cc
+
+pub whole_settles : (files : Option Files) (file : Word) (bytes told : List ℕ) (status : ℕ) (text : List ℕ) (report : Option Report) → IsWhole files file bytes → HasBytes files file told → length bytes ≤ 65536 → BytesDue bytes status text report → Settle told status
+whole_settles files file bytes told status text report whole has few b =
+    subst (λ v. Settle v status) (same_bytes files file bytes told whole has) (bytes_settle bytes status text report few b)
+
+-- a longer file settles it too
+long_bytes : (files : Option Files) (file : Word) (told : List ℕ) (limit : ℕ) → IsLonger files file limit → HasBytes files file told → limit < length told
+long_bytes None file told limit longer has = absurd has
+long_bytes (Some fs) file told limit longer has =
+    let same : longer.0 ≡ told = cc (longer.1, has) in
+    subst (λ v. limit < length v) same longer.2
+
+pub longer_settles : (files : Option Files) (file : Word) (told : List ℕ) (status : ℕ) → IsLonger files file 65536 → HasBytes files file told → status ≡ 13 → Settle told status
+longer_settles files file told status longer has s =
+    let long : 65536 < length told = long_bytes files file told 65536 longer has in
+    record {
+      too_long = (λ _. long, λ _. s);
+      refused = (λ k. absurd (omega arith), λ h. absurd (omega (arith, h.0)));
+      run = (λ r. absurd (not_run status r (inr (inr (inr s)))), λ h. absurd (omega (arith, h.0)));
+    }
+
+-- valid words name one file
+pub one_file : (words : List Word) (file file' : Word) → NamesFile words file → NamesFile words file' → file ≡ file'
+one_file words file file' first second =
+    let forms = sym first.2.form ∙ second.2.form in
+    cc forms
