@@ -1,6 +1,8 @@
+pub mod Held
 pub mod Numbers
 pub mod Places
 pub mod Readings
+pub mod Runs
 pub mod Settled
 pub mod Usages
 pub mod Written

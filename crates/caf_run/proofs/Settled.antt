@@ -37,8 +37,8 @@ fault_settles files file bytes faults faults' (inl rose) has = rose
 fault_settles files file bytes faults faults' (inr none) has = absurd (told_has files file bytes has none)
 
 -- bytes that were read settle the status
-bytes_settle : (bytes : List ℕ) (status : ℕ) (text : List ℕ) (report : Option Report) → length bytes ≤ 65536 → BytesDue bytes status text report → Settle bytes status
-bytes_settle bytes status text report few b = record {
+bytes_settle : (bytes : List ℕ) (n seed status : ℕ) (text : List ℕ) (report : Option Report) → length bytes ≤ 65536 → BytesDue bytes n seed status text report → Settle bytes status
+bytes_settle bytes n seed status text report few b = record {
   too_long = (λ s. absurd (elim b.known [ inl r ↦ not_run status r (inr (inr (inr s))) | inr k ↦ omega arith ]), λ long. absurd (omega arith));
   refused = (λ s. (few, (b.refused s).0), λ h. elim b.known [ inl r ↦ absurd (h.1 (b.run r).0 (b.run r).1) | inr s ↦ s ]);
   run = (λ r. (few, (b.run r).0, (b.run r).1), λ h. elim b.known [ inl r ↦ r | inr s ↦ absurd ((b.refused s).0 h.1 h.2) ]);
@@ -49,9 +49,9 @@ same_bytes : (files : Option Files) (file : Word) (bytes told : List ℕ) → Is
 same_bytes None file bytes told whole has = absurd has
 same_bytes (Some fs) file bytes told whole has = cc
 
-pub whole_settles : (files : Option Files) (file : Word) (bytes told : List ℕ) (status : ℕ) (text : List ℕ) (report : Option Report) → IsWhole files file bytes → HasBytes files file told → length bytes ≤ 65536 → BytesDue bytes status text report → Settle told status
-whole_settles files file bytes told status text report whole has few b =
-    subst (λ v. Settle v status) (same_bytes files file bytes told whole has) (bytes_settle bytes status text report few b)
+pub whole_settles : (files : Option Files) (file : Word) (bytes told : List ℕ) (n seed status : ℕ) (text : List ℕ) (report : Option Report) → IsWhole files file bytes → HasBytes files file told → length bytes ≤ 65536 → BytesDue bytes n seed status text report → Settle told status
+whole_settles files file bytes told n seed status text report whole has few b =
+    subst (λ v. Settle v status) (same_bytes files file bytes told whole has) (bytes_settle bytes n seed status text report few b)
 
 -- a longer file settles it too
 long_bytes : (files : Option Files) (file : Word) (told : List ℕ) (limit : ℕ) → IsLonger files file limit → HasBytes files file told → limit < length told

@@ -14,42 +14,49 @@ use Rattle.caf_run.specs.declared.words.Input.TheVariants.{File}
 use Rattle.caf_run.specs.declared.words.Way.TheVariants.{Order}
 use Rattle.caf_run.specs.Words.{Word, IsRun, UsageIs, Means, IsRunAt, place_of_file, count_of_images, seed_of}
 use Rattle.caf_run.specs.Reading.{IsWhole, HasBytes, HasNothingLeft, IsLonger}
-use Rattle.caf_run.specs.Dues.{usage_text, refusal_text, IsRunStatus, IsNoProgram, IsDue, BytesDue, FileDue, ReportClause}
+use Rattle.caf_run.specs.Dues.{usage_text, refusal_text, IsRunStatus, IsNoProgram, IsDue, RanBytes, BytesDue, RanFile, FileDue, ReportClause, RunClause}
+use Rattle.caf_run.specs.Runs.{IsReportOf}
 use Rattle.caf_run.proofs.Usages.{usage_invalid}
 use Rattle.caf_run.proofs.Settled.{not_run, whole_has, longer_has, fault_settles, whole_settles, longer_settles, one_file}
 
 -- the bytes are no thin program
-pub refused_bytes : (bytes : List ℕ) (status : ℕ) (text : List ℕ) (report : Option Report) → IsNoProgram bytes → status ≡ 3 → text ≡ refusal_text → report ≡ None → BytesDue bytes status text report
-refused_bytes bytes status text report none s t r = record {
+pub refused_bytes : (bytes : List ℕ) (n seed status : ℕ) (text : List ℕ) (report : Option Report) → IsNoProgram bytes → status ≡ 3 → text ≡ refusal_text → report ≡ None → BytesDue bytes n seed status text report
+refused_bytes bytes n seed status text report none s t r = record {
   known = inr s;
   refused = λ _. (none, t);
   run = λ h. absurd (not_run status h (inr (inl s)));
   reported = subst (λ v. ReportClause v status text) (sym r) (inr (inl s));
+  ran = subst (RanBytes bytes n seed) (sym r) tt;
 }
 
 -- they are, and the program was run
-pub run_bytes : (bytes : List ℕ) (p : ThinProgram) (status : ℕ) (text : List ℕ) (report : Option Report) → Reads bytes p → (r : Report) × (report ≡ Some r) × ReportClause report status text → BytesDue bytes status text report
-run_bytes bytes p status text report reads (r, is, clause) =
+pub run_bytes : (bytes : List ℕ) (p : ThinProgram) (n seed status : ℕ) (text : List ℕ) (report : Option Report) → Reads bytes p → (r : Report) × (report ≡ Some r) × ReportClause report status text × IsReportOf p n seed r → BytesDue bytes n seed status text report
+run_bytes bytes p n seed status text report reads (r, is, clause, of) =
     let c = subst (λ v. ReportClause v status text) is clause in
     record {
       known = inl c.0;
       refused = λ s. absurd (not_run status c.0 (inr (inl s)));
       run = λ _. (p, reads);
       reported = clause;
+      ran = subst (RanBytes bytes n seed) (sym is) (p, reads, of);
     }
 
+ran_file : (files : Option Files) (file : Word) (n seed : ℕ) (bytes : List ℕ) (report : Option Report) → IsWhole files file bytes → RanBytes bytes n seed report → RanFile files file n seed report
+ran_file files file n seed bytes None whole ran = tt
+ran_file files file n seed bytes (Some r) whole (p, reads, of) = (bytes, p, whole, reads, of)
+
 -- a file that was read whole
-pub whole_file : (files : Option Files) (file : Word) (left' : Option (List ℕ)) (faults faults' : ℕ) (bytes : List ℕ) (status : ℕ) (text : List ℕ) (report : Option Report) → IsWhole files file bytes → length bytes ≤ 65536 → HasNothingLeft files left' → BytesDue bytes status text report → FileDue files file left' faults faults' status text report
-whole_file files file left' faults faults' bytes status text report whole few nothing b = record {
+pub whole_file : (files : Option Files) (file : Word) (n seed : ℕ) (left' : Option (List ℕ)) (faults faults' : ℕ) (bytes : List ℕ) (status : ℕ) (text : List ℕ) (report : Option Report) → IsWhole files file bytes → length bytes ≤ 65536 → HasNothingLeft files left' → BytesDue bytes n seed status text report → FileDue files file n seed left' faults faults' status text report
+whole_file files file n seed left' faults faults' bytes status text report whole few nothing b = record {
   usage = λ s. other (inl s);
   refused = λ s. (bytes, whole, (b.refused s).0, (b.refused s).1);
-  run = λ s. (bytes, (b.run s).0, whole, (b.run s).1);
   input = λ _. nothing;
   read_fault = λ s. absurd (other (inr (inl s)));
   too_long = λ s. absurd (other (inr (inr s)));
   absent = λ none. absurd (whole_has files file bytes whole none);
-  settled = λ told has. inl (whole_settles files file bytes told status text report whole has few b);
+  settled = λ told has. inl (whole_settles files file bytes told n seed status text report whole has few b);
   reported = b.reported;
+  ran = ran_file files file n seed bytes report whole b.ran;
 }
   where
     other : (status ≡ 2) ⊎ (status ≡ 10) ⊎ (status ≡ 13) → ⊥
@@ -64,41 +71,42 @@ whole_file files file left' faults faults' bytes status text report whole few no
         by_known (inr s) (inr (inr k)) = omega arith
 
 -- a file that could not be read
-pub fault_file : (files : Option Files) (file : Word) (left' : Option (List ℕ)) (faults faults' status : ℕ) (text : List ℕ) (report : Option Report) → MayNotBegin files file faults faults' → status ≡ 10 → text ≡ codes "read fault\n" → report ≡ None → FileDue files file left' faults faults' status text report
-fault_file files file left' faults faults' status text report may s t r = record {
+pub fault_file : (files : Option Files) (file : Word) (n seed : ℕ) (left' : Option (List ℕ)) (faults faults' status : ℕ) (text : List ℕ) (report : Option Report) → MayNotBegin files file faults faults' → status ≡ 10 → text ≡ codes "read fault\n" → report ≡ None → FileDue files file n seed left' faults faults' status text report
+fault_file files file n seed left' faults faults' status text report may s t r = record {
   usage = λ k. omega arith;
   refused = λ k. absurd (omega arith);
-  run = λ h. absurd (not_run status h (inr (inr (inl s))));
   input = λ h. absurd (elim h [ inl a ↦ not_run status a (inr (inr (inl s))) | inr k ↦ omega arith ]);
   read_fault = λ _. (may, t);
   too_long = λ k. absurd (omega arith);
   absent = λ _. s;
   settled = λ told has. inr (s, fault_settles files file told faults faults' may has);
   reported = subst (λ v. ReportClause v status text) (sym r) (inr (inr (inl s)));
+  ran = subst (RanFile files file n seed) (sym r) tt;
 }
 
 -- a file that is too long
-pub long_file : (files : Option Files) (file : Word) (left' : Option (List ℕ)) (faults faults' status : ℕ) (text : List ℕ) (report : Option Report) → IsLonger files file 65536 → status ≡ 13 → text ≡ codes "too long\n" → report ≡ None → FileDue files file left' faults faults' status text report
-long_file files file left' faults faults' status text report longer s t r = record {
+pub long_file : (files : Option Files) (file : Word) (n seed : ℕ) (left' : Option (List ℕ)) (faults faults' status : ℕ) (text : List ℕ) (report : Option Report) → IsLonger files file 65536 → status ≡ 13 → text ≡ codes "too long\n" → report ≡ None → FileDue files file n seed left' faults faults' status text report
+long_file files file n seed left' faults faults' status text report longer s t r = record {
   usage = λ k. omega arith;
   refused = λ k. absurd (omega arith);
-  run = λ h. absurd (not_run status h (inr (inr (inr s))));
   input = λ h. absurd (elim h [ inl a ↦ not_run status a (inr (inr (inr s))) | inr k ↦ omega arith ]);
   read_fault = λ k. absurd (omega arith);
   too_long = λ _. (longer, t);
   absent = λ none. absurd (longer_has files file 65536 longer none);
   settled = λ told has. inl (longer_settles files file told status longer has s);
   reported = subst (λ v. ReportClause v status text) (sym r) (inr (inr (inr s)));
+  ran = subst (RanFile files file n seed) (sym r) tt;
 }
 
+ran_words : (words : List Word) (files : Option Files) (n seed : ℕ) (file : Word) (report : Option Report) → IsRun words n seed file → RanFile files file n seed report → RunClause words files report
+ran_words words files n seed file None valid ran = tt
+ran_words words files n seed file (Some r) valid (bytes, p, whole, reads, of) = (n, seed, file, bytes, p, valid, whole, reads, of)
+
 -- words that name a file
-pub file_named : (words : List Word) (n seed : ℕ) (file : Word) (files : Option Files) (left' : Option (List ℕ)) (faults faults' status : ℕ) (text : List ℕ) (report : Option Report) → IsRun words n seed file → FileDue files file left' faults faults' status text report → IsDue words files left' faults faults' status text report
+pub file_named : (words : List Word) (n seed : ℕ) (file : Word) (files : Option Files) (left' : Option (List ℕ)) (faults faults' status : ℕ) (text : List ℕ) (report : Option Report) → IsRun words n seed file → FileDue files file n seed left' faults faults' status text report → IsDue words files left' faults faults' status text report
 file_named words n seed file files left' faults faults' status text report valid f = record {
   usage = record { wrong = λ s. absurd (f.usage s); valid = λ _. (n, seed, file, valid) };
-  refusal = record {
-    refused = λ s. (let h = f.refused s in (file, h.0, (n, seed, valid), h.1, h.2, h.3));
-    run = λ s. (let h = f.run s in (file, h.0, h.1, (n, seed, valid), h.2, h.3));
-  };
+  refusal = record { refused = λ s. (let h = f.refused s in (file, h.0, (n, seed, valid), h.1, h.2, h.3)) };
   input = f.input;
   causes = record {
     read_fault = λ s. (let h = f.read_fault s in (file, (n, seed, valid), h.0, h.1));
@@ -109,13 +117,14 @@ file_named words n seed file files left' faults faults' status text report valid
     settled = λ other bytes named has. f.settled bytes (subst (λ v. HasBytes files v bytes) (one_file words other file named (n, seed, valid)) has);
   };
   reported = f.reported;
+  ran = ran_words words files n seed file report valid f.ran;
 }
 
 -- words that are no valid list
 pub usage_wrong : (words : List Word) (k : ℕ) (files : Option Files) (left' : Option (List ℕ)) (faults faults' status : ℕ) (text : List ℕ) (report : Option Report) → UsageIs words k → status ≡ 2 → text ≡ usage_text k → report ≡ None → IsDue words files left' faults faults' status text report
 usage_wrong words k files left' faults faults' status text report usage s t r = record {
   usage = record { wrong = λ _. (k, usage, t); valid = λ h. absurd (h s) };
-  refusal = record { refused = λ h. absurd (omega arith); run = λ h. absurd (not_run status h (inl s)) };
+  refusal = record { refused = λ h. absurd (omega arith) };
   input = λ h. absurd (elim h [ inl a ↦ not_run status a (inl s) | inr q ↦ omega arith ]);
   causes = record { read_fault = λ h. absurd (omega arith); too_long = λ h. absurd (omega arith) };
   exact = record {
@@ -123,6 +132,7 @@ usage_wrong words k files left' faults faults' status text report usage s t r = 
     settled = λ file bytes named has. absurd (usage_invalid words k usage (named.0, named.1, file, named.2));
   };
   reported = subst (λ v. ReportClause v status text) (sym r) (inl s);
+  ran = subst (RunClause words files) (sym r) tt;
 }
 
 -- what is refused isn't read

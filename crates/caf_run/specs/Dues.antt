@@ -10,6 +10,7 @@ use Rattle.caf_report.specs.ReportText.{report_text}
 use Rattle.fortran_reader.specs.Reads.{Reads}
 use Rattle.caf_run.specs.Words.{Word, IsRun, IsValid, UsageIs}
 use Rattle.caf_run.specs.Reading.{IsWhole, HasBytes, HasNothingLeft, IsLonger}
+use Rattle.caf_run.specs.Runs.{IsReportOf}
 use Rattle.caf_run.specs.Writing.{GrewByProperPrefix}
 
 -- the text where the words aren't valid
@@ -37,10 +38,14 @@ pub record UsageClause (words : List Word) (status : ℕ) (text : List ℕ) : Ty
   pub wrong : status ≡ 2 → (k : ℕ) × UsageIs words k × (text ≡ usage_text k)
   pub valid : (status ≡ 2 → ⊥) → IsValid words
 
--- Refusal: status 3 is due where the file's bytes, read to their end, are no thin program; a run is one of the program that they are.
+-- Refusal: status 3 is due where the file's bytes, read to their end, are no thin program.
 pub record RefusalClause (words : List Word) (files : Option Files) (status : ℕ) (text : List ℕ) : Type 0 where
   pub refused : status ≡ 3 → (file : Word) × (bytes : List ℕ) × NamesFile words file × IsWhole files file bytes × IsNoProgram bytes × (text ≡ refusal_text)
-  pub run : IsRunStatus status → (file : Word) × (bytes : List ℕ) × (p : ThinProgram) × NamesFile words file × IsWhole files file bytes × Reads bytes p
+
+-- Run: with a report, the file's bytes, read to their end, are a thin program, and the report is of its run on the images of the words in the order of their SEED.
+abbrev pub RunClause : List Word → Option Files → Option Report → Type 0
+RunClause words files None = Unit {0}
+RunClause words files (Some r) = (n : ℕ) × (seed : ℕ) × (file : Word) × (bytes : List ℕ) × (p : ThinProgram) × IsRun words n seed file × IsWhole files file bytes × Reads bytes p × IsReportOf p n seed r
 
 -- Input: after a run or a refusal nothing of the file is left.
 abbrev pub InputClause : Option Files → Option (List ℕ) → ℕ → Type 0
@@ -75,6 +80,7 @@ pub record IsDue (words : List Word) (files : Option Files) (left' : Option (Lis
   pub causes : CausesClause words files faults faults' status text
   pub exact : ExactClause words files faults faults' status
   pub reported : ReportClause report status text
+  pub ran : RunClause words files report
 
 -- Output: the status and the text that are due, or status 11 and a proper prefix of the text after a fault of the sink.
 abbrev pub OutputClause : Option (List ℕ) → Option (List ℕ) → ℕ → ℕ → ℕ → ℕ → List ℕ → Type 0
@@ -99,21 +105,32 @@ CompletenessClause words files faults faults' sink_faults sink_faults' answered 
     (file : Word) (bytes : List ℕ) (p : ThinProgram) → NamesFile words file → HasBytes files file bytes → length bytes ≤ 65536 → Reads bytes p
     → (Rose faults faults' → ⊥) → (Rose sink_faults sink_faults' → ⊥) → ((r : Report) × (report ≡ Some r) × (answered ≡ status_of r.end)) ⊎ (answered ≡ 12)
 
+-- with a report, the bytes are a thin program, and the report is of its run
+abbrev pub RanBytes : List ℕ → ℕ → ℕ → Option Report → Type 0
+RanBytes bytes n seed None = Unit {0}
+RanBytes bytes n seed (Some r) = (p : ThinProgram) × Reads bytes p × IsReportOf p n seed r
+
 -- what is due for the bytes of a file
-pub record BytesDue (bytes : List ℕ) (status : ℕ) (text : List ℕ) (report : Option Report) : Type 0 where
+pub record BytesDue (bytes : List ℕ) (n seed status : ℕ) (text : List ℕ) (report : Option Report) : Type 0 where
   pub known : IsRunStatus status ⊎ (status ≡ 3)
   pub refused : status ≡ 3 → IsNoProgram bytes × (text ≡ refusal_text)
   pub run : IsRunStatus status → (p : ThinProgram) × Reads bytes p
   pub reported : ReportClause report status text
+  pub ran : RanBytes bytes n seed report
+
+-- with a report, the file's bytes are a thin program, and the report is of its run
+abbrev pub RanFile : Option Files → Word → ℕ → ℕ → Option Report → Type 0
+RanFile files file n seed None = Unit {0}
+RanFile files file n seed (Some r) = (bytes : List ℕ) × (p : ThinProgram) × IsWhole files file bytes × Reads bytes p × IsReportOf p n seed r
 
 -- what is due for a named file
-pub record FileDue (files : Option Files) (file : Word) (left' : Option (List ℕ)) (faults faults' status : ℕ) (text : List ℕ) (report : Option Report) : Type 0 where
+pub record FileDue (files : Option Files) (file : Word) (n seed : ℕ) (left' : Option (List ℕ)) (faults faults' status : ℕ) (text : List ℕ) (report : Option Report) : Type 0 where
   pub usage : status ≡ 2 → ⊥
   pub refused : status ≡ 3 → (bytes : List ℕ) × IsWhole files file bytes × IsNoProgram bytes × (text ≡ refusal_text)
-  pub run : IsRunStatus status → (bytes : List ℕ) × (p : ThinProgram) × IsWhole files file bytes × Reads bytes p
   pub input : InputClause files left' status
   pub read_fault : status ≡ 10 → MayNotBegin files file faults faults' × (text ≡ codes "read fault\n")
   pub too_long : status ≡ 13 → IsLonger files file 65536 × (text ≡ codes "too long\n")
   pub absent : HaveNot files file → status ≡ 10
   pub settled : (bytes : List ℕ) → HasBytes files file bytes → Settle bytes status ⊎ ((status ≡ 10) × Rose faults faults')
   pub reported : ReportClause report status text
+  pub ran : RanFile files file n seed report

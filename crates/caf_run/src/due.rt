@@ -1,29 +1,25 @@
 //! What is due for the words and the source: a status, a text, and the report of a run.
 
 ghost use Rattle.std.specs.Prelude.{◌≡◌, ◌≤◌, ◌<◌, ◌+◌, ◌^◌, ◌++◌, ℕ, List, Option, IfOk, OnOk, OnErr, Some, None, length, codes, slice_get, ◌-◌};
-ghost use Rattle.std.specs.Arc.{arc_value};
 ghost use Rattle.std.specs.Fmt.{decimal};
 ghost use Rattle.caf_base.specs.Thin.{counts};
 ghost use Rattle.caf_report.specs.Ends.{status_of};
 ghost use Rattle.caf_report.specs.ReportText.{report_text};
 ghost use Rattle.caf_run.specs.Dues.{usage_text, IsDue, BytesDue, FileDue, ReportClause};
+ghost use Rattle.caf_run.specs.Runs.{IsReportOf};
 ghost use Rattle.caf_run.specs.Words.{words_in, IsValid, IsRunAt, place_of_file, count_of_images, seed_of};
 ghost use Rattle.caf_report.specs.declared.report.Report.{Report};
 
 use crate::reading::{ReadEnd, read_file};
+use crate::running::run_program;
 use crate::words::{Command, Input, Way, words_of};
-use caf_base::listing::Listing;
 use caf_base::outside::Source;
-use caf_base::place::ImageNo;
 use caf_base::refusal::{NoMemory, Refusal};
 use caf_base::thin::{THIN_SOURCE_BYTES, ThinProgram};
-use caf_report::report::{Report, Waiting};
+use caf_report::report::Report;
 use caf_text::push_number;
 use fortran_reader::read;
-use image_core::choices::Choices;
-use image_core::start::{Parts, start};
 use std::alloc::Global;
-use std::sync::Arc;
 
 /// The status and the text that are due, and the report where a run was made.
 #[derive(Drop)]
@@ -58,39 +54,13 @@ fn usage_due(alloc: Global, word: u32) -> Result<Due, NoMemory>
     })
 }
 
-// The images that can't go on.
-fn waits(alloc: Global, parts: &Parts) -> Result<Listing<Waiting>, NoMemory> {
-    let mut waits = Listing::new(alloc);
-    for run in &parts.images {
-        if let Some((line, ask)) = run.waiting()? {
-            waits.push(Waiting {
-                image: run.image(),
-                line,
-                ask,
-            })?;
-        }
-    }
-    Ok(waits)
-}
-
-// The choices of the order of a seed. TO BE REPLACED when the orders of seeds are built: now every seed's are the rotation.
-fn choices_of(_seed: u32) -> Choices
-    ensures { result ≡ Choices.Rotate 0 }
-{
-    Choices::Rotate { last: 0 }
-}
-
-// The run of a program on n images, in the order of a seed, and its report.
+// The run of a program on n images, in the order of a seed, with its report and the text of that.
 fn run_due(alloc: Global, program: ThinProgram, n: u32, seed: u32) -> Result<Due, NoMemory>
     requires images { (1 ≤ n) × (n ≤ 64) }
     requires few { counts program ≤ 262000 }
-    ensures { IfOk result (λ d. (r : Report) × (d.report ≡ Some r) × ReportClause d.report d.status d.text.items) }
+    ensures { IfOk result (λ d. (r : Report) × (d.report ≡ Some r) × ReportClause d.report d.status d.text.items × IsReportOf program n seed r) }
 {
-    let mut parts = start(alloc, Arc::new(alloc, program)?, n)?;
-    let mut choices = choices_of(seed);
-    parts.run_order(&mut choices)?;
-    let trace = parts.trace(alloc)?;
-    let report = Report::new(n, trace, waits(alloc, &parts)?);
+    let report = run_program(alloc, program, n, seed)?;
     let text = report.text(alloc)?;
     Ok(Due {
         status: report.status(),
@@ -103,7 +73,7 @@ fn run_due(alloc: Global, program: ThinProgram, n: u32, seed: u32) -> Result<Due
 fn bytes_due(alloc: Global, bytes: &[u8], n: u32, seed: u32) -> Result<Due, NoMemory>
     requires images { (1 ≤ n) × (n ≤ 64) }
     requires short { length bytes.now ≤ 65536 }
-    ensures { IfOk result (λ d. BytesDue bytes.now d.status d.text.items d.report) }
+    ensures { IfOk result (λ d. BytesDue bytes.now n seed d.status d.text.items d.report) }
 {
     match read(alloc, bytes) {
         Ok(program) => run_due(alloc, program, n, seed),
@@ -123,7 +93,7 @@ fn file_due<S: Source>(
     requires images { (1 ≤ n) × (n ≤ 64) }
     ensures files { S.files source.new ≡ S.files source.old }
     ensures later { S.faults source.old ≤ S.faults source.new }
-    ensures due { IfOk result (λ d. FileDue (S.files source.old) name.now (S.left source.new) (S.faults source.old) (S.faults source.new) d.status d.text.items d.report) }
+    ensures due { IfOk result (λ d. FileDue (S.files source.old) name.now n seed (S.left source.new) (S.faults source.old) (S.faults source.new) d.status d.text.items d.report) }
 {
     match read_file(alloc, source, name, THIN_SOURCE_BYTES) {
         Ok(bytes) => bytes_due(alloc, bytes.as_slice(), n, seed),

@@ -7,6 +7,7 @@
 
 pub mod due;
 pub mod reading;
+pub mod running;
 pub mod top;
 pub mod words;
 pub mod writing;

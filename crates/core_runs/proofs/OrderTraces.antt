@@ -60,6 +60,14 @@ ordered_events r ch s m (x ∷ xs) s' m' (p, next, step, rest) as_many i =
     ordered_events r ch (ch.after s (candidates r m)) next xs s' m' rest (a ∙ as_many ∙ sym b) i
     ∙ (ap (λ es. es ++ of_image i xs) (step_events r m next x as_many step i) ∙ (append_assoc (entries_of m.events i) (of_image i (x ∷ [])) (of_image i xs) ∙ ap (λ es. entries_of m.events i ++ es) (sym (filter-append (λ y. nat_eq (image_of y) i) (x ∷ []) xs))))
 
+-- each image's entries in the trace of the moment to which an ordered run leads are its steps
+pub order_same : {C M B S : Type 0} (r : Rules C M B) (b : Beginning C M B) (ch : Chooser S) (s : S) (m : Moment C M B) (xs : List Entry) (s' : S) (m' : Moment C M B) (t : List Entry) → IsFirst r b m → Ordered r ch s m xs s' m' → IsTraceOf m'.events t
+    → (i : ℕ) → of_image i t ≡ of_image i xs
+order_same r b ch s m xs s' m' t first ordered trace i =
+    trace.images i
+    ∙ (ordered_events r ch s m xs s' m' ordered (ap length first.events ∙ length-replicate b.images [] ∙ sym first.count) i
+    ∙ ap (λ es. es ++ of_image i xs) (ap (map (entry i)) (empty_at m.events b.images i first.events)))
+
 -- the trace of the moment to which a whole ordered run leads is that of the run
 pub order_trace : {C M B S : Type 0} (r : Rules C M B) (b : Beginning C M B) (ch : Chooser S) (s : S) (m : Moment C M B) (xs : List Entry) (s' : S) (m' : Moment C M B) (t : List Entry) → IsFirst r b m → Ordered r ch s m xs s' m' → IsWhole r xs m'
     → IsTraceOf m'.events t → IsOrderTrace r b ch s t
@@ -67,10 +75,7 @@ order_trace r b ch s m xs s' m' t first ordered whole trace = record {
   steps = xs;
   run = record { from = m; begins = first; last = s'; to = m'; ordered = ordered; whole = whole };
   ordered = trace.ordered;
-  same = λ i.
-      trace.images i
-      ∙ (ordered_events r ch s m xs s' m' ordered (ap length first.events ∙ length-replicate b.images [] ∙ sym first.count) i
-      ∙ ap (λ es. es ++ of_image i xs) (ap (map (entry i)) (empty_at m.events b.images i first.events)));
+  same = order_same r b ch s m xs s' m' t first ordered trace;
 }
 
 -- the trace of an ordered run is a core run

@@ -12,6 +12,6 @@ returns-clause-due g c =
     if_ok_map c.file_due.result _ _
     (λ d f. file_named (words_in c.args.words.now) c.args.n c.args.seed c.requires.0 (g.S.Source.files c.args.source.now) (g.S.Source.left c.file_due.new.source) (g.S.Source.faults c.args.source.now) (g.S.Source.faults c.file_due.new.source)
     d.status d.text.items d.report c.requires.1
-    (subst (λ name. FileDue (g.S.Source.files c.args.source.now) name (g.S.Source.left c.file_due.new.source) (g.S.Source.faults c.args.source.now) (g.S.Source.faults c.file_due.new.source) d.status d.text.items d.report)
+    (subst (λ name. FileDue (g.S.Source.files c.args.source.now) name c.args.n c.args.seed (g.S.Source.left c.file_due.new.source) (g.S.Source.faults c.args.source.now) (g.S.Source.faults c.file_due.new.source) d.status d.text.items d.report)
     (last_word (words_in c.args.words.now) c.args.number c.args.n c.args.seed c.word_at.result.now c.requires c.word_at.ensures) f))
     c.file_due.ensures.due

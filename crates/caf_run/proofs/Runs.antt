@@ -1,0 +1,135 @@
+-- The report of a run is that of its trace.
+use Rattle.std.proofs.Common.{◌≡◌, ℕ, zero, suc, ◌+◌, ◌<◌, ◌≤◌, Bool, true, false, List, [], ◌∷◌, ◌++◌, ◌⊎◌, inl, inr, length, refl, ap, sym, ◌∙◌, subst, arith}
+use Rattle.std.specs.Prelude.{Option, Some, None, Ok, map, slice_get, nat_eq}
+use Rattle.std.specs.List.{filter, range_with_len}
+use Rattle.std.proofs.lemmas.Bool.{cases_Bool, cases_lt}
+use Rattle.caf_base.specs.declared.refusal.NoMemory.{NoMemory}
+use Rattle.caf_base.specs.declared.thin.ThinProgram.{ThinProgram}
+use Rattle.caf_events.specs.Memories.{DeclaredMemory}
+use Rattle.caf_events.specs.declared.event.Entry.{Entry}
+use Rattle.caf_events.specs.declared.event.Trace.{Trace}
+use Rattle.caf_events.specs.Events.{EndsRun}
+use Rattle.caf_events.specs.Walkers.{AsksNext, IsAtLine, IsOver}
+use Rattle.trace_theory.specs.Entries.{of, Each}
+use Rattle.trace_theory.proofs.Filters.{of_inside}
+use Rattle.trace_theory.proofs.Snocs.{each_at}
+use Rattle.core_runs.specs.Lists.{image_of}
+use Rattle.core_runs.specs.Moments.{Rules, Moment, item_at, can_step}
+use Rattle.core_runs.specs.Beginnings.{Beginning, IsImage, IsFirst, numbers_to}
+use Rattle.core_runs.specs.CoreRuns.{of_image, IsCoreRun}
+use Rattle.core_runs.specs.Kept.{IsKept}
+use Rattle.core_runs.specs.Orders.{candidates, EndsAtLast, NoneEnds, IsWhole, IsOrderTrace, Chooser}
+use Rattle.core_runs.specs.Traces.{IsTraceOf}
+use Rattle.core_runs.specs.Waits.{HasStopped, IsWaiting}
+use Rattle.core_runs.proofs.Lanes.{is_image}
+use Rattle.core_runs.proofs.OrderTraces.{order_trace, order_same}
+use Rattle.core_runs.proofs.Waits.{waiting, stopped}
+use Rattle.image_core.specs.declared.choices.RunEnd.{RunEnd}
+use Rattle.image_core.specs.declared.choices.RunEnd.TheVariants.{Ending, AllOver, AllWait}
+use Rattle.image_core.specs.declared.choices.Choices.{Choices}
+use Rattle.image_core.specs.declared.run.ImageRun.{ImageRun}
+use Rattle.image_core.specs.declared.parts.PartsOf.{PartsOf}
+use Rattle.image_core.specs.Choosing.{choosing}
+use Rattle.image_core.specs.Orders.{EndIs, IsOrderRun}
+use Rattle.image_core.specs.Parts.{moment_of, event_lists}
+use Rattle.image_core.proofs.Slices.{map_length}
+use Rattle.thin_parts.specs.ThinBoard.{BoardMeaning}
+use Rattle.thin_parts.specs.ThinMemory.{MemoryMeaning}
+use Rattle.thin_parts.specs.ThinRuns.{thin_rules, thin_beginning}
+use Rattle.thin_parts.specs.ThinWalk.{Config, thin_step}
+use Rattle.caf_report.specs.declared.report.End.{End}
+use Rattle.caf_report.specs.declared.report.Report.{Report}
+use Rattle.caf_report.specs.declared.report.Waiting.{Waiting}
+use Rattle.caf_report.specs.Ends.{EndsAt, HasNoEnding, IsEndOf}
+use Rattle.caf_run.specs.Runs.{choices_of, WaitsAs, AreHeld, AreWaiting, IsRunEnd, IsReportOf}
+
+-- an ordered run that was answered is whole
+pub whole_of : {C M B : Type 0} (r : Rules C M B) (m : Moment C M B) (xs : List Entry) (end : RunEnd) → EndIs r m xs end → IsWhole r xs m
+whole_of r m xs (Ending image) h = inl h.0
+whole_of r m xs AllOver h = inr (h.0, h.1)
+whole_of r m xs AllWait h = inr (h.0, h.1)
+
+none_passes : (p : ℕ → Bool) (a n i : ℕ) → filter p (range_with_len a n) ≡ [] → a ≤ i → i < a + n → p i ≡ false
+none_passes p a zero i h low high = absurd (omega arith)
+none_passes p a (suc n) i h low high = elim (cases_Bool (p a)) [
+  | inl t ↦ absurd (let g = rw t at h in cc)
+  | inr f ↦ elim (cases_lt a i) [
+    | inl l ↦ none_passes p (a + 1) n i (rw f at h) (omega arith) (omega arith)
+    | inr g ↦ (let e : a ≡ i = omega arith in subst (λ j. p j ≡ false) e f)
+  ]
+]
+
+-- where there is no candidate no image of the run can step
+cant_step : {C M B : Type 0} (r : Rules C M B) (b : Beginning C M B) (m : Moment C M B) → length m.configs ≡ b.images → candidates r m ≡ [] → (i : ℕ) → IsImage b i → can_step r m i ≡ false
+cant_step r b m l h i in_run = none_passes (can_step r m) 1 (length m.configs) i h (omega (arith, in_run.0)) (let k = in_run.1 in omega arith)
+
+none_at : (xs : List Entry) → ((k : ℕ) (x : Entry) → slice_get xs k ≡ Some x → EndsRun x.event → ⊥) → Each (λ x. EndsRun x.event → ⊥) xs
+none_at [] h = tt
+none_at (x ∷ xs) h = (h 0 x refl, none_at xs (λ k y at. h (suc k) y at))
+
+no_ending : (t : Trace) → HasNoEnding t → Each (λ x. EndsRun x.event → ⊥) t.entries
+no_ending t h = none_at t.entries (λ k x at ends. h k (ends_at k x at ends))
+  where
+    ends_at : (k : ℕ) (x : Entry) → slice_get t.entries k ≡ Some x → EndsRun x.event → EndsAt t k
+    ends_at k x at ends = rw at ends
+
+each_filter : {E : Type 0} (P : E → Type 0) (p : E → Bool) (xs : List E) → Each P xs → Each P (filter p xs)
+each_filter P p [] h = tt
+each_filter P p (x ∷ xs) h = elim (cases_Bool (p x)) [
+  | inl t ↦ rw t (h.0, each_filter P p xs h.1)
+  | inr f ↦ rw f (each_filter P p xs h.1)
+]
+
+-- a trace without an ending event is that of steps of which none ends the run
+ends_nowhere : (t : Trace) (xs : List Entry) → ((i : ℕ) → of_image i t.entries ≡ of_image i xs) → HasNoEnding t → EndsAtLast xs → ⊥
+ends_nowhere t xs same none (before, last, all, rest, ends) =
+    each_at (λ x. EndsRun x.event → ⊥) (of_image (image_of last) before) [] last
+    (subst (Each (λ x. EndsRun x.event → ⊥)) (same (image_of last) ∙ ap (of_image (image_of last)) all ∙ of_inside image_of before [] last) (each_filter (λ x. EndsRun x.event → ⊥) (λ x. nat_eq (image_of x) (image_of last)) t.entries (no_ending t none)))
+    ends
+
+module _ {C M B : Type 0} (r : Rules C M B) (b : Beginning C M B) (m : Moment C M B) (t : Trace) (h : IsKept r b m) (trace : IsTraceOf m.events t.entries) (stuck : candidates r m ≡ []) where
+  each_waits : (ws : List Waiting) → Each (λ w. (c : C) × (item_at m.configs w.image.0 ≡ Some c) × AsksNext (r.step c) w.ask × IsAtLine (r.step c) w.line) ws → Each (λ w. IsWaiting r b t.entries w.image.0 w.line w.ask) ws
+  each_waits [] e = tt
+  each_waits (w ∷ ws) ((c, at, ask, line), rest) =
+      (waiting r b m t.entries h trace w.image.0 c at (cant_step r b m h.count stuck w.image.0 (is_image m.configs b.images w.image.0 c h.count at)) w.ask w.line ask line, each_waits ws rest)
+
+  -- the images that haven't ended are those that wait
+  pub held_wait : (ws : List Waiting) → AreHeld r.step m.configs (length m.configs) ws → AreWaiting r b t ws
+  held_wait ws held = record {
+    rises = held.rises;
+    each = each_waits ws held.each;
+    all = λ i in_run. (let l = h.count in let k = in_run.1 in elim (held.all i in_run.0 (omega arith)) [
+      | inl (c, at, over) ↦ inl (stopped r b m t.entries h trace i c at over)
+      | inr there ↦ inr there
+    ]);
+  }
+
+-- the end of a report of a whole run with the images that haven't ended is that of the run
+pub run_end : {C M B : Type 0} (r : Rules C M B) (b : Beginning C M B) (m : Moment C M B) (t : Trace) (xs : List Entry) (ws : List Waiting) (end : End) → IsKept r b m → IsTraceOf m.events t.entries → ((i : ℕ) → of_image i t.entries ≡ of_image i xs)
+    → IsWhole r xs m → AreHeld r.step m.configs (length m.configs) ws → IsEndOf t ws end → IsRunEnd r b t end
+run_end r b m t xs ws end kept trace same (inl at_last) held is = record { ended = is.ended; open_end = λ none. absurd (ends_nowhere t xs same none at_last) }
+run_end r b m t xs ws end kept trace same (inr (rest, stuck)) held is = record { ended = is.ended; open_end = λ none. (ws, held_wait r b m t kept trace stuck ws held, is.open_end none) }
+
+abbrev pub thin_moment : PartsOf Config MemoryMeaning BoardMeaning → Moment Config DeclaredMemory ℕ
+thin_moment p = moment_of (λ (m : Config). m) (λ (o : MemoryMeaning). o.declared) (λ (o : MemoryMeaning). o.history) (λ (b : BoardMeaning). b.images) (λ (b : BoardMeaning). b.history) p
+
+-- the report of the parts to which an ordered run leads from the first ones
+pub report_of : (p : ThinProgram) (n seed : ℕ) (parts parts' : PartsOf Config MemoryMeaning BoardMeaning) (s s' : Choices) (end : RunEnd) (t : Trace) (ws : List Waiting) (report : Report)
+    → IsFirst thin_rules (thin_beginning p n) (thin_moment parts) → IsKept thin_rules (thin_beginning p n) (thin_moment parts)
+    → s ≡ choices_of seed → (run : IsOrderRun {E = NoMemory} thin_rules s (thin_moment parts) s' (thin_moment parts') (Ok end))
+    → IsKept thin_rules (thin_beginning p n) (thin_moment parts') → IsTraceOf (event_lists parts'.images.items) t.entries → IsCoreRun thin_rules (thin_beginning p n) t.entries
+    → AreHeld thin_step (map (λ r. r.machine) parts'.images.items) (length parts'.images.items) ws
+    → report.images ≡ n → report.trace ≡ t → IsEndOf t ws report.end → IsReportOf p n seed report
+report_of p n seed parts parts' s s' end t ws report first kept seeded run kept' trace core held images traced ended =
+    let whole = whole_of thin_rules (thin_moment parts') run.steps end run.so in
+    let b = thin_beginning p n in
+    let ordered = order_trace thin_rules b choosing s (thin_moment parts) run.steps s' (thin_moment parts') t.entries first run.ordered whole trace in
+    let same = order_same thin_rules b choosing s (thin_moment parts) run.steps s' (thin_moment parts') t.entries first run.ordered trace in
+    let many = map_length (λ (r : ImageRun Config). r.machine) parts'.images.items in
+    record {
+      images = images;
+      core = subst (λ v. IsCoreRun thin_rules b v.entries) (sym traced) core;
+      ordered = subst (λ v. IsOrderTrace thin_rules b choosing (choices_of seed) v.entries) (sym traced) (subst (λ v. IsOrderTrace thin_rules b choosing v t.entries) seeded ordered);
+      end = subst (λ v. IsRunEnd thin_rules b v report.end) (sym traced)
+          (run_end thin_rules b (thin_moment parts') t run.steps ws report.end kept' trace same whole (subst (λ k. AreHeld thin_step (map (λ r. r.machine) parts'.images.items) k ws) (sym many) held) ended);
+    }
