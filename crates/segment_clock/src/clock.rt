@@ -33,6 +33,7 @@ impl Clock {
     }
 
     /// Takes the greater count of each image. It takes no memory.
+    #[tactic(auto, using(crate::proofs::Joins::joined_step, crate::proofs::Joins::joined_none))]
     pub fn join(&mut self, other: &Clock)
         requires { length other.now ≡ length self.old }
         ensures { self.new ≡ joined self.old other.now }
