@@ -1,0 +1,35 @@
+//! What comes before what, over the edges of the table.
+
+ghost use Rattle.std.specs.Prelude.{◌≡◌, ℕ, List, ◌++◌, ◌<◌, ◌↔◌};
+ghost use Rattle.order_axioms.specs.Order.{Segment, Before, Begun};
+ghost use Rattle.order_axioms.specs.Races.{Accesses, reads, Stands, place, Forward, ReadsLast, NoRace, Justified};
+ghost use Rattle.order_axioms.specs.Acts.{View, entries, rules};
+ghost use Rattle.order_axioms.specs.Facts.{AccessesCell, Pauses};
+
+/// The entries of a trace: what segment order sees of them, and what is said of their accesses.
+pub trait Traced {
+    ghost Entry: { Type 0 };
+
+    ghost Value: { Type 0 };
+
+    ghost view: { View Entry };
+
+    ghost accesses: { Accesses Entry Value };
+}
+
+/// Which segments come before a segment depends only on the entries up to its beginning.
+pub fn law_prefixes<T: Traced>()
+    ensures { (t u : List T.Entry) (a b : Segment) → Begun (entries T.view) t b → Before (rules T.view) (t ++ u) a b ↔ Before (rules T.view) t a b }
+{}
+
+/// Of two accesses the one in the segment that comes before stands before the other in the trace.
+pub fn law_forward<T: Traced>()
+    ensures { (t : List T.Entry) → Pauses T.view (AccessesCell T.accesses) t → Forward (rules T.view) T.accesses t }
+{}
+
+/// Each read among the first m entries is justified, where these have no race.
+pub fn law_reads<T: Traced>()
+    ensures { (t : List T.Entry) → Pauses T.view (AccessesCell T.accesses) t → ReadsLast (rules T.view) T.accesses t
+        → (m : ℕ) → NoRace (rules T.view) T.accesses t m → (x : Stands t) → T.accesses.class_of x.event ≡ reads → place x < m
+        → Justified (rules T.view) T.accesses t x }
+{}
