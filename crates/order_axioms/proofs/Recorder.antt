@@ -3,7 +3,7 @@ use Rattle.std.proofs.Common.{◌≡◌, ℕ, suc, ◌<◌, ◌≤◌, ◌↔◌
 use Rattle.std.proofs.lemmas.List.{append-nil}
 use Rattle.std.proofs.lemmas.Bool.{cases_lt}
 use Rattle.order_axioms.specs.Order.{Segment, Within, done, segment_of, segment_after, Begun, Before, Reaches, Edge, Linked}
-use Rattle.order_axioms.specs.Clocks.{Covers, tick}
+use Rattle.order_axioms.specs.Clocks.{Covers, TellsOthers, tick}
 use Rattle.order_axioms.specs.Acts.{completing, Key, Turn, adds, clears, drops, leaves_all, turned, turn_of, View, entries, waiting, released, others, rules}
 use Rattle.order_axioms.specs.Stored.{turned_clock, present}
 use Rattle.order_axioms.proofs.Splits.{done_append, done_at}
@@ -65,18 +65,19 @@ module _ (E : Type 0) (v : View E) where
   pub clock_first : (j : ℕ) → Covers (rules v) [] (present v [] j ∷ []) (tick j (λ i. 0))
   clock_first j = clock_ticks E (rules v) (sound E v) [] (record { image = j; number = 0 }) (λ i. 0) (omega arith) (clock_start E (rules v) (sound E v) [] j)
 
-  -- what an image's clock tells of other images
-  pub clock_tells : (g : List E) (j : ℕ) (c : ℕ → ℕ) → Covers (rules v) g (present v g j ∷ []) c → (i s : ℕ) → (i ≡ j → ⊥) → (s < c i) ↔ Before (rules v) g (record { image = i; number = s }) (present v g j)
-  clock_tells g j c k i s ne = (
-    λ l. let q = (k.exactly i s).0 l in elim q.1 [
-      | inl e ↦ elim q.2 [
-        | inl same ↦ absurd (ne (ap (λ z. z.image) (same ∙ e)))
-        | inr b ↦ subst (λ z. Before (rules v) g (record { image = i; number = s }) z) e b
-      ]
-      | inr z ↦ absurd z
-    ],
-    λ b. (k.exactly i s).1 (present v g j, inl refl, inr b),
-  )
+  -- an image's clock tells of other images what comes before its present segment
+  pub clock_tells : (g : List E) (j : ℕ) (c : ℕ → ℕ) → Covers (rules v) g (present v g j ∷ []) c → TellsOthers (rules v) g (present v g j) c
+  clock_tells g j c k = record {
+    exactly = λ i s ne.
+    (λ l. let q = (k.exactly i s).0 l in elim q.1 [
+        | inl e ↦ elim q.2 [
+          | inl same ↦ absurd (ne (ap (λ z. z.image) (same ∙ e)))
+          | inr b ↦ subst (λ z. Before (rules v) g (record { image = i; number = s }) z) e b
+        ]
+        | inr z ↦ absurd z
+      ],
+    λ b. (k.exactly i s).1 (present v g j, inl refl, inr b));
+  }
 
   -- an image's own count is one more than the segments that it has completed
   pub covered_own : (g : List E) (j : ℕ) (c : ℕ → ℕ) → Covers (rules v) g (present v g j ∷ []) c → c j ≡ suc (done (entries v) j g)

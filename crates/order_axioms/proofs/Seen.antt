@@ -1,10 +1,10 @@
 -- The marks that are seen of a cell are those of the entries that touch it.
-use Rattle.std.proofs.Common.{◌≡◌, ◌≤◌, Bool, true, false, nat_eq, ◌&&◌, cond, List, [], ◌∷◌, ◌++◌, inl, inr, refl, ap, sym, ◌∙◌, subst, arith, append_assoc}
+use Rattle.std.proofs.Common.{◌≡◌, ◌≤◌, ◌↔◌, Bool, true, false, nat_eq, ◌&&◌, cond, List, [], ◌∷◌, ◌++◌, inl, inr, refl, ap, sym, ◌∙◌, subst, arith, append_assoc}
 use Rattle.std.proofs.lemmas.List.{append-nil}
 use Rattle.std.proofs.lemmas.Bool.{eq-eqb, eqb-true, and_parts, or_cases, or_left, or_right}
 use Rattle.order_axioms.specs.Order.{Entries, Rules, Within, done, Sound}
 use Rattle.order_axioms.specs.Races.{Cell, same_cell, touches_cell, Accesses, Stands}
-use Rattle.order_axioms.specs.Marks.{Mark, Keeps, mark_of, seen_from, seen}
+use Rattle.order_axioms.specs.Marks.{Mark, Keeps, Marked, mark_of, seen_from, seen}
 use Rattle.order_axioms.proofs.Splits.{done_append, begun_more}
 use Rattle.order_axioms.proofs.Withins.{within_append, within_right}
 use Rattle.order_axioms.proofs.Clocks.{reaches_up}
@@ -40,18 +40,12 @@ module _ (E V : Type 0) (k : Entries E) (a : Accesses E V) where
   pub seen_more : (c : Cell) (g : List E) (e : E) → seen k a c (g ++ e ∷ []) ≡ seen k a c g ++ cond (touches_cell c (a.cells g e)) (mark_of k a g e ∷ []) []
   seen_more c g e = seen_from_more c [] g e
 
-  -- where a mark comes from
-  pub record Marked (c : Cell) (t : List E) (m : Mark) : Type 0 where
-    pub at : Stands t
-    pub touches : Within c (a.cells at.before at.event)
-    pub is : m ≡ mark_of k a at.before at.event
-
-  one_mark : (c : Cell) (b : Bool) (t : List E) (x : Stands t) (m : Mark) → (b ≡ true → Within c (a.cells x.before x.event)) → Within m (cond b (mark_of k a x.before x.event ∷ []) []) → Marked c t m
+  one_mark : (c : Cell) (b : Bool) (t : List E) (x : Stands t) (m : Mark) → (b ≡ true → Within c (a.cells x.before x.event)) → Within m (cond b (mark_of k a x.before x.event ∷ []) []) → Marked k a c t m
   one_mark c true t x m h (inl e) = record { at = x; touches = h refl; is = e }
   one_mark c true t x m h (inr z) = absurd z
   one_mark c false t x m h w = absurd w
 
-  seen_from_stands : (c : Cell) (t b es : List E) → t ≡ b ++ es → (m : Mark) → Within m (seen_from k a c b es) → Marked c t m
+  seen_from_stands : (c : Cell) (t b es : List E) → t ≡ b ++ es → (m : Mark) → Within m (seen_from k a c b es) → Marked k a c t m
   seen_from_stands c t b [] s m w = absurd w
   seen_from_stands c t b (e ∷ es) s m w =
       elim (within_append Mark m (cond (touches_cell c (a.cells b e)) (mark_of k a b e ∷ []) []) (seen_from k a c (b ++ e ∷ []) es) w) [
@@ -59,7 +53,7 @@ module _ (E V : Type 0) (k : Entries E) (a : Accesses E V) where
         | inr r ↦ seen_from_stands c t (b ++ e ∷ []) es (s ∙ sym (append_assoc b (e ∷ []) es)) m r
       ]
 
-  pub seen_stands : (c : Cell) (t : List E) (m : Mark) → Within m (seen k a c t) → Marked c t m
+  pub seen_stands : (c : Cell) (t : List E) (m : Mark) → Within m (seen k a c t) → Marked k a c t m
   seen_stands c t m w = seen_from_stands c t [] t refl m w
 
   stands_seen_from : (c : Cell) (b g : List E) (e : E) (rest : List E) → Within c (a.cells (b ++ g) e) → Within (mark_of k a (b ++ g) e) (seen_from k a c b (g ++ e ∷ rest))
@@ -74,6 +68,10 @@ module _ (E V : Type 0) (k : Entries E) (a : Accesses E V) where
 
   pub stands_seen : (c : Cell) (t : List E) (x : Stands t) → Within c (a.cells x.before x.event) → Within (mark_of k a x.before x.event) (seen k a c t)
   stands_seen c t x w = subst (λ z. Within (mark_of k a x.before x.event) (seen k a c z)) (sym x.split) (stands_seen_from c [] x.before x.event x.rest w)
+
+  -- the marks seen of a cell are exactly those of the entries that touch it
+  pub seen_where : (c : Cell) (t : List E) (m : Mark) → Within m (seen k a c t) ↔ Marked k a c t m
+  seen_where c t m = (seen_stands c t m, λ h. subst (λ z. Within z (seen k a c t)) (sym h.is) (stands_seen c t h.at h.touches))
 
   -- an image's marks so far stand in its segments up to the present one
   pub seen_own : (c : Cell) (t : List E) (m : Mark) → Within m (seen k a c t) → m.segment.number ≤ done k m.segment.image t

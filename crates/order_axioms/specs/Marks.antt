@@ -1,8 +1,8 @@
 -- What a recorder keeps of one cell: a few marks of the entries so far that touched it.
-use Rattle.std.specs.Prelude.{ℕ, ◌≡◌, ◌&&◌, ◌||◌, not, Bool, true, false, nat_eq, nat_lt, cond, List, [], ◌∷◌, ◌++◌}
+use Rattle.std.specs.Prelude.{ℕ, ◌≤◌, ◌≡◌, ◌&&◌, ◌||◌, not, Bool, true, false, nat_eq, nat_lt, cond, List, [], ◌∷◌, ◌++◌}
 use Rattle.std.specs.List.{filter}
 use Rattle.order_axioms.specs.Order.{Segment, Entries, Rules, Within, Reaches, Begun, Before, segment_of}
-use Rattle.order_axioms.specs.Races.{Cell, touches_cell, Accesses, Class, reads, writes, looks, changes, makes, signals, meets}
+use Rattle.order_axioms.specs.Races.{Cell, touches_cell, Accesses, Stands, Class, reads, writes, looks, changes, makes, signals, meets}
 
 -- An entry that touched the cell: its segment and its class.
 pub record Mark : Type 0 where
@@ -54,6 +54,13 @@ pub record Keeps {E : Type 0} (r : Rules E) (t : List E) (seen kept : List Mark)
   pub enough : (m : Mark) → Within m seen → (k : Mark) × Within k kept × Under r t m k
   pub begun : (m : Mark) → Within m seen → Begun r.entries t m.segment
 
+-- What is known where q is to be noted: q's segment has begun, the kept marks suffice, and those of q's image that were seen
+-- are of its segment or of earlier ones.
+pub record Noting {E : Type 0} (r : Rules E) (t : List E) (q : Mark) (seen kept : List Mark) : Type 0 where
+  pub here : Begun r.entries t q.segment
+  pub keeps : Keeps r t seen kept
+  pub own : (m : Mark) → Within m seen → m.segment.image ≡ q.segment.image → m.segment.number ≤ q.segment.number
+
 -- some mark so far meets q, is of another image, and its segment doesn't come before q's
 abbrev pub Unordered : {E : Type 0} → Rules E → List E → List Mark → Mark → Type 0
 Unordered r t seen q =
@@ -73,3 +80,9 @@ module _ {E V : Type 0} (k : Entries E) (a : Accesses E V) where
   -- the marks of the entries so far that touch the cell
   abbrev pub seen : Cell → List E → List Mark
   seen c g = seen_from c [] g
+
+  -- The mark is that of an entry of t that touches the cell.
+  pub record Marked (c : Cell) (t : List E) (m : Mark) : Type 0 where
+    pub at : Stands t
+    pub touches : Within c (a.cells at.before at.event)
+    pub is : m ≡ mark_of at.before at.event

@@ -112,6 +112,10 @@ module _ {E V : Type 0} (r : Rules E) (a : Accesses E V) (t : List E) where
   abbrev pub Earlier : Stands t → Stands t → Type 0
   Earlier x y = ((r.entries.image_of x.event ≡ r.entries.image_of y.event) × (place x < place y)) ⊎ Before r t (segment x) (segment y)
 
+  -- no entry before y stands in a segment that comes after y's
+  abbrev pub Ahead : Stands t → Type 0
+  Ahead y = (x : Stands t) → place x < place y → Before r t (segment y) (segment x) → ⊥
+
   -- it defines the cell
   abbrev pub Writes : Stands t → Cell → Type 0
   Writes x c = Touches x c × (defines (a.class_of x.event) ≡ true)
