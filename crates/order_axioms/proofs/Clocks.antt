@@ -232,6 +232,11 @@ module _ (E : Type 0) (r : Rules E) (sound : Sound r) where
   pub has_clock : (t : List E) (b : Segment) → Begun r.entries t b → HasClock t b
   has_clock t b h = clocks_from [] t no_events b h
 
+  pub clock_of : (t : List E) (b : Segment) → Begun r.entries t b → (c : ℕ → ℕ) × IsClock r t b c
+  unfolding HasClock
+  clock_of t b h = has_clock t b h
+
+  -- So it can be told whether a segment comes before one that has begun.
   pub before_or_not : (t : List E) (a b : Segment) → Begun r.entries t b → Before r t a b ⊎ (Before r t a b → ⊥)
   unfolding HasClock
   before_or_not t a b h =

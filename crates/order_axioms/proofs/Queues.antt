@@ -23,6 +23,10 @@ module _ (E : Type 0) (v : View E) where
   each_take (suc k) g (s ∷ q) [] h = absurd h
   each_take (suc k) g (s ∷ q) (c ∷ cs) h = (h.0, each_take k g q cs h.1)
 
+  -- the first k clocks joined cover the first k segments
+  pub queue_taken : (k : ℕ) (g : List E) (q : List Segment) (cs : List (ℕ → ℕ)) → EachCovered (rules v) g q cs → Covers (rules v) g (take k q) (all_joined (take k cs))
+  queue_taken k g q cs h = covers_all g (take k q) (take k cs) (each_take k g q cs h)
+
   each_drop : (k : ℕ) (g : List E) (q : List Segment) (cs : List (ℕ → ℕ)) → EachCovered (rules v) g q cs → EachCovered (rules v) g (drop k q) (drop k cs)
   each_drop zero g q cs h = h
   each_drop (suc k) g [] [] h = tt

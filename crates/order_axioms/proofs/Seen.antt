@@ -81,9 +81,9 @@ module _ (E V : Type 0) (k : Entries E) (a : Accesses E V) where
       let f = ap (done k (k.image_of x.at.event)) x.at.split in
       subst (λ z. z.segment.number ≤ done k z.segment.image t) (sym x.is) (omega arith)
 
-module _ (E : Type 0) (r : Rules E) where
-  pub keeps_up : (sound : Sound r) (t u : List E) (seen kept : List Mark) → Keeps r t seen kept → Keeps r (t ++ u) seen kept
-  keeps_up sound t u seen kept h = record {
+module _ (E : Type 0) (r : Rules E) (sound : Sound r) where
+  pub keeps_up : (t u : List E) (seen kept : List Mark) → Keeps r t seen kept → Keeps r (t ++ u) seen kept
+  keeps_up t u seen kept h = record {
     were_seen = h.were_seen;
     enough = λ m w. (let e = h.enough m w in (e.0, e.1, (reaches_up E r sound t u m.segment e.0.segment e.2.0, e.2.1)));
     begun = λ m w. begun_more E r.entries t u m.segment (h.begun m w);

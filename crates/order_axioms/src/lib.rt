@@ -5,4 +5,11 @@
 //! Each law is the contract of a function that does nothing; proofs cite the lemma of the same name in proofs/.
 #![tactic(auto)]
 
+pub mod clock_laws;
+pub mod edge_laws;
+pub mod entries;
+pub mod key_laws;
+pub mod mark_laws;
 pub mod order_laws;
+pub mod race_laws;
+pub mod recorder_laws;

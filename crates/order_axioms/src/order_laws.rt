@@ -2,20 +2,11 @@
 
 ghost use Rattle.std.specs.Prelude.{◌≡◌, ℕ, List, ◌++◌, ◌<◌, ◌↔◌};
 ghost use Rattle.order_axioms.specs.Order.{Segment, Before, Begun};
-ghost use Rattle.order_axioms.specs.Races.{Accesses, reads, Stands, place, Forward, ReadsLast, NoRace, Justified};
-ghost use Rattle.order_axioms.specs.Acts.{View, entries, rules};
+ghost use Rattle.order_axioms.specs.Races.{reads, Stands, place, Forward, ReadsLast, NoRace, Justified};
+ghost use Rattle.order_axioms.specs.Acts.{entries, rules};
 ghost use Rattle.order_axioms.specs.Facts.{AccessesCell, Pauses};
 
-/// The entries of a trace: what segment order sees of them, and what is said of their accesses.
-pub trait Traced {
-    ghost Entry: { Type 0 };
-
-    ghost Value: { Type 0 };
-
-    ghost view: { View Entry };
-
-    ghost accesses: { Accesses Entry Value };
-}
+use crate::entries::Traced;
 
 /// Which segments come before a segment depends only on the entries up to its beginning.
 pub fn law_prefixes<T: Traced>()
