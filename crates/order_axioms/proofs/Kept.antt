@@ -1,15 +1,15 @@
 -- The marks that are kept of a cell suffice.
-use Rattle.std.proofs.Common.{◌≡◌, ℕ, ◌<◌, ◌≤◌, ◌↔◌, Bool, true, false, nat_lt, ◌&&◌, ◌||◌, not, List, [], ◌∷◌, ◌++◌, ◌⊎◌, inl, inr, refl, ap, sym, ◌∙◌, subst, arith}
+use Rattle.std.proofs.Common.{◌≡◌, ℕ, ◌↔◌, Bool, true, false, nat_lt, ◌&&◌, ◌||◌, not, List, [], ◌∷◌, ◌++◌, ◌⊎◌, inl, inr, refl, ap, sym, subst, arith}
 use Rattle.std.proofs.lemmas.Bool.{eq-eqb, cases_lt, cases_Bool, eqb-true, and_parts, or_cases, or_parts, not-true, not-false, ltb-false, le-ltb, both_ways}
 use Rattle.std.proofs.lemmas.Bool.Decides.{eqb_tells}
 use Rattle.std.specs.List.{filter}
-use Rattle.order_axioms.specs.Order.{Segment, Rules, Within, Begun, Before, Reaches, Sound}
+use Rattle.order_axioms.specs.Order.{Rules, Within, Begun, Before, Reaches, Sound}
 use Rattle.order_axioms.specs.Races.{signals, meets}
 use Rattle.order_axioms.specs.Clocks.{TellsOthers}
 use Rattle.order_axioms.specs.Marks.{Mark, outranks, same_image, clashes, any_clash, stays, noted, Under, Keeps, Noting, Unordered}
 use Rattle.order_axioms.proofs.Withins.{within_append, within_left, within_right}
 use Rattle.order_axioms.proofs.Classes.{outranks_tells, signal_meets}
-use Rattle.order_axioms.proofs.Clocks.{before_join, own_before}
+use Rattle.order_axioms.proofs.Ways.{reaches_join, own_reaches}
 
 -- a mark that stays is one of all
 pub within_filter : (f : Mark → Bool) (k : Mark) (ks : List Mark) → Within k (filter f ks) → Within k ks
@@ -31,23 +31,10 @@ filter_within f k (x ∷ ks) (inr w) h =
     ]
 
 module _ (E : Type 0) (r : Rules E) (sound : Sound r) (t : List E) where
-  reaches_join : (a b c : Segment) → Reaches r t a b → Reaches r t b c → Reaches r t a c
-  reaches_join a b c (inl e) q = subst (λ z. Reaches r t z c) (sym e) q
-  reaches_join a b c (inr p) (inl e) = inr (subst (λ z. Before r t a z) e p)
-  reaches_join a b c (inr p) (inr q) = inr (before_join E r sound t a b c p q)
-
-  -- an image's own earlier segments
-  own_reaches : (a b : Segment) → Begun r.entries t b → a.image ≡ b.image → a.number ≤ b.number → Reaches r t a b
-  own_reaches a b h e l =
-      elim (cases_lt a.number b.number) [
-        | inl m ↦ inr (subst (λ i. Before r t (record { image = i; number = a.number }) b) (sym e) (own_before E r sound t b a.number h m))
-        | inr m ↦ (let n : a.number ≡ b.number = omega arith in inl (ap (λ i. record { image = i; number = a.number }) e ∙ ap (λ k. record { image = b.image; number = k }) n))
-      ]
-
   module _ (q : Mark) (seen kept : List Mark) (noting : Noting r t q seen kept) where
     -- a mark of q's image
     own_under : (m : Mark) → Within m seen → m.segment.image ≡ q.segment.image → Reaches r t m.segment q.segment
-    own_under m w e = own_reaches m.segment q.segment noting.here e (noting.own m w e)
+    own_under m w e = own_reaches E r sound t m.segment q.segment noting.here e (noting.own m w e)
 
     -- q itself
     last_under : (m : Mark) → Within m (q ∷ []) → Under r t m q
@@ -62,7 +49,7 @@ module _ (E : Type 0) (r : Rules E) (sound : Sound r) (t : List E) where
             | inl s ↦ (k, within_left Mark k (filter (stays q) kept) (q ∷ []) (filter_within (stays q) k kept w s), u)
             | inr o ↦ (
                 let d = displaced k w o in
-                (q, within_right Mark q (filter (stays q) kept) (q ∷ []) (inl refl), (reaches_join m.segment k.segment q.segment u.0 d.0, λ x h. d.1 x (u.1 x h))))
+                (q, within_right Mark q (filter (stays q) kept) (q ∷ []) (inl refl), (reaches_join E r sound t m.segment k.segment q.segment u.0 d.0, λ x h. d.1 x (u.1 x h))))
           ]
 
       keeps_noted : Keeps r t (seen ++ q ∷ []) (noted q kept)
@@ -94,6 +81,7 @@ module _ (E : Type 0) (r : Rules E) (sound : Sound r) (t : List E) where
     keeps_signal signal = keeps_noted (signal_displaces signal)
 
     module _ (c : ℕ → ℕ) (clock : TellsOthers r t q.segment c) where
+      -- what a clash tells
       clash_tells : (k : Mark) → clashes c q k ≡ true → (meets k.class q.class ≡ true) × (k.segment.image ≡ q.segment.image → ⊥) × (Before r t k.segment q.segment → ⊥)
       clash_tells k h =
           let p = and_parts (meets k.class q.class && not (same_image k q)) (not (nat_lt k.segment.number (c k.segment.image))) h in
@@ -102,6 +90,7 @@ module _ (E : Type 0) (r : Rules E) (sound : Sound r) (t : List E) where
           let other : k.segment.image ≡ q.segment.image → ⊥ = λ e. both_ways (same_image k q) (not-true _ o.1) (eq-eqb k.segment.image q.segment.image e) in
           (o.0, other, λ b. let l = (clock.exactly k.segment.image k.segment.number other).1 b in absurd (omega arith))
 
+      -- and what it tells that there is none
       no_clash_tells : (k : Mark) → clashes c q k ≡ false → meets k.class q.class ≡ true → (k.segment.image ≡ q.segment.image) ⊎ Before r t k.segment q.segment
       no_clash_tells k h m =
           elim (eqb_tells k.segment.image q.segment.image) [
@@ -112,15 +101,18 @@ module _ (E : Type 0) (r : Rules E) (sound : Sound r) (t : List E) where
             ]
           ]
 
+      -- some mark clashes
       any_tells : (ks : List Mark) → any_clash c q ks ≡ true → (k : Mark) × Within k ks × (clashes c q k ≡ true)
       any_tells [] h = absurd (cc)
       any_tells (k ∷ ks) h = elim (or_cases (clashes c q k) (any_clash c q ks) h) [ inl a ↦ (k, inl refl, a) | inr b ↦ (let z = any_tells ks b in (z.0, inr z.1, z.2)) ]
 
+      -- or none does
       none_tells : (ks : List Mark) → any_clash c q ks ≡ false → (k : Mark) → Within k ks → clashes c q k ≡ false
       none_tells [] h k w = absurd w
       none_tells (x ∷ ks) h k (inl e) = subst (λ z. clashes c q z ≡ false) (sym e) (or_parts (clashes c q x) (any_clash c q ks) h).0
       none_tells (x ∷ ks) h k (inr w) = none_tells ks (or_parts (clashes c q x) (any_clash c q ks) h).1 k w
 
+      -- a clash of a kept mark is an unordered one that was seen
       pub clash_found : any_clash c q kept ≡ true → Unordered r t seen q
       clash_found h =
           let z = any_tells kept h in
@@ -132,11 +124,12 @@ module _ (E : Type 0) (r : Rules E) (sound : Sound r) (t : List E) where
       covered m w none met =
           let e = noting.keeps.enough m w in
           let k = e.0 in
-          reaches_join m.segment k.segment q.segment e.2.0 (elim (no_clash_tells k (none_tells kept none k e.1) (e.2.1 q.class met)) [
-              | inl s ↦ own_under k (noting.keeps.were_seen k e.1) s
-              | inr b ↦ inr b
-            ])
+          reaches_join E r sound t m.segment k.segment q.segment e.2.0 (elim (no_clash_tells k (none_tells kept none k e.1) (e.2.1 q.class met)) [
+            | inl s ↦ own_under k (noting.keeps.were_seen k e.1) s
+            | inr b ↦ inr b
+          ])
 
+      -- without a clash no mark seen is unordered
       pub no_clash : any_clash c q kept ≡ false → Unordered r t seen q → ⊥
       no_clash none (m, w, met, other, un) = elim (covered m w none met) [ inl e ↦ other (ap (λ z. z.image) e) | inr b ↦ un b ]
 
@@ -147,12 +140,14 @@ module _ (E : Type 0) (r : Rules E) (sound : Sound r) (t : List E) where
       -- a mark that doesn't stay comes before q, which takes its place
       clear_displaces : any_clash c q kept ≡ false → (k : Mark) → Within k kept → stays q k ≡ false → Under r t k q
       clear_displaces none k w out =
-          let p = and_parts (outranks q.class k.class) (same_image k q || meets k.class q.class) (not-false _ out) in
-          (elim (or_cases (same_image k q) (meets k.class q.class) p.1) [
+          let p = and_parts (outranks q.class k.class) (same_image k q || meets k.class q.class) (not-false _ out) in (
+            elim (or_cases (same_image k q) (meets k.class q.class) p.1) [
               | inl s ↦ own_under k (noting.keeps.were_seen k w) (eqb-true k.segment.image q.segment.image s)
               | inr met ↦ covered k (noting.keeps.were_seen k w) none met
             ],
-          λ x h. outranks_tells q.class k.class x p.0 h)
+            λ x h. outranks_tells q.class k.class x p.0 h,
+          )
 
+      -- where none clashes the new list keeps what is needed
       pub keeps_more : any_clash c q kept ≡ false → Keeps r t (seen ++ q ∷ []) (noted q kept)
       keeps_more none = keeps_noted (clear_displaces none)

@@ -8,6 +8,7 @@ use Rattle.order_axioms.proofs.Splits.{done_append}
 use Rattle.order_axioms.proofs.Clocks.{before_or_not}
 
 module _ (E V : Type 0) (r : Rules E) (sound : Sound r) (a : Accesses E V) (t : List E) (forward : Forward r a t) (memory : ReadsLast r a t) (m : ℕ) (clean : NoRace r a t m) where
+  -- the segment of each entry has begun
   stands_begun : (x : Stands t) → Begun r.entries t (segment r a t x)
   stands_begun x =
       let e = ap (done r.entries (r.entries.image_of x.event)) x.split in
@@ -31,10 +32,12 @@ module _ (E V : Type 0) (r : Rules E) (sound : Sound r) (a : Accesses E V) (t : 
         ]
       ]
 
+  -- an earlier access stands before
   earlier_sooner : (x y : Stands t) (c : Cell) → Touches r a t x c → Touches r a t y c → is_access (a.class_of x.event) ≡ true → is_access (a.class_of y.event) ≡ true → Earlier r a t x y → place x < place y
   earlier_sooner x y c p q k l (inl s) = s.1
   earlier_sooner x y c p q k l (inr b) = forward x y c c k l p q b
 
+  -- each other earlier write is earlier than the last one, or both are atomic
   later_write : (x w : Stands t) (c : Cell) → Touches r a t x c → place x < m → IsLast r a t x w c
       → is_access (a.class_of w.event) ≡ true → is_access (a.class_of x.event) ≡ true
       → (v : Stands t) → Writes r a t v c → Earlier r a t v x → (place v ≡ place w → ⊥)
@@ -49,6 +52,7 @@ module _ (E V : Type 0) (r : Rules E) (sound : Sound r) (a : Accesses E V) (t : 
         | inr both ↦ inr (both.0, both.1, omega arith)
       ]
 
+  -- the last write is the latest earlier one
   latest : (x w : Stands t) (c : Cell) → a.class_of x.event ≡ reads → Touches r a t x c → place x < m → IsLast r a t x w c → IsLatest r a t x w c
   latest x w c k p below l =
       let aw = defines_access (a.class_of w.event) l.wrote.1 in
@@ -60,6 +64,7 @@ module _ (E V : Type 0) (r : Rules E) (sound : Sound r) (a : Accesses E V) (t : 
         latest = λ v wv ev ne. later_write x w c p below l aw ax v wv ev ne;
       }
 
+  -- Each read among the first m entries is justified.
   pub reads_justified : (x : Stands t) → a.class_of x.event ≡ reads → place x < m → Justified r a t x
   reads_justified x k below c p =
       let ax : is_access (a.class_of x.event) ≡ true = ap is_access k in

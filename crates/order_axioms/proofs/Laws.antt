@@ -1,20 +1,25 @@
 -- The law forward and the law on reads, of the edges of the table.
-use Rattle.std.proofs.Common.{◌≡◌, ℕ, ◌<◌, List, ◌∷◌, ◌++◌, length}
+use Rattle.std.proofs.Common.{◌≡◌, ℕ, ◌<◌, Bool, true, List, ◌∷◌, ◌++◌, length}
 use Rattle.order_axioms.specs.Order.{segment_of, Before}
 use Rattle.order_axioms.specs.Races.{Accesses, reads, Stands, place, Forward, ReadsLast, NoRace, Justified}
 use Rattle.order_axioms.specs.Acts.{View, entries, rules}
-use Rattle.order_axioms.specs.Facts.{Pauses, AccessesCell}
+use Rattle.order_axioms.specs.Facts.{OwnFacts, Pauses, AccessesCell}
+use Rattle.order_axioms.proofs.Pausing.{own_pauses}
 use Rattle.order_axioms.proofs.Paths.{forward}
 use Rattle.order_axioms.proofs.Sources.{sound, quiet}
 use Rattle.order_axioms.proofs.LawReads.{reads_justified}
 
 module _ (E : Type 0) (v : View E) where
-  -- fewer entries act
-  pub pauses_of_fewer : (acts fewer : List E → E → Type 0) (t : List E) → ((g : List E) (e : E) → fewer g e → acts g e) → Pauses v acts t → Pauses v fewer t
-  pauses_of_fewer acts fewer t h p = record {
+  -- where fewer entries act the same is known of them
+  fewer_act : (acts fewer : List E → E → Type 0) (t : List E) → ((g : List E) (e : E) → fewer g e → acts g e) → Pauses v acts t → Pauses v fewer t
+  fewer_act acts fewer t h p = record {
     pauses = λ g k g' k' x f s s' u a same. p.pauses g k g' k' x f s s' u (h g' f a) same;
     silent = λ g k g' k' x f s s' w a. p.silent g k g' k' x f s s' w (h g' f a);
   }
+
+  -- what each image's own list says suffices for its accesses
+  pub access_pauses : (V : Type 0) (a : Accesses E V) (acts fails : E → Bool) (t : List E) → OwnFacts v acts fails t → ((g : List E) (e : E) → AccessesCell a g e → acts e ≡ true) → Pauses v (AccessesCell a) t
+  access_pauses V a acts fails t facts h = fewer_act (λ g e. acts e ≡ true) (AccessesCell a) t h (own_pauses E v acts fails t facts)
 
   -- an entry that acts stands before each entry of a segment that its own comes before
   pub law_acts_forward : (acts : List E → E → Type 0) (t : List E) → Pauses v acts t → (g h g' h' : List E) (e f : E) → t ≡ g ++ e ∷ h → t ≡ g' ++ f ∷ h' → acts g e

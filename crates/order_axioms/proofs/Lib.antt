@@ -1,6 +1,7 @@
 pub mod Withins
 pub mod Splits
 pub mod Paths
+pub mod Ways
 pub mod Clocks
 pub mod Classes
 pub mod LawReads

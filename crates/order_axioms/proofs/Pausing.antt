@@ -9,6 +9,7 @@ use Rattle.order_axioms.specs.Facts.{own_list, NoneActs, Settles, OwnFacts, Paus
 use Rattle.order_axioms.proofs.Splits.{fronts_at, done_append}
 
 module _ (E : Type 0) (v : View E) (acts : E → Bool) where
+  -- a test picks from two lists put together what it picks from each
   filter_splits : (p : E → Bool) (xs ys : List E) → filter p (xs ++ ys) ≡ filter p xs ++ filter p ys
   filter_splits p [] ys = refl
   filter_splits p (x ∷ xs) ys =
@@ -17,14 +18,16 @@ module _ (E : Type 0) (v : View E) (acts : E → Bool) where
         | inr a ↦ simp a (filter_splits p xs ys)
       ]
 
+  -- an image's list at one of its entries
   with_own : (i : ℕ) (k h : List E) (f : E) → v.image f ≡ i → own_list v i (k ++ f ∷ h) ≡ own_list v i k ++ f ∷ own_list v i h
   with_own i k h f e = filter_splits (λ x. nat_eq (v.image x) i) k (f ∷ h) ∙ ap (λ b. own_list v i k ++ cond b (f ∷ own_list v i h) (own_list v i h)) (eq-eqb (v.image f) i e)
 
+  -- none of these entries acts, and so this one does not
   none_at : (k h : List E) (f : E) → NoneActs v acts (k ++ f ∷ h) → acts f ≡ false
   none_at [] h f n = n.0
   none_at (x ∷ k) h f n = none_at k h f n.1
 
-  -- an image's completing event counts
+  -- an image's completing entry counts
   counted : (i : ℕ) (k : List E) (y : E) (ys : List E) → own_list v i k ≡ y ∷ ys → completing (v.act y) ≡ true → 0 < done (entries v) i k
   counted i [] y ys e c = absurd (cc)
   counted i (x ∷ k) y ys e c =
@@ -37,6 +40,7 @@ module _ (E : Type 0) (v : View E) (acts : E → Bool) where
         | inr n ↦ (let l = counted i k y ys (rw n.0 at e) c in rw n.0 (omega arith))
       ]
 
+  -- before an entry that acts, after a pause, a segment is completed
   settled_at : (i : ℕ) (k h : List E) (f : E) (l : List E) → own_list v i k ≡ l → acts f ≡ true → Settles v acts (l ++ f ∷ own_list v i h) → 0 < done (entries v) i k
   settled_at i k h f [] e act (inl s) = absurd (both_ways (acts f) s.1 act)
   settled_at i k h f [] e act (inr s) = absurd (both_ways (acts f) s.0 act)
@@ -44,6 +48,7 @@ module _ (E : Type 0) (v : View E) (acts : E → Bool) where
   settled_at i k h f (y ∷ ys) e act (inr s) = absurd (both_ways (acts f) (none_at (y ∷ ys) (own_list v i h) f s) act)
 
   module _ (fails : E → Bool) (t : List E) (facts : OwnFacts v acts fails t) where
+    -- an image that paused acts no more in that segment
     pauses : (g h g' h' : List E) (x f : E) → t ≡ g ++ x ∷ h → t ≡ g' ++ f ∷ h' → pausing (v.act x) ≡ true → acts f ≡ true → segment_of (entries v) g x ≡ segment_of (entries v) g' f → length g' ≤ length g
     pauses g h g' h' x f s s' p act same =
         elim (cases_lt (length g) (length g')) [
@@ -60,6 +65,7 @@ module _ (E : Type 0) (v : View E) (acts : E → Bool) where
               absurd (omega arith))
         ]
 
+    -- and one that an entry speaks of acts no more at all
     silent : (g h g' h' : List E) (x f : E) → t ≡ g ++ x ∷ h → t ≡ g' ++ f ∷ h' → Within (v.image f) (v.speaks g x) → acts f ≡ true → length g' ≤ length g
     silent g h g' h' x f s s' w act =
         elim (cases_lt (length g) (length g')) [
@@ -73,6 +79,6 @@ module _ (E : Type 0) (v : View E) (acts : E → Bool) where
               absurd (both_ways (acts f) (none_at (own_list v (v.image z.1) fr.0) (own_list v (v.image z.1) h') f q) act))
         ]
 
-    -- what is known of the images' own lists suffices
-    pub law_pauses : Pauses v (λ g e. acts e ≡ true) t
-    law_pauses = record { pauses = pauses; silent = silent }
+    -- what each image's own list says suffices
+    pub own_pauses : Pauses v (λ g e. acts e ≡ true) t
+    own_pauses = record { pauses = pauses; silent = silent }

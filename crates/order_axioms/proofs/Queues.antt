@@ -9,6 +9,7 @@ use Rattle.order_axioms.proofs.Sources.{sound, waiting_more}
 use Rattle.order_axioms.proofs.Recorder.{turned_begun}
 
 module _ (E : Type 0) (v : View E) where
+  -- all clocks of a queue joined cover all that waits there
   pub covers_all : (g : List E) (q : List Segment) (cs : List (ℕ → ℕ)) → EachCovered (rules v) g q cs → Covers (rules v) g q (all_joined cs)
   covers_all g [] [] h = covers_none E (rules v) (sound E v) g
   covers_all g [] (c ∷ cs) h = absurd h
@@ -27,6 +28,7 @@ module _ (E : Type 0) (v : View E) where
   pub queue_taken : (k : ℕ) (g : List E) (q : List Segment) (cs : List (ℕ → ℕ)) → EachCovered (rules v) g q cs → Covers (rules v) g (take k q) (all_joined (take k cs))
   queue_taken k g q cs h = covers_all g (take k q) (take k cs) (each_take k g q cs h)
 
+  -- what is left of a queue
   each_drop : (k : ℕ) (g : List E) (q : List Segment) (cs : List (ℕ → ℕ)) → EachCovered (rules v) g q cs → EachCovered (rules v) g (drop k q) (drop k cs)
   each_drop zero g q cs h = h
   each_drop (suc k) g [] [] h = tt
@@ -34,12 +36,14 @@ module _ (E : Type 0) (v : View E) where
   each_drop (suc k) g (s ∷ q) [] h = absurd h
   each_drop (suc k) g (s ∷ q) (c ∷ cs) h = each_drop k g q cs h.1
 
+  -- a queue with one more behind it
   each_last : (g : List E) (q : List Segment) (cs : List (ℕ → ℕ)) (s : Segment) (c : ℕ → ℕ) → EachCovered (rules v) g q cs → Covers (rules v) g (s ∷ []) c → EachCovered (rules v) g (q ++ s ∷ []) (cs ++ c ∷ [])
   each_last g [] [] s c h k = (k, tt)
   each_last g [] (d ∷ cs) s c h k = absurd h
   each_last g (x ∷ q) [] s c h k = absurd h
   each_last g (x ∷ q) (d ∷ cs) s c h k = (h.0, each_last g q cs s c h.1 k)
 
+  -- a queue while the trace grows
   each_keeps : (g u : List E) (q : List Segment) (cs : List (ℕ → ℕ)) → ((b : Segment) → Within b q → Begun (entries v) g b) → EachCovered (rules v) g q cs → EachCovered (rules v) (g ++ u) q cs
   each_keeps g u [] [] b h = tt
   each_keeps g u [] (c ∷ cs) b h = absurd h
@@ -47,6 +51,7 @@ module _ (E : Type 0) (v : View E) where
   each_keeps g u (s ∷ q) (c ∷ cs) b h =
       (covers_keeps E (rules v) (sound E v) g u (s ∷ []) c (λ x w. b x (elim w [ inl e ↦ inl e | inr z ↦ absurd z ])) h.0, each_keeps g u q cs (λ x w. b x (inr w)) h.1)
 
+  -- a queue after a turn
   each_turned : (g : List E) (n : Turn) (s : Segment) (q : List Segment) (own : ℕ → ℕ) (cs : List (ℕ → ℕ)) → EachCovered (rules v) g q cs → Covers (rules v) g (s ∷ []) own → EachCovered (rules v) g (turned n s q) (turned_queue n own cs)
   each_turned g adds s q own cs h k = each_last g q cs s own h k
   each_turned g clears s q own cs h k = tt

@@ -7,6 +7,7 @@ use Rattle.order_axioms.specs.Stored.{NeverClears, AddedIn}
 use Rattle.order_axioms.proofs.Withins.{within_append, within_left, within_right}
 
 module _ (E : Type 0) (v : View E) (key : Key) (no_drops : (e : E) (k : ℕ) → turn_of v key e ≡ drops k → ⊥) where
+  -- it was added behind the first entry
   later : (b es : List E) (e : E) (a : Segment) → AddedIn v key (b ++ e ∷ []) es a → AddedIn v key b (e ∷ es) a
   later b es e a h = record {
     before = e ∷ h.before;
@@ -18,9 +19,11 @@ module _ (E : Type 0) (v : View E) (key : Key) (no_drops : (e : E) (k : ℕ) →
     not_cleared = h.not_cleared;
   }
 
+  -- or by the first entry
   first : (b es : List E) (e : E) (a : Segment) → turn_of v key e ≡ adds → a ≡ segment_of (entries v) b e → NeverClears v key es → AddedIn v key b (e ∷ es) a
   first b es e a h s n = record { before = []; event = e; rest = es; split = refl; adding = h; at = s ∙ ap (λ z. segment_of (entries v) z e) (sym (append-nil b)); not_cleared = n }
 
+  -- after a turn a segment waited already and is not cleared, or was added
   one_step : (b es : List E) (e : E) (q : List Segment) (a : Segment) (n : Turn) → turn_of v key e ≡ n → Within a (turned n (segment_of (entries v) b e) q) → NeverClears v key es → (Within a q × NeverClears v key (e ∷ es)) ⊎ AddedIn v key b (e ∷ es) a
   one_step b es e q a adds h w n = elim (within_append Segment a q (segment_of (entries v) b e ∷ []) w) [
     | inl o ↦ inl (o, (λ c. (let k = sym h ∙ c in cc), n))
@@ -30,6 +33,7 @@ module _ (E : Type 0) (v : View E) (key : Key) (no_drops : (e : E) (k : ℕ) →
   one_step b es e q a (drops k) h w n = absurd (no_drops e k h)
   one_step b es e q a leaves_all h w n = inl (w, (λ c. (let k = sym h ∙ c in cc), n))
 
+  -- and so after all turns
   reads_from : (b : List E) (q : List Segment) (es : List E) (a : Segment) → Within a (waiting_from v key b q es) → (Within a q × NeverClears v key es) ⊎ AddedIn v key b es a
   reads_from b q [] a w = inl (w, tt)
   reads_from b q (e ∷ es) a w =
@@ -38,16 +42,19 @@ module _ (E : Type 0) (v : View E) (key : Key) (no_drops : (e : E) (k : ℕ) →
         | inr l ↦ inr (later b es e a l)
       ]
 
+  -- a turn that clears nothing leaves it
   stays_in : (b es : List E) (e : E) (q : List Segment) (a : Segment) (n : Turn) → turn_of v key e ≡ n → (n ≡ clears → ⊥) → Within a q → Within a (turned n (segment_of (entries v) b e) q)
   stays_in b es e q a adds h c w = within_left Segment a q _ w
   stays_in b es e q a clears h c w = absurd (c refl)
   stays_in b es e q a (drops k) h c w = absurd (no_drops e k h)
   stays_in b es e q a leaves_all h c w = w
 
+  -- so do entries that clear nothing
   kept_from : (b : List E) (q : List Segment) (es : List E) (a : Segment) → Within a q → NeverClears v key es → Within a (waiting_from v key b q es)
   kept_from b q [] a w n = w
   kept_from b q (e ∷ es) a w n = kept_from (b ++ e ∷ []) (turned (turn_of v key e) (segment_of (entries v) b e) q) es a (stays_in b es e q a (turn_of v key e) refl n.0 w) n.1
 
+  -- what was added and not cleared waits
   writes_from : (b : List E) (q : List Segment) (x y : List E) (u : E) (a : Segment) → turn_of v key u ≡ adds → a ≡ segment_of (entries v) (b ++ x) u → NeverClears v key y → Within a (waiting_from v key b q (x ++ u ∷ y))
   writes_from b q [] y u a h s n =
       kept_from (b ++ u ∷ []) (turned (turn_of v key u) (segment_of (entries v) b u) q) y a

@@ -1,5 +1,5 @@
 -- One entry at a time: the clocks of images and of what waits at keys go with the trace.
-use Rattle.std.proofs.Common.{◌≡◌, ℕ, suc, ◌<◌, ◌≤◌, ◌↔◌, max, true, false, nat_eq, ◌&&◌, List, [], ◌∷◌, ◌++◌, inl, inr, refl, ap, sym, ◌∙◌, subst, arith}
+use Rattle.std.proofs.Common.{◌≡◌, ℕ, suc, ◌≤◌, max, true, false, nat_eq, ◌&&◌, List, [], ◌∷◌, ◌++◌, inl, inr, refl, ap, sym, ◌∙◌, subst, arith}
 use Rattle.std.proofs.lemmas.List.{append-nil}
 use Rattle.std.proofs.lemmas.Bool.{cases_lt}
 use Rattle.order_axioms.specs.Order.{Segment, Within, done, segment_of, segment_after, Begun, Before, Reaches, Edge, Linked}
@@ -7,21 +7,25 @@ use Rattle.order_axioms.specs.Clocks.{Covers, TellsOthers, tick}
 use Rattle.order_axioms.specs.Acts.{completing, Key, Turn, adds, clears, drops, leaves_all, turned, turn_of, View, entries, waiting, released, others, rules}
 use Rattle.order_axioms.specs.Stored.{turned_clock, present}
 use Rattle.order_axioms.proofs.Splits.{done_append, done_at}
-use Rattle.order_axioms.proofs.Clocks.{clock_begins, clock_ticks, clock_start, covers_keeps, covers_join, covers_none, own_before, same_counts}
+use Rattle.order_axioms.proofs.Clocks.{clock_begins, clock_ticks, clock_start, covers_keeps, covers_join, covers_none, same_counts}
+use Rattle.order_axioms.proofs.Ways.{own_before}
 use Rattle.order_axioms.proofs.Withins.{within_append, within_drop}
 use Rattle.order_axioms.proofs.Paths.{later_number, linked_down}
 use Rattle.order_axioms.proofs.Sources.{sound, waiting_more, added, added_begun}
 
 module _ (E : Type 0) (v : View E) where
+  -- what waits has begun
   pub waits_begun : (k : Key) (g : List E) (b : Segment) → Within b (waiting v k g) → Begun (entries v) g b
   waits_begun k g b w = added_begun E v k g b (added E v k g b w)
 
+  -- a key's one clock after a turn
   covers_turned : (g : List E) (n : Turn) (s : Segment) (q : List Segment) (own c : ℕ → ℕ) → ((k : ℕ) → n ≡ drops k → ⊥) → Covers (rules v) g q c → Covers (rules v) g (s ∷ []) own → Covers (rules v) g (turned n s q) (turned_clock n own c)
   covers_turned g adds s q own c h k o = covers_join E (rules v) (sound E v) g q (s ∷ []) c own k o
   covers_turned g clears s q own c h k o = covers_none E (rules v) (sound E v) g
   covers_turned g (drops m) s q own c h k o = absurd (h m refl)
   covers_turned g leaves_all s q own c h k o = k
 
+  -- what waits after a turn has begun
   begun_turned : (g : List E) (n : Turn) (s : Segment) (q : List Segment) → ((b : Segment) → Within b q → Begun (entries v) g b) → Begun (entries v) g s → (b : Segment) → Within b (turned n s q) → Begun (entries v) g b
   begun_turned g adds s q h o b w = elim (within_append Segment b q (s ∷ []) w) [ inl x ↦ h b x | inr x ↦ elim x [ inl e ↦ subst (λ z. Begun (entries v) g z) (sym e) o | inr z ↦ absurd z ] ]
   begun_turned g clears s q h o b w = absurd w
@@ -68,15 +72,16 @@ module _ (E : Type 0) (v : View E) where
   -- an image's clock tells of other images what comes before its present segment
   pub clock_tells : (g : List E) (j : ℕ) (c : ℕ → ℕ) → Covers (rules v) g (present v g j ∷ []) c → TellsOthers (rules v) g (present v g j) c
   clock_tells g j c k = record {
-    exactly = λ i s ne.
-    (λ l. let q = (k.exactly i s).0 l in elim q.1 [
+    exactly = λ i s ne. (
+      λ l. let q = (k.exactly i s).0 l in elim q.1 [
         | inl e ↦ elim q.2 [
           | inl same ↦ absurd (ne (ap (λ z. z.image) (same ∙ e)))
           | inr b ↦ subst (λ z. Before (rules v) g (record { image = i; number = s }) z) e b
         ]
         | inr z ↦ absurd z
       ],
-    λ b. (k.exactly i s).1 (present v g j, inl refl, inr b));
+      λ b. (k.exactly i s).1 (present v g j, inl refl, inr b),
+    );
   }
 
   -- an image's own count is one more than the segments that it has completed
@@ -99,6 +104,7 @@ module _ (E : Type 0) (v : View E) where
     ),
   ))
 
+  -- what reaches a segment that has begun has begun
   reached_begun : (g : List E) (a b : Segment) → Begun (entries v) g b → Reaches (rules v) g a b → Begun (entries v) g a
   reached_begun g a b h (inl e) = subst (λ z. Begun (entries v) g z) (sym e) h
   reached_begun g a b h (inr (ms, p)) = (linked_down E (rules v) (sound E v) g [] a b ms h (subst (λ z. Linked (Edge (rules v) z) a ms b) (sym (append-nil g)) p)).0

@@ -7,8 +7,9 @@ use Rattle.order_axioms.specs.Races.{Cell, same_cell, touches_cell, Accesses, St
 use Rattle.order_axioms.specs.Marks.{Mark, Keeps, Marked, mark_of, seen_from, seen}
 use Rattle.order_axioms.proofs.Splits.{done_append, begun_more}
 use Rattle.order_axioms.proofs.Withins.{within_append, within_right}
-use Rattle.order_axioms.proofs.Clocks.{reaches_up}
+use Rattle.order_axioms.proofs.Ways.{reaches_up}
 
+-- the test tells whether two cells are one
 same_cell_tells : (c d : Cell) → same_cell c d ≡ true → c ≡ d
 same_cell_tells c d h =
     let p = and_parts (nat_eq c.owner d.owner && nat_eq c.coarray d.coarray) (nat_eq c.offset d.offset) h in
@@ -20,6 +21,7 @@ same_cell_tells c d h =
 same_cell_from : (c d : Cell) → c ≡ d → same_cell c d ≡ true
 same_cell_from c d e = subst (λ z. same_cell c z ≡ true) e (rw (eq-eqb c.owner c.owner refl, eq-eqb c.coarray c.coarray refl, eq-eqb c.offset c.offset refl) refl)
 
+-- and whether a cell is one of some
 pub touches_tells : (c : Cell) (ds : List Cell) → touches_cell c ds ≡ true → Within c ds
 touches_tells c [] h = absurd (cc)
 touches_tells c (d ∷ ds) h = elim (or_cases (same_cell d c) (touches_cell c ds) h) [ inl s ↦ inl (sym (same_cell_tells d c s)) | inr w ↦ inr (touches_tells c ds w) ]
@@ -30,6 +32,7 @@ touches_from c (d ∷ ds) (inl e) = or_left (same_cell d c) (touches_cell c ds) 
 touches_from c (d ∷ ds) (inr w) = or_right (same_cell d c) (touches_cell c ds) (touches_from c ds w)
 
 module _ (E V : Type 0) (k : Entries E) (a : Accesses E V) where
+  -- one more entry adds its mark at the end
   seen_from_more : (c : Cell) (b g : List E) (e : E) → seen_from k a c b (g ++ e ∷ []) ≡ seen_from k a c b g ++ cond (touches_cell c (a.cells (b ++ g) e)) (mark_of k a (b ++ g) e ∷ []) []
   seen_from_more c b [] e = append-nil _ ∙ ap (λ z. cond (touches_cell c (a.cells z e)) (mark_of k a z e ∷ []) []) (sym (append-nil b))
   seen_from_more c b (x ∷ g) e =
@@ -40,11 +43,13 @@ module _ (E V : Type 0) (k : Entries E) (a : Accesses E V) where
   pub seen_more : (c : Cell) (g : List E) (e : E) → seen k a c (g ++ e ∷ []) ≡ seen k a c g ++ cond (touches_cell c (a.cells g e)) (mark_of k a g e ∷ []) []
   seen_more c g e = seen_from_more c [] g e
 
+  -- the mark of one entry, where it touches the cell
   one_mark : (c : Cell) (b : Bool) (t : List E) (x : Stands t) (m : Mark) → (b ≡ true → Within c (a.cells x.before x.event)) → Within m (cond b (mark_of k a x.before x.event ∷ []) []) → Marked k a c t m
   one_mark c true t x m h (inl e) = record { at = x; touches = h refl; is = e }
   one_mark c true t x m h (inr z) = absurd z
   one_mark c false t x m h w = absurd w
 
+  -- each mark seen is that of an entry that touches the cell
   seen_from_stands : (c : Cell) (t b es : List E) → t ≡ b ++ es → (m : Mark) → Within m (seen_from k a c b es) → Marked k a c t m
   seen_from_stands c t b [] s m w = absurd w
   seen_from_stands c t b (e ∷ es) s m w =
@@ -56,6 +61,7 @@ module _ (E V : Type 0) (k : Entries E) (a : Accesses E V) where
   pub seen_stands : (c : Cell) (t : List E) (m : Mark) → Within m (seen k a c t) → Marked k a c t m
   seen_stands c t m w = seen_from_stands c t [] t refl m w
 
+  -- and each such entry is seen
   stands_seen_from : (c : Cell) (b g : List E) (e : E) (rest : List E) → Within c (a.cells (b ++ g) e) → Within (mark_of k a (b ++ g) e) (seen_from k a c b (g ++ e ∷ rest))
   stands_seen_from c b [] e rest w =
       let w' = subst (λ z. Within c (a.cells z e)) (append-nil b) w in
@@ -82,6 +88,7 @@ module _ (E V : Type 0) (k : Entries E) (a : Accesses E V) where
       subst (λ z. z.segment.number ≤ done k z.segment.image t) (sym x.is) (omega arith)
 
 module _ (E : Type 0) (r : Rules E) (sound : Sound r) where
+  -- what suffices goes on to suffice while the trace grows
   pub keeps_up : (t u : List E) (seen kept : List Mark) → Keeps r t seen kept → Keeps r (t ++ u) seen kept
   keeps_up t u seen kept h = record {
     were_seen = h.were_seen;

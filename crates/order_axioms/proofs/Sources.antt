@@ -9,11 +9,12 @@ use Rattle.order_axioms.proofs.Withins.{within_append, within_drop, within_take,
 use Rattle.order_axioms.proofs.Splits.{done_append, no_later}
 use Rattle.order_axioms.proofs.Others.{others_begun, others_quiet}
 
+-- neither of two turns that add nothing adds
 one_of : (b : Bool) (x y : Turn) → (x ≡ adds → ⊥) → (y ≡ adds → ⊥) → cond b x y ≡ adds → ⊥
 one_of true x y h g e = h e
 one_of false x y h g e = g e
 
--- what is added is completed by its event, or its image pauses
+-- what is added is completed by its entry, or its image pauses
 adds_when : (key : Key) (i : ℕ) (a : Act) → turn key i a ≡ adds → (completing a ≡ true) ⊎ (pausing a ≡ true)
 adds_when key i (arrives t k) h = inr refl
 adds_when key i (pairs js) h = inr refl
@@ -43,13 +44,14 @@ adds_when (construct m) i goes_on h = absurd (cc)
 adds_when (event c) i goes_on h = absurd (cc)
 
 module _ (E : Type 0) (v : View E) where
+  -- the last of more entries changes what waits by its turn
   waiting_from_more : (key : Key) (b : List E) (q : List Segment) (g : List E) (e : E) → waiting_from v key b q (g ++ e ∷ []) ≡ turned (turn key (v.image e) (v.act e)) (segment_of (entries v) (b ++ g) e) (waiting_from v key b q g)
   waiting_from_more key b q [] e = ap (λ z. turned (turn key (v.image e) (v.act e)) (segment_of (entries v) z e) q) (sym (append-nil b))
   waiting_from_more key b q (x ∷ g) e =
       waiting_from_more key (b ++ x ∷ []) (turned (turn key (v.image x) (v.act x)) (segment_of (entries v) b x) q) g e
       ∙ ap (λ z. turned (turn key (v.image e) (v.act e)) (segment_of (entries v) z e) (waiting_from v key b q (x ∷ g))) (append_assoc b (x ∷ []) g)
 
-  -- ONE MORE EVENT changes what waits by its turn.
+  -- One more entry changes what waits by its turn.
   pub waiting_more : (key : Key) (g : List E) (e : E) → waiting v key (g ++ e ∷ []) ≡ turned (turn key (v.image e) (v.act e)) (segment_of (entries v) g e) (waiting v key g)
   waiting_more key g e = waiting_from_more key [] [] g e
 
@@ -62,6 +64,7 @@ module _ (E : Type 0) (v : View E) where
     pub adding : turn key (v.image event) (v.act event) ≡ adds
     pub at : a ≡ segment_of (entries v) before event
 
+  -- an added segment stays one
   added_more : (key : Key) (g : List E) (e : E) (a : Segment) → Added key g a → Added key (g ++ e ∷ []) a
   added_more key g e a h = record {
     before = h.before;
@@ -72,6 +75,7 @@ module _ (E : Type 0) (v : View E) where
     at = h.at;
   }
 
+  -- after a turn each waiting segment was added
   added_turned : (key : Key) (g : List E) (e : E) (q : List Segment) (n : Turn) → turn key (v.image e) (v.act e) ≡ n → ((a : Segment) → Within a q → Added key g a) → (a : Segment) → Within a (turned n (segment_of (entries v) g e) q) → Added key (g ++ e ∷ []) a
   added_turned key g e q adds h old a w = elim (within_append Segment a q (segment_of (entries v) g e ∷ []) w) [
     | inl o ↦ added_more key g e a (old a o)
@@ -81,12 +85,14 @@ module _ (E : Type 0) (v : View E) where
   added_turned key g e q (drops k) h old a w = added_more key g e a (old a (within_drop Segment a k q w))
   added_turned key g e q leaves_all h old a w = added_more key g e a (old a w)
 
+  -- and so after all turns
   added_from : (key : Key) (b : List E) (q : List Segment) (es : List E) → ((a : Segment) → Within a q → Added key b a) → (a : Segment) → Within a (waiting_from v key b q es) → Added key (b ++ es) a
   added_from key b q [] old a w = subst (λ z. Added key z a) (sym (append-nil b)) (old a w)
   added_from key b q (e ∷ es) old a w =
       subst (λ z. Added key z a) (append_assoc b (e ∷ []) es)
       (added_from key (b ++ e ∷ []) (turned (turn key (v.image e) (v.act e)) (segment_of (entries v) b e) q) es (added_turned key b e q (turn key (v.image e) (v.act e)) refl old) a w)
 
+  -- each waiting segment was added
   pub added : (key : Key) (g : List E) (a : Segment) → Within a (waiting v key g) → Added key g a
   added key g a w = added_from key [] [] g (λ b z. absurd z) a w
 
@@ -111,12 +117,14 @@ module _ (E : Type 0) (v : View E) where
   released_waits g i (deletes o n) a w = absurd w
   released_waits g i goes_on a w = absurd w
 
+  -- what was added has begun
   pub added_begun : (key : Key) (g : List E) (a : Segment) → Added key g a → Begun (entries v) g a
   added_begun key g a h =
       let e = ap (done (entries v) (v.image h.event)) h.split in
       let f = done_append E (entries v) (v.image h.event) h.before (h.event ∷ h.rest) in
       subst (λ z. Begun (entries v) g z) (sym h.at) (omega arith)
 
+  -- each source has begun
   known : (g : List E) (e : E) (a : Segment) → Within a ((rules v).sources g e) → Begun (entries v) g a
   known g e a (inl same) = subst (λ z. Begun (entries v) g z) (sym same) (omega arith)
   known g e a (inr w) = elim (within_append Segment a (released v g (v.image e) (v.act e)) (others v g e) w) [
@@ -129,6 +137,7 @@ module _ (E : Type 0) (v : View E) where
 
   -- Quiet: an image that pauses acts no more in that segment, and one that is spoken of acts no more.
   module _ (acts : List E → E → Type 0) (t : List E) (paused : Pauses v acts t) where
+    -- nothing that acts of a segment that was added stands after the entry
     from_added : (key : Key) (g h g' h' : List E) (x f : E) → t ≡ g ++ x ∷ h → t ≡ g' ++ f ∷ h' → acts g' f → Added key g (segment_of (entries v) g' f) → length g' ≤ length g
     from_added key g h g' h' x f s s' act a =
         let split : t ≡ a.before ++ a.event ∷ (a.rest ++ x ∷ h) = s ∙ ap (λ z. z ++ x ∷ h) a.split ∙ append_assoc a.before (a.event ∷ a.rest) (x ∷ h) in

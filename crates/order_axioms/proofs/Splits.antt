@@ -29,6 +29,7 @@ module _ (E : Type 0) where
       (r.0, ap (λ zs. y ∷ zs) r.1 ∙ ap (λ w. w ∷ g ++ x ∷ r.0) (sym heads), r.2)
 
   module _ (r : Entries E) where
+    -- two lists complete together what each completes
     pub done_append : (i : ℕ) (g h : List E) → done r i (g ++ h) ≡ done r i g + done r i h
     done_append i [] h = omega arith
     done_append i (x ∷ g) h = let e = done_append i g h in omega arith
@@ -37,6 +38,7 @@ module _ (E : Type 0) where
     cond_one true = omega arith
     cond_one false = omega arith
 
+    -- no more segments are completed than there are entries
     pub done_length : (i : ℕ) (g : List E) → done r i g ≤ length g
     done_length i [] = omega arith
     done_length i (x ∷ g) = let h = done_length i g in let k = cond_one (nat_eq (r.image_of x) i && r.completes x) in omega arith
@@ -56,13 +58,14 @@ module _ (E : Type 0) where
           | inr m ↦ absurd (let k = done_front i g' h' g h (sym e) m in omega arith)
         ]
 
+    -- a completing entry completes one more segment of its image
     pub done_at : (g : List E) (x : E) → r.completes x ≡ true → done r (r.image_of x) (g ++ x ∷ []) ≡ suc (done r (r.image_of x) g)
     done_at g x c =
         let e = done_append (r.image_of x) g (x ∷ []) in
         let f : done r (r.image_of x) (x ∷ []) ≡ 1 = rw (eq-eqb (r.image_of x) (r.image_of x) refl, c) (omega arith) in
         omega arith
 
-    -- the event that completes segment n of image j
+    -- The entry that completes segment n of image j.
     pub record Completing (j n : ℕ) (t : List E) : Type 0 where
       pub before : List E
       pub event : E
@@ -72,6 +75,7 @@ module _ (E : Type 0) where
       pub completes : r.completes event ≡ true
       pub count : done r j before ≡ n
 
+    -- it stands behind the first entry
     later_one : (j n m : ℕ) (e : E) (es : List E) → cond (nat_eq (r.image_of e) j && r.completes e) 1 0 + m ≡ n → Completing j m es → Completing j n (e ∷ es)
     later_one j n m e es h f = record {
       before = e ∷ f.before;
@@ -83,6 +87,7 @@ module _ (E : Type 0) where
       count = (let p = f.count in omega arith);
     }
 
+    -- or it is the first entry
     first_one : (j n : ℕ) (e : E) (es : List E) → n ≡ 0 → (nat_eq (r.image_of e) j && r.completes e) ≡ true → Completing j n (e ∷ es)
     first_one j n e es z b = record {
       before = [];
@@ -94,6 +99,7 @@ module _ (E : Type 0) where
       count = sym z;
     }
 
+    -- each completed segment has such an entry
     pub completing_event : (j n : ℕ) (t : List E) → n < done r j t → Completing j n t
     completing_event j n [] l = absurd (omega arith)
     completing_event j n (e ∷ es) l =
@@ -105,6 +111,7 @@ module _ (E : Type 0) where
           | inr b ↦ (let h = rw b at l in later_one j n n e es (rw b (omega arith)) (completing_event j n es (omega arith)))
         ]
 
+    -- a segment that has begun stays so
     pub begun_more : (g h : List E) (a : Segment) → Begun r g a → Begun r (g ++ h) a
     begun_more g h a b = let e = done_append a.image g h in omega arith
 
@@ -121,6 +128,7 @@ module _ (E : Type 0) where
               absurd (omega arith))
         ]
 
+  -- of two splits of one list with fronts of one length both parts are the same
   pub same_fronts : (g h g' h' : List E) → g ++ h ≡ g' ++ h' → length g ≡ length g' → (g ≡ g') × (h ≡ h')
   same_fronts [] h [] h' e l = (refl, e)
   same_fronts [] h (y ∷ g') h' e l = absurd (omega arith)

@@ -3,7 +3,7 @@
 ghost use Rattle.std.specs.Prelude.{◌≡◌, ℕ, Bool, true, List, [], ◌∷◌, ◌++◌, length, ◌<◌, ◌↔◌};
 ghost use Rattle.order_axioms.specs.Order.{Segment, Within, Before, Sound, segment_of};
 ghost use Rattle.order_axioms.specs.Acts.{Key, drops, turned, turn_of, entries, waiting, rules};
-ghost use Rattle.order_axioms.specs.Facts.{OwnFacts, Pauses};
+ghost use Rattle.order_axioms.specs.Facts.{AccessesCell, OwnFacts, Pauses};
 ghost use Rattle.order_axioms.specs.Stored.{AddedIn};
 
 use crate::entries::Traced;
@@ -26,8 +26,14 @@ pub fn law_waits_where<T: Traced>()
 {}
 
 /// What each image's own list says of pauses and failures suffices.
-pub fn law_pauses<T: Traced>()
+pub fn law_own_pauses<T: Traced>()
     ensures { (acts fails : T.Entry → Bool) (t : List T.Entry) → OwnFacts T.view acts fails t → Pauses T.view (λ g e. acts e ≡ true) t }
+{}
+
+/// So it does for accesses, where each of them acts.
+pub fn law_access_pauses<T: Traced>()
+    ensures { (acts fails : T.Entry → Bool) (t : List T.Entry) → OwnFacts T.view acts fails t
+        → ((g : List T.Entry) (e : T.Entry) → AccessesCell T.accesses g e → acts e ≡ true) → Pauses T.view (AccessesCell T.accesses) t }
 {}
 
 /// An entry that acts stands before each entry of a segment that its own comes before.

@@ -1,4 +1,4 @@
-//! What comes before what, over the edges of the table.
+//! What comes before what, and what reads give.
 
 ghost use Rattle.std.specs.Prelude.{◌≡◌, ℕ, List, ◌++◌, ◌<◌, ◌↔◌};
 ghost use Rattle.order_axioms.specs.Order.{Segment, Before, Begun};
@@ -6,7 +6,7 @@ ghost use Rattle.order_axioms.specs.Races.{reads, Stands, place, Forward, ReadsL
 ghost use Rattle.order_axioms.specs.Acts.{entries, rules};
 ghost use Rattle.order_axioms.specs.Facts.{AccessesCell, Pauses};
 
-use crate::entries::Traced;
+use crate::entries::{Ruled, Traced};
 
 /// Which segments come before a segment depends only on the entries up to its beginning.
 pub fn law_prefixes<T: Traced>()
@@ -16,6 +16,13 @@ pub fn law_prefixes<T: Traced>()
 /// Of two accesses the one in the segment that comes before stands before the other in the trace.
 pub fn law_forward<T: Traced>()
     ensures { (t : List T.Entry) → Pauses T.view (AccessesCell T.accesses) t → Forward (rules T.view) T.accesses t }
+{}
+
+/// Whatever the edges are: where accesses go forward, reads give the last write and the first m entries have no race, each read
+/// among these is justified.
+pub fn law_reads_by_any_edges<R: Ruled>()
+    ensures { (t : List R.Entry) → Forward R.rules R.accesses t → ReadsLast R.rules R.accesses t → (m : ℕ) → NoRace R.rules R.accesses t m
+        → (x : Stands t) → R.accesses.class_of x.event ≡ reads → place x < m → Justified R.rules R.accesses t x }
 {}
 
 /// Each read among the first m entries is justified, where these have no race.

@@ -19,7 +19,7 @@ pub fn law_clock_moves<T: Traced>()
         → Covers (rules T.view) g (present T.view g (T.view.image e) ∷ []) own
         → Covers (rules T.view) g (released T.view g (T.view.image e) (T.view.act e)) rel → Covers (rules T.view) g (others T.view g e) oth
         → Covers (rules T.view) (g ++ e ∷ []) (present T.view (g ++ e ∷ []) (T.view.image e) ∷ [])
-            (tick (T.view.image e) (λ i. max (own i) (max (rel i) (oth i)))) }
+        (tick (T.view.image e) (λ i. max (own i) (max (rel i) (oth i)))) }
 {}
 
 /// An entry of another image, or one that completes nothing, leaves an image's clock.

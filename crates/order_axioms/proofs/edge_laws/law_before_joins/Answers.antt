@@ -1,4 +1,4 @@
-use Rattle.order_axioms.proofs.Clocks.{before_join}
+use Rattle.order_axioms.proofs.Ways.{before_join}
 use Rattle.order_axioms.proofs.edge_laws.law_before_joins.Goals as goal
 
 pub returns : goal.returns

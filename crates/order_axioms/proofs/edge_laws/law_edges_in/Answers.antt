@@ -1,4 +1,4 @@
-use Rattle.order_axioms.proofs.Clocks.{edge_at}
+use Rattle.order_axioms.proofs.Ways.{edge_at}
 use Rattle.order_axioms.proofs.edge_laws.law_edges_in.Goals as goal
 
 pub returns : goal.returns

@@ -1,4 +1,4 @@
-use Rattle.order_axioms.proofs.Clocks.{own_before}
+use Rattle.order_axioms.proofs.Ways.{own_before}
 use Rattle.order_axioms.proofs.edge_laws.law_own_before.Goals as goal
 
 pub returns : goal.returns
