@@ -4,7 +4,7 @@ use Rattle.std.proofs.lemmas.List.{append-nil}
 use Rattle.std.proofs.lemmas.Bool.{cases_lt, cases_order, cases_Bool, eqb-true, and_parts}
 use Rattle.std.proofs.lemmas.Bool.Decides.{eqb_tells}
 use Rattle.order_axioms.specs.Order.{Segment, Rules, Within, done, segment_after, Begun, Before, Sound, Reaches}
-use Rattle.order_axioms.specs.Clocks.{IsClock, Covers, tick}
+use Rattle.order_axioms.specs.Clocks.{IsClock, TellsOthers, Covers, tick}
 use Rattle.order_axioms.proofs.Splits.{done_append}
 use Rattle.order_axioms.proofs.Withins.{within_append, within_left, within_right}
 use Rattle.order_axioms.proofs.Ways.{before_last, reaches_up, reaches_down, edge_at, own_before}
@@ -47,6 +47,12 @@ module _ (E : Type 0) (r : Rules E) (sound : Sound r) where
     exactly = λ i s. (λ l. (prefixes E r sound t u _ b h).1 ((k.exactly i s).0 l), λ p. (k.exactly i s).1 ((prefixes E r sound t u _ b h).0 p));
   }
 
+  -- What it tells of other images it goes on to tell.
+  pub tells_keeps : (t u : List E) (b : Segment) (c : ℕ → ℕ) → Begun r.entries t b → TellsOthers r t b c → TellsOthers r (t ++ u) b c
+  tells_keeps t u b c h k = record {
+    exactly = λ i s ne. (λ l. (prefixes E r sound t u _ b h).1 ((k.exactly i s ne).0 l), λ p. (k.exactly i s ne).1 ((prefixes E r sound t u _ b h).0 p));
+  }
+
   -- What a clock covers of segments that have begun stays.
   pub covers_keeps : (t u : List E) (bs : List Segment) (c : ℕ → ℕ) → ((b : Segment) → Within b bs → Begun r.entries t b) → Covers r t bs c → Covers r (t ++ u) bs c
   covers_keeps t u bs c h k = record {
@@ -54,6 +60,12 @@ module _ (E : Type 0) (r : Rules E) (sound : Sound r) where
       λ l. let q = (k.exactly i s).0 l in (q.0, q.1, reaches_up E r sound t u _ q.0 q.2),
       λ q. (k.exactly i s).1 (q.0, q.1, reaches_down E r sound t u _ q.0 (h q.0 q.1) q.2),
     );
+  }
+
+  -- the same counts cover the same
+  pub covers_same : (t : List E) (bs : List Segment) (c d : ℕ → ℕ) → ((i : ℕ) → d i ≡ c i) → Covers r t bs c → Covers r t bs d
+  covers_same t bs c d e k = record {
+    exactly = λ i s. let h = e i in (λ l. (k.exactly i s).0 (omega arith), λ q. let l = (k.exactly i s).1 q in omega arith);
   }
 
   -- counts of 0 cover no segments

@@ -1,9 +1,10 @@
 -- Keys of which a clock is kept for each segment that waits there: events and pairs.
-use Rattle.std.proofs.Common.{ℕ, zero, suc, List, [], ◌∷◌, ◌++◌, take, drop, inl, inr, sym, subst}
+use Rattle.std.proofs.Common.{ℕ, zero, suc, List, [], ◌∷◌, ◌++◌, map, take, drop, inl, inr, refl, sym, subst}
+use Rattle.std.specs.List.{flat_map}
 use Rattle.order_axioms.specs.Order.{Segment, Within, Begun, segment_of}
 use Rattle.order_axioms.specs.Clocks.{Covers}
-use Rattle.order_axioms.specs.Acts.{Turn, adds, clears, drops, leaves_all, Key, turned, turn_of, View, entries, waiting, rules}
-use Rattle.order_axioms.specs.Stored.{EachCovered, all_joined, turned_queue}
+use Rattle.order_axioms.specs.Acts.{Turn, adds, clears, drops, leaves_all, Key, turned, turn_of, View, entries, waiting, spoken, rules}
+use Rattle.order_axioms.specs.Stored.{EachCovered, all_joined, present, turned_queue}
 use Rattle.order_axioms.proofs.Clocks.{covers_none, covers_join, covers_keeps}
 use Rattle.order_axioms.proofs.Sources.{sound, waiting_more}
 use Rattle.order_axioms.proofs.Recorder.{turned_begun}
@@ -24,10 +25,6 @@ module _ (E : Type 0) (v : View E) where
   each_take (suc k) g (s ∷ q) [] h = absurd h
   each_take (suc k) g (s ∷ q) (c ∷ cs) h = (h.0, each_take k g q cs h.1)
 
-  -- the first k clocks joined cover the first k segments
-  pub queue_taken : (k : ℕ) (g : List E) (q : List Segment) (cs : List (ℕ → ℕ)) → EachCovered (rules v) g q cs → Covers (rules v) g (take k q) (all_joined (take k cs))
-  queue_taken k g q cs h = covers_all g (take k q) (take k cs) (each_take k g q cs h)
-
   -- what is left of a queue
   each_drop : (k : ℕ) (g : List E) (q : List Segment) (cs : List (ℕ → ℕ)) → EachCovered (rules v) g q cs → EachCovered (rules v) g (drop k q) (drop k cs)
   each_drop zero g q cs h = h
@@ -35,6 +32,24 @@ module _ (E : Type 0) (v : View E) where
   each_drop (suc k) g [] (c ∷ cs) h = absurd h
   each_drop (suc k) g (s ∷ q) [] h = absurd h
   each_drop (suc k) g (s ∷ q) (c ∷ cs) h = each_drop k g q cs h.1
+
+  -- the clocks of a part of a queue joined cover that part
+  pub queue_taken : (n k : ℕ) (g : List E) (q : List Segment) (cs : List (ℕ → ℕ)) → EachCovered (rules v) g q cs → Covers (rules v) g (take k (drop n q)) (all_joined (take k (drop n cs)))
+  queue_taken n k g q cs h = covers_all g (take k (drop n q)) (take k (drop n cs)) (each_take k g (drop n q) (drop n cs) (each_drop n g q cs h))
+
+  -- where a clock covers the segments of each of these numbers, all of them joined cover all
+  pub covers_flat : (g : List E) (f : ℕ → List Segment) (c : ℕ → ℕ → ℕ) (js : List ℕ) → ((j : ℕ) → Within j js → Covers (rules v) g (f j) (c j)) → Covers (rules v) g (flat_map f js) (all_joined (map c js))
+  covers_flat g f c [] h = covers_none E (rules v) (sound E v) g
+  covers_flat g f c (j ∷ js) h = covers_join E (rules v) (sound E v) g (f j) (flat_map f js) (c j) (all_joined (map c js)) (h j (inl refl)) (covers_flat g f c js (λ i w. h i (inr w)))
+
+  -- the clocks of images joined cover their present segments
+  presents_joined : (g : List E) (c : ℕ → ℕ → ℕ) (js : List ℕ) → ((j : ℕ) → Within j js → Covers (rules v) g (present v g j ∷ []) (c j)) → Covers (rules v) g (map (present v g) js) (all_joined (map c js))
+  presents_joined g c [] h = covers_none E (rules v) (sound E v) g
+  presents_joined g c (j ∷ js) h = covers_join E (rules v) (sound E v) g (present v g j ∷ []) (map (present v g) js) (c j) (all_joined (map c js)) (h j (inl refl)) (presents_joined g c js (λ i w. h i (inr w)))
+
+  -- and so those of the failed images that an entry speaks of cover their last segments
+  pub spoken_joined : (g : List E) (e : E) (c : ℕ → ℕ → ℕ) → ((j : ℕ) → Within j (v.speaks g e) → Covers (rules v) g (present v g j ∷ []) (c j)) → Covers (rules v) g (spoken v g e) (all_joined (map c (v.speaks g e)))
+  spoken_joined g e c h = presents_joined g c (v.speaks g e) h
 
   -- a queue with one more behind it
   each_last : (g : List E) (q : List Segment) (cs : List (ℕ → ℕ)) (s : Segment) (c : ℕ → ℕ) → EachCovered (rules v) g q cs → Covers (rules v) g (s ∷ []) c → EachCovered (rules v) g (q ++ s ∷ []) (cs ++ c ∷ [])

@@ -2,7 +2,7 @@
 
 ghost use Rattle.std.specs.Prelude.{◌≡◌, ℕ, true, max, List, [], ◌∷◌, ◌++◌};
 ghost use Rattle.order_axioms.specs.Order.{Segment, Within, Begun, segment_after};
-ghost use Rattle.order_axioms.specs.Clocks.{IsClock, Covers, tick};
+ghost use Rattle.order_axioms.specs.Clocks.{IsClock, Covers, TellsOthers, tick};
 
 use crate::entries::Ruled;
 
@@ -21,6 +21,17 @@ pub fn law_clock_keeps<R: Ruled>()
 pub fn law_clock_ticks<R: Ruled>()
     ensures { (t : List R.Entry) (b : Segment) (c : ℕ → ℕ) → Begun R.rules.entries t b → IsClock R.rules t b c
         → Covers R.rules t (b ∷ []) (tick b.image c) }
+{}
+
+/// What a clock tells of other images it tells while the trace grows.
+pub fn law_tells_keep<R: Ruled>()
+    ensures { (t u : List R.Entry) (b : Segment) (c : ℕ → ℕ) → Begun R.rules.entries t b → TellsOthers R.rules t b c
+        → TellsOthers R.rules (t ++ u) b c }
+{}
+
+/// The same counts cover the same.
+pub fn law_covers_same<R: Ruled>()
+    ensures { (t : List R.Entry) (bs : List Segment) (c d : ℕ → ℕ) → ((i : ℕ) → d i ≡ c i) → Covers R.rules t bs c → Covers R.rules t bs d }
 {}
 
 /// Counts of 0 cover no segments.

@@ -1,9 +1,10 @@
 //! What a recorder keeps while the trace grows by one entry: a clock of each image's present segment, and clocks of what waits at keys.
 
-ghost use Rattle.std.specs.Prelude.{◌≡◌, ℕ, suc, true, false, nat_eq, ◌&&◌, max, List, [], ◌∷◌, ◌++◌, take, ◌≤◌};
+ghost use Rattle.std.specs.Prelude.{◌≡◌, ℕ, suc, true, false, nat_eq, ◌&&◌, max, List, [], ◌∷◌, ◌++◌, map, take, drop, ◌≤◌};
+ghost use Rattle.std.specs.List.{flat_map};
 ghost use Rattle.order_axioms.specs.Order.{Segment, Within, Begun, done, segment_of};
 ghost use Rattle.order_axioms.specs.Clocks.{Covers, TellsOthers, tick};
-ghost use Rattle.order_axioms.specs.Acts.{Key, drops, completing, turn_of, entries, waiting, released, others, rules};
+ghost use Rattle.order_axioms.specs.Acts.{Key, drops, completing, turn_of, entries, waiting, released, spoken, others, rules};
 ghost use Rattle.order_axioms.specs.Stored.{present, turned_clock, turned_queue, EachCovered, all_joined};
 
 use crate::entries::Traced;
@@ -59,8 +60,21 @@ pub fn law_queue_more<T: Traced>()
         → EachCovered (rules T.view) (g ++ e ∷ []) (waiting T.view k (g ++ e ∷ [])) (turned_queue (turn_of T.view k e) own cs) }
 {}
 
-/// The first so many clocks of a queue joined cover the first so many segments.
+/// The clocks of a part of a queue joined cover the segments of that part.
 pub fn law_queue_taken<T: Traced>()
-    ensures { (k : ℕ) (g : List T.Entry) (q : List Segment) (cs : List (ℕ → ℕ)) → EachCovered (rules T.view) g q cs
-        → Covers (rules T.view) g (take k q) (all_joined (take k cs)) }
+    ensures { (n k : ℕ) (g : List T.Entry) (q : List Segment) (cs : List (ℕ → ℕ)) → EachCovered (rules T.view) g q cs
+        → Covers (rules T.view) g (take k (drop n q)) (all_joined (take k (drop n cs))) }
+{}
+
+/// Where a clock covers what each named image brings, all of them joined cover all that they bring.
+pub fn law_covers_flat<T: Traced>()
+    ensures { (g : List T.Entry) (f : ℕ → List Segment) (c : ℕ → ℕ → ℕ) (js : List ℕ)
+        → ((j : ℕ) → Within j js → Covers (rules T.view) g (f j) (c j)) → Covers (rules T.view) g (flat_map f js) (all_joined (map c js)) }
+{}
+
+/// The clocks of the failed images that an entry speaks of, joined, cover their last segments.
+pub fn law_spoken_joined<T: Traced>()
+    ensures { (g : List T.Entry) (e : T.Entry) (c : ℕ → ℕ → ℕ)
+        → ((j : ℕ) → Within j (T.view.speaks g e) → Covers (rules T.view) g (present T.view g j ∷ []) (c j))
+        → Covers (rules T.view) g (spoken T.view g e) (all_joined (map c (T.view.speaks g e))) }
 {}
