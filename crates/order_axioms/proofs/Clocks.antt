@@ -7,8 +7,8 @@ use Rattle.order_axioms.specs.Order.{Segment, Rules, Within, done, segment_after
 use Rattle.order_axioms.specs.Clocks.{IsClock, TellsOthers, Covers, tick}
 use Rattle.order_axioms.proofs.Splits.{done_append}
 use Rattle.order_axioms.proofs.Withins.{within_append, within_left, within_right}
-use Rattle.order_axioms.proofs.Ways.{before_last, reaches_up, reaches_down, edge_at, own_before}
-use Rattle.order_axioms.proofs.Paths.{edge_number, last_edge, prefixes, later_number}
+use Rattle.order_axioms.proofs.Ways.{before_last, reaches_up, reaches_down, edges_in, own_before}
+use Rattle.order_axioms.proofs.Paths.{edge_number, last_edge, prefixes, numbers_rise}
 
 -- two counts that cover the same are one
 pub same_counts : (m n : ℕ) → ((s : ℕ) → (s < m) ↔ (s < n)) → m ≡ n
@@ -36,7 +36,7 @@ module _ (E : Type 0) (r : Rules E) (sound : Sound r) where
           λ h. let k = (cov.exactly i s).0 h in up (record { image = i; number = s }) k.0 k.1 k.2,
           λ p.
               let l = last_edge E r sound t (record { image = i; number = s }) (segment_after r.entries g x) p.0 p.1 in
-              let w = edge_at E r sound t g [] x l.edge_from refl comp l.last in
+              let w = edges_in E r sound t g [] x l.edge_from refl comp l.last in
               (cov.exactly i s).1 (l.edge_from, w, reaches_down E r sound g (x ∷ []) (record { image = i; number = s }) l.edge_from (sound.known g x l.edge_from w) l.either),
         );
       }
@@ -48,8 +48,8 @@ module _ (E : Type 0) (r : Rules E) (sound : Sound r) where
   }
 
   -- What it tells of other images it goes on to tell.
-  pub tells_keeps : (t u : List E) (b : Segment) (c : ℕ → ℕ) → Begun r.entries t b → TellsOthers r t b c → TellsOthers r (t ++ u) b c
-  tells_keeps t u b c h k = record {
+  pub tells_keep : (t u : List E) (b : Segment) (c : ℕ → ℕ) → Begun r.entries t b → TellsOthers r t b c → TellsOthers r (t ++ u) b c
+  tells_keep t u b c h k = record {
     exactly = λ i s ne. (λ l. (prefixes E r sound t u _ b h).1 ((k.exactly i s ne).0 l), λ p. (k.exactly i s ne).1 ((prefixes E r sound t u _ b h).0 p));
   }
 
@@ -90,7 +90,7 @@ module _ (E : Type 0) (r : Rules E) (sound : Sound r) where
   -- a segment's clock counts the segments of its image before it
   pub clock_own : (t : List E) (b : Segment) (c : ℕ → ℕ) → Begun r.entries t b → IsClock r t b c → c b.image ≡ b.number
   clock_own t b c h k =
-      same_counts (c b.image) b.number (λ s. (λ l. later_number E r sound t _ b ((k.exactly b.image s).0 l) refl, λ l. (k.exactly b.image s).1 (own_before E r sound t b s h l)))
+      same_counts (c b.image) b.number (λ s. (λ l. numbers_rise E r sound t _ b ((k.exactly b.image s).0 l) refl, λ l. (k.exactly b.image s).1 (own_before E r sound t b s h l)))
 
   -- what reaches a segment is covered by its clock, or is it
   reached : (t : List E) (b : Segment) (c : ℕ → ℕ) → IsClock r t b c → (i s : ℕ) → Reaches r t (record { image = i; number = s }) b → (s < c i) ⊎ ((i ≡ b.image) × (s ≡ b.number))
@@ -133,7 +133,7 @@ module _ (E : Type 0) (r : Rules E) (sound : Sound r) where
   }
 
   -- a clock of a segment
-  pub HasClock : List E → Segment → Type 0
+  HasClock : List E → Segment → Type 0
   HasClock t b = (c : ℕ → ℕ) × IsClock r t b c
 
   -- segments that have clocks are covered by one clock
@@ -186,16 +186,12 @@ module _ (E : Type 0) (r : Rules E) (sound : Sound r) where
   clocks_from g (x ∷ rest) h b k =
       subst (λ z. HasClock z b) (append_assoc g (x ∷ []) rest) (clocks_from (g ++ x ∷ []) rest (one_more_clock g x h) b (subst (λ z. Begun r.entries z b) (sym (append_assoc g (x ∷ []) rest)) k))
 
-  pub has_clock : (t : List E) (b : Segment) → Begun r.entries t b → HasClock t b
-  has_clock t b h = clocks_from [] t no_events b h
-
-  pub clock_of : (t : List E) (b : Segment) → Begun r.entries t b → (c : ℕ → ℕ) × IsClock r t b c
+  pub has_clock : (t : List E) (b : Segment) → Begun r.entries t b → (c : ℕ → ℕ) × IsClock r t b c
   unfolding HasClock
-  clock_of t b h = has_clock t b h
+  has_clock t b h = clocks_from [] t no_events b h
 
   -- So it can be told whether a segment comes before one that has begun.
   pub before_or_not : (t : List E) (a b : Segment) → Begun r.entries t b → Before r t a b ⊎ (Before r t a b → ⊥)
-  unfolding HasClock
   before_or_not t a b h =
       let c = has_clock t b h in
       elim (cases_lt a.number (c.0 a.image)) [ inl l ↦ inl ((c.1.exactly a.image a.number).0 l) | inr l ↦ inr (λ p. let m = (c.1.exactly a.image a.number).1 p in absurd (omega arith)) ]

@@ -65,8 +65,8 @@ module _ (E V : Type 0) (r : Rules E) (sound : Sound r) (a : Accesses E V) (t : 
       }
 
   -- Each read among the first m entries is justified.
-  pub reads_justified : (x : Stands t) → a.class_of x.event ≡ reads → place x < m → Justified r a t x
-  reads_justified x k below c p =
+  pub reads_by_any_edges : (x : Stands t) → a.class_of x.event ≡ reads → place x < m → Justified r a t x
+  reads_by_any_edges x k below c p =
       let ax : is_access (a.class_of x.event) ≡ true = ap is_access k in
       elim (memory x c k p) [
         | inl l ↦ inl (l.0, latest x l.0 c k p below l.1)

@@ -92,8 +92,8 @@ module _ (E : Type 0) (r : Rules E) where
     prefixes t u a b h = (λ p. (p.0, (linked_down t u a b p.0 h p.1).1), λ p. (p.0, linked_up t u a b p.0 p.1))
 
     -- no segment comes before itself, nor before an earlier one of its image
-    pub later_number : (t : List E) (a b : Segment) → Before r t a b → a.image ≡ b.image → a.number < b.number
-    later_number t a b p same =
+    pub numbers_rise : (t : List E) (a b : Segment) → Before r t a b → a.image ≡ b.image → a.number < b.number
+    numbers_rise t a b p same =
         let l = last_edge t a b p.0 p.1 in
         let n = edge_number t l.edge_from b l.last in
         let h = subst (λ i. a.number ≤ done r.entries i l.last.before) same l.begun in

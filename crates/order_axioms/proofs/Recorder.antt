@@ -10,7 +10,7 @@ use Rattle.order_axioms.proofs.Splits.{done_append, done_at}
 use Rattle.order_axioms.proofs.Clocks.{clock_begins, clock_ticks, clock_start, covers_keeps, covers_join, covers_none, same_counts}
 use Rattle.order_axioms.proofs.Ways.{own_before}
 use Rattle.order_axioms.proofs.Withins.{within_append, within_drop}
-use Rattle.order_axioms.proofs.Paths.{later_number, linked_down}
+use Rattle.order_axioms.proofs.Paths.{numbers_rise, linked_down}
 use Rattle.order_axioms.proofs.Sources.{sound, waiting_more, added, added_begun}
 
 module _ (E : Type 0) (v : View E) where
@@ -90,7 +90,7 @@ module _ (E : Type 0) (v : View E) where
     λ l. let q = (k.exactly j s).0 l in elim q.1 [
       | inl e ↦ elim q.2 [
         | inl same ↦ (let n = ap (λ z. z.number) (same ∙ e) in omega arith)
-        | inr b ↦ (let n = later_number E (rules v) (sound E v) g (record { image = j; number = s }) (present v g j) (subst (λ z. Before (rules v) g (record { image = j; number = s }) z) e b) refl in omega arith)
+        | inr b ↦ (let n = numbers_rise E (rules v) (sound E v) g (record { image = j; number = s }) (present v g j) (subst (λ z. Before (rules v) g (record { image = j; number = s }) z) e b) refl in omega arith)
       ]
       | inr z ↦ absurd z
     ],

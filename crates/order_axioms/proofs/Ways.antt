@@ -20,8 +20,8 @@ module _ (E : Type 0) (r : Rules E) (sound : Sound r) where
   linked_join t a b c [] ns e q = (e, q)
   linked_join t a b c (m ∷ ms) ns (e, p) q = (e, linked_join t m b c ms ns p q)
 
-  pub before_join : (t : List E) (a b c : Segment) → Before r t a b → Before r t b c → Before r t a c
-  before_join t a b c (ms, p) (ns, q) = (ms ++ b ∷ ns, linked_join t a b c ms ns p q)
+  pub before_joins : (t : List E) (a b c : Segment) → Before r t a b → Before r t b c → Before r t a c
+  before_joins t a b c (ms, p) (ns, q) = (ms ++ b ∷ ns, linked_join t a b c ms ns p q)
 
   -- what reaches a segment in a front reaches it in the longer trace
   pub reaches_up : (t u : List E) (a b : Segment) → Reaches r t a b → Reaches r (t ++ u) a b
@@ -34,8 +34,8 @@ module _ (E : Type 0) (r : Rules E) (sound : Sound r) where
   reaches_down t u a b h (inr p) = inr ((prefixes E r sound t u a b h).0 p)
 
   -- The edges into the segment after x are from x's sources.
-  pub edge_at : (t g h : List E) (x : E) (a : Segment) → t ≡ g ++ x ∷ h → r.entries.completes x ≡ true → Edge r t a (segment_after r.entries g x) → Within a (r.sources g x)
-  edge_at t g h x a s comp e =
+  pub edges_in : (t g h : List E) (x : E) (a : Segment) → t ≡ g ++ x ∷ h → r.entries.completes x ≡ true → Edge r t a (segment_after r.entries g x) → Within a (r.sources g x)
+  edges_in t g h x a s comp e =
       let n = edge_number E r t a (segment_after r.entries g x) e in
       let m = edge_completes E r t a (segment_after r.entries g x) e in
       let k = done_at E r.entries g x comp in
@@ -82,7 +82,7 @@ module _ (E : Type 0) (r : Rules E) (sound : Sound r) where
   pub reaches_join : (t : List E) (a b c : Segment) → Reaches r t a b → Reaches r t b c → Reaches r t a c
   reaches_join t a b c (inl e) q = subst (λ z. Reaches r t z c) (sym e) q
   reaches_join t a b c (inr p) (inl e) = inr (subst (λ z. Before r t a z) e p)
-  reaches_join t a b c (inr p) (inr q) = inr (before_join t a b c p q)
+  reaches_join t a b c (inr p) (inr q) = inr (before_joins t a b c p q)
 
   -- an image's own earlier segments
   pub own_reaches : (t : List E) (a b : Segment) → Begun r.entries t b → a.image ≡ b.image → a.number ≤ b.number → Reaches r t a b

@@ -2,6 +2,7 @@
 
 ghost use Rattle.std.specs.Prelude.{◌≡◌, ℕ, Bool, true, List, [], ◌∷◌, ◌++◌, length, ◌<◌, ◌↔◌};
 ghost use Rattle.order_axioms.specs.Order.{Segment, Within, Before, Sound, segment_of};
+ghost use Rattle.order_axioms.specs.Races.{Stands, Ahead};
 ghost use Rattle.order_axioms.specs.Acts.{Key, drops, turned, turn_of, entries, waiting, rules};
 ghost use Rattle.order_axioms.specs.Facts.{AccessesCell, OwnFacts, Pauses};
 ghost use Rattle.order_axioms.specs.Stored.{AddedIn};
@@ -41,4 +42,10 @@ pub fn law_acts_forward<T: Traced>()
     ensures { (acts : List T.Entry → T.Entry → Bool) (t : List T.Entry) → Pauses T.view (λ g e. acts g e ≡ true) t
         → (g h g' h' : List T.Entry) (e f : T.Entry) → t ≡ g ++ e ∷ h → t ≡ g' ++ f ∷ h' → acts g e ≡ true
         → Before (rules T.view) t (segment_of (entries T.view) g e) (segment_of (entries T.view) g' f) → length g < length g' }
+{}
+
+/// No entry before one that acts stands in a segment that comes after its own.
+pub fn law_ahead<T: Traced>()
+    ensures { (acts : List T.Entry → T.Entry → Bool) (t : List T.Entry) → Pauses T.view (λ g e. acts g e ≡ true) t
+        → (y : Stands t) → acts y.before y.event ≡ true → Ahead (rules T.view) T.accesses t y }
 {}
