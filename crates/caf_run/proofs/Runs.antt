@@ -1,6 +1,6 @@
 -- The report of a run is that of its trace.
-use Rattle.std.proofs.Common.{◌≡◌, ℕ, zero, suc, ◌+◌, ◌<◌, ◌≤◌, Bool, true, false, List, [], ◌∷◌, ◌++◌, ◌⊎◌, inl, inr, length, refl, ap, sym, ◌∙◌, subst, arith}
-use Rattle.std.specs.Prelude.{Option, Some, None, Ok, map, slice_get, nat_eq}
+use Rattle.std.proofs.Common.{◌≡◌, ℕ, zero, suc, ◌+◌, ◌<◌, ◌≤◌, Bool, false, List, [], ◌∷◌, inl, inr, length, refl, ap, sym, ◌∙◌, subst, arith}
+use Rattle.std.specs.Prelude.{Some, Ok, map, slice_get, nat_eq}
 use Rattle.std.specs.List.{filter, range_with_len}
 use Rattle.std.proofs.lemmas.Bool.{cases_Bool, cases_lt}
 use Rattle.caf_base.specs.declared.refusal.NoMemory.{NoMemory}
@@ -9,18 +9,18 @@ use Rattle.caf_events.specs.Memories.{DeclaredMemory}
 use Rattle.caf_events.specs.declared.event.Entry.{Entry}
 use Rattle.caf_events.specs.declared.event.Trace.{Trace}
 use Rattle.caf_events.specs.Events.{EndsRun}
-use Rattle.caf_events.specs.Walkers.{AsksNext, IsAtLine, IsOver}
-use Rattle.trace_theory.specs.Entries.{of, Each}
+use Rattle.caf_events.specs.Walkers.{AsksNext, IsAtLine}
+use Rattle.trace_theory.specs.Entries.{Each}
 use Rattle.trace_theory.proofs.Filters.{of_inside}
 use Rattle.trace_theory.proofs.Snocs.{each_at}
 use Rattle.core_runs.specs.Lists.{image_of}
 use Rattle.core_runs.specs.Moments.{Rules, Moment, item_at, can_step}
-use Rattle.core_runs.specs.Beginnings.{Beginning, IsImage, IsFirst, numbers_to}
+use Rattle.core_runs.specs.Beginnings.{Beginning, IsImage, IsFirst}
 use Rattle.core_runs.specs.CoreRuns.{of_image, IsCoreRun}
 use Rattle.core_runs.specs.Kept.{IsKept}
-use Rattle.core_runs.specs.Orders.{candidates, EndsAtLast, NoneEnds, IsWhole, IsOrderTrace, Chooser}
+use Rattle.core_runs.specs.Orders.{candidates, EndsAtLast, IsWhole, IsOrderTrace}
 use Rattle.core_runs.specs.Traces.{IsTraceOf}
-use Rattle.core_runs.specs.Waits.{HasStopped, IsWaiting}
+use Rattle.core_runs.specs.Waits.{IsWaiting}
 use Rattle.core_runs.proofs.Lanes.{is_image}
 use Rattle.core_runs.proofs.OrderTraces.{order_trace, order_same}
 use Rattle.core_runs.proofs.Waits.{waiting, stopped}
@@ -41,7 +41,7 @@ use Rattle.caf_report.specs.declared.report.End.{End}
 use Rattle.caf_report.specs.declared.report.Report.{Report}
 use Rattle.caf_report.specs.declared.report.Waiting.{Waiting}
 use Rattle.caf_report.specs.Ends.{EndsAt, HasNoEnding, IsEndOf}
-use Rattle.caf_run.specs.Runs.{choices_of, WaitsAs, AreHeld, AreWaiting, IsRunEnd, IsReportOf}
+use Rattle.caf_run.specs.Runs.{choices_of, AreHeld, AreWaiting, IsRunEnd, IsReportOf}
 
 -- an ordered run that was answered is whole
 pub whole_of : {C M B : Type 0} (r : Rules C M B) (m : Moment C M B) (xs : List Entry) (end : RunEnd) → EndIs r m xs end → IsWhole r xs m

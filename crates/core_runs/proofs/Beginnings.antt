@@ -1,20 +1,14 @@
 -- What holds before the first step.
-use Rattle.std.proofs.Common.{◌≡◌, ℕ, zero, suc, ◌+◌, ◌<◌, ◌≤◌, List, [], ◌∷◌, ◌++◌, length, refl, ap, sym, ◌∙◌, subst, arith}
-use Rattle.std.specs.Prelude.{map, replicate, slice_index_or, slice_get, Some}
+use Rattle.std.proofs.Common.{◌≡◌, ℕ, zero, suc, List, [], ◌∷◌, ◌++◌, length, refl, ap, sym, ◌∙◌, subst}
+use Rattle.std.specs.Prelude.{map, replicate, slice_index_or, Some}
 use Rattle.std.proofs.lemmas.List.{length-replicate}
-use Rattle.caf_base.specs.declared.place.Place.TheVariants.{Own}
-use Rattle.caf_events.specs.declared.reply.Reply.TheVariants as replies
 use Rattle.caf_events.specs.declared.event.Event.{Event}
 use Rattle.caf_events.specs.declared.event.Entry.{Entry}
-use Rattle.caf_events.specs.Answers.{Answers}
-use Rattle.caf_events.specs.Asks.{place_of}
 use Rattle.caf_events.specs.Histories.{Served}
 use Rattle.trace_theory.specs.Entries.{Each, Rises, of}
-use Rattle.trace_theory.specs.Machines.{WalkTo}
-use Rattle.trace_theory.specs.Runs.{Woven}
-use Rattle.core_runs.specs.Lists.{said, image_of, key_of, stamp_of, list_at, entries_of, history_of, IsWoven}
+use Rattle.core_runs.specs.Lists.{image_of, key_of, stamp_of, list_at, entries_of, history_of, IsWoven}
 use Rattle.core_runs.specs.Moments.{Rules, Moment, item_at}
-use Rattle.core_runs.specs.Beginnings.{Beginning, IsImage, IsPlace, IsFirst}
+use Rattle.core_runs.specs.Beginnings.{Beginning, IsFirst}
 use Rattle.core_runs.specs.CoreRuns.{IsFit}
 use Rattle.core_runs.specs.Kept.{IsLane, IsKept}
 

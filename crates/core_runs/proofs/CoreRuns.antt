@@ -1,6 +1,6 @@
 -- The trace of what is kept is a core run.
-use Rattle.std.proofs.Common.{◌≡◌, ℕ, zero, suc, ◌+◌, ◌<◌, ◌≤◌, List, [], ◌∷◌, ◌++◌, ◌⊎◌, inl, inr, length, refl, ap, sym, ◌∙◌, subst, arith}
-use Rattle.std.specs.Prelude.{map, slice_get, Option, Some, None}
+use Rattle.std.proofs.Common.{◌≡◌, ℕ, zero, suc, ◌<◌, List, [], ◌∷◌, ◌⊎◌, inl, inr, length, refl, ap, sym, ◌∙◌, subst, arith}
+use Rattle.std.specs.Prelude.{map, slice_get, Some}
 use Rattle.std.proofs.lemmas.Bool.{cases_lt}
 use Rattle.std.proofs.lemmas.Bool.Decides.{eqb_tells}
 use Rattle.std.proofs.lemmas.List.{get_or_past}
@@ -20,7 +20,7 @@ use Rattle.core_runs.specs.Lists.{said, entry, image_of, key_of, stamp_of, list_
 use Rattle.core_runs.specs.Moments.{Rules, Moment}
 use Rattle.core_runs.specs.Beginnings.{Beginning, IsImage, IsPlace}
 use Rattle.core_runs.specs.Sequences.{Joins, NothingAfterEnd}
-use Rattle.core_runs.specs.CoreRuns.{of_image, at_board, of_memory, said_by, IsDoneAlone, IsLawful, IsCoreRun}
+use Rattle.core_runs.specs.CoreRuns.{at_board, of_memory, said_by, IsDoneAlone, IsLawful, IsCoreRun}
 use Rattle.core_runs.specs.Kept.{IsLane, IsKept}
 use Rattle.core_runs.specs.Traces.{IsTraceOf, HasHistories}
 use Rattle.core_runs.proofs.Beginnings.{not_cons}

@@ -1,20 +1,19 @@
 -- A step keeps all that is kept.
-use Rattle.std.proofs.Common.{◌≡◌, ℕ, zero, suc, ◌+◌, ◌<◌, ◌≤◌, Bool, true, false, IsTrue, List, [], ◌∷◌, ◌++◌, inl, inr, length, refl, ap, sym, ◌∙◌, subst, arith}
-use Rattle.std.specs.Prelude.{map, slice_get, Option, Some, None}
+use Rattle.std.proofs.Common.{◌≡◌, ℕ, zero, suc, ◌<◌, ◌≤◌, IsTrue, List, [], ◌∷◌, ◌++◌, inl, inr, length, refl, ap, sym, ◌∙◌, subst, arith}
+use Rattle.std.specs.Prelude.{map, slice_get, Some}
 use Rattle.std.proofs.lemmas.Bool.{cases_eq}
 use Rattle.std.proofs.lemmas.List.FromFn.{length-map-range_with_len}
 use Rattle.caf_base.specs.declared.place.Place.{Place}
 use Rattle.caf_base.specs.declared.place.Place.TheVariants as places
 use Rattle.caf_events.specs.declared.reply.Reply.TheVariants as replies
 use Rattle.caf_events.specs.declared.event.Event.{Event}
-use Rattle.caf_events.specs.declared.event.Entry.{Entry}
 use Rattle.caf_events.specs.Answers.{Answers}
 use Rattle.caf_events.specs.Asks.{place_of}
 use Rattle.caf_events.specs.Histories.{Served}
 use Rattle.caf_events.proofs.Serving.{served_more}
 use Rattle.trace_theory.specs.Machines.{WalkTo}
 use Rattle.trace_theory.proofs.Snocs.{each_last}
-use Rattle.core_runs.specs.Lists.{said, entry, list_at, IsWoven}
+use Rattle.core_runs.specs.Lists.{said, entry, list_at}
 use Rattle.core_runs.specs.Moments.{Rules, Moment, item_at, with_item, ready_there, reply_there, memory_ready_at, memory_reply_at, histories_with, board_with, Steps}
 use Rattle.core_runs.specs.Beginnings.{Beginning, IsImage, IsPlace}
 use Rattle.core_runs.specs.Kept.{IsLane, IsKept}

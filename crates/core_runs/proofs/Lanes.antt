@@ -1,5 +1,5 @@
 -- What one step makes of its image's lane, and at which places of a run it can stand.
-use Rattle.std.proofs.Common.{◌≡◌, ℕ, zero, suc, ◌+◌, ◌<◌, ◌≤◌, Bool, true, false, IsTrue, List, [], ◌∷◌, ◌++◌, inl, inr, length, refl, ap, sym, ◌∙◌, subst, arith}
+use Rattle.std.proofs.Common.{◌≡◌, ℕ, zero, suc, ◌+◌, ◌<◌, ◌≤◌, IsTrue, List, [], ◌∷◌, ◌++◌, inl, inr, length, refl, ap, sym, ◌∙◌, arith}
 use Rattle.std.specs.Prelude.{map, slice_get, Option, Some, None}
 use Rattle.std.specs.List.{range_with_len}
 use Rattle.std.proofs.lemmas.Bool.{cases_lt}
@@ -14,17 +14,13 @@ use Rattle.caf_events.specs.declared.event.Entry.{Entry}
 use Rattle.caf_events.specs.Answers.{Answers}
 use Rattle.caf_events.specs.Asks.{place_of}
 use Rattle.caf_events.specs.Walkers.{AsksNext, IsAtLine, Continues}
-use Rattle.trace_theory.specs.Entries.{Each}
-use Rattle.trace_theory.specs.Machines.{Move, goes, asks, over, Said, go, WalkTo}
+use Rattle.trace_theory.specs.Machines.{Move, goes, asks, over, Said, WalkTo}
 use Rattle.trace_theory.proofs.Machines.{walk_to_more}
-use Rattle.trace_theory.proofs.Snocs.{each_last}
 use Rattle.core_runs.specs.Lists.{said}
-use Rattle.core_runs.specs.Moments.{Rules, Moment, item_at, ready_there, reply_there, memory_ready_at, Steps}
+use Rattle.core_runs.specs.Moments.{Rules, Moment, item_at, ready_there, memory_ready_at}
 use Rattle.core_runs.specs.Beginnings.{Beginning, IsImage, IsPlace, numbers_to}
 use Rattle.core_runs.specs.CoreRuns.{IsFit}
-use Rattle.core_runs.specs.Kept.{IsLane}
 use Rattle.core_runs.proofs.Numbered.{item_within}
-use Rattle.core_runs.proofs.Weaves.{map_append}
 
 numbered_from : {A : Type 0} (f : ℕ → A) (a n k : ℕ) → k < n → slice_get (map f (range_with_len a n)) k ≡ Some (f (a + k))
 numbered_from f a zero k h = absurd (omega arith)

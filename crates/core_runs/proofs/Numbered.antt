@@ -1,8 +1,8 @@
 -- Lists whose items are counted from 1, where one item is written again.
-use Rattle.std.proofs.Common.{◌≡◌, ℕ, zero, suc, ◌+◌, ◌-◌, ◌<◌, ◌≤◌, List, [], ◌∷◌, ◌++◌, ◌⊎◌, inl, inr, length, refl, ap, sym, ◌∙◌, subst, arith}
-use Rattle.std.specs.Prelude.{slice_index_or, slice_get, slice_set, Option, Some, None}
+use Rattle.std.proofs.Common.{◌≡◌, ℕ, zero, suc, ◌<◌, List, [], ◌∷◌, length, refl, ap, arith}
+use Rattle.std.specs.Prelude.{slice_index_or, slice_get, slice_set, Some}
 use Rattle.core_runs.specs.Lists.{list_at}
-use Rattle.core_runs.specs.Moments.{item_at, with_item}
+use Rattle.core_runs.specs.Moments.{with_item}
 
 pub item_within : {A : Type 0} (xs : List A) (k : ℕ) (x : A) → slice_get xs k ≡ Some x → k < length xs
 item_within [] k x h = absurd (cc)

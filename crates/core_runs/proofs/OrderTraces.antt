@@ -1,10 +1,9 @@
 -- What an ordered run keeps, and its trace.
-use Rattle.std.proofs.Common.{◌≡◌, ℕ, zero, suc, ◌+◌, ◌<◌, ◌≤◌, List, [], ◌∷◌, ◌++◌, inl, inr, length, refl, ap, sym, ◌∙◌, subst, arith, append_assoc}
+use Rattle.std.proofs.Common.{◌≡◌, ℕ, zero, suc, List, [], ◌∷◌, ◌++◌, inl, inr, length, refl, ap, sym, ◌∙◌, subst, arith, append_assoc}
 use Rattle.std.specs.Prelude.{map, nat_eq}
 use Rattle.std.proofs.lemmas.Bool.Decides.{eqb_tells}
 use Rattle.std.proofs.lemmas.List.{append-nil, length-replicate}
 use Rattle.std.proofs.lemmas.List.Elements.{filter-append}
-use Rattle.caf_events.specs.declared.event.Event.{Event}
 use Rattle.caf_events.specs.declared.event.Entry.{Entry}
 use Rattle.trace_theory.specs.Entries.{of}
 use Rattle.core_runs.specs.Lists.{entry, image_of, list_at, entries_of}
@@ -12,7 +11,7 @@ use Rattle.core_runs.specs.Moments.{Rules, Moment, Steps}
 use Rattle.core_runs.specs.Beginnings.{Beginning, IsFirst}
 use Rattle.core_runs.specs.CoreRuns.{of_image, IsCoreRun, IsFit}
 use Rattle.core_runs.specs.Kept.{IsKept}
-use Rattle.core_runs.specs.Orders.{Chooser, candidates, Ordered, IsWhole, OrderRun, IsOrderTrace}
+use Rattle.core_runs.specs.Orders.{Chooser, candidates, Ordered, IsWhole, IsOrderTrace}
 use Rattle.core_runs.specs.Traces.{IsTraceOf}
 use Rattle.core_runs.proofs.Numbered.{item_within, index_same, list_other}
 use Rattle.core_runs.proofs.Weaves.{map_append, with_length}

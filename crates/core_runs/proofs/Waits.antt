@@ -1,6 +1,6 @@
 -- What is kept tells which images have stopped and what the others wait for.
-use Rattle.std.proofs.Common.{◌≡◌, ℕ, zero, suc, ◌<◌, ◌≤◌, Bool, true, false, List, refl, ap, sym, ◌∙◌, subst}
-use Rattle.std.specs.Prelude.{map, Option, Some, None}
+use Rattle.std.proofs.Common.{◌≡◌, ℕ, false, List, ap, sym, ◌∙◌, subst}
+use Rattle.std.specs.Prelude.{map, Some}
 use Rattle.caf_base.specs.declared.place.Place.{Place}
 use Rattle.caf_base.specs.declared.place.Place.TheVariants as places
 use Rattle.caf_events.specs.declared.ask.Ask.{Ask}
@@ -11,9 +11,8 @@ use Rattle.caf_events.specs.Walkers.{AsksNext, IsAtLine, IsOver}
 use Rattle.trace_theory.specs.Machines.{Move, goes, asks, over, WalkTo}
 use Rattle.core_runs.specs.Lists.{said, list_at}
 use Rattle.core_runs.specs.Moments.{Rules, Moment, item_at, ready_there, memory_ready_at, can_move, can_move_from, can_step}
-use Rattle.core_runs.specs.Beginnings.{Beginning, IsImage, numbers_to}
+use Rattle.core_runs.specs.Beginnings.{Beginning}
 use Rattle.core_runs.specs.Sequences.{HasEndedBy}
-use Rattle.core_runs.specs.CoreRuns.{of_memory, at_board, said_by}
 use Rattle.core_runs.specs.Kept.{IsKept}
 use Rattle.core_runs.specs.Traces.{IsTraceOf}
 use Rattle.core_runs.specs.Waits.{HasStopped, IsUnready, IsWaiting}
@@ -24,8 +23,8 @@ module _ {C M B : Type 0} (r : Rules C M B) (b : Beginning C M B) (m : Moment C 
   unready_at : (a : Ask) (q : Place) → ready_there r m i a q ≡ false → IsUnready r b t i a q
   unready_at a (places.Memory owner) f =
       λ in_run. (
-          let here : item_at m.memories owner.0 ≡ Some (b.memory owner.0) = ap (λ ms. item_at ms owner.0) h.memories ∙ numbered_item b.memory b.images owner.0 in_run.0 in_run.1 in
-          ap (λ g. r.memory_ready (b.memory owner.0) g i a) (memory_is r b m t h trace owner.0 in_run.0) ∙ (sym (ap (memory_ready_at r (list_at m.histories owner.0) i a) here) ∙ f))
+      let here : item_at m.memories owner.0 ≡ Some (b.memory owner.0) = ap (λ ms. item_at ms owner.0) h.memories ∙ numbered_item b.memory b.images owner.0 in_run.0 in_run.1 in
+      ap (λ g. r.memory_ready (b.memory owner.0) g i a) (memory_is r b m t h trace owner.0 in_run.0) ∙ (sym (ap (memory_ready_at r (list_at m.histories owner.0) i a) here) ∙ f))
   unready_at a places.Board f = ap (λ g. r.board_ready b.board g i a) (board_is r b m t h trace) ∙ (ap (λ v. r.board_ready v m.board_history i a) (sym h.board) ∙ f)
   unready_at a places.Own f = absurd (cc)
 

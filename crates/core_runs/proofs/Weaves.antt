@@ -1,6 +1,6 @@
 -- A step keeps the lists those of one run.
-use Rattle.std.proofs.Common.{◌≡◌, ℕ, zero, suc, ◌+◌, ◌-◌, ◌<◌, ◌≤◌, max, List, [], ◌∷◌, ◌++◌, length, refl, ap, sym, ◌∙◌, subst, arith, Bool, true, false, IsTrue, length-set}
-use Rattle.std.specs.Prelude.{map, slice_index_or, slice_get, slice_set, Option, Some, None}
+use Rattle.std.proofs.Common.{◌≡◌, ℕ, zero, suc, ◌<◌, max, List, [], ◌∷◌, ◌++◌, length, refl, ap, sym, ◌∙◌, subst, arith, IsTrue, length-set}
+use Rattle.std.specs.Prelude.{map, slice_index_or, slice_set, Option, Some, None}
 use Rattle.caf_base.specs.declared.place.Place.{Place}
 use Rattle.caf_base.specs.declared.place.Place.TheVariants as places
 use Rattle.caf_base.specs.declared.place.ImageNo.{ImageNo}
@@ -10,7 +10,7 @@ use Rattle.caf_events.specs.declared.event.Entry.{Entry}
 use Rattle.caf_events.specs.Asks.{place_of, object_of}
 use Rattle.caf_events.specs.Histories.{last_stamp_of, last_stamp_from}
 use Rattle.trace_theory.specs.Entries.{last_or}
-use Rattle.trace_theory.specs.Runs.{Woven, Adds, place_last}
+use Rattle.trace_theory.specs.Runs.{Adds, place_last}
 use Rattle.trace_theory.proofs.More.{woven_more}
 use Rattle.core_runs.specs.Lists.{image_of, key_of, stamp_of, entry, list_at, entries_of, history_of, last_of, IsWoven}
 use Rattle.core_runs.specs.Moments.{Rules, Moment, item_at, with_item, ready_there, memory_ready_at, history_there, histories_with, board_with, Steps}

@@ -1,5 +1,5 @@
 -- The lists of a run as numbered lists of entries: each image's events and each object's history.
-use Rattle.std.specs.Prelude.{ℕ, zero, suc, List, [], ◌∷◌, map, slice_index_or}
+use Rattle.std.specs.Prelude.{ℕ, zero, suc, List, [], map, slice_index_or}
 use Rattle.caf_events.specs.declared.ask.Ask.{Ask}
 use Rattle.caf_events.specs.declared.reply.Reply.{Reply}
 use Rattle.caf_events.specs.declared.event.Event.{Event}

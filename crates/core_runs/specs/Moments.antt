@@ -1,5 +1,5 @@
 -- A run at a moment, and its next steps.
-use Rattle.std.specs.Prelude.{ℕ, zero, suc, ◌≡◌, ◌+◌, ◌-◌, max, Bool, true, false, IsTrue, List, [], ◌∷◌, ◌++◌, Option, Some, None, slice_get, slice_set}
+use Rattle.std.specs.Prelude.{ℕ, zero, suc, ◌≡◌, ◌+◌, max, Bool, true, false, IsTrue, List, [], ◌∷◌, ◌++◌, Option, Some, None, slice_get, slice_set}
 use Rattle.caf_base.specs.declared.place.Place.{Place}
 use Rattle.caf_base.specs.declared.place.Place.TheVariants.{Memory, Board, Own}
 use Rattle.caf_events.specs.declared.ask.Ask.{Ask}
@@ -9,7 +9,7 @@ use Rattle.caf_events.specs.declared.event.Event.{Event}
 use Rattle.caf_events.specs.declared.event.Entry.{Entry}
 use Rattle.caf_events.specs.Asks.{place_of}
 use Rattle.caf_events.specs.Histories.{last_stamp_of}
-use Rattle.caf_events.specs.Walkers.{IsAtAsk, IsOver, AsksNext, IsAtLine, Continues}
+use Rattle.caf_events.specs.Walkers.{IsOver, AsksNext, IsAtLine, Continues}
 use Rattle.trace_theory.specs.Machines.{Move, asks, goes, over, Stops}
 use Rattle.core_runs.specs.Lists.{list_at, entry, last_of}
 

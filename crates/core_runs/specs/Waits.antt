@@ -1,5 +1,5 @@
 -- The images of a run that haven't ended after a trace, and what they wait for.
-use Rattle.std.specs.Prelude.{ℕ, ◌≡◌, Bool, false, true, List}
+use Rattle.std.specs.Prelude.{ℕ, ◌≡◌, false, List}
 use Rattle.caf_base.specs.declared.place.Place.{Place}
 use Rattle.caf_base.specs.declared.place.Place.TheVariants.{Memory, Board, Own}
 use Rattle.caf_events.specs.declared.ask.Ask.{Ask}
@@ -8,7 +8,7 @@ use Rattle.caf_events.specs.Asks.{place_of}
 use Rattle.caf_events.specs.Walkers.{AsksNext, IsAtLine}
 use Rattle.trace_theory.specs.Machines.{WalkTo}
 use Rattle.core_runs.specs.Moments.{Rules}
-use Rattle.core_runs.specs.Beginnings.{Beginning, IsImage, IsPlace}
+use Rattle.core_runs.specs.Beginnings.{Beginning, IsImage}
 use Rattle.core_runs.specs.CoreRuns.{at_board, of_memory, said_by}
 use Rattle.core_runs.specs.Sequences.{HasEndedBy}
 

@@ -1,5 +1,5 @@
 -- What holds before the first step.
-use Rattle.std.proofs.Common.{◌≡◌, ℕ, zero, suc, ◌+◌, ◌*◌, ◌<◌, ◌≤◌, ◌^◌, max, List, [], ◌∷◌, ◌++◌, length, refl, ap, sym, ◌∙◌, subst, arith}
+use Rattle.std.proofs.Common.{◌≡◌, ℕ, zero, suc, ◌+◌, ◌*◌, ◌≤◌, List, [], ◌∷◌, ◌++◌, length, refl, ap, sym, ◌∙◌, subst, arith}
 use Rattle.std.specs.Prelude.{map, replicate, slice_get, slice_index_or, Some}
 use Rattle.std.specs.List.{range_with_len}
 use Rattle.trace_theory.specs.Machines.{go, goes, Stops}
@@ -8,20 +8,15 @@ use Rattle.thin_parts.specs.ThinRuns.{thin_rules, thin_beginning}
 use Rattle.image_core.proofs.Slices.{map_length}
 use Rattle.caf_base.specs.declared.thin.ThinProgram.{ThinProgram}
 use Rattle.caf_base.specs.Thin.{counts}
-use Rattle.caf_events.specs.declared.event.Event.{Event}
-use Rattle.caf_events.specs.declared.event.Entry.{Entry}
 use Rattle.caf_events.specs.Histories.{last_stamp_of}
-use Rattle.trace_theory.specs.Entries.{Each, Rises, of}
-use Rattle.trace_theory.specs.Runs.{Woven}
 use Rattle.thin_parts.specs.ThinWalk.{Config, thin_step, start_of, moves_left}
 use Rattle.thin_parts.specs.ThinMemory.{MemoryMeaning, declared_memory}
 use Rattle.thin_parts.specs.ThinBoard.{BoardMeaning}
 use Rattle.image_core.specs.declared.run.ImageRun.{ImageRun}
 use Rattle.image_core.specs.declared.parts.PartsOf.{PartsOf}
-use Rattle.core_runs.specs.Lists.{image_of, key_of, stamp_of, list_at, entries_of, history_of, last_of, IsWoven}
-use Rattle.core_runs.specs.Moments.{Moment}
+use Rattle.core_runs.specs.Lists.{list_at, last_of}
 use Rattle.image_core.specs.Parts.{EachAt, AreNumbered, IsBounded, moment_of, event_lists, total, steps_made}
-use Rattle.image_core.specs.Starts.{IsFresh, IsNewMemory, IsStart}
+use Rattle.image_core.specs.Starts.{IsStart}
 
 -- one item more that has what each item has
 pub each_more : {A : Type 0} (P : ℕ → A → Type 0) (xs : List A) (x : A) → EachAt P xs → P (length xs) x → EachAt P (xs ++ x ∷ [])

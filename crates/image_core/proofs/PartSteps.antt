@@ -1,25 +1,23 @@
 -- The step that was set aside, made at its place, as a step of the whole run.
-use Rattle.std.proofs.Common.{◌≡◌, ℕ, zero, suc, ◌+◌, ◌-◌, ◌<◌, ◌≤◌, ◌^◌, max, List, [], ◌∷◌, ◌++◌, length, refl, ap, sym, ◌∙◌, subst, arith, Bool, inl, inr, length-set}
-use Rattle.std.specs.Prelude.{map, slice_index_or, slice_get, slice_set, Option, Some, None}
-use Rattle.caf_base.specs.declared.place.Place.{Place}
+use Rattle.std.proofs.Common.{◌≡◌, ℕ, suc, ◌<◌, ◌^◌, List, [], length, ap, ◌∙◌, arith, Bool}
+use Rattle.std.specs.Prelude.{map, slice_index_or, slice_set}
 use Rattle.caf_base.specs.declared.place.Place.TheVariants as places
 use Rattle.caf_base.specs.declared.place.ImageNo.{ImageNo}
 use Rattle.caf_events.specs.declared.ask.Ask.{Ask}
 use Rattle.caf_events.specs.declared.reply.Reply.{Reply}
 use Rattle.caf_events.specs.declared.event.Event.{Event}
 use Rattle.caf_events.specs.declared.event.Entry.{Entry}
-use Rattle.caf_events.specs.Asks.{place_of}
 use Rattle.caf_events.specs.Histories.{last_stamp_of}
 use Rattle.trace_theory.specs.Machines.{Move, Stops}
 use Rattle.image_core.specs.declared.run.ImageRun.{ImageRun}
 use Rattle.image_core.specs.declared.parts.PartsOf.{PartsOf}
-use Rattle.core_runs.specs.Lists.{list_at, last_of}
-use Rattle.core_runs.specs.Moments.{Moment, Steps}
+use Rattle.core_runs.specs.Lists.{last_of}
+use Rattle.core_runs.specs.Moments.{Steps}
 use Rattle.image_core.specs.Prepared.{StepsAt, StepsAlone, place_aside}
 use Rattle.core_runs.specs.Moments.{rules}
-use Rattle.image_core.specs.Parts.{moment_of, event_lists, EachAt, AreNumbered, IsBounded, Spends, IsPreparedRun}
-use Rattle.image_core.proofs.Slices.{map_set, map_index, map_get, map_length}
-use Rattle.image_core.proofs.WholeSteps.{aside_place, aside_within, own_steps, board_steps, memory_steps}
+use Rattle.image_core.specs.Parts.{moment_of, IsBounded, Spends, IsPreparedRun}
+use Rattle.image_core.proofs.Slices.{map_set, map_index, map_get}
+use Rattle.image_core.proofs.WholeSteps.{aside_place, own_steps, board_steps, memory_steps}
 
 module _ {M O B C MM BM : Type 0} (config : M → C) (step : C → Move C Ask Reply)
     (made : O → MM) (history : O → List Entry) (has_room : O → ℕ → Ask → Type 0) (test : MM → List Entry → ℕ → Ask → Bool) (answer : MM → List Entry → ℕ → Ask → Reply)

@@ -1,15 +1,13 @@
 -- What `prepare` answers, and that it changes nothing that a run means.
-use Rattle.std.proofs.Common.{◌≡◌, ℕ, zero, suc, ◌+◌, ◌-◌, ◌<◌, ◌≤◌, List, [], ◌∷◌, ◌++◌, ◌⊎◌, inl, inr, length, refl, ap, sym, ◌∙◌, subst, arith, Bool, true, false}
-use Rattle.std.specs.Prelude.{map, slice_index_or, slice_get, slice_set, Option, Some, None, Result, Ok, Err, IfOk, vec_len, vec_capacity}
+use Rattle.std.proofs.Common.{◌≡◌, ℕ, zero, suc, ◌<◌, ◌≤◌, List, [], ◌∷◌, ◌⊎◌, inl, inr, length, refl, ap, sym, ◌∙◌, subst, arith, Bool, true, false}
+use Rattle.std.specs.Prelude.{map, slice_index_or, slice_get, slice_set, Some, None, Result, Ok, Err, IfOk, vec_len, vec_capacity}
 use Rattle.caf_base.specs.declared.place.Place.{Place}
 use Rattle.caf_base.specs.declared.place.Place.TheVariants as places
 use Rattle.caf_base.specs.declared.place.ImageNo.{ImageNo}
-use Rattle.caf_base.specs.declared.refusal.NoMemory.{NoMemory}
 use Rattle.caf_events.specs.declared.ask.Ask.{Ask}
 use Rattle.caf_events.specs.declared.reply.Reply.{Reply}
 use Rattle.caf_events.specs.declared.event.Event.{Event}
 use Rattle.caf_events.specs.declared.event.Entry.{Entry}
-use Rattle.caf_events.specs.declared.walker.Next.{Next}
 use Rattle.caf_events.specs.declared.walker.Next.TheVariants as nexts
 use Rattle.caf_events.specs.Asks.{place_of}
 use Rattle.caf_events.specs.Walkers.{AsksNext, IsOver, NextIs}

@@ -1,7 +1,6 @@
 -- A step of one image at one object as a step of the whole run.
-use Rattle.std.proofs.Common.{◌≡◌, ℕ, zero, suc, ◌+◌, ◌-◌, ◌<◌, ◌≤◌, max, List, [], ◌∷◌, ◌++◌, ◌⊎◌, inl, inr, length, refl, ap, sym, ◌∙◌, subst, arith, Bool, true, false, IsTrue}
-use Rattle.std.specs.Prelude.{map, slice_index_or, slice_get, slice_set, Option, Some, None}
-use Rattle.caf_base.specs.declared.place.Place.{Place}
+use Rattle.std.proofs.Common.{◌≡◌, ℕ, suc, ◌+◌, ◌-◌, ◌<◌, ◌≤◌, max, List, [], ◌∷◌, ◌++◌, length, refl, ap, sym, ◌∙◌, subst, arith, Bool, IsTrue}
+use Rattle.std.specs.Prelude.{map, slice_index_or, slice_get, slice_set, Option, Some}
 use Rattle.caf_base.specs.declared.place.Place.TheVariants as places
 use Rattle.caf_base.specs.declared.place.ImageNo.{ImageNo}
 use Rattle.caf_events.specs.declared.ask.Ask.{Ask}
@@ -16,13 +15,13 @@ use Rattle.trace_theory.specs.Machines.{Move, asks, goes, over, Stops}
 use Rattle.image_core.specs.declared.run.ImageRun.{ImageRun}
 use Rattle.image_core.specs.declared.parts.PartsOf.{PartsOf}
 use Rattle.core_runs.specs.Lists.{list_at, entry, last_of}
-use Rattle.core_runs.specs.Moments.{Rules, Moment, item_at, history_there, ready_there, reply_there, memory_ready_at, memory_reply_at, with_item, histories_with, board_with, IsDue, Steps}
+use Rattle.core_runs.specs.Moments.{Rules, Moment, item_at, history_there, ready_there, reply_there, memory_ready_at, memory_reply_at, with_item, histories_with, board_with, Steps}
 use Rattle.image_core.specs.declared.prepared.Prepared.{Prepared}
 use Rattle.image_core.specs.declared.prepared.Prepared.TheVariants as prepareds
-use Rattle.image_core.specs.Prepared.{StepsAt, StepsAlone, IsServed, IsServedNext, IsOwnNext, place_aside}
+use Rattle.image_core.specs.Prepared.{StepsAt, IsServedNext, IsOwnNext, place_aside}
 use Rattle.core_runs.specs.Moments.{rules}
 use Rattle.image_core.specs.Parts.{moment_of, event_lists, IsSetAside, IsServedThere}
-use Rattle.image_core.proofs.Slices.{map_set, map_index, map_get, map_length, map_same}
+use Rattle.image_core.proofs.Slices.{map_set, map_index, map_get, map_same}
 
 -- two names of the next ask are one
 pub same_ask : {C : Type 0} (m : Move C Ask Reply) (a b : Ask) → AsksNext m a → AsksNext m b → a ≡ b

@@ -1,5 +1,5 @@
 -- What the parts of a run mean.
-use Rattle.std.specs.Prelude.{ℕ, zero, suc, ◌≡◌, ◌<◌, ◌≤◌, ◌+◌, ◌-◌, ◌^◌, Bool, true, false, List, [], ◌∷◌, map, length, slice_index_or, vec_len, vec_capacity, Option, Some}
+use Rattle.std.specs.Prelude.{ℕ, suc, ◌≡◌, ◌<◌, ◌≤◌, ◌+◌, ◌-◌, ◌^◌, Bool, true, false, List, [], ◌∷◌, map, length, slice_index_or, vec_len, vec_capacity, Some}
 use Rattle.caf_base.specs.declared.place.Place.{Place}
 use Rattle.caf_base.specs.declared.place.Place.TheVariants.{Memory, Board, Own}
 use Rattle.caf_events.specs.declared.ask.Ask.{Ask}

@@ -1,7 +1,7 @@
 -- What is set aside for an image's next step.
-use Rattle.std.specs.Prelude.{ℕ, ◌≡◌, ◌+◌, max, Bool, IsTrue, List, [], ◌∷◌, ◌++◌, Option, Some, None}
+use Rattle.std.specs.Prelude.{ℕ, ◌≡◌, ◌+◌, max, Bool, IsTrue, List, [], ◌∷◌, ◌++◌}
 use Rattle.caf_base.specs.declared.place.Place.{Place}
-use Rattle.caf_base.specs.declared.place.Place.TheVariants.{Memory, Board, Own}
+use Rattle.caf_base.specs.declared.place.Place.TheVariants.{Own}
 use Rattle.caf_events.specs.declared.ask.Ask.{Ask}
 use Rattle.caf_events.specs.declared.reply.Reply.{Reply}
 use Rattle.caf_events.specs.declared.reply.Reply.TheVariants as replies
@@ -10,12 +10,11 @@ use Rattle.caf_events.specs.declared.event.Entry.{Entry}
 use Rattle.caf_events.specs.declared.object.Spare.{Spare}
 use Rattle.caf_events.specs.Asks.{place_of}
 use Rattle.caf_events.specs.Histories.{last_stamp_of, IsSpare}
-use Rattle.caf_events.specs.Walkers.{IsOver, AsksNext, IsAtLine, Continues, EndsAfter}
-use Rattle.trace_theory.specs.Machines.{Move, asks, goes, over, Stops}
+use Rattle.caf_events.specs.Walkers.{AsksNext, IsAtLine, Continues}
+use Rattle.trace_theory.specs.Machines.{Move, asks, goes, over}
 use Rattle.image_core.specs.declared.prepared.Prepared.{Prepared}
 use Rattle.image_core.specs.declared.prepared.Prepared.TheVariants as prepareds
 use Rattle.core_runs.specs.Lists.{entry, last_of}
-use Rattle.core_runs.specs.Moments.{item_at}
 
 -- how an object serves: what it was made with, its history, its room, when it is ready and what it replies
 module _ {O M : Type 0} (made : O → M) (history : O → List Entry) (has_room : O → ℕ → Ask → Type 0) (test : M → List Entry → ℕ → Ask → Bool) (answer : M → List Entry → ℕ → Ask → Reply) where

@@ -1,5 +1,5 @@
 -- The start of a run: every machine at the first ask of its image, and no event.
-use Rattle.std.specs.Prelude.{ℕ, suc, ◌≡◌, ◌≤◌, List, [], ◌∷◌, length}
+use Rattle.std.specs.Prelude.{ℕ, suc, ◌≡◌, ◌≤◌, [], length}
 use Rattle.caf_base.specs.declared.thin.ThinProgram.{ThinProgram}
 use Rattle.caf_base.specs.Thin.{counts}
 use Rattle.trace_theory.specs.Machines.{go, goes, Stops}

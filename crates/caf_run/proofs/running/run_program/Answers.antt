@@ -1,4 +1,4 @@
-use Rattle.std.proofs.Common.{◌≡◌, sym, subst}
+use Rattle.std.proofs.Common.{subst}
 use Rattle.std.specs.Arc.{arc_value}
 use Rattle.caf_run.specs.Runs.{IsReportOf}
 use Rattle.caf_run.proofs.Runs.{report_of}

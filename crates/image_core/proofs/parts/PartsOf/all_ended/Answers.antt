@@ -1,4 +1,4 @@
-use Rattle.std.proofs.Common.{◌≡◌, ◌≤◌, ◌<◌, ◌∙◌, sym, ap, subst, length, suc, arith, get_or}
+use Rattle.std.proofs.Common.{◌≡◌, ◌<◌, subst, length, suc, arith, get_or}
 use borrow.Author.Count.{below_more}
 use Rattle.core_runs.specs.Moments.{HasEnded}
 use Rattle.core_runs.specs.Moments.{rules}

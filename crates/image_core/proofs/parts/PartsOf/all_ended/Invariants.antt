@@ -1,4 +1,4 @@
-use Rattle.std.proofs.Common.{◌≡◌, ◌≤◌, ◌<◌, ℕ, suc}
+use Rattle.std.proofs.Common.{◌<◌, ℕ, suc}
 use Rattle.core_runs.specs.Moments.{HasEnded}
 use Rattle.core_runs.specs.Moments.{rules}
 use Rattle.image_core.specs.Parts.{moment_of}

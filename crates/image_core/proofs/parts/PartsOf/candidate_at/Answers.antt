@@ -1,4 +1,4 @@
-use Rattle.std.proofs.Common.{◌≡◌, ◌+◌, ◌-◌, ◌<◌, ◌≤◌, ◌∙◌, ap, sym, subst, length, refl, arith}
+use Rattle.std.proofs.Common.{◌-◌, ◌∙◌, ap, sym, length, refl, arith}
 use Rattle.core_runs.specs.Moments.{can_step, rules}
 use Rattle.image_core.specs.Parts.{moment_of}
 use Rattle.image_core.proofs.Slices.{map_length}

@@ -1,4 +1,4 @@
-use Rattle.std.proofs.Common.{◌≡◌, ◌≤◌, ◌+◌, ◌-◌, length}
+use Rattle.std.proofs.Common.{◌≡◌, ◌-◌, length}
 use Rattle.std.specs.List.{filter}
 use Rattle.core_runs.specs.Beginnings.{numbers_to}
 use Rattle.core_runs.specs.Moments.{can_step, rules}

@@ -1,4 +1,4 @@
-use Rattle.std.proofs.Common.{◌≡◌, ◌≤◌, ◌<◌, ℕ, List, length}
+use Rattle.std.proofs.Common.{◌≡◌, List, length}
 use Rattle.caf_events.specs.declared.event.Entry.{Entry}
 use Rattle.core_runs.specs.Moments.{rules}
 use Rattle.core_runs.specs.Orders.{Ordered, NoneEnds}

@@ -1,4 +1,4 @@
-use Rattle.std.proofs.Common.{◌∙◌, sym, subst, arith, ◌≡◌, ◌<◌, ◌≤◌, ◌-◌, length, suc, false}
+use Rattle.std.proofs.Common.{◌∙◌, sym, subst, arith, ◌≡◌, ◌<◌, ◌-◌, length, suc, false}
 use Rattle.core_runs.specs.Moments.{can_step, HasEnded}
 use Rattle.core_runs.specs.Moments.{rules}
 use Rattle.image_core.specs.Parts.{moment_of}

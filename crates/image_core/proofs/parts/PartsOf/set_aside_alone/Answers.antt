@@ -1,5 +1,4 @@
-use Rattle.std.proofs.Common.{refl, ap, ◌∙◌, sym, subst, arith, ◌≡◌, ◌<◌, ◌≤◌, ◌-◌, length, suc, inl, inr, Bool, true}
-use Rattle.std.specs.Prelude.{IfOk}
+use Rattle.std.proofs.Common.{refl, ap, ◌∙◌}
 use Rattle.std.specs.Vec.{with_item}
 use Rattle.image_core.proofs.Readiness.{same_moment, own_can}
 use Rattle.image_core.proofs.parts.PartsOf.set_aside_alone.Goals as goal

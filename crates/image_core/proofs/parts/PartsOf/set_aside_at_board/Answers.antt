@@ -1,7 +1,6 @@
-use Rattle.std.proofs.Common.{refl, ap, ◌∙◌, sym, subst, arith, ◌≡◌, ◌<◌, ◌≤◌, ◌-◌, length, suc, inl, inr, Bool, true}
+use Rattle.std.proofs.Common.{refl, ap, ◌∙◌, subst, ◌≡◌, Bool}
 use Rattle.std.specs.Prelude.{IfOk}
 use Rattle.std.specs.Vec.{with_item}
-use Rattle.caf_base.specs.declared.refusal.NoMemory.{NoMemory}
 use Rattle.image_core.proofs.Readiness.{same_moment, board_can, board_aside, if_ok_map}
 use Rattle.image_core.proofs.parts.PartsOf.set_aside_at_board.Goals as goal
 

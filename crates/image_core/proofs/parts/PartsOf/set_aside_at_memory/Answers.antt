@@ -1,4 +1,4 @@
-use Rattle.std.proofs.Common.{refl, ap, ◌∙◌, sym, subst, arith, ◌≡◌, ◌<◌, ◌≤◌, ◌-◌, length, suc, inl, inr, Bool, true}
+use Rattle.std.proofs.Common.{refl, ap, ◌∙◌, subst, arith, ◌≡◌, ◌<◌, ◌-◌, length, suc, inl, inr}
 use Rattle.std.specs.Prelude.{IfOk}
 use Rattle.std.specs.Vec.{with_item}
 use Rattle.image_core.proofs.Slices.{map_same}
