@@ -14,6 +14,8 @@ use std::{env, io};
 
 #[cfg(test)]
 mod tests;
+#[cfg(test)]
+mod tests_of_traces;
 
 // The words behind the program's name.
 fn words<R: Env + Alloc<A = Global>>(rt: &R) -> io::Result<Vec<String>> {

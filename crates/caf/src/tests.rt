@@ -5,7 +5,7 @@ ghost use Rattle.std.specs.Prelude.{◌≤◌};
 use caf_io::mem_sink::MemSink;
 use caf_io::mem_source::MemSource;
 use caf_run::top::caf;
-use std::alloc::Global;
+use std::alloc::{AllocError, Global};
 use std::test::Fail;
 
 /// How many bytes a read and a write move at most, and which writes fail, counted from 1.
@@ -17,23 +17,34 @@ struct Pace {
 }
 
 /// Image 1 reads the number that its fourth neighbour has.
-const NEIGHBOUR: &[u8] =
+pub(crate) const NEIGHBOUR: &[u8] =
     b"integer :: x[*]\nx = this_image()\nsync all\nif (this_image() == 1) print *, x[4]\nend\n";
 
-// The status of a call with these words over the file `a.f90`, and what it wrote.
-fn paced(alloc: Global, words: &[&str], file: &[u8], pace: Pace) -> Result<(u8, Vec<u8>), Fail>
-    requires { (1 ≤ pace.read) × (1 ≤ pace.write) }
-{
+// The words of a call.
+pub(crate) fn words_of(alloc: Global, words: &[&str]) -> Result<Vec<String>, AllocError> {
     let mut texts = Vec::new(alloc);
     for word in words {
         texts.push(String::from_str(alloc, word)?)?;
     }
+    Ok(texts)
+}
+
+// The one file `a.f90` with these bytes.
+pub(crate) fn files_of(alloc: Global, file: &[u8]) -> Result<Vec<(Vec<u8>, Vec<u8>)>, AllocError> {
     let mut files = Vec::new(alloc);
     files.push((
         Vec::from_slice(alloc, b"a.f90")?,
         Vec::from_slice(alloc, file)?,
     ))?;
-    let mut source = MemSource::new(files, Vec::new(alloc), pace.read);
+    Ok(files)
+}
+
+// The status of a call with these words over the file `a.f90`, and what it wrote.
+fn paced(alloc: Global, words: &[&str], file: &[u8], pace: Pace) -> Result<(u8, Vec<u8>), Fail>
+    requires { (1 ≤ pace.read) × (1 ≤ pace.write) }
+{
+    let texts = words_of(alloc, words)?;
+    let mut source = MemSource::new(files_of(alloc, file)?, Vec::new(alloc), pace.read);
     let failing = Vec::from_slice(alloc, pace.failing)?;
     let mut sink = MemSink::new(alloc, failing, pace.write, 4096)?;
     let done = caf(alloc, &texts, &mut source, &mut sink);

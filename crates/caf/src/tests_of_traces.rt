@@ -1,0 +1,241 @@
+//! Whole traces, and the orders of twenty seeds, through the top call. The expected values are worked out from the rules
+//! of the ordered run and never taken from the program.
+
+use crate::tests::{NEIGHBOUR, files_of, words_of};
+use caf_io::mem_sink::MemSink;
+use caf_io::mem_source::MemSource;
+use caf_run::top::{Done, caf};
+use std::alloc::{AllocError, Global};
+use std::fmt::Write;
+use std::test::Fail;
+
+/// What a call made of a run: its status and text, its trace line by line, and the numbers of the trace's images alone.
+#[derive(Drop)]
+struct Traced {
+    status: u8,
+    text: Vec<u8>,
+    trace: String,
+    images: String,
+}
+
+// Gives up a value, in a function that knows no variants.
+fn give_up<T: Drop>(_value: T) {}
+
+// A word of a printed value: a number or a variant's name, but no field's name and no name of a type around a number.
+fn is_kept(word: &str) -> bool {
+    let is_wrapper = word == "ImageNo" || word == "TeamNo" || word == "Span" || word == "Int";
+    !is_wrapper && word.bytes().next().is_some_and(|b| !b.is_ascii_lowercase())
+}
+
+// Appends the words of a printed value, each behind a blank.
+fn push_words(out: &mut String, printed: &str) -> Result<(), AllocError> {
+    for word in printed.split(|c: char| !c.is_ascii_alphanumeric() && c != '-') {
+        if is_kept(word) {
+            out.push_str(" ")?;
+            out.push_str(word)?;
+        }
+    }
+    Ok(())
+}
+
+// The trace, a line for each entry: stamp, image, line, where it is asked, what is asked, `>`, the reply. What is asked is
+// `Write OWNER COARRAY OFFSET VALUE`, `Read OWNER COARRAY OFFSET`, `Arrive TEAM KIND`, `Leave TEAM ROUND`, `Print BYTES`,
+// `Fault KIND` or `Stop CODE`, with coarrays and offsets from 0.
+fn trace_text(alloc: Global, done: &Done) -> Result<String, AllocError> {
+    let mut out = String::new(alloc);
+    if let Some(report) = &done.report {
+        for entry in report.trace.entries.as_slice() {
+            let event = &entry.event;
+            write!(out, "{} {} {}", event.stamp, entry.image.0, event.line)?;
+            let asked = format!(in alloc; "{:?} {:?}", event.ask.place(), event.ask)?;
+            push_words(&mut out, asked.as_str())?;
+            out.push_str(" >")?;
+            let reply = format!(in alloc; "{:?}", event.reply)?;
+            push_words(&mut out, reply.as_str())?;
+            out.push_str("\n")?;
+        }
+    }
+    Ok(out)
+}
+
+// The numbers of the images of the trace's entries, in their order.
+fn image_text(alloc: Global, done: &Done) -> Result<String, AllocError> {
+    let mut out = String::new(alloc);
+    if let Some(report) = &done.report {
+        for entry in report.trace.entries.as_slice() {
+            write!(out, "{}", entry.image.0)?;
+        }
+    }
+    Ok(out)
+}
+
+// The run of a file on n images in the order of a seed.
+fn run_traced(alloc: Global, n: &str, seed: &str, file: &[u8]) -> Result<Traced, Fail> {
+    let words = words_of(alloc, &["run", "-n", n, "--order", seed, "a.f90"])?;
+    let mut source = MemSource::new(files_of(alloc, file)?, Vec::new(alloc), 4096);
+    let mut sink = MemSink::new(alloc, Vec::new(alloc), 4096, 4096)?;
+    let done = caf(alloc, &words, &mut source, &mut sink);
+    let status = done.status;
+    let trace = trace_text(alloc, &done);
+    let images = image_text(alloc, &done);
+    give_up(done);
+    Ok(Traced {
+        status,
+        text: Vec::from_slice(alloc, sink.bytes())?,
+        trace: trace?,
+        images: images?,
+    })
+}
+
+// By the rotation images 1 to 4 write their own x, each as its first step and that of its memory: stamp 1. They arrive in
+// turn, and the board's stamps go up: 2, 3, 4, 5. Then all can leave, and do: 6, 7, 8, 9. Image 1 reads the memory of image 4,
+// whose last stamp is 1, one after its own 6: 7. Images 2, 3 and 4 stop behind the board's 9: 10, 11, 12. Image 1 prints by
+// itself, one after 7: 8. It stops behind the board's 12: 13. Byte 52 is the digit 4.
+#[test]
+fn trace_of_the_neighbour_read(rt: HostRuntime) -> Result<(), Fail> {
+    let run = run_traced(rt.alloc(), "4", "0", NEIGHBOUR)?;
+    let wanted = "\
+1 1 2 Memory 1 Write 1 0 0 1 > Done
+1 2 2 Memory 2 Write 2 0 0 2 > Done
+1 3 2 Memory 3 Write 3 0 0 3 > Done
+1 4 2 Memory 4 Write 4 0 0 4 > Done
+2 1 3 Board Arrive 1 Sync > Round 1
+3 2 3 Board Arrive 1 Sync > Round 1
+4 3 3 Board Arrive 1 Sync > Round 1
+5 4 3 Board Arrive 1 Sync > Round 1
+6 1 3 Board Leave 1 1 > Left 0
+7 1 4 Memory 4 Read 4 0 0 > Values 4
+7 2 3 Board Leave 1 1 > Left 0
+8 1 4 Own Print 52 > Done
+8 3 3 Board Leave 1 1 > Left 0
+9 4 3 Board Leave 1 1 > Left 0
+10 2 5 Board Stop 0 > Done
+11 3 5 Board Stop 0 > Done
+12 4 5 Board Stop 0 > Done
+13 1 5 Board Stop 0 > Done
+";
+    assert_eq!(rt; run.status, 0);
+    assert_eq!(rt; run.text.as_slice(), b"1: 4\n".as_slice());
+    assert_eq!(rt; run.trace.as_str(), wanted);
+    Ok(())
+}
+
+// The literal is the sum's first term, and the second one leaves the kind: the one step of the run is the fault. The
+// variable is local, so its assignment asks nothing.
+#[test]
+fn trace_of_an_overflow(rt: HostRuntime) -> Result<(), Fail> {
+    let file = b"integer :: a\na = 2147483647\nprint *, a + 1\nend\n";
+    let run = run_traced(rt.alloc(), "1", "0", file)?;
+    assert_eq!(rt; run.status, 8);
+    assert_eq!(rt;
+        run.text.as_slice(),
+        b"fault image 1 line 3 Overflow\n".as_slice()
+    );
+    assert_eq!(rt; run.trace.as_str(), "1 1 3 Own Fault Overflow > Done\n");
+    Ok(())
+}
+
+// Image 1 is the first of the rotation, and its fault ends the run before image 2 makes a step; no memory is asked.
+#[test]
+fn trace_of_a_read_of_no_image(rt: HostRuntime) -> Result<(), Fail> {
+    let file = b"integer :: x[*]\nprint *, x[3]\nend\n";
+    let run = run_traced(rt.alloc(), "2", "0", file)?;
+    assert_eq!(rt; run.status, 8);
+    assert_eq!(rt;
+        run.text.as_slice(),
+        b"fault image 1 line 2 CoBounds\n".as_slice()
+    );
+    assert_eq!(rt; run.trace.as_str(), "1 1 2 Own Fault CoBounds > Done\n");
+    Ok(())
+}
+
+/// Each image adds what it reads of all, and no barrier keeps the reads from the writes: the sums tell the order. It asks
+/// ten times: write, three reads, write, read, print, arrive, leave, stop.
+const SUMS: &[u8] =
+    b"integer :: x[*]\nx = this_image()\nx = x[1] + x[2] + x[3]\nprint *, x\nsync all\nend\n";
+
+// Of seed 0 the images step in turn: the writes have the stamps 1, 1, 1, the reads of x[1] then 2, 3, 4, those of x[2] 3, 4, 5.
+// Of seed 1 the numbers 16838, 5758, 10113, 17515, 31051, 5627 leave 2, 1, 0, 1, 1, 2 over three: images 3, 2 and 1 write with
+// stamp 1, image 2 reads x[1] (2) and x[2] (3), and image 3 reads x[1] (3). Of seed 2147483647 the numbers 15929, 4409, 9862,
+// 26718 leave 2, 2, 1, 0: image 3 writes (1) and reads x[1] (2), which is still 0, image 2 writes (1), and image 1 (3).
+// The first state of seed 2088216195 is 0, from which the generator goes on: image 1 twice.
+#[test]
+fn twenty_seeds(rt: HostRuntime) -> Result<(), Fail> {
+    let table = [
+        ("0", "1: 6\n2: 6\n3: 6\n", "123112123123123123123233123123"),
+        ("1", "1: 6\n2: 6\n3: 6\n", "123223111312123123123332113322"),
+        ("2", "1: 6\n2: 6\n3: 3\n", "331312323212231231231211313221"),
+        ("3", "1: 4\n2: 9\n3: 6\n", "131131213231212123232323112332"),
+        ("5", "1: 9\n2: 9\n3: 6\n", "123313123231131231231222221331"),
+        ("7", "1: 8\n2: 8\n3: 5\n", "233131312323131231212122232311"),
+        (
+            "10",
+            "1: 13\n2: 7\n3: 5\n",
+            "232313123332323112121211213123",
+        ),
+        (
+            "12",
+            "1: 13\n2: 6\n3: 6\n",
+            "123223123231323123131211123132",
+        ),
+        ("31", "1: 8\n2: 6\n3: 5\n", "233131312222323123121311311232"),
+        ("64", "1: 6\n2: 6\n3: 3\n", "331312312323131231212221232131"),
+        (
+            "100",
+            "1: 6\n2: 8\n3: 6\n",
+            "232131313121312123232321133122",
+        ),
+        (
+            "999",
+            "1: 4\n2: 15\n3: 9\n",
+            "131112111213323332323222123312",
+        ),
+        (
+            "4096",
+            "1: 6\n2: 6\n3: 6\n",
+            "123231112131312123232332331212",
+        ),
+        (
+            "12345",
+            "1: 7\n2: 3\n3: 7\n",
+            "122122232312123131313331322131",
+        ),
+        (
+            "65535",
+            "1: 8\n2: 5\n3: 5\n",
+            "232231313122323123131112131322",
+        ),
+        (
+            "65536",
+            "1: 8\n2: 5\n3: 5\n",
+            "233231231213231231231211332211",
+        ),
+        (
+            "1000000",
+            "1: 10\n2: 6\n3: 10\n",
+            "123212232212123131313331223113",
+        ),
+        (
+            "2088216195",
+            "1: 1\n2: 3\n3: 7\n",
+            "111122121212323232313333332112",
+        ),
+        (
+            "2147483646",
+            "1: 9\n2: 9\n3: 6\n",
+            "123132313233131212121232122133",
+        ),
+        (
+            "2147483647",
+            "1: 14\n2: 8\n3: 5\n",
+            "233132312332322121213111131232",
+        ),
+    ];
+    for (seed, text, images) in table {
+        let run = run_traced(rt.alloc(), "3", seed, SUMS)?;
+        assert_eq!(rt; run.status, 0, "{seed}");
+        assert_eq!(rt; run.text.as_slice(), text.as_bytes(), "{seed}");
+        assert_eq!(rt; run.images.as_str(), images, "{seed}");
+    }
+    Ok(())
+}
