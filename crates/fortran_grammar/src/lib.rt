@@ -1,0 +1,2 @@
+//! The grammar of the language.
+#![tactic(auto)]
