@@ -13,7 +13,15 @@ use Rattle.fortran_grammar.specs.Tokens as t
 use Rattle.fortran_grammar.specs.Tokens.{Tok, Token}
 use Rattle.fortran_grammar.specs.Phrases as p
 use Rattle.fortran_grammar.specs.Phrases.{Phrase, ◌▸◌, ◌∪◌, Words, FirstAt}
-use Rattle.fortran_grammar.specs.Acceptance.{same_text, same_kind, sign_number, same_tok, same_place, next, shorter, accepts, at_end, spelled}
+use Rattle.fortran_grammar.specs.Acceptance.{same_text, same_kind, sign_number, same_tok, same_place, after, next, shorter, accepts, at_end, spelled}
+
+after_parts : (b : Bool) (behind : List Token → Bool) (rest : List Token) → after b behind rest ≡ true → (b ≡ true) × (behind rest ≡ true)
+after_parts true behind rest e = (refl, e)
+after_parts false behind rest e = absurd (false≢true e)
+
+after_from : (b : Bool) (behind : List Token → Bool) (rest : List Token) → b ≡ true → behind rest ≡ true → after b behind rest ≡ true
+after_from true behind rest e h = h
+after_from false behind rest e h = e
 
 text_true : (x y : List ℕ) → same_text x y ≡ true → x ≡ y
 text_true [] [] e = refl
@@ -159,7 +167,7 @@ first_at : (at : Pos) (w : List (Mark Token)) (ts rest : List Token) → ts ≡ 
 first_at at [] ts rest e l n = let h = ltb-true (length rest) (length ts) l in let k = ap length e in absurd (omega arith)
 first_at at (m ∷ w) [] rest e l n = absurd (cc)
 first_at at (m ∷ w) (y ∷ ts) rest e l n =
-    let h = and_parts (same_place at y.at) true n in
+    let h = after_parts (same_place at y.at) (λ r. true) ts n in
     let k = place_true at y.at h.0 in
     let j : y ≡ m.token = cc in
     ap (λ z. z.at) (sym j) ∙ sym k
@@ -168,12 +176,12 @@ pub sound : (P : Phrase) (limit level : ℕ) (behind : List Token → Bool) (ts 
 sound p.nothing limit level behind ts e = record { word = []; rest = ts; is_word = refl; shallow = tt; split = refl; passes = e }
 sound (p.token x) limit level behind [] e = absurd (false≢true e)
 sound (p.token x) limit level behind (y ∷ rest) e =
-    let h = and_parts (same_tok x y.tok && not (nat_lt limit level)) (behind rest) e in
+    let h = after_parts (same_tok x y.tok && not (nat_lt limit level)) behind rest e in
     let k = and_parts (same_tok x y.tok) (not (nat_lt limit level)) h.0 in
     found_token x limit level behind y rest (tok_true x y.tok k.0) k.1 h.1
 sound (p.token_at at x) limit level behind [] e = absurd (false≢true e)
 sound (p.token_at at x) limit level behind (y ∷ rest) e =
-    let h = and_parts ((same_tok x y.tok && same_place at y.at) && not (nat_lt limit level)) (behind rest) e in
+    let h = after_parts ((same_tok x y.tok && same_place at y.at) && not (nat_lt limit level)) behind rest e in
     let k = and_parts (same_tok x y.tok && same_place at y.at) (not (nat_lt limit level)) h.0 in
     let j = and_parts (same_tok x y.tok) (same_place at y.at) k.0 in
     found_at at x limit level behind y rest (tok_true x y.tok j.0) (place_true at y.at j.1) k.1 h.1
@@ -217,7 +225,7 @@ nonempty at (m ∷ w) rest f = lt-ltb (length rest) (length (m.token ∷ (bare w
 
 starts : (at : Pos) (w : List (Mark Token)) (rest : List Token) → FirstAt at w → next (λ y. same_place at y.at) (λ r. true) (bare w ++ rest) ≡ true
 starts at [] rest f = absurd f
-starts at (m ∷ w) rest f = and_from (same_place at m.token.at) true (subst (λ q. same_place at q ≡ true) (sym f) (place_refl at)) refl
+starts at (m ∷ w) rest f = after_from (same_place at m.token.at) (λ r. true) (bare w ++ rest) (subst (λ q. same_place at q ≡ true) (sym f) (place_refl at)) refl
 
 complete_token : (test : Token → Bool) (limit level : ℕ) (behind : List Token → Bool) (y : Token) (w : List (Mark Token)) (rest : List Token)
     → w ≡ mark limit level y ∷ [] → Shallow w → behind rest ≡ true → test y ≡ true
@@ -225,7 +233,7 @@ complete_token : (test : Token → Bool) (limit level : ℕ) (behind : List Toke
 complete_token test limit level behind y w rest e d b o =
     let deep : Shallow (mark limit level y ∷ []) = subst Shallow e d in
     subst (λ v. next (λ z. test z && not (nat_lt limit level)) behind (bare v ++ rest) ≡ true) (sym e)
-      (and_from (test y && not (nat_lt limit level)) (behind rest) (and_from (test y) (not (nat_lt limit level)) o (not_deep limit level deep.0)) b)
+      (after_from (test y && not (nat_lt limit level)) behind rest (and_from (test y) (not (nat_lt limit level)) o (not_deep limit level deep.0)) b)
 
 pub complete : (P : Phrase) (limit level : ℕ) (behind : List Token → Bool) (w : List (Mark Token)) (rest : List Token)
     → Words P limit level w → Shallow w → behind rest ≡ true → accepts P limit level behind (bare w ++ rest) ≡ true

@@ -1,1 +1,5 @@
 mod Deciding
+mod Trying
+mod ExpressionTries
+mod StatementTries
+mod UnitTries

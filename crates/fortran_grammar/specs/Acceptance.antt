@@ -65,10 +65,15 @@ same_tok x y = false
 abbrev pub same_place : Pos → Pos → Bool
 same_place p q = nat_eq p.line q.line && nat_eq p.col q.col
 
--- the next token is this one, and what stands behind it passes
+-- where it is true, what stands behind passes
+abbrev pub after : Bool → (List Token → Bool) → List Token → Bool
+after true behind rest = behind rest
+after false behind rest = false
+
+-- the next token passes the test, and what stands behind it passes
 abbrev pub next : (Token → Bool) → (List Token → Bool) → List Token → Bool
-next is behind [] = false
-next is behind (x ∷ rest) = is x && behind rest
+next test behind [] = false
+next test behind (x ∷ rest) = after (test x) behind rest
 
 -- some token stands before the rest
 abbrev pub shorter : List Token → (List Token → Bool) → List Token → Bool
