@@ -1,0 +1,5 @@
+//! The canonical spelling.
+#![tactic(auto)]
+
+pub mod expr;
+pub mod page;
