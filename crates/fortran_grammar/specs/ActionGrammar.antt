@@ -5,7 +5,7 @@ use Rattle.fortran_tokens.specs.declared.token.Sign.TheVariants.{Assign, Colon, 
 use Rattle.fortran_tree.specs.declared.name.Name.{Name}
 use Rattle.fortran_tree.specs.declared.declaration.Intent.{Intent}
 use Rattle.fortran_tree.specs.declared.declaration.Intent.TheVariants as intents
-use Rattle.fortran_tree.specs.Expressions.{Term, Specifiers, no_specifiers, more_specifiers, Arguments}
+use Rattle.fortran_tree.specs.Expressions.{Term, Design, Specifiers, no_specifiers, more_specifiers, Arguments}
 use Rattle.fortran_tree.specs.Statements as s
 use Rattle.fortran_tree.specs.Statements.{Type_spec, Bounds, Dimension, Coshape, Attribute, Entity, Declaration, Format, Item, Images, Allocation, Form}
 use Rattle.fortran_grammar.specs.Phrases.{Phrase, nothing, never, ◌▸◌, ◌∪◌, only, deeper, from, name, literal, key, sign, over, joined, round, square, optional, followed, listed, maybe_listed, repeated}
@@ -48,11 +48,15 @@ abbrev pub more_colons : ℕ → Phrase
 more_colons zero = nothing
 more_colons (suc n) = sign Comma ▸ sign Colon ▸ more_colons n
 
+-- so many colons, one at least
+abbrev pub colon_list : ℕ → Phrase
+colon_list zero = never
+colon_list (suc n) = sign Colon ▸ more_colons n
+
 -- { expr [ ":" expr ] "," } [ expr ":" ] "*" | ":" { "," ":" }
 abbrev pub codims : Coshape → Phrase
 codims (s.explicit_coshape bs e) = repeated cobound bs ▸ optional lower_bound e ▸ sign Star
-codims (s.deferred_coshape zero) = never
-codims (s.deferred_coshape (suc n)) = sign Colon ▸ more_colons n
+codims (s.deferred_coshape n) = colon_list n
 
 -- "[" codims "]"
 abbrev pub coshape : Coshape → Phrase
@@ -129,27 +133,55 @@ bracketed_specs ps = round (specs ps)
 abbrev pub bracketed_arguments : Arguments → Phrase
 bracketed_arguments args = round (arguments args)
 
+-- "(" design { "," spec } ")"
+abbrev pub object : Design → Specifiers → Phrase
+object d ps = round (design d ▸ more_specs ps)
+
+-- "(" expr { "," spec } ")"
+abbrev pub team : Term → Specifiers → Phrase
+team e ps = round (expr e ▸ more_specs ps)
+
+-- "(" expr "," NAME { "," spec } ")"
+abbrev pub new_team : Term → Name → Specifiers → Phrase
+new_team e n ps = round (expr e ▸ sign Comma ▸ name n ▸ more_specs ps)
+
+-- "(" ( "*" | expr ) { "," spec } ")"
+abbrev pub synchronized : Images → Specifiers → Phrase
+synchronized i ps = round (images i ▸ more_specs ps)
+
+-- "(" obj { "," obj } { "," spec } ")"
+abbrev pub allocated : List Allocation → Specifiers → Phrase
+allocated os ps = round (listed obj os ▸ more_specs ps)
+
+-- "(" NAME { "," NAME } { "," spec } ")"
+abbrev pub deallocated : List Name → Specifiers → Phrase
+deallocated ns ps = round (listed name ns ▸ more_specs ps)
+
+-- an action; under a one-line IF a further one, whose first token stands at a place
+abbrev pub action_form : Form → Phrase
+action_form (s.assignment d e) = design d ▸ sign Assign ▸ expr e
+action_form (s.call n args) = key (codes "call") ▸ name n ▸ optional bracketed_arguments args
+action_form (s.print f is) = key (codes "print") ▸ fmt f ▸ followed item is
+    ∪ key (codes "write") ▸ round (sign Star ▸ sign Comma ▸ fmt f) ▸ maybe_listed item is
+action_form (s.exit n) = key (codes "exit") ▸ optional name n
+action_form (s.cycle n) = key (codes "cycle") ▸ optional name n
+action_form s.return = key (codes "return")
+action_form (s.stop e) = key (codes "stop") ▸ optional expr e
+action_form (s.error_stop e) = key (codes "error") ▸ key (codes "stop") ▸ optional expr e
+action_form s.fail_image = key (codes "fail") ▸ key (codes "image")
+action_form (s.allocate os ps) = key (codes "allocate") ▸ allocated os ps
+action_form (s.deallocate ns ps) = key (codes "deallocate") ▸ deallocated ns ps
+action_form (s.sync_all ps) = key (codes "sync") ▸ key (codes "all") ▸ optional bracketed_specs ps
+action_form (s.sync_memory ps) = key (codes "sync") ▸ key (codes "memory") ▸ optional bracketed_specs ps
+action_form (s.sync_images i ps) = key (codes "sync") ▸ key (codes "images") ▸ synchronized i ps
+action_form (s.sync_team e ps) = key (codes "sync") ▸ key (codes "team") ▸ team e ps
+action_form (s.form_team e n ps) = key (codes "form") ▸ key (codes "team") ▸ new_team e n ps
+action_form (s.lock d ps) = key (codes "lock") ▸ object d ps
+action_form (s.unlock d ps) = key (codes "unlock") ▸ object d ps
+action_form (s.event_post d ps) = key (codes "event") ▸ key (codes "post") ▸ object d ps
+action_form (s.event_wait d ps) = key (codes "event") ▸ key (codes "wait") ▸ object d ps
+action_form (s.guarded e a at) = deeper (key (codes "if") ▸ round (expr e) ▸ from at (action_form a))
+
 -- an action, whose first token stands at a place
 abbrev pub action : Form → Pos → Phrase
-action (s.assignment d e) at = from at (design d ▸ sign Assign ▸ expr e)
-action (s.call n args) at = from at (key (codes "call") ▸ name n ▸ optional bracketed_arguments args)
-action (s.print f is) at = from at (key (codes "print") ▸ fmt f ▸ followed item is
-    ∪ key (codes "write") ▸ round (sign Star ▸ sign Comma ▸ fmt f) ▸ maybe_listed item is)
-action (s.exit n) at = from at (key (codes "exit") ▸ optional name n)
-action (s.cycle n) at = from at (key (codes "cycle") ▸ optional name n)
-action s.return at = from at (key (codes "return"))
-action (s.stop e) at = from at (key (codes "stop") ▸ optional expr e)
-action (s.error_stop e) at = from at (key (codes "error") ▸ key (codes "stop") ▸ optional expr e)
-action s.fail_image at = from at (key (codes "fail") ▸ key (codes "image"))
-action (s.allocate os ps) at = from at (key (codes "allocate") ▸ round (listed obj os ▸ more_specs ps))
-action (s.deallocate ns ps) at = from at (key (codes "deallocate") ▸ round (listed name ns ▸ more_specs ps))
-action (s.sync_all ps) at = from at (key (codes "sync") ▸ key (codes "all") ▸ optional bracketed_specs ps)
-action (s.sync_memory ps) at = from at (key (codes "sync") ▸ key (codes "memory") ▸ optional bracketed_specs ps)
-action (s.sync_images i ps) at = from at (key (codes "sync") ▸ key (codes "images") ▸ round (images i ▸ more_specs ps))
-action (s.sync_team e ps) at = from at (key (codes "sync") ▸ key (codes "team") ▸ round (expr e ▸ more_specs ps))
-action (s.form_team e n ps) at = from at (key (codes "form") ▸ key (codes "team") ▸ round (expr e ▸ sign Comma ▸ name n ▸ more_specs ps))
-action (s.lock d ps) at = from at (key (codes "lock") ▸ round (design d ▸ more_specs ps))
-action (s.unlock d ps) at = from at (key (codes "unlock") ▸ round (design d ▸ more_specs ps))
-action (s.event_post d ps) at = from at (key (codes "event") ▸ key (codes "post") ▸ round (design d ▸ more_specs ps))
-action (s.event_wait d ps) at = from at (key (codes "event") ▸ key (codes "wait") ▸ round (design d ▸ more_specs ps))
-action (s.guarded e a q) at = from at (deeper (key (codes "if") ▸ round (expr e) ▸ action a q))
+action a at = from at (action_form a)

@@ -165,3 +165,7 @@ abbrev mutual
   pub more_arguments : Arguments → Phrase
   more_arguments s.no_arguments = nothing
   more_arguments (s.more_arguments k e more) = p.sign sign.Comma ▸ keyword k ▸ expr e ▸ more_arguments more
+
+-- NAME "=" expr
+abbrev pub spec : Name → Term → Phrase
+spec n e = name n ▸ p.sign sign.Assign ▸ expr e

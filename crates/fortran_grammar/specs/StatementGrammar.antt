@@ -7,8 +7,8 @@ use Rattle.fortran_tree.specs.Expressions.{Term}
 use Rattle.fortran_tree.specs.Statements as s
 use Rattle.fortran_tree.specs.Statements.{Control, Range, Cases, Bracketed, Statement, Statements, Else_ifs, Otherwise, Case_blocks}
 use Rattle.fortran_grammar.specs.Phrases.{Phrase, nothing, never, ◌▸◌, ◌∪◌, deeper, from, name, key, sign, over, joined, round, optional, listed}
-use Rattle.fortran_grammar.specs.ExpressionGrammar.{expr, more_specs}
-use Rattle.fortran_grammar.specs.ActionGrammar.{action}
+use Rattle.fortran_grammar.specs.ExpressionGrammar.{expr}
+use Rattle.fortran_grammar.specs.ActionGrammar.{action, team}
 
 -- [ NAME ":" ]
 abbrev pub construct_name : Name → Phrase
@@ -53,7 +53,7 @@ abbrev mutual
       ▸ from end (joined (codes "end") (codes "select")) ▸ over))
   statement (s.critical p body at end) = from at (deeper (key (codes "critical") ▸ bracketed p ▸ over ▸ statements body
       ▸ from end (joined (codes "end") (codes "critical")) ▸ over))
-  statement (s.change_team e ps body q at end) = from at (deeper (key (codes "change") ▸ key (codes "team") ▸ round (expr e ▸ more_specs ps) ▸ over ▸ statements body
+  statement (s.change_team e ps body q at end) = from at (deeper (key (codes "change") ▸ key (codes "team") ▸ team e ps ▸ over ▸ statements body
       ▸ from end (joined (codes "end") (codes "team")) ▸ bracketed q ▸ over))
 
   -- { stmt }

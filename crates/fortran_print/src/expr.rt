@@ -99,7 +99,9 @@ pub fn lay_expr(page: &mut Page, expr: &Expr) -> Result<(), NoMemory>
             page.sign(Sign::CloseSquare)
         }
         Expr::Prefix {
-            operator, operand, ..
+            operator,
+            operand,
+            ..
         } => {
             page.sign(prefix_sign(*operator))?;
             lay_expr(page, operand)
@@ -207,6 +209,17 @@ fn lay_selector(page: &mut Page, selector: &Selector) -> Result<(), NoMemory>
     page.sign(Sign::CloseSquare)
 }
 
+/// Lays a specifier.
+#[cycle(expression)]
+#[tactic(auto, using(crate::proofs::Forms::laws))]
+pub fn lay_specifier(page: &mut Page, specifier: &Specifier) -> Result<(), NoMemory>
+    ensures { OnOk result (page.new ≡ write (grammar.spec specifier.now.name (view.term specifier.now.value)) page.old) }
+{
+    lay_name(page, &specifier.name)?;
+    page.sign(Sign::Assign)?;
+    lay_expr(page, &specifier.value)
+}
+
 /// Lays specifiers, each behind a comma.
 #[cycle(expression)]
 #[tactic(auto, using(crate::proofs::Forms::laws))]
@@ -215,9 +228,7 @@ pub fn lay_specifiers(page: &mut Page, specifiers: &[Specifier]) -> Result<(), N
 {
     for specifier in specifiers {
         page.sign(Sign::Comma)?;
-        lay_name(page, &specifier.name)?;
-        page.sign(Sign::Assign)?;
-        lay_expr(page, &specifier.value)?;
+        lay_specifier(page, specifier)?;
     }
     Ok(())
 }

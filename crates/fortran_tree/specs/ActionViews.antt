@@ -1,6 +1,5 @@
 -- What an action in memory stands for.
 use Rattle.std.specs.Prelude.{◌≡◌, Option, Some, None, map}
-use Rattle.std.specs.Option.{option_map}
 use Rattle.std.proofs.Common.{refl}
 use Rattle.std.specs.declared.alloc.Global.{Global}
 use Rattle.std.specs.declared.vec.Vec.{Vec}
@@ -22,7 +21,7 @@ use Rattle.fortran_tree.specs.declared.action.Allocation.{Allocation}
 use Rattle.fortran_tree.specs.declared.action.Action.{Action}
 use Rattle.fortran_tree.specs.declared.action.ActionForm.{ActionForm, Assignment, Call, Print, Exit, Cycle, Return, Stop, ErrorStop, FailImage, Allocate, Deallocate, SyncAll, SyncMemory, SyncImages, SyncTeam, FormTeam, Lock, Unlock, EventPost, EventWait, If'}
 use Rattle.fortran_tree.specs.declared.action.ActionForm.TheVariants as forms
-use Rattle.fortran_tree.specs.DeclarationViews.{maybe_term, dimension, coshape}
+use Rattle.fortran_tree.specs.DeclarationViews.{maybe_term, dimension, maybe_coshape}
 
 abbrev pub format : Format → s.Format
 format formats.Free = s.free
@@ -37,7 +36,7 @@ image_set sets.All = s.all_images
 image_set (sets.Images e) = s.images (term e)
 
 abbrev pub allocation : Allocation → s.Allocation
-allocation a = record { name = a.name; bounds = map dimension a.bounds.items; cobounds = option_map coshape a.cobounds }
+allocation a = record { name = a.name; bounds = map dimension a.bounds.items; cobounds = maybe_coshape a.cobounds }
 
 abbrev pub maybe_specifiers : Option (Vec Specifier Global) → Option Specifiers
 maybe_specifiers None = None

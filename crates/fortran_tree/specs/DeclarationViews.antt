@@ -36,6 +36,9 @@ abbrev pub coshape : Coshape → s.Coshape
 coshape (coshapes.Explicit xs l) = s.explicit_coshape (map bounds xs.items) (maybe_term l)
 coshape (coshapes.Deferred n) = s.deferred_coshape n
 
+abbrev pub maybe_coshape : Option Coshape → Option s.Coshape
+maybe_coshape c = option_map coshape c
+
 abbrev pub attribute : Attribute → s.Attribute
 attribute attributes.Parameter = s.parameter
 attribute attributes.Allocatable = s.allocatable
@@ -45,7 +48,7 @@ attribute (attributes.Codimension c) = s.codimension (coshape c)
 attribute (attributes.Intent i) = s.intent i
 
 abbrev pub entity : Entity → s.Entity
-entity e = record { name = e.name; dimensions = map dimension e.dimensions.items; coshape = option_map coshape e.coshape; initial = maybe_term e.initial }
+entity e = record { name = e.name; dimensions = map dimension e.dimensions.items; coshape = maybe_coshape e.coshape; initial = maybe_term e.initial }
 
 abbrev pub declaration : Declaration → s.Declaration
 declaration d = record { type_spec = type_spec d.type_spec; attributes = map attribute d.attributes.items; entities = map entity d.entities.items; at = d.at }

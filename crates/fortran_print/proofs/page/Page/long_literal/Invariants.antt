@@ -8,5 +8,5 @@ abbrev pub invariant-loop-character : goal.invariant-loop-character
 invariant-loop-character l = record {
   small : l.used ≤ 990;
   same : fold poured (record { text = l.self.text; used = l.used }) (map cell (drop l.character-index l.characters))
-    ≡ fold poured (record { text = l.initial.self.text; used = l.initial.used }) (map cell l.characters);
+      ≡ fold poured (record { text = l.initial.self.text; used = l.initial.used }) (map cell l.characters);
 }
