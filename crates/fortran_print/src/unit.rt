@@ -243,7 +243,6 @@ fn lay_program(page: &mut Page, program: &Program) -> Result<(), NoMemory>
 }
 
 /// The canonical spelling of a program.
-#[tactic(auto, using(crate::proofs::Forms::written))]
 pub fn print(alloc: Global, program: &Program) -> Result<Vec<u8>, NoMemory>
     ensures { IfOk result (λ text. text.items ≡ printed (view.program program.now)) }
 {
