@@ -13,6 +13,7 @@ use Rattle.fortran_grammar.specs.Tokens as t
 use Rattle.fortran_grammar.specs.Tokens.{Tok, Token}
 use Rattle.fortran_grammar.specs.Phrases as p
 use Rattle.fortran_grammar.specs.Phrases.{Phrase, ◌▸◌, ◌∪◌, Words, FirstAt}
+use Rattle.fortran_grammar.specs.Laws.{TestIsExact}
 use Rattle.fortran_grammar.specs.Acceptance.{same_text, same_kind, sign_number, same_tok, same_place, after, next, shorter, accepts, at_end, spelled}
 
 after_parts : (b : Bool) (behind : List Token → Bool) (rest : List Token) → after b behind rest ≡ true → (b ≡ true) × (behind rest ≡ true)
@@ -123,19 +124,19 @@ pub record Front (P : Phrase) (limit level : ℕ) (behind : List Token → Bool)
   pub split : ts ≡ bare word ++ rest
   pub passes : behind rest ≡ true
 
-bare_append : (u v : List (Mark Token)) → bare (u ++ v) ≡ bare u ++ bare v
+pub bare_append : (u v : List (Mark Token)) → bare (u ++ v) ≡ bare u ++ bare v
 bare_append [] v = refl
 bare_append (m ∷ u) v = ap (λ x. m.token ∷ x) (bare_append u v)
 
-shallow_append : (u v : List (Mark Token)) → Shallow u → Shallow v → Shallow (u ++ v)
+pub shallow_append : (u v : List (Mark Token)) → Shallow u → Shallow v → Shallow (u ++ v)
 shallow_append [] v a b = b
 shallow_append (m ∷ u) v a b = (a.0, shallow_append u v a.1 b)
 
-shallow_front : (u v : List (Mark Token)) → Shallow (u ++ v) → Shallow u
+pub shallow_front : (u v : List (Mark Token)) → Shallow (u ++ v) → Shallow u
 shallow_front [] v a = tt
 shallow_front (m ∷ u) v a = (a.0, shallow_front u v a.1)
 
-shallow_back : (u v : List (Mark Token)) → Shallow (u ++ v) → Shallow v
+pub shallow_back : (u v : List (Mark Token)) → Shallow (u ++ v) → Shallow v
 shallow_back [] v a = a
 shallow_back (m ∷ u) v a = shallow_back u v a.1
 
@@ -262,3 +263,16 @@ complete (p.from at P) limit level behind w rest h d b =
     let j : shorter ts behind rest ≡ true = and_from (nat_lt (length rest) (length ts)) (behind rest) (nonempty at w rest h.0) b in
     and_from (next (λ y. same_place at y.at) (λ r. true) ts) (accepts P limit level (shorter ts behind) ts)
       (starts at w rest h.0) (complete P limit level (shorter ts behind) w rest h.1 d j)
+
+ended : (ts rest : List Token) → at_end rest ≡ true → ts ++ rest ≡ ts
+ended ts [] e = append-nil ts
+ended ts (x ∷ rest) e = absurd (false≢true e)
+
+rest_of : (P : Phrase) (limit : ℕ) (ts : List Token) → Front P limit 0 at_end ts → (w : List (Mark Token)) × Words P limit 0 w × Shallow w × (ts ≡ bare w)
+rest_of P limit ts f = (f.word, f.is_word, f.shallow, f.split ∙ ended (bare f.word) f.rest f.passes)
+
+pub exact : TestIsExact
+exact P limit ts = record {
+  0 = λ e. rest_of P limit ts (sound P limit 0 at_end ts e);
+  1 = λ (w, h, d, e). subst (λ x. accepts P limit 0 at_end x ≡ true) (append-nil (bare w) ∙ sym e) (complete P limit 0 at_end w [] h d refl);
+}

@@ -1,4 +1,8 @@
-mod Deciding
+pub mod Deciding
+pub mod Canonical
+pub mod FairExpressions
+pub mod FairStatements
+pub mod FairPrograms
 mod Trying
 mod ExpressionTries
 mod StatementTries

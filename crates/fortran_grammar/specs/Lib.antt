@@ -5,3 +5,4 @@ pub mod ExpressionGrammar
 pub mod ActionGrammar
 pub mod StatementGrammar
 pub mod ProgramGrammar
+pub mod Laws
