@@ -8,7 +8,13 @@
 pub mod action;
 pub mod declaration;
 pub mod expr;
+#[cfg(test)]
+mod forms;
+#[cfg(test)]
+mod maker;
 pub mod page;
+#[cfg(test)]
+mod rows;
 pub mod statement;
 pub mod unit;
 
