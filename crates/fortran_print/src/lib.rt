@@ -7,9 +7,9 @@
 
 pub mod action;
 pub mod declaration;
-pub mod expr;
 #[cfg(test)]
-mod forms;
+mod each_form;
+pub mod expr;
 #[cfg(test)]
 mod maker;
 pub mod page;

@@ -128,12 +128,19 @@ fn lay_bracketed(page: &mut Page, brackets: &BracketedSpecifier) -> Result<(), N
     }
 }
 
+/// Lays two keywords that may also be written as one.
+fn lay_joined(page: &mut Page, first: &[u8], second: &[u8]) -> Result<(), NoMemory>
+    ensures { OnOk result (page.new ≡ write (phrases.joined first.now second.now) page.old) }
+{
+    page.put(first)?;
+    page.put(second)
+}
+
 /// Lays `end`, a word and a line's end.
 fn lay_end(page: &mut Page, word: &[u8]) -> Result<(), NoMemory>
     ensures { OnOk result (page.new ≡ end_line (write (phrases.joined (codes "end") word.now) page.old)) }
 {
-    page.put(b"end")?;
-    page.put(word)?;
+    lay_joined(page, b"end", word)?;
     page.over()
 }
 
@@ -178,8 +185,7 @@ fn lay_statement(page: &mut Page, statement: &Statement) -> Result<(), NoMemory>
             lay_control(page, control)?;
             page.over()?;
             lay_statements(page, body)?;
-            page.put(b"end")?;
-            page.put(b"do")?;
+            lay_joined(page, b"end", b"do")?;
             lay_maybe_name(page, &end.name)?;
             page.over()
         }
@@ -188,8 +194,7 @@ fn lay_statement(page: &mut Page, statement: &Statement) -> Result<(), NoMemory>
             cases,
             ..
         } => {
-            page.put(b"select")?;
-            page.put(b"case")?;
+            lay_joined(page, b"select", b"case")?;
             page.sign(Sign::OpenRound)?;
             lay_expr(page, selector)?;
             page.sign(Sign::CloseRound)?;
@@ -220,8 +225,7 @@ fn lay_statement(page: &mut Page, statement: &Statement) -> Result<(), NoMemory>
             lay_team(page, team, specifiers)?;
             page.over()?;
             lay_statements(page, body)?;
-            page.put(b"end")?;
-            page.put(b"team")?;
+            lay_joined(page, b"end", b"team")?;
             lay_bracketed(page, end_specifier)?;
             page.over()
         }
@@ -245,8 +249,7 @@ fn lay_else_ifs(page: &mut Page, else_ifs: &[ElseIf]) -> Result<(), NoMemory>
     ensures { OnOk result (page.new ≡ write (grammar.else_ifs (view.else_ifs else_ifs.now)) page.old) }
 {
     for else_if in else_ifs {
-        page.put(b"else")?;
-        page.put(b"if")?;
+        lay_joined(page, b"else", b"if")?;
         page.sign(Sign::OpenRound)?;
         lay_expr(page, &else_if.condition)?;
         page.sign(Sign::CloseRound)?;
