@@ -10,6 +10,7 @@ pub mod declaration;
 #[cfg(test)]
 mod each_form;
 pub mod expr;
+pub mod law;
 #[cfg(test)]
 mod maker;
 pub mod page;
