@@ -1,0 +1,9 @@
+pub mod Deciding
+pub mod Canonical
+pub mod FairExpressions
+pub mod FairStatements
+pub mod FairPrograms
+mod Trying
+mod ExpressionTries
+mod StatementTries
+mod UnitTries

@@ -1,0 +1,6 @@
+use Rattle.std.proofs.Common.{◌≡◌, ◌++◌, [], ◌∷◌, ap, sym, ◌∙◌, subst, true, false, refl, append-nil}
+use Rattle.fortran_grammar.proofs.Deciding.{exact}
+use Rattle.fortran_grammar.proofs.law.test_is_exact.Goals as goal
+
+pub returns : goal.returns
+returns c = exact

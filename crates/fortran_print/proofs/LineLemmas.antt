@@ -1,0 +1,253 @@
+-- The lines of a printed text have 1,000 bytes at most.
+use Rattle.std.proofs.Common.{◌≡◌, ℕ, suc, ◌+◌, ◌≤◌, Bool, true, false, cond, not, ◌&&◌, nat_eq, nat_le, List, [], ◌∷◌, ◌++◌, length, map, codes, refl, ap, sym, ◌∙◌, subst, arith, length-append, append_assoc, inl, inr}
+use Rattle.std.specs.Prelude.{fold, flat_map}
+use Rattle.std.specs.List.{list_all}
+use Rattle.std.proofs.lemmas.Bool.{and_parts, and_from, leb-true, leb-false, le-leb, not-true, eqb-true, cases_Bool, false≢true}
+use Rattle.std.proofs.lemmas.List.Folds.{list_all-append}
+use Rattle.fortran_tree.specs.Units.{Program}
+use Rattle.fortran_grammar.specs.Tokens.{Tok, word, integer, literal, sign, over}
+use Rattle.fortran_tokens.specs.declared.token.Sign.{Sign}
+use Rattle.fortran_tokens.specs.declared.token.Sign.TheVariants as s
+use Rattle.fortran_grammar.specs.Phrases.{canonical}
+use Rattle.fortran_grammar.specs.ProgramGrammar.{program}
+use Rattle.fortran_print.specs.Spelling.{sign_text, number_text, cell, cells, literal_text}
+use Rattle.fortran_print.specs.Layout.{Sheet, blank, put, fresh, Pour, poured, pour, put_literal, end_line, laid, printed}
+use Rattle.fortran_print.specs.Lines.{lines_fit, no_feed, has_room, LinesFit}
+
+-- how many bytes the last line has, where so many stand before the text
+abbrev last_line : ℕ → List ℕ → ℕ
+last_line c [] = c
+last_line c (b ∷ t) = cond (nat_eq b 10) (last_line 0 t) (last_line (c + 1) t)
+
+-- each line that is ended has 1,000 bytes at most
+abbrev ended : ℕ → List ℕ → Bool
+ended c [] = true
+ended c (b ∷ t) = cond (nat_eq b 10) (nat_le c 1000 && ended 0 t) (ended (c + 1) t)
+
+and_grouped : (x y z : Bool) → (x && (y && z)) ≡ ((x && y) && z)
+and_grouped true y z = refl
+and_grouped false y z = refl
+
+-- lines_fit by the two
+fit_by : (e : Bool) (c m n : ℕ) (x y : Bool) (f g : Bool) → f ≡ (x && nat_le m 1000) → g ≡ (y && nat_le n 1000)
+    → cond e (nat_le c 1000 && f) g ≡ (cond e (nat_le c 1000 && x) y && nat_le (cond e m n) 1000)
+fit_by true c m n x y f g h k = ap (λ z. nat_le c 1000 && z) h ∙ and_grouped (nat_le c 1000) x (nat_le m 1000)
+fit_by false c m n x y f g h k = k
+
+fit : (c : ℕ) (t : List ℕ) → lines_fit c t ≡ (ended c t && nat_le (last_line c t) 1000)
+fit c [] = refl
+fit c (b ∷ t) = fit_by (nat_eq b 10) c (last_line 0 t) (last_line (c + 1) t) (ended 0 t) (ended (c + 1) t) (lines_fit 0 t) (lines_fit (c + 1) t) (fit 0 t) (fit (c + 1) t)
+
+last_by : (e : Bool) (p q m n : ℕ) (y : List ℕ) → p ≡ last_line m y → q ≡ last_line n y → cond e p q ≡ last_line (cond e m n) y
+last_by true p q m n y h k = h
+last_by false p q m n y h k = k
+
+last_append : (c : ℕ) (x y : List ℕ) → last_line c (x ++ y) ≡ last_line (last_line c x) y
+last_append c [] y = refl
+last_append c (b ∷ t) y = last_by (nat_eq b 10) (last_line 0 (t ++ y)) (last_line (c + 1) (t ++ y)) (last_line 0 t) (last_line (c + 1) t) y (last_append 0 t y) (last_append (c + 1) t y)
+
+ended_by : (e : Bool) (c m n : ℕ) (p q f g : Bool) (y : List ℕ) → p ≡ (f && ended m y) → q ≡ (g && ended n y)
+    → cond e (nat_le c 1000 && p) q ≡ (cond e (nat_le c 1000 && f) g && ended (cond e m n) y)
+ended_by true c m n p q f g y h k = ap (λ z. nat_le c 1000 && z) h ∙ and_grouped (nat_le c 1000) f (ended m y)
+ended_by false c m n p q f g y h k = k
+
+ended_append : (c : ℕ) (x y : List ℕ) → ended c (x ++ y) ≡ (ended c x && ended (last_line c x) y)
+ended_append c [] y = refl
+ended_append c (b ∷ t) y =
+    ended_by (nat_eq b 10) c (last_line 0 t) (last_line (c + 1) t) (ended 0 (t ++ y)) (ended (c + 1) (t ++ y)) (ended 0 t) (ended (c + 1) t) y
+    (ended_append 0 t y) (ended_append (c + 1) t y)
+
+-- a text without a line feed stands in the line
+record Within (c : ℕ) (x : List ℕ) : Type 0 where
+  ends : ended c x ≡ true
+  size : last_line c x ≡ c + length x
+
+within_by : (e : Bool) (c : ℕ) (b : ℕ) (t : List ℕ) → nat_eq b 10 ≡ e → not e ≡ true → Within (c + 1) t → Within c (b ∷ t)
+within_by true c b t h n w = absurd (false≢true n)
+within_by false c b t h n w = record {
+  ends = ap (λ e. cond e (nat_le c 1000 && ended 0 t) (ended (c + 1) t)) h ∙ w.ends;
+  size = ap (λ e. cond e (last_line 0 t) (last_line (c + 1) t)) h ∙ w.size ∙ (omega arith);
+}
+
+within : (c : ℕ) (x : List ℕ) → no_feed x ≡ true → Within c x
+within c [] h = record { ends = refl; size = omega arith }
+within c (b ∷ t) h =
+    let k = and_parts (not (nat_eq b 10)) (no_feed t) h in
+    within_by (nat_eq b 10) c b t refl k.0 (within (c + 1) t k.1)
+
+-- a text whose ended lines fit, and whose last one has no more bytes than this
+record Fits (text : List ℕ) (n : ℕ) : Type 0 where
+  ends : ended 0 text ≡ true
+  size : last_line 0 text ≤ n
+
+more : (text x : List ℕ) (m n : ℕ) → Fits text m → no_feed x ≡ true → m + length x ≤ n → Fits (text ++ x) n
+more text x m n f h le =
+    let w = within (last_line 0 text) x h in
+    let a = last_append 0 text x in
+    let b = f.size in
+    record {
+      ends = ended_append 0 text x ∙ ap (λ z. z && ended (last_line 0 text) x) f.ends ∙ w.ends;
+      size = let c = w.size in omega arith;
+    }
+
+feed : (text x : List ℕ) (m n : ℕ) → Fits text m → m ≤ 1000 → no_feed x ≡ true → length x ≤ n → Fits (text ++ 10 ∷ x) n
+feed text x m n f r h le =
+    let w = within 0 x h in
+    let b = f.size in
+    let a = last_append 0 text (10 ∷ x) in
+    record {
+      ends = ended_append 0 text (10 ∷ x) ∙ ap (λ z. z && (nat_le (last_line 0 text) 1000 && ended 0 x)) f.ends
+          ∙ and_from (nat_le (last_line 0 text) 1000) (ended 0 x) (le-leb (last_line 0 text) 1000 (omega arith)) w.ends;
+      size = let c = w.size in omega arith;
+    }
+
+record Good (x : Sheet) : Type 0 where
+  text : Fits x.text x.column
+  room : x.column ≤ 998
+
+-- `&` behind a blank ends the line
+continued : (text x : List ℕ) (m n : ℕ) → Fits text m → m ≤ 998 → no_feed x ≡ true → length x ≤ n → Fits (text ++ (codes " &\n" ++ x)) n
+continued text x m n f r h le =
+    let a = more text (32 ∷ 38 ∷ []) m (m + 2) f refl (omega arith) in
+    subst (λ z. Fits z n) (append_assoc text (32 ∷ 38 ∷ []) (10 ∷ x)) (feed (text ++ 32 ∷ 38 ∷ []) x (m + 2) n a (omega arith) h le)
+
+put_by : (x : Sheet) (t : List ℕ) (a b : Bool) → nat_eq x.column 0 ≡ a → nat_le (x.column + 1 + length t + 2) 1000 ≡ b → Good x → no_feed t ≡ true → length t ≤ 998
+    → Good (cond a (record { text = x.text ++ t; column = length t })
+    (cond b (record { text = x.text ++ (codes " " ++ t); column = x.column + 1 + length t }) (record { text = x.text ++ (codes " &\n" ++ t); column = length t })))
+put_by x t true b e k g h le =
+    let z = eqb-true x.column 0 e in
+    record { text = more x.text t x.column (length t) g.text h (omega arith); room = le }
+put_by x t false true e k g h le =
+    let z = leb-true (x.column + 1 + length t + 2) 1000 k in
+    record { text = more x.text (32 ∷ t) x.column (x.column + 1 + length t) g.text h (omega arith); room = omega arith }
+put_by x t false false e k g h le = record { text = continued x.text t x.column (length t) g.text g.room h (omega arith); room = le }
+
+put_good : (x : Sheet) (t : List ℕ) → Good x → no_feed t ≡ true → length t ≤ 998 → Good (put x t)
+unfolding put
+put_good x t g h le = put_by x t (nat_eq x.column 0) (nat_le (x.column + 1 + length t + 2) 1000) refl refl g h le
+
+record GoodPour (p : Pour) : Type 0 where
+  text : Fits p.text (p.used + 1)
+  room : p.used ≤ 990
+
+-- a part that isn't cut
+is_part : List ℕ → Bool
+is_part c = no_feed c && nat_le (length c) 2
+
+poured_by : (p : Pour) (c : List ℕ) (a : Bool) → nat_le (p.used + length c) 990 ≡ a → GoodPour p → no_feed c ≡ true → length c ≤ 2
+    → GoodPour (cond a (record { text = p.text ++ c; used = p.used + length c }) (record { text = p.text ++ (codes "&\n&" ++ c); used = length c }))
+poured_by p c true e g h le =
+    let z = leb-true (p.used + length c) 990 e in
+    record { text = more p.text c (p.used + 1) (p.used + length c + 1) g.text h (omega arith); room = omega arith }
+poured_by p c false e g h le =
+    let r = g.room in
+    let a = more p.text (38 ∷ []) (p.used + 1) (p.used + 2) g.text refl (omega arith) in
+    let f = feed (p.text ++ 38 ∷ []) (38 ∷ c) (p.used + 2) (length c + 1) a (omega arith) h (omega arith) in
+    record { text = subst (λ z. Fits z (length c + 1)) (append_assoc p.text (38 ∷ []) (10 ∷ 38 ∷ c)) f; room = omega arith }
+
+poured_good : (p : Pour) (cs : List (List ℕ)) → GoodPour p → list_all is_part cs ≡ true → GoodPour (fold poured p cs)
+unfolding is_part
+poured_good p [] g h = g
+poured_good p (c ∷ cs) g h =
+    let k = and_parts (is_part c) (list_all is_part cs) h in
+    let j = and_parts (no_feed c) (nat_le (length c) 2) k.0 in
+    poured_good (poured p c) cs (poured_by p c (nat_le (p.used + length c) 990) refl g j.0 (leb-true (length c) 2 j.1)) k.1
+
+cell_by : (b : ℕ) (a : Bool) → not (nat_eq b 10) ≡ true → is_part (cond a (codes "''") (b ∷ [])) ≡ true
+unfolding is_part
+cell_by b true h = refl
+cell_by b false h = ap (λ z. (z && true) && true) h
+
+cells_part : (x : List ℕ) → no_feed x ≡ true → list_all is_part (map cell x ++ codes "'" ∷ []) ≡ true
+unfolding is_part
+cells_part [] h = refl
+cells_part (b ∷ x) h =
+    let k = and_parts (not (nat_eq b 10)) (no_feed x) h in
+    and_from (is_part (cell b)) (list_all is_part (map cell x ++ codes "'" ∷ [])) (cell_by b (nat_eq b 39) k.0) (cells_part x k.1)
+
+part_plain : (c x : List ℕ) → is_part c ≡ true → no_feed x ≡ true → no_feed (c ++ x) ≡ true
+unfolding is_part
+part_plain c x h k = list_all-append (λ b. not (nat_eq b 10)) c x ∙ and_from (no_feed c) (no_feed x) (and_parts (no_feed c) (nat_le (length c) 2) h).0 k
+
+cells_plain : (x : List ℕ) → no_feed x ≡ true → no_feed (flat_map cell x ++ codes "'") ≡ true
+cells_plain [] h = refl
+cells_plain (b ∷ x) h =
+    let k = and_parts (not (nat_eq b 10)) (no_feed x) h in
+    subst (λ z. no_feed z ≡ true) (sym (append_assoc (cell b) (flat_map cell x) (codes "'"))) (part_plain (cell b) (flat_map cell x ++ codes "'") (cell_by b (nat_eq b 39) k.0) (cells_plain x k.1))
+
+fresh_by : (x : Sheet) (a : Bool) → nat_eq x.column 0 ≡ a → Good x → Fits (cond a x.text (x.text ++ codes " &\n")) 1
+fresh_by x true e g = let z = eqb-true x.column 0 e in let f = g.text in record { ends = f.ends; size = let s = f.size in omega arith }
+fresh_by x false e g = continued x.text [] x.column 1 g.text g.room refl (omega arith)
+
+literal_by : (x : Sheet) (t : List ℕ) (a : Bool) → nat_le (length (literal_text t)) 990 ≡ a → Good x → no_feed t ≡ true
+    → Good (cond a (put x (literal_text t)) (record { text = (pour x t).text; column = 1 + (pour x t).used }))
+unfolding literal_text is_part
+literal_by x t true e g h = put_good x (literal_text t) g (cells_plain t h) (let z = leb-true (length (literal_text t)) 990 e in omega arith)
+literal_by x t false e g h =
+    let p = poured_good (record { text = fresh x; used = 0 }) (cells t) (record { text = fresh_by x (nat_eq x.column 0) refl g; room = omega arith }) (cells_part t h) in
+    let f = p.text in
+    let r = p.room in
+    record { text = record { ends = f.ends; size = let s = f.size in omega arith }; room = omega arith }
+
+literal_good : (x : Sheet) (t : List ℕ) → Good x → no_feed t ≡ true → Good (put_literal x t)
+unfolding put_literal
+literal_good x t g h = literal_by x t (nat_le (length (literal_text t)) 990) refl g h
+
+end_good : (x : Sheet) → Good x → Good (end_line x)
+unfolding end_line
+end_good x g = let r = g.room in record { text = feed x.text [] x.column 0 g.text (omega arith) refl (omega arith); room = omega arith }
+
+sign_room : (x : Sign) → (no_feed (sign_text x) && nat_le (length (sign_text x)) 998) ≡ true
+unfolding sign_text
+sign_room s.Plus = refl
+sign_room s.Minus = refl
+sign_room s.Star = refl
+sign_room s.Slash = refl
+sign_room s.Power = refl
+sign_room s.Equal = refl
+sign_room s.NotEqual = refl
+sign_room s.Less = refl
+sign_room s.LessEqual = refl
+sign_room s.Greater = refl
+sign_room s.GreaterEqual = refl
+sign_room s.And = refl
+sign_room s.Or = refl
+sign_room s.Not = refl
+sign_room s.Eqv = refl
+sign_room s.Neqv = refl
+sign_room s.True = refl
+sign_room s.False = refl
+sign_room s.Assign = refl
+sign_room s.Comma = refl
+sign_room s.Colon = refl
+sign_room s.Colons = refl
+sign_room s.OpenRound = refl
+sign_room s.CloseRound = refl
+sign_room s.OpenSquare = refl
+sign_room s.CloseSquare = refl
+sign_room s.OpenArray = refl
+sign_room s.CloseArray = refl
+
+put_room : (x : Sheet) (t : List ℕ) → Good x → (no_feed t && nat_le (length t) 998) ≡ true → Good (put x t)
+put_room x t g h = let k = and_parts (no_feed t) (nat_le (length t) 998) h in put_good x t g k.0 (leb-true (length t) 998 k.1)
+
+laid_good : (x : Sheet) (t : Tok) → Good x → has_room t ≡ true → Good (laid x t)
+laid_good x (word t) g h = put_room x t g h
+laid_good x (integer n k) g h = put_room x (number_text n k) g h
+laid_good x (literal t) g h = literal_good x t g h
+laid_good x (sign t) g h = put_room x (sign_text t) g (sign_room t)
+laid_good x over g h = end_good x g
+
+all_good : (x : Sheet) (ts : List Tok) → Good x → list_all has_room ts ≡ true → Good (fold laid x ts)
+all_good x [] g h = g
+all_good x (t ∷ ts) g h =
+    let k = and_parts (has_room t) (list_all has_room ts) h in
+    all_good (laid x t) ts (laid_good x t g k.0) k.1
+
+pub lines_fit_all : LinesFit
+lines_fit_all x h =
+    let g = all_good blank (canonical (program x)) (record { text = record { ends = refl; size = omega arith }; room = omega arith }) h in
+    let f = g.text in
+    let r = g.room in
+    fit 0 (printed x) ∙ and_from (ended 0 (printed x)) (nat_le (last_line 0 (printed x)) 1000) f.ends
+    (le-leb (last_line 0 (printed x)) 1000 (let s = f.size in omega arith))
