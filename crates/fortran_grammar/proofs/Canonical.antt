@@ -81,8 +81,11 @@ canon (p.from at P) l d w f h s =
 -- The alternatives that the grammar has.
 
 pub fair_joined : (j k : List ℕ) (l d : ℕ) → Fair (joined j k) l d
-fair_joined j k l d = ((tt, tt), λ w h s.
-    let o = opened (word (j ++ k)) l d w h s in canon_both (key j) (key k) l d (canon_token (word j) l d o) (canon_token (word k) l d o))
+fair_joined j k l d = (
+  (tt, tt),
+  λ w h s.
+      let o = opened (word (j ++ k)) l d w h s in canon_both (key j) (key k) l d (canon_token (word j) l d o) (canon_token (word k) l d o),
+)
 
 canon_square : (P : Phrase) (l d : ℕ) (w : List (Mark Token)) → Fair P l d → Words (sign OpenArray ▸ P ▸ sign CloseArray) l d w → Shallow w
     → Canon (sign OpenSquare ▸ P ▸ sign CloseSquare) l d
@@ -91,7 +94,7 @@ canon_square P l d w f (u, v, hu, (x, y, hx, hy, k), e) s =
     let b : Shallow (x ++ y) = subst Shallow k (shallow_back u v c) in
     let o = opened _ l d u hu (shallow_front u v c) in
     canon_both (sign OpenSquare) (P ▸ sign CloseSquare) l d (canon_token _ l d o)
-      (canon_both P (sign CloseSquare) l d (canon P l d x f hx (shallow_front x y b)) (canon_token _ l d o))
+    (canon_both P (sign CloseSquare) l d (canon P l d x f hx (shallow_front x y b)) (canon_token _ l d o))
 
 pub fair_square : (P : Phrase) (l d : ℕ) → Fair P l (suc d) → Fair (square P) l d
 fair_square P l d f = ((tt, (f, tt)), λ w h s. canon_square P l (suc d) w f h s)
