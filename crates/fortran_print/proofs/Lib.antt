@@ -1,2 +1,6 @@
 pub mod Forms
 pub mod LineLemmas
+mod Small
+mod ExpressionPrints
+mod StatementPrints
+mod UnitPrints

@@ -7,8 +7,6 @@
 
 pub mod action;
 pub mod declaration;
-#[cfg(test)]
-mod each_form;
 pub mod expr;
 pub mod law;
 #[cfg(test)]

@@ -4,9 +4,7 @@ use caf_base::listing::Listing;
 use caf_base::place::Pos;
 use caf_base::refusal::NoMemory;
 use fortran_tree::action::{Action, ActionForm, Format, Item};
-use fortran_tree::expr::{
-    Argument, Designator, Expr, NumberKind, Operator, Selector, Specifier, Subscript,
-};
+use fortran_tree::expr::{Argument, Designator, Expr, NumberKind, Operator, Selector, Subscript};
 use fortran_tree::name::{Literal, Name};
 use fortran_tree::statement::{End, Statement};
 use fortran_tree::unit::{Body, Program};
@@ -87,13 +85,6 @@ pub fn binary(
         left: Box::new(alloc, left)?,
         right: Box::new(alloc, right)?,
         at: AT,
-    })
-}
-
-pub fn specifier(alloc: Global, text: &[u8], value: Expr) -> Result<Specifier, NoMemory> {
-    Ok(Specifier {
-        name: name(alloc, text)?,
-        value,
     })
 }
 
