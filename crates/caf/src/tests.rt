@@ -52,7 +52,7 @@ fn paced(alloc: Global, words: &[&str], file: &[u8], pace: Pace) -> Result<(u8, 
 }
 
 // The same, where no call fails and each moves all that it can.
-fn answer(alloc: Global, words: &[&str], file: &[u8]) -> Result<(u8, Vec<u8>), Fail> {
+pub(crate) fn answer(alloc: Global, words: &[&str], file: &[u8]) -> Result<(u8, Vec<u8>), Fail> {
     let pace = Pace {
         read: 4096,
         write: 4096,

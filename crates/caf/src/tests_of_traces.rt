@@ -1,22 +1,13 @@
 //! Whole traces, and the orders of twenty seeds, through the top call. The expected values are worked out from the rules
 //! of the ordered run and never taken from the program.
 
-use crate::tests::{NEIGHBOUR, files_of, words_of};
+use crate::tests::{NEIGHBOUR, answer, files_of, words_of};
 use caf_io::mem_sink::MemSink;
 use caf_io::mem_source::MemSource;
 use caf_run::top::{Done, caf};
 use std::alloc::{AllocError, Global};
 use std::fmt::Write;
 use std::test::Fail;
-
-/// What a call made of a run: its status and text, its trace line by line, and the numbers of the trace's images alone.
-#[derive(Drop)]
-struct Traced {
-    status: u8,
-    text: Vec<u8>,
-    trace: String,
-    images: String,
-}
 
 // Gives up a value, in a function that knows no variants.
 fn give_up<T: Drop>(_value: T) {}
@@ -29,7 +20,7 @@ fn is_kept(word: &str) -> bool {
 
 // Appends the words of a printed value, each behind a blank.
 fn push_words(out: &mut String, printed: &str) -> Result<(), AllocError> {
-    for word in printed.split(|c: char| !c.is_ascii_alphanumeric() && c != '-') {
+    for word in printed.split(|c: char| !c.is_ascii_alphanumeric() && c != '-' && c != '>') {
         if is_kept(word) {
             out.push_str(" ")?;
             out.push_str(word)?;
@@ -38,7 +29,7 @@ fn push_words(out: &mut String, printed: &str) -> Result<(), AllocError> {
     Ok(())
 }
 
-// The trace, a line for each entry: stamp, image, line, where it is asked, what is asked, `>`, the reply. What is asked is
+// The trace, behind a line feed for each entry a line: stamp, image, line, where it is asked, what is asked, `>`, the reply. What is asked is
 // `Write OWNER COARRAY OFFSET VALUE`, `Read OWNER COARRAY OFFSET`, `Arrive TEAM KIND`, `Leave TEAM ROUND`, `Print BYTES`,
 // `Fault KIND` or `Stop CODE`, with coarrays and offsets from 0.
 fn trace_text(alloc: Global, done: &Done) -> Result<String, AllocError> {
@@ -46,13 +37,13 @@ fn trace_text(alloc: Global, done: &Done) -> Result<String, AllocError> {
     if let Some(report) = &done.report {
         for entry in report.trace.entries.as_slice() {
             let event = &entry.event;
-            write!(out, "{} {} {}", event.stamp, entry.image.0, event.line)?;
-            let asked = format!(in alloc; "{:?} {:?}", event.ask.place(), event.ask)?;
-            push_words(&mut out, asked.as_str())?;
-            out.push_str(" >")?;
-            let reply = format!(in alloc; "{:?}", event.reply)?;
-            push_words(&mut out, reply.as_str())?;
+            let (stamp, image, line) = (event.stamp, entry.image.0, event.line);
+            let (place, ask, reply) = (event.ask.place(), &event.ask, &event.reply);
+            let printed = format!(in alloc;
+                "{stamp} {image} {line} {place:?} {ask:?} > {reply:?}"
+            )?;
             out.push_str("\n")?;
+            push_words(&mut out, printed.as_str())?;
         }
     }
     Ok(out)
@@ -69,22 +60,28 @@ fn image_text(alloc: Global, done: &Done) -> Result<String, AllocError> {
     Ok(out)
 }
 
-// The run of a file on n images in the order of a seed.
-fn run_traced(alloc: Global, n: &str, seed: &str, file: &[u8]) -> Result<Traced, Fail> {
-    let words = words_of(alloc, &["run", "-n", n, "--order", seed, "a.f90"])?;
+// What a call with these words answers over the file `a.f90`.
+fn done_of(alloc: Global, words: &[&str], file: &[u8]) -> Result<Done, Fail> {
+    let words = words_of(alloc, words)?;
     let mut source = MemSource::new(files_of(alloc, file)?, Vec::new(alloc), 4096);
     let mut sink = MemSink::new(alloc, Vec::new(alloc), 4096, 4096)?;
-    let done = caf(alloc, &words, &mut source, &mut sink);
-    let status = done.status;
-    let trace = trace_text(alloc, &done);
-    let images = image_text(alloc, &done);
+    Ok(caf(alloc, &words, &mut source, &mut sink))
+}
+
+// The trace of a run on n images in the order of seed 0.
+fn trace_of(alloc: Global, n: &str, file: &[u8]) -> Result<String, Fail> {
+    let done = done_of(alloc, &["run", "-n", n, "--order", "0", "a.f90"], file)?;
+    let text = trace_text(alloc, &done);
     give_up(done);
-    Ok(Traced {
-        status,
-        text: Vec::from_slice(alloc, sink.bytes())?,
-        trace: trace?,
-        images: images?,
-    })
+    Ok(text?)
+}
+
+// The images of the trace of a run, in its order.
+fn images_of(alloc: Global, words: &[&str], file: &[u8]) -> Result<String, Fail> {
+    let done = done_of(alloc, words, file)?;
+    let text = image_text(alloc, &done);
+    give_up(done);
+    Ok(text?)
 }
 
 // By the rotation images 1 to 4 write their own x, each as its first step and that of its memory: stamp 1. They arrive in
@@ -93,30 +90,27 @@ fn run_traced(alloc: Global, n: &str, seed: &str, file: &[u8]) -> Result<Traced,
 // itself, one after 7: 8. It stops behind the board's 12: 13. Byte 52 is the digit 4.
 #[test]
 fn trace_of_the_neighbour_read(rt: HostRuntime) -> Result<(), Fail> {
-    let run = run_traced(rt.alloc(), "4", "0", NEIGHBOUR)?;
-    let wanted = "\
-1 1 2 Memory 1 Write 1 0 0 1 > Done
-1 2 2 Memory 2 Write 2 0 0 2 > Done
-1 3 2 Memory 3 Write 3 0 0 3 > Done
-1 4 2 Memory 4 Write 4 0 0 4 > Done
-2 1 3 Board Arrive 1 Sync > Round 1
-3 2 3 Board Arrive 1 Sync > Round 1
-4 3 3 Board Arrive 1 Sync > Round 1
-5 4 3 Board Arrive 1 Sync > Round 1
-6 1 3 Board Leave 1 1 > Left 0
-7 1 4 Memory 4 Read 4 0 0 > Values 4
-7 2 3 Board Leave 1 1 > Left 0
-8 1 4 Own Print 52 > Done
-8 3 3 Board Leave 1 1 > Left 0
-9 4 3 Board Leave 1 1 > Left 0
-10 2 5 Board Stop 0 > Done
-11 3 5 Board Stop 0 > Done
-12 4 5 Board Stop 0 > Done
-13 1 5 Board Stop 0 > Done
-";
-    assert_eq!(rt; run.status, 0);
-    assert_eq!(rt; run.text.as_slice(), b"1: 4\n".as_slice());
-    assert_eq!(rt; run.trace.as_str(), wanted);
+    let wanted = "
+ 1 1 2 Memory 1 Write 1 0 0 1 > Done
+ 1 2 2 Memory 2 Write 2 0 0 2 > Done
+ 1 3 2 Memory 3 Write 3 0 0 3 > Done
+ 1 4 2 Memory 4 Write 4 0 0 4 > Done
+ 2 1 3 Board Arrive 1 Sync > Round 1
+ 3 2 3 Board Arrive 1 Sync > Round 1
+ 4 3 3 Board Arrive 1 Sync > Round 1
+ 5 4 3 Board Arrive 1 Sync > Round 1
+ 6 1 3 Board Leave 1 1 > Left 0
+ 7 1 4 Memory 4 Read 4 0 0 > Values 4
+ 7 2 3 Board Leave 1 1 > Left 0
+ 8 1 4 Own Print 52 > Done
+ 8 3 3 Board Leave 1 1 > Left 0
+ 9 4 3 Board Leave 1 1 > Left 0
+ 10 2 5 Board Stop 0 > Done
+ 11 3 5 Board Stop 0 > Done
+ 12 4 5 Board Stop 0 > Done
+ 13 1 5 Board Stop 0 > Done";
+    let trace = trace_of(rt.alloc(), "4", NEIGHBOUR)?;
+    assert_eq!(rt; trace.as_str(), wanted);
     Ok(())
 }
 
@@ -125,13 +119,8 @@ fn trace_of_the_neighbour_read(rt: HostRuntime) -> Result<(), Fail> {
 #[test]
 fn trace_of_an_overflow(rt: HostRuntime) -> Result<(), Fail> {
     let file = b"integer :: a\na = 2147483647\nprint *, a + 1\nend\n";
-    let run = run_traced(rt.alloc(), "1", "0", file)?;
-    assert_eq!(rt; run.status, 8);
-    assert_eq!(rt;
-        run.text.as_slice(),
-        b"fault image 1 line 3 Overflow\n".as_slice()
-    );
-    assert_eq!(rt; run.trace.as_str(), "1 1 3 Own Fault Overflow > Done\n");
+    let trace = trace_of(rt.alloc(), "1", file)?;
+    assert_eq!(rt; trace.as_str(), "\n 1 1 3 Own Fault Overflow > Done");
     Ok(())
 }
 
@@ -139,13 +128,8 @@ fn trace_of_an_overflow(rt: HostRuntime) -> Result<(), Fail> {
 #[test]
 fn trace_of_a_read_of_no_image(rt: HostRuntime) -> Result<(), Fail> {
     let file = b"integer :: x[*]\nprint *, x[3]\nend\n";
-    let run = run_traced(rt.alloc(), "2", "0", file)?;
-    assert_eq!(rt; run.status, 8);
-    assert_eq!(rt;
-        run.text.as_slice(),
-        b"fault image 1 line 2 CoBounds\n".as_slice()
-    );
-    assert_eq!(rt; run.trace.as_str(), "1 1 2 Own Fault CoBounds > Done\n");
+    let trace = trace_of(rt.alloc(), "2", file)?;
+    assert_eq!(rt; trace.as_str(), "\n 1 1 2 Own Fault CoBounds > Done");
     Ok(())
 }
 
@@ -231,11 +215,12 @@ fn twenty_seeds(rt: HostRuntime) -> Result<(), Fail> {
             "233132312332322121213111131232",
         ),
     ];
-    for (seed, text, images) in table {
-        let run = run_traced(rt.alloc(), "3", seed, SUMS)?;
-        assert_eq!(rt; run.status, 0, "{seed}");
-        assert_eq!(rt; run.text.as_slice(), text.as_bytes(), "{seed}");
-        assert_eq!(rt; run.images.as_str(), images, "{seed}");
+    for (seed, wanted, images) in table {
+        let words = ["run", "-n", "3", "--order", seed, "a.f90"];
+        let (_, text) = answer(rt.alloc(), &words, SUMS)?;
+        assert_eq!(rt; text.as_slice(), wanted.as_bytes(), "{seed}");
+        let order = images_of(rt.alloc(), &words, SUMS)?;
+        assert_eq!(rt; order.as_str(), images, "{seed}");
     }
     Ok(())
 }
