@@ -1,10 +1,10 @@
 -- The canonical tokens of a phrase that has a word are a word of it, where each of its alternatives allows that.
-use Rattle.std.proofs.Common.{◌≡◌, ℕ, suc, Bool, true, false, nat_lt, List, [], ◌∷◌, ◌++◌, Option, Some, None, map, ◌⊎◌, inl, inr, refl, ap, sym, ◌∙◌, subst}
+use Rattle.std.proofs.Common.{◌≡◌, ℕ, suc, false, nat_lt, List, [], ◌∷◌, ◌++◌, Option, Some, None, map, inl, inr, refl, ap, ◌∙◌, subst}
 use Rattle.std.proofs.lemmas.List.{map-append}
 use Rattle.caf_base.specs.declared.place.Pos.{Pos}
-use Rattle.reader_theory.specs.Words.{Mark, bare, Shallow, ◌⟫◌}
+use Rattle.reader_theory.specs.Words.{Mark, bare, Shallow}
 use Rattle.reader_theory.specs.Levels.{mark}
-use Rattle.fortran_tokens.specs.declared.token.Sign.TheVariants.{OpenSquare, CloseSquare, OpenArray, CloseArray, Comma}
+use Rattle.fortran_tokens.specs.declared.token.Sign.TheVariants.{OpenSquare, CloseSquare, OpenArray, CloseArray}
 use Rattle.fortran_grammar.specs.Tokens.{Tok, Token, word}
 use Rattle.fortran_grammar.specs.Phrases as p
 use Rattle.fortran_grammar.specs.Phrases.{Phrase, ◌▸◌, ◌∪◌, Words, FirstAt, canonical, key, sign, joined, square, optional, followed, listed, maybe_listed, repeated}
@@ -81,8 +81,11 @@ canon (p.from at P) l d w f h s =
 -- The alternatives that the grammar has.
 
 pub fair_joined : (j k : List ℕ) (l d : ℕ) → Fair (joined j k) l d
-fair_joined j k l d = ((tt, tt), λ w h s.
-    let o = opened (word (j ++ k)) l d w h s in canon_both (key j) (key k) l d (canon_token (word j) l d o) (canon_token (word k) l d o))
+fair_joined j k l d = (
+  (tt, tt),
+  λ w h s.
+      let o = opened (word (j ++ k)) l d w h s in canon_both (key j) (key k) l d (canon_token (word j) l d o) (canon_token (word k) l d o),
+)
 
 canon_square : (P : Phrase) (l d : ℕ) (w : List (Mark Token)) → Fair P l d → Words (sign OpenArray ▸ P ▸ sign CloseArray) l d w → Shallow w
     → Canon (sign OpenSquare ▸ P ▸ sign CloseSquare) l d
@@ -91,7 +94,7 @@ canon_square P l d w f (u, v, hu, (x, y, hx, hy, k), e) s =
     let b : Shallow (x ++ y) = subst Shallow k (shallow_back u v c) in
     let o = opened _ l d u hu (shallow_front u v c) in
     canon_both (sign OpenSquare) (P ▸ sign CloseSquare) l d (canon_token _ l d o)
-      (canon_both P (sign CloseSquare) l d (canon P l d x f hx (shallow_front x y b)) (canon_token _ l d o))
+    (canon_both P (sign CloseSquare) l d (canon P l d x f hx (shallow_front x y b)) (canon_token _ l d o))
 
 pub fair_square : (P : Phrase) (l d : ℕ) → Fair P l (suc d) → Fair (square P) l d
 fair_square P l d f = ((tt, (f, tt)), λ w h s. canon_square P l (suc d) w f h s)

@@ -1,9 +1,9 @@
 -- The computed test says exactly which tokens are words of a phrase.
-use Rattle.std.proofs.Common.{◌≡◌, ℕ, zero, suc, ◌+◌, ◌<◌, Bool, true, false, not, ◌&&◌, ◌||◌, nat_eq, nat_lt, List, [], ◌∷◌, ◌++◌, length, get_or, ◌⊎◌, inl, inr, refl, ap, sym, ◌∙◌, subst, arith, append_assoc, length-append, append-nil}
+use Rattle.std.proofs.Common.{◌≡◌, ℕ, suc, Bool, true, false, not, ◌&&◌, ◌||◌, nat_eq, nat_lt, List, [], ◌∷◌, ◌++◌, length, get_or, inl, inr, refl, ap, sym, ◌∙◌, subst, arith, append_assoc, length-append, append-nil}
 use Rattle.std.proofs.lemmas.Bool.{and_parts, and_from, or_cases, eqb-true, eq-eqb, not-true, ltb-true, lt-ltb, false≢true}
 use Rattle.std.proofs.Math.Bool.{or-true}
 use Rattle.caf_base.specs.declared.place.Pos.{Pos}
-use Rattle.reader_theory.specs.Words.{Mark, bare, Shallow, ◌⟫◌}
+use Rattle.reader_theory.specs.Words.{Mark, bare, Shallow}
 use Rattle.reader_theory.specs.Levels.{mark}
 use Rattle.fortran_tokens.specs.declared.token.Sign.{Sign}
 use Rattle.fortran_tokens.specs.declared.token.Sign.TheVariants as s
@@ -14,7 +14,7 @@ use Rattle.fortran_grammar.specs.Tokens.{Tok, Token}
 use Rattle.fortran_grammar.specs.Phrases as p
 use Rattle.fortran_grammar.specs.Phrases.{Phrase, ◌▸◌, ◌∪◌, Words, FirstAt}
 use Rattle.fortran_grammar.specs.Laws.{TestIsExact}
-use Rattle.fortran_grammar.specs.Acceptance.{same_text, same_kind, sign_number, same_tok, same_place, after, next, shorter, accepts, at_end, spelled}
+use Rattle.fortran_grammar.specs.Acceptance.{same_text, same_kind, sign_number, same_tok, same_place, after, next, shorter, accepts, at_end}
 
 after_parts : (b : Bool) (behind : List Token → Bool) (rest : List Token) → after b behind rest ≡ true → (b ≡ true) × (behind rest ≡ true)
 after_parts true behind rest e = (refl, e)
@@ -198,11 +198,11 @@ sound (P ▸ Q) limit level behind ts e =
       passes = g.passes;
     }
 sound (P ∪ Q) limit level behind ts e = elim (or_cases (accepts P limit level behind ts) (accepts Q limit level behind ts) e) [
-    inl h ↦ let f = sound P limit level behind ts h in
+  | inl h ↦ let f = sound P limit level behind ts h in
       record { word = f.word; rest = f.rest; is_word = inl f.is_word; shallow = f.shallow; split = f.split; passes = f.passes }
   | inr h ↦ let f = sound Q limit level behind ts h in
       record { word = f.word; rest = f.rest; is_word = inr f.is_word; shallow = f.shallow; split = f.split; passes = f.passes }
-  ]
+]
 sound (p.only b P) limit level behind ts e =
     let h = and_parts b (accepts P limit level behind ts) e in
     let f = sound P limit level behind ts h.1 in
@@ -234,7 +234,7 @@ complete_token : (test : Token → Bool) (limit level : ℕ) (behind : List Toke
 complete_token test limit level behind y w rest e d b o =
     let deep : Shallow (mark limit level y ∷ []) = subst Shallow e d in
     subst (λ v. next (λ z. test z && not (nat_lt limit level)) behind (bare v ++ rest) ≡ true) (sym e)
-      (after_from (test y && not (nat_lt limit level)) behind rest (and_from (test y) (not (nat_lt limit level)) o (not_deep limit level deep.0)) b)
+    (after_from (test y && not (nat_lt limit level)) behind rest (and_from (test y) (not (nat_lt limit level)) o (not_deep limit level deep.0)) b)
 
 pub complete : (P : Phrase) (limit level : ℕ) (behind : List Token → Bool) (w : List (Mark Token)) (rest : List Token)
     → Words P limit level w → Shallow w → behind rest ≡ true → accepts P limit level behind (bare w ++ rest) ≡ true
@@ -243,7 +243,7 @@ complete (p.token x) limit level behind w rest h d b =
     complete_token (λ y. same_tok x y.tok) limit level behind (record { tok = x; at = h.0 }) w rest h.1 d b (tok_refl x)
 complete (p.token_at at x) limit level behind w rest h d b =
     complete_token (λ y. same_tok x y.tok && same_place at y.at) limit level behind (record { tok = x; at = at }) w rest h d b
-      (and_from (same_tok x x) (same_place at at) (tok_refl x) (place_refl at))
+    (and_from (same_tok x x) (same_place at at) (tok_refl x) (place_refl at))
 complete (P ▸ Q) limit level behind w rest (u, v, hu, hv, e) d b =
     let c : Shallow (u ++ v) = subst Shallow e d in
     let j = complete Q limit level behind v rest hv (shallow_back u v c) b in
@@ -262,7 +262,7 @@ complete (p.from at P) limit level behind w rest h d b =
     let ts = bare w ++ rest in
     let j : shorter ts behind rest ≡ true = and_from (nat_lt (length rest) (length ts)) (behind rest) (nonempty at w rest h.0) b in
     and_from (next (λ y. same_place at y.at) (λ r. true) ts) (accepts P limit level (shorter ts behind) ts)
-      (starts at w rest h.0) (complete P limit level (shorter ts behind) w rest h.1 d j)
+    (starts at w rest h.0) (complete P limit level (shorter ts behind) w rest h.1 d j)
 
 ended : (ts rest : List Token) → at_end rest ≡ true → ts ++ rest ≡ ts
 ended ts [] e = append-nil ts

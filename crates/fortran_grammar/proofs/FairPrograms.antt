@@ -10,7 +10,7 @@ use Rattle.fortran_tree.specs.declared.unit.Recursion.TheVariants as recursions
 use Rattle.fortran_tree.specs.Units as u
 use Rattle.fortran_tree.specs.Units.{Use, Body, Prefix, Heading, Procedure, Program}
 use Rattle.fortran_grammar.specs.Tokens as t
-use Rattle.fortran_grammar.specs.Phrases.{name, key, optional, maybe_listed, ◌▸◌}
+use Rattle.fortran_grammar.specs.Phrases.{name, key}
 use Rattle.fortran_grammar.specs.ActionGrammar.{decl}
 use Rattle.fortran_grammar.specs.ProgramGrammar as g
 use Rattle.fortran_grammar.proofs.Canonical.{Fair, canon_token, canon_both, opened, fair_joined, fair_optional, fair_maybe_listed, fair_repeated}
@@ -54,10 +54,13 @@ fair_heading (u.subroutine r n ns) l d = (fair_recursion r l d, (tt, (tt, fair_o
 fair_heading (u.function ps n ns r) l d = (fair_repeated g.prefix l d (fair_prefix l d) ps, (tt, (tt, (fair_dummies l d ns, fair_optional g.result l d (fair_result l d) r))))
 
 fair_end_of_procedure : (w : List ℕ) (n : Option Name) (l d : ℕ) → Fair (g.end_of_procedure w n) l d
-fair_end_of_procedure w None l d = (fair_joined (codes "end") w l d, λ v x y.
-    let o = opened (t.word (codes "end")) l d v x y in
-    let c = canon_both (key (codes "end")) (key w) l d (canon_token (t.word (codes "end")) l d o) (canon_token (t.word w) l d o) in
-    record { word = c.word; is_word = inl c.is_word; shallow = c.shallow; same = c.same })
+fair_end_of_procedure w None l d = (
+  fair_joined (codes "end") w l d,
+  λ v x y.
+      let o = opened (t.word (codes "end")) l d v x y in
+      let c = canon_both (key (codes "end")) (key w) l d (canon_token (t.word (codes "end")) l d o) (canon_token (t.word w) l d o) in
+      record { word = c.word; is_word = inl c.is_word; shallow = c.shallow; same = c.same },
+)
 fair_end_of_procedure w (Some n) l d = (fair_joined (codes "end") w l d, tt)
 
 fair_end_of_program : (n : Option Name) (l : ℕ) → Fair (g.end_of_program n) l 0
@@ -74,5 +77,10 @@ fair_contained : (l : ℕ) (ps : List Procedure) → Fair (g.contained ps) l 0
 fair_contained l ps = (tt, (tt, fair_repeated g.proc l 0 (fair_proc l) ps))
 
 pub fair_program : (l : ℕ) (x : Program) → Fair (g.program x) l 0
-fair_program l x = (fair_optional g.program_statement l 0 (fair_program_statement l 0) x.name, (fair_repeated g.use_statement l 0 (fair_use l) x.uses,
-    (fair_body l x.body, (fair_optional g.contained l 0 (fair_contained l) x.procedures, (fair_end_of_program x.end.name l, tt)))))
+fair_program l x = (
+  fair_optional g.program_statement l 0 (fair_program_statement l 0) x.name,
+  (
+    fair_repeated g.use_statement l 0 (fair_use l) x.uses,
+    (fair_body l x.body, (fair_optional g.contained l 0 (fair_contained l) x.procedures, (fair_end_of_program x.end.name l, tt))),
+  ),
+)

@@ -1,5 +1,5 @@
 -- Where a declaration, an action or a construct is spelled, its canonical tokens spell it.
-use Rattle.std.proofs.Common.{◌≡◌, ℕ, zero, suc, Bool, true, false, nat_lt, ◌&&◌, List, [], ◌∷◌, ◌++◌, codes, Option, Some, None, ◌⊎◌, inl, inr, subst, arith}
+use Rattle.std.proofs.Common.{◌≡◌, ℕ, zero, suc, false, nat_lt, List, [], ◌∷◌, ◌++◌, codes, Option, Some, None, subst, arith}
 use Rattle.std.proofs.lemmas.Bool.{le-ltb}
 use Rattle.reader_theory.specs.Words.{Mark, Shallow}
 use Rattle.fortran_tokens.specs.declared.token.Sign.TheVariants.{Colons, Comma, Star}
@@ -10,8 +10,8 @@ use Rattle.fortran_tree.specs.Expressions.{Term, Specifiers, no_specifiers, more
 use Rattle.fortran_tree.specs.Statements as s
 use Rattle.fortran_tree.specs.Statements.{Type_spec, Bounds, Dimension, Coshape, Attribute, Entity, Declaration, Format, Item, Images, Allocation, Form, Control, Range, Cases, Bracketed, Statement, Statements, Else_ifs, Otherwise, Case_blocks}
 use Rattle.fortran_grammar.specs.Tokens as t
-use Rattle.fortran_grammar.specs.Phrases.{◌▸◌, Words, nothing, name, key, sign, round, optional, followed, listed, maybe_listed}
-use Rattle.fortran_grammar.specs.ExpressionGrammar.{expr, more_specs}
+use Rattle.fortran_grammar.specs.Phrases.{◌▸◌, Words, name, key, sign, round, optional, followed, listed, maybe_listed}
+use Rattle.fortran_grammar.specs.ExpressionGrammar.{expr}
 use Rattle.fortran_grammar.specs.ActionGrammar as g
 use Rattle.fortran_grammar.specs.StatementGrammar as h
 use Rattle.fortran_grammar.proofs.Deciding.{shallow_front, shallow_back}
@@ -132,8 +132,8 @@ canon_items [] l d w o h s = canon_nothing l d
 canon_items (i ∷ is) l d w o (u, v, hu, hv, e) s =
     let c : Shallow (u ++ v) = subst Shallow e s in
     canon_both (sign Comma) (g.item i ▸ followed g.item is) l d (canon_token (t.sign Comma) l d o)
-      (canon_both (g.item i) (followed g.item is) l d (canon (g.item i) l d u (fair_item l d i) hu (shallow_front u v c))
-        (canon (followed g.item is) l d v (fair_followed g.item l d (fair_item l d) is) hv (shallow_back u v c)))
+    (canon_both (g.item i) (followed g.item is) l d (canon (g.item i) l d u (fair_item l d i) hu (shallow_front u v c))
+    (canon (followed g.item is) l d v (fair_followed g.item l d (fair_item l d) is) hv (shallow_back u v c)))
 
 canon_print : (f : Format) (is : List Item) (l d : ℕ) (w : List (Mark t.Token))
     → Words (key (codes "write") ▸ round (sign Star ▸ sign Comma ▸ g.fmt f) ▸ maybe_listed g.item is) l d w → Shallow w
@@ -143,7 +143,7 @@ canon_print f is l d w (u, v, hu, (x, y, hx, hy, k), e) s =
     let b : Shallow (x ++ y) = subst Shallow k (shallow_back u v c) in
     let o = opened (t.word (codes "write")) l d u hu (shallow_front u v c) in
     canon_both (key (codes "print")) (g.fmt f ▸ followed g.item is) l d (canon_token (t.word (codes "print")) l d o)
-      (canon_both (g.fmt f) (followed g.item is) l d (canon_fmt f l d o) (canon_items is l d y o hy (shallow_back x y b)))
+    (canon_both (g.fmt f) (followed g.item is) l d (canon_fmt f l d o) (canon_items is l d y o hy (shallow_back x y b)))
 
 pub fair_action : (a : Form) (l d : ℕ) → Fair (g.action_form a) l d
 fair_action (s.assignment x e) l d = (fair_design x l d, (tt, fair_expr e l d))
@@ -197,15 +197,59 @@ fair_bracketed (s.present n e) l d = (tt, ((tt, (tt, fair_expr e l (suc d))), tt
 mutual
   fair_statement : (x : Statement) (l d : ℕ) → Fair (h.statement x) l d
   fair_statement (s.action a at) l d = (fair_action a l d, tt)
-  fair_statement (s.choice e body others o at end) l d = (tt, ((tt, (fair_expr e l (suc (suc d)), tt)), (tt, (tt, (fair_statements body l (suc d),
-      (fair_else_ifs others l (suc d), (fair_otherwise o l (suc d), (fair_joined (codes "end") (codes "if") l (suc d), tt))))))))
-  fair_statement (s.loop n k body at end) l d = (fair_optional h.construct_name l (suc d) (fair_construct_name l (suc d)) n, (tt, (fair_control k l (suc d), (tt,
-      (fair_statements body l (suc d), (fair_joined (codes "end") (codes "do") l (suc d), (fair_optional name l (suc d) (fair_name l (suc d)) end.name, tt)))))))
-  fair_statement (s.select e blocks at end) l d = (fair_joined (codes "select") (codes "case") l (suc d), ((tt, (fair_expr e l (suc (suc d)), tt)), (tt,
-      (fair_case_blocks blocks l (suc d), (fair_joined (codes "end") (codes "select") l (suc d), tt)))))
+  fair_statement (s.choice e body others o at end) l d = (
+    tt,
+    (
+      (tt, (fair_expr e l (suc (suc d)), tt)),
+      (
+        tt,
+        (
+          tt,
+          (
+            fair_statements body l (suc d),
+            (fair_else_ifs others l (suc d), (fair_otherwise o l (suc d), (fair_joined (codes "end") (codes "if") l (suc d), tt))),
+          ),
+        ),
+      ),
+    ),
+  )
+  fair_statement (s.loop n k body at end) l d = (
+    fair_optional h.construct_name l (suc d) (fair_construct_name l (suc d)) n,
+    (
+      tt,
+      (
+        fair_control k l (suc d),
+        (
+          tt,
+          (fair_statements body l (suc d), (fair_joined (codes "end") (codes "do") l (suc d), (fair_optional name l (suc d) (fair_name l (suc d)) end.name, tt))),
+        ),
+      ),
+    ),
+  )
+  fair_statement (s.select e blocks at end) l d = (
+    fair_joined (codes "select") (codes "case") l (suc d),
+    (
+      (tt, (fair_expr e l (suc (suc d)), tt)),
+      (
+        tt,
+        (fair_case_blocks blocks l (suc d), (fair_joined (codes "end") (codes "select") l (suc d), tt)),
+      ),
+    ),
+  )
   fair_statement (s.critical x body at end) l d = (tt, (fair_bracketed x l (suc d), (tt, (fair_statements body l (suc d), (fair_joined (codes "end") (codes "critical") l (suc d), tt)))))
-  fair_statement (s.change_team e ps body q at end) l d = (tt, (tt, ((tt, ((fair_expr e l (suc (suc d)), fair_more_specs ps l (suc (suc d))), tt)), (tt,
-      (fair_statements body l (suc d), (fair_joined (codes "end") (codes "team") l (suc d), (fair_bracketed q l (suc d), tt)))))))
+  fair_statement (s.change_team e ps body q at end) l d = (
+    tt,
+    (
+      tt,
+      (
+        (tt, ((fair_expr e l (suc (suc d)), fair_more_specs ps l (suc (suc d))), tt)),
+        (
+          tt,
+          (fair_statements body l (suc d), (fair_joined (codes "end") (codes "team") l (suc d), (fair_bracketed q l (suc d), tt))),
+        ),
+      ),
+    ),
+  )
 
   pub fair_statements : (xs : Statements) (l d : ℕ) → Fair (h.statements xs) l d
   fair_statements s.no_statements l d = tt
@@ -213,8 +257,19 @@ mutual
 
   fair_else_ifs : (xs : Else_ifs) (l d : ℕ) → Fair (h.else_ifs xs) l d
   fair_else_ifs s.no_else_ifs l d = tt
-  fair_else_ifs (s.more_else_ifs e body at more) l d = (fair_joined (codes "else") (codes "if") l d, ((tt, (fair_expr e l (suc d), tt)), (tt, (tt,
-      (fair_statements body l d, fair_else_ifs more l d)))))
+  fair_else_ifs (s.more_else_ifs e body at more) l d = (
+    fair_joined (codes "else") (codes "if") l d,
+    (
+      (tt, (fair_expr e l (suc d), tt)),
+      (
+        tt,
+        (
+          tt,
+          (fair_statements body l d, fair_else_ifs more l d),
+        ),
+      ),
+    ),
+  )
 
   fair_otherwise : (x : Otherwise) (l d : ℕ) → Fair (h.otherwise x) l d
   fair_otherwise s.no_otherwise l d = tt

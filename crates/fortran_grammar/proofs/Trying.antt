@@ -1,5 +1,5 @@
 -- Short sources for tries: tokens with blanks between them, on line 1, `;` for the end of a statement; and names for small trees.
-use Rattle.std.proofs.Common.{ℕ, ◌+◌, ◌-◌, ◌*◌, Bool, true, false, nat_eq, nat_le, ◌&&◌, ◌||◌, List, [], ◌∷◌, ◌++◌, codes, Option, Some, None}
+use Rattle.std.proofs.Common.{ℕ, ◌+◌, ◌-◌, ◌*◌, true, false, nat_eq, nat_le, ◌&&◌, List, [], ◌∷◌, ◌++◌}
 use Rattle.caf_base.specs.declared.place.Pos.{Pos}
 use Rattle.fortran_tokens.specs.Forms.{spellings}
 use Rattle.fortran_tokens.specs.declared.token.Sign.{Sign}
@@ -32,9 +32,13 @@ inner_of (c ∷ d ∷ more) = c ∷ inner_of (d ∷ more)
 -- the token that a piece stands for: a name, a number, a literal, else a sign
 abbrev tok_of : List ℕ → Tok
 tok_of [] = t.over
-tok_of (b ∷ x) = elim (nat_le 97 b && nat_le b 122) [ true ↦ t.word (b ∷ x)
-  | false ↦ elim (nat_le 48 b && nat_le b 57) [ true ↦ t.integer (number_of 0 (b ∷ x)) Unstated
-  | false ↦ elim (nat_eq b 39) [ true ↦ t.literal (inner_of x) | false ↦ sign_in spellings (b ∷ x) ] ] ]
+tok_of (b ∷ x) = elim (nat_le 97 b && nat_le b 122) [
+  | true ↦ t.word (b ∷ x)
+  | false ↦ elim (nat_le 48 b && nat_le b 57) [
+    | true ↦ t.integer (number_of 0 (b ∷ x)) Unstated
+    | false ↦ elim (nat_eq b 39) [ true ↦ t.literal (inner_of x) | false ↦ sign_in spellings (b ∷ x) ]
+  ]
+]
 
 abbrev flush : ℕ → List ℕ → List Token
 flush c [] = []
