@@ -1,10 +1,10 @@
 -- The canonical tokens of a phrase that has a word are a word of it, where each of its alternatives allows that.
-use Rattle.std.proofs.Common.{◌≡◌, ℕ, suc, Bool, true, false, nat_lt, List, [], ◌∷◌, ◌++◌, Option, Some, None, map, ◌⊎◌, inl, inr, refl, ap, sym, ◌∙◌, subst}
+use Rattle.std.proofs.Common.{◌≡◌, ℕ, suc, false, nat_lt, List, [], ◌∷◌, ◌++◌, Option, Some, None, map, inl, inr, refl, ap, ◌∙◌, subst}
 use Rattle.std.proofs.lemmas.List.{map-append}
 use Rattle.caf_base.specs.declared.place.Pos.{Pos}
-use Rattle.reader_theory.specs.Words.{Mark, bare, Shallow, ◌⟫◌}
+use Rattle.reader_theory.specs.Words.{Mark, bare, Shallow}
 use Rattle.reader_theory.specs.Levels.{mark}
-use Rattle.fortran_tokens.specs.declared.token.Sign.TheVariants.{OpenSquare, CloseSquare, OpenArray, CloseArray, Comma}
+use Rattle.fortran_tokens.specs.declared.token.Sign.TheVariants.{OpenSquare, CloseSquare, OpenArray, CloseArray}
 use Rattle.fortran_grammar.specs.Tokens.{Tok, Token, word}
 use Rattle.fortran_grammar.specs.Phrases as p
 use Rattle.fortran_grammar.specs.Phrases.{Phrase, ◌▸◌, ◌∪◌, Words, FirstAt, canonical, key, sign, joined, square, optional, followed, listed, maybe_listed, repeated}

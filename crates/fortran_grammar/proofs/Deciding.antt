@@ -1,9 +1,9 @@
 -- The computed test says exactly which tokens are words of a phrase.
-use Rattle.std.proofs.Common.{◌≡◌, ℕ, zero, suc, ◌+◌, ◌<◌, Bool, true, false, not, ◌&&◌, ◌||◌, nat_eq, nat_lt, List, [], ◌∷◌, ◌++◌, length, get_or, ◌⊎◌, inl, inr, refl, ap, sym, ◌∙◌, subst, arith, append_assoc, length-append, append-nil}
+use Rattle.std.proofs.Common.{◌≡◌, ℕ, suc, Bool, true, false, not, ◌&&◌, ◌||◌, nat_eq, nat_lt, List, [], ◌∷◌, ◌++◌, length, get_or, inl, inr, refl, ap, sym, ◌∙◌, subst, arith, append_assoc, length-append, append-nil}
 use Rattle.std.proofs.lemmas.Bool.{and_parts, and_from, or_cases, eqb-true, eq-eqb, not-true, ltb-true, lt-ltb, false≢true}
 use Rattle.std.proofs.Math.Bool.{or-true}
 use Rattle.caf_base.specs.declared.place.Pos.{Pos}
-use Rattle.reader_theory.specs.Words.{Mark, bare, Shallow, ◌⟫◌}
+use Rattle.reader_theory.specs.Words.{Mark, bare, Shallow}
 use Rattle.reader_theory.specs.Levels.{mark}
 use Rattle.fortran_tokens.specs.declared.token.Sign.{Sign}
 use Rattle.fortran_tokens.specs.declared.token.Sign.TheVariants as s
@@ -14,7 +14,7 @@ use Rattle.fortran_grammar.specs.Tokens.{Tok, Token}
 use Rattle.fortran_grammar.specs.Phrases as p
 use Rattle.fortran_grammar.specs.Phrases.{Phrase, ◌▸◌, ◌∪◌, Words, FirstAt}
 use Rattle.fortran_grammar.specs.Laws.{TestIsExact}
-use Rattle.fortran_grammar.specs.Acceptance.{same_text, same_kind, sign_number, same_tok, same_place, after, next, shorter, accepts, at_end, spelled}
+use Rattle.fortran_grammar.specs.Acceptance.{same_text, same_kind, sign_number, same_tok, same_place, after, next, shorter, accepts, at_end}
 
 after_parts : (b : Bool) (behind : List Token → Bool) (rest : List Token) → after b behind rest ≡ true → (b ≡ true) × (behind rest ≡ true)
 after_parts true behind rest e = (refl, e)

@@ -10,7 +10,7 @@ use Rattle.fortran_tree.specs.declared.unit.Recursion.TheVariants as recursions
 use Rattle.fortran_tree.specs.Units as u
 use Rattle.fortran_tree.specs.Units.{Use, Body, Prefix, Heading, Procedure, Program}
 use Rattle.fortran_grammar.specs.Tokens as t
-use Rattle.fortran_grammar.specs.Phrases.{name, key, optional, maybe_listed, ◌▸◌}
+use Rattle.fortran_grammar.specs.Phrases.{name, key}
 use Rattle.fortran_grammar.specs.ActionGrammar.{decl}
 use Rattle.fortran_grammar.specs.ProgramGrammar as g
 use Rattle.fortran_grammar.proofs.Canonical.{Fair, canon_token, canon_both, opened, fair_joined, fair_optional, fair_maybe_listed, fair_repeated}

@@ -1,5 +1,5 @@
 -- Where a declaration, an action or a construct is spelled, its canonical tokens spell it.
-use Rattle.std.proofs.Common.{◌≡◌, ℕ, zero, suc, Bool, true, false, nat_lt, ◌&&◌, List, [], ◌∷◌, ◌++◌, codes, Option, Some, None, ◌⊎◌, inl, inr, subst, arith}
+use Rattle.std.proofs.Common.{◌≡◌, ℕ, zero, suc, false, nat_lt, List, [], ◌∷◌, ◌++◌, codes, Option, Some, None, subst, arith}
 use Rattle.std.proofs.lemmas.Bool.{le-ltb}
 use Rattle.reader_theory.specs.Words.{Mark, Shallow}
 use Rattle.fortran_tokens.specs.declared.token.Sign.TheVariants.{Colons, Comma, Star}
@@ -10,8 +10,8 @@ use Rattle.fortran_tree.specs.Expressions.{Term, Specifiers, no_specifiers, more
 use Rattle.fortran_tree.specs.Statements as s
 use Rattle.fortran_tree.specs.Statements.{Type_spec, Bounds, Dimension, Coshape, Attribute, Entity, Declaration, Format, Item, Images, Allocation, Form, Control, Range, Cases, Bracketed, Statement, Statements, Else_ifs, Otherwise, Case_blocks}
 use Rattle.fortran_grammar.specs.Tokens as t
-use Rattle.fortran_grammar.specs.Phrases.{◌▸◌, Words, nothing, name, key, sign, round, optional, followed, listed, maybe_listed}
-use Rattle.fortran_grammar.specs.ExpressionGrammar.{expr, more_specs}
+use Rattle.fortran_grammar.specs.Phrases.{◌▸◌, Words, name, key, sign, round, optional, followed, listed, maybe_listed}
+use Rattle.fortran_grammar.specs.ExpressionGrammar.{expr}
 use Rattle.fortran_grammar.specs.ActionGrammar as g
 use Rattle.fortran_grammar.specs.StatementGrammar as h
 use Rattle.fortran_grammar.proofs.Deciding.{shallow_front, shallow_back}

@@ -1,5 +1,5 @@
 -- Short sources for tries: tokens with blanks between them, on line 1, `;` for the end of a statement; and names for small trees.
-use Rattle.std.proofs.Common.{ℕ, ◌+◌, ◌-◌, ◌*◌, Bool, true, false, nat_eq, nat_le, ◌&&◌, ◌||◌, List, [], ◌∷◌, ◌++◌, codes, Option, Some, None}
+use Rattle.std.proofs.Common.{ℕ, ◌+◌, ◌-◌, ◌*◌, true, false, nat_eq, nat_le, ◌&&◌, List, [], ◌∷◌, ◌++◌}
 use Rattle.caf_base.specs.declared.place.Pos.{Pos}
 use Rattle.fortran_tokens.specs.Forms.{spellings}
 use Rattle.fortran_tokens.specs.declared.token.Sign.{Sign}

@@ -1,6 +1,5 @@
 -- Which tokens spell which expression (ISO/IEC 1539-1:2018, 10.1.2).
 use Rattle.std.specs.Prelude.{ℕ, suc, nat_le, ◌&&◌, Bool, true, false, Option, Some, None}
-use Rattle.caf_base.specs.declared.place.Pos.{Pos}
 use Rattle.fortran_tokens.specs.declared.token.Sign.{Sign}
 use Rattle.fortran_tokens.specs.declared.token.Sign.TheVariants as sign
 use Rattle.fortran_tree.specs.declared.expr.PrefixOperator.{PrefixOperator}

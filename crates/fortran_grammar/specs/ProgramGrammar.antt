@@ -4,7 +4,6 @@ use Rattle.caf_base.specs.declared.place.Pos.{Pos}
 use Rattle.reader_theory.specs.Words.{Mark}
 use Rattle.fortran_tokens.specs.declared.token.Sign.TheVariants.{Colon, Colons, Comma}
 use Rattle.fortran_tree.specs.declared.name.Name.{Name}
-use Rattle.fortran_tree.specs.declared.statement.End.{End}
 use Rattle.fortran_tree.specs.declared.unit.ModuleNature.{ModuleNature}
 use Rattle.fortran_tree.specs.declared.unit.ModuleNature.TheVariants as natures
 use Rattle.fortran_tree.specs.declared.unit.Recursion.{Recursion}
@@ -12,7 +11,7 @@ use Rattle.fortran_tree.specs.declared.unit.Recursion.TheVariants as recursions
 use Rattle.fortran_tree.specs.Units as u
 use Rattle.fortran_tree.specs.Units.{Use, Body, Prefix, Heading, Procedure, Program}
 use Rattle.fortran_grammar.specs.Tokens.{Token}
-use Rattle.fortran_grammar.specs.Phrases.{Phrase, Words, nothing, ◌▸◌, ◌∪◌, from, name, key, sign, over, joined, round, optional, listed, maybe_listed, repeated}
+use Rattle.fortran_grammar.specs.Phrases.{Phrase, Words, nothing, ◌▸◌, ◌∪◌, from, name, key, sign, over, joined, round, optional, maybe_listed, repeated}
 use Rattle.fortran_grammar.specs.ActionGrammar.{type_spec, decl}
 use Rattle.fortran_grammar.specs.StatementGrammar.{statements}
 

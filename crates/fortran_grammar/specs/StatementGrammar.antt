@@ -1,12 +1,11 @@
 -- Which tokens spell which statement or construct. A construct is a level from its first token on.
-use Rattle.std.specs.Prelude.{codes, Option, Some, None}
+use Rattle.std.specs.Prelude.{codes}
 use Rattle.fortran_tokens.specs.declared.token.Sign.TheVariants.{Assign, Colon, Comma}
 use Rattle.fortran_tree.specs.declared.name.Name.{Name}
-use Rattle.fortran_tree.specs.declared.statement.End.{End}
 use Rattle.fortran_tree.specs.Expressions.{Term}
 use Rattle.fortran_tree.specs.Statements as s
 use Rattle.fortran_tree.specs.Statements.{Control, Range, Cases, Bracketed, Statement, Statements, Else_ifs, Otherwise, Case_blocks}
-use Rattle.fortran_grammar.specs.Phrases.{Phrase, nothing, never, ◌▸◌, ◌∪◌, deeper, from, name, key, sign, over, joined, round, optional, listed}
+use Rattle.fortran_grammar.specs.Phrases.{Phrase, nothing, ◌▸◌, deeper, from, name, key, sign, over, joined, round, optional, listed}
 use Rattle.fortran_grammar.specs.ExpressionGrammar.{expr}
 use Rattle.fortran_grammar.specs.ActionGrammar.{action, team}
 

@@ -1,4 +1,3 @@
-use Rattle.std.proofs.Common.{◌≡◌, ◌++◌, [], ◌∷◌, ap, sym, ◌∙◌, subst, true, false, refl, append-nil}
 use Rattle.fortran_grammar.proofs.Deciding.{exact}
 use Rattle.fortran_grammar.proofs.law.test_is_exact.Goals as goal
 
