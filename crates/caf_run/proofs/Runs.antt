@@ -31,7 +31,8 @@ use Rattle.image_core.specs.declared.run.ImageRun.{ImageRun}
 use Rattle.image_core.specs.declared.parts.PartsOf.{PartsOf}
 use Rattle.image_core.specs.Choosing.{choosing}
 use Rattle.image_core.specs.Orders.{EndIs, IsOrderRun}
-use Rattle.image_core.specs.Parts.{moment_of, event_lists}
+use Rattle.image_core.specs.Parts.{event_lists}
+use Rattle.image_core.specs.Starts.{thin_moment}
 use Rattle.image_core.proofs.Slices.{map_length}
 use Rattle.thin_parts.specs.ThinBoard.{BoardMeaning}
 use Rattle.thin_parts.specs.ThinMemory.{MemoryMeaning}
@@ -109,9 +110,6 @@ pub run_end : {C M B : Type 0} (r : Rules C M B) (b : Beginning C M B) (m : Mome
     → IsWhole r xs m → AreHeld r.step m.configs (length m.configs) ws → IsEndOf t ws end → IsRunEnd r b t end
 run_end r b m t xs ws end kept trace same (inl at_last) held is = record { ended = is.ended; open_end = λ none. absurd (ends_nowhere t xs same none at_last) }
 run_end r b m t xs ws end kept trace same (inr (rest, stuck)) held is = record { ended = is.ended; open_end = λ none. (ws, held_wait r b m t kept trace stuck ws held, is.open_end none) }
-
-abbrev pub thin_moment : PartsOf Config MemoryMeaning BoardMeaning → Moment Config DeclaredMemory ℕ
-thin_moment p = moment_of (λ (m : Config). m) (λ (o : MemoryMeaning). o.declared) (λ (o : MemoryMeaning). o.history) (λ (b : BoardMeaning). b.images) (λ (b : BoardMeaning). b.history) p
 
 -- the report of the parts to which an ordered run leads from the first ones
 pub report_of : (p : ThinProgram) (n seed : ℕ) (parts parts' : PartsOf Config MemoryMeaning BoardMeaning) (s s' : Choices) (end : RunEnd) (t : Trace) (ws : List Waiting) (report : Report)

@@ -2,6 +2,8 @@
 use Rattle.std.specs.Prelude.{ℕ, zero, suc, ◌≡◌, ◌+◌, max, Bool, true, false, IsTrue, List, [], ◌∷◌, ◌++◌, Option, Some, None, slice_get, slice_set}
 use Rattle.caf_base.specs.declared.place.Place.{Place}
 use Rattle.caf_base.specs.declared.place.Place.TheVariants.{Memory, Board, Own}
+use Rattle.caf_events.specs.declared.object.Object as object
+use Rattle.caf_events.specs.declared.walker.Walker as walker
 use Rattle.caf_events.specs.declared.ask.Ask.{Ask}
 use Rattle.caf_events.specs.declared.reply.Reply.{Reply}
 use Rattle.caf_events.specs.declared.reply.Reply.TheVariants as replies
@@ -22,13 +24,13 @@ pub record Rules (C M B : Type 0) : Type 0 where
   pub board_reply : B → List Entry → ℕ → Ask → Reply
 
 -- the rules of a run from those of its machines, its memories and its board
-abbrev pub rules : {C M B : Type 0} → (C → Move C Ask Reply) → (M → List Entry → ℕ → Ask → Bool) → (M → List Entry → ℕ → Ask → Reply) → (B → List Entry → ℕ → Ask → Bool) → (B → List Entry → ℕ → Ask → Reply) → Rules C M B
-rules step memory_ready memory_reply board_ready board_reply = record {
-  step = step;
-  memory_ready = memory_ready;
-  memory_reply = memory_reply;
-  board_ready = board_ready;
-  board_reply = board_reply;
+abbrev pub rules : {M O B : Type 0} (walks : walker.Ghosts M) (memory : object.Ghosts O) (control : object.Ghosts B) → Rules walks.Config memory.Made control.Made
+rules walks memory control = record {
+  step = walks.step;
+  memory_ready = memory.ready_after;
+  memory_reply = memory.reply_after;
+  board_ready = control.ready_after;
+  board_reply = control.reply_after;
 }
 
 -- where each image stands and the events that it made, and what each object was made with and its history

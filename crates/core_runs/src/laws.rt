@@ -17,38 +17,38 @@ use caf_events::walker::Walker;
 
 /// Before the first step all that is kept holds.
 pub fn law_first_kept<M: Walker, O: Object, B: Object>()
-    ensures { (b : Beginning M.Config O.Made B.Made) (m : Moment M.Config O.Made B.Made) → IsFit (rules M.step O.ready_after O.reply_after B.ready_after B.reply_after) b
-        → IsFirst (rules M.step O.ready_after O.reply_after B.ready_after B.reply_after) b m
-        → IsKept (rules M.step O.ready_after O.reply_after B.ready_after B.reply_after) b m }
+    ensures { (b : Beginning M.Config O.Made B.Made) (m : Moment M.Config O.Made B.Made) → IsFit (rules M.Walker O.Object B.Object) b
+        → IsFirst (rules M.Walker O.Object B.Object) b m
+        → IsKept (rules M.Walker O.Object B.Object) b m }
 {}
 
 /// A step keeps all that is kept.
 pub fn law_kept_more<M: Walker, O: Object, B: Object>()
     ensures { (b : Beginning M.Config O.Made B.Made) (m m' : Moment M.Config O.Made B.Made) (i : ℕ) (e : Event)
-        → IsKept (rules M.step O.ready_after O.reply_after B.ready_after B.reply_after) b m
-        → Steps (rules M.step O.ready_after O.reply_after B.ready_after B.reply_after) m i e m'
-        → IsKept (rules M.step O.ready_after O.reply_after B.ready_after B.reply_after) b m' }
+        → IsKept (rules M.Walker O.Object B.Object) b m
+        → Steps (rules M.Walker O.Object B.Object) m i e m'
+        → IsKept (rules M.Walker O.Object B.Object) b m' }
 {}
 
 /// The trace of what is kept is a core run.
 pub fn law_core_run<M: Walker, O: Object, B: Object>()
     ensures { (b : Beginning M.Config O.Made B.Made) (m : Moment M.Config O.Made B.Made) (t : List Entry)
-        → IsKept (rules M.step O.ready_after O.reply_after B.ready_after B.reply_after) b m → IsTraceOf m.events t
-        → IsCoreRun (rules M.step O.ready_after O.reply_after B.ready_after B.reply_after) b t }
+        → IsKept (rules M.Walker O.Object B.Object) b m → IsTraceOf m.events t
+        → IsCoreRun (rules M.Walker O.Object B.Object) b t }
 {}
 
 /// An image that has ended made a step that ended it.
 pub fn law_stopped<M: Walker, O: Object, B: Object>()
     ensures { (b : Beginning M.Config O.Made B.Made) (m : Moment M.Config O.Made B.Made) (t : List Entry) (i : ℕ) (c : M.Config)
-        → IsKept (rules M.step O.ready_after O.reply_after B.ready_after B.reply_after) b m → IsTraceOf m.events t
+        → IsKept (rules M.Walker O.Object B.Object) b m → IsTraceOf m.events t
         → item_at m.configs i ≡ Some c → IsOver (M.step c) → HasStopped i t }
 {}
 
 /// An image that hasn't ended and can't step waits: its next ask isn't ready after the trace.
 pub fn law_waiting<M: Walker, O: Object, B: Object>()
     ensures { (b : Beginning M.Config O.Made B.Made) (m : Moment M.Config O.Made B.Made) (t : List Entry) (i : ℕ) (c : M.Config) (ask : Ask) (line : ℕ)
-        → IsKept (rules M.step O.ready_after O.reply_after B.ready_after B.reply_after) b m → IsTraceOf m.events t
-        → item_at m.configs i ≡ Some c → can_step (rules M.step O.ready_after O.reply_after B.ready_after B.reply_after) m i ≡ false
+        → IsKept (rules M.Walker O.Object B.Object) b m → IsTraceOf m.events t
+        → item_at m.configs i ≡ Some c → can_step (rules M.Walker O.Object B.Object) m i ≡ false
         → AsksNext (M.step c) ask → IsAtLine (M.step c) line
-        → IsWaiting (rules M.step O.ready_after O.reply_after B.ready_after B.reply_after) b t i line ask }
+        → IsWaiting (rules M.Walker O.Object B.Object) b t i line ask }
 {}

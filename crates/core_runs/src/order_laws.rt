@@ -26,21 +26,21 @@ pub fn law_one_next_ask<M: Walker>()
 /// Every front of a core run is a core run.
 pub fn law_front<M: Walker, O: Object, B: Object>()
     ensures { (b : Beginning M.Config O.Made B.Made) (front rest : List Entry)
-        → IsCoreRun (rules M.step O.ready_after O.reply_after B.ready_after B.reply_after) b (front ++ rest)
-        → IsCoreRun (rules M.step O.ready_after O.reply_after B.ready_after B.reply_after) b front }
+        → IsCoreRun (rules M.Walker O.Object B.Object) b (front ++ rest)
+        → IsCoreRun (rules M.Walker O.Object B.Object) b front }
 {}
 
 /// There is one trace of an ordered run: the beginning and the choices tell it.
 pub fn law_one_order_trace<M: Walker, O: Object, B: Object, S: Choices>()
     ensures { (b : Beginning M.Config O.Made B.Made) (s : S.State) (t u : List Entry)
-        → IsOrderTrace (rules M.step O.ready_after O.reply_after B.ready_after B.reply_after) b S.chooser s t
-        → IsOrderTrace (rules M.step O.ready_after O.reply_after B.ready_after B.reply_after) b S.chooser s u → t ≡ u }
+        → IsOrderTrace (rules M.Walker O.Object B.Object) b S.chooser s t
+        → IsOrderTrace (rules M.Walker O.Object B.Object) b S.chooser s u → t ≡ u }
 {}
 
 /// The trace of an ordered run is a core run.
 pub fn law_order_core<M: Walker, O: Object, B: Object, S: Choices>()
     ensures { (b : Beginning M.Config O.Made B.Made) (s : S.State) (t : List Entry)
-        → IsFit (rules M.step O.ready_after O.reply_after B.ready_after B.reply_after) b
-        → IsOrderTrace (rules M.step O.ready_after O.reply_after B.ready_after B.reply_after) b S.chooser s t
-        → IsCoreRun (rules M.step O.ready_after O.reply_after B.ready_after B.reply_after) b t }
+        → IsFit (rules M.Walker O.Object B.Object) b
+        → IsOrderTrace (rules M.Walker O.Object B.Object) b S.chooser s t
+        → IsCoreRun (rules M.Walker O.Object B.Object) b t }
 {}

@@ -15,8 +15,8 @@ use Rattle.thin_parts.specs.ThinBoard.{BoardMeaning}
 use Rattle.image_core.specs.declared.run.ImageRun.{ImageRun}
 use Rattle.image_core.specs.declared.parts.PartsOf.{PartsOf}
 use Rattle.core_runs.specs.Lists.{list_at, last_of}
-use Rattle.image_core.specs.Parts.{EachAt, AreNumbered, IsBounded, moment_of, event_lists, total, steps_made}
-use Rattle.image_core.specs.Starts.{IsStart}
+use Rattle.image_core.specs.Parts.{EachAt, AreNumbered, IsBounded, event_lists, total, steps_made}
+use Rattle.image_core.specs.Starts.{IsStart, thin_moment}
 
 -- one item more that has what each item has
 pub each_more : {A : Type 0} (P : ℕ → A → Type 0) (xs : List A) (x : A) → EachAt P xs → P (length xs) x → EachAt P (xs ++ x ∷ [])
@@ -77,7 +77,7 @@ module _ (p : ThinProgram) (n : ℕ) (parts : PartsOf Config MemoryMeaning Board
   no_memory_entries k m l q = (s.memories k m l q).history
 
   -- the parts before the first step are those of the run's first moment
-  pub first_start : IsFirst thin_rules (thin_beginning p n) (moment_of (λ (m : Config). m) (λ (o : MemoryMeaning). o.declared) (λ (o : MemoryMeaning). o.history) (λ (b : BoardMeaning). b.images) (λ (b : BoardMeaning). b.history) parts)
+  pub first_start : IsFirst thin_rules (thin_beginning p n) (thin_moment parts)
   first_start = record {
     count = map_length (λ (r : ImageRun Config). r.machine) parts.images.items ∙ s.image_count;
     starts = λ k c at. (view_holds (λ (r : ImageRun Config). r.machine) (λ j d. (x : ℕ) × (go thin_step x (start_of p (suc j) n) ≡ goes d)) parts.images.items (λ j r l q. (s.images j r l q).starts) k c at);
@@ -90,11 +90,11 @@ module _ (p : ThinProgram) (n : ℕ) (parts : PartsOf Config MemoryMeaning Board
   }
 
   -- no step was made, and few may come
-  pub bounded_start : n ≤ 64 → counts p ≤ 262000 → IsBounded moves_left (moment_of (λ (m : Config). m) (λ (o : MemoryMeaning). o.declared) (λ (o : MemoryMeaning). o.history) (λ (b : BoardMeaning). b.images) (λ (b : BoardMeaning). b.history) parts)
+  pub bounded_start : n ≤ 64 → counts p ≤ 262000 → IsBounded moves_left (thin_moment parts)
   bounded_start small few = record {
     images = images_low;
     memories = memories_low;
-    board = let h = s.board_history in subst (λ g. last_stamp_of g ≤ steps_made (moment_of (λ (m : Config). m) (λ (o : MemoryMeaning). o.declared) (λ (o : MemoryMeaning). o.history) (λ (b : BoardMeaning). b.images) (λ (b : BoardMeaning). b.history) parts)) (sym h) (omega arith);
+    board = let h = s.board_history in subst (λ g. last_stamp_of g ≤ steps_made (thin_moment parts)) (sym h) (omega arith);
     few =
         let z = lengths_zero (λ (r : ImageRun Config). r.events.items) parts.images.items no_image_events in
         let t = total_below moves_left parts.images.items (λ k r l q. (let h = (s.images k r l q).few in omega arith)) in

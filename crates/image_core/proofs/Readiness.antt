@@ -4,6 +4,8 @@ use Rattle.std.specs.Prelude.{map, slice_index_or, slice_get, slice_set, Some, N
 use Rattle.caf_base.specs.declared.place.Place.{Place}
 use Rattle.caf_base.specs.declared.place.Place.TheVariants as places
 use Rattle.caf_base.specs.declared.place.ImageNo.{ImageNo}
+use Rattle.caf_events.specs.declared.object.Object as object
+use Rattle.caf_events.specs.declared.walker.Walker as walker
 use Rattle.caf_events.specs.declared.ask.Ask.{Ask}
 use Rattle.caf_events.specs.declared.reply.Reply.{Reply}
 use Rattle.caf_events.specs.declared.event.Event.{Event}
@@ -20,9 +22,9 @@ use Rattle.image_core.specs.declared.prepared.Prepared.{Prepared}
 use Rattle.image_core.specs.declared.prepared.Prepared.TheVariants as prepareds
 use Rattle.core_runs.specs.Lists.{list_at}
 use Rattle.core_runs.specs.Moments.{Rules, Moment, item_at, ready_there, memory_ready_at, can_move, can_move_from, can_step, HasEnded, HasEndedFrom}
-use Rattle.image_core.specs.Prepared.{AsksAt, IsServedNext}
+use Rattle.image_core.specs.Prepared.{move_of, AsksAt, IsServedNext}
 use Rattle.core_runs.specs.Moments.{rules}
-use Rattle.image_core.specs.Parts.{moment_of, event_lists, IsPreparedRun, IsSetAside, IsServedThere}
+use Rattle.image_core.specs.Parts.{moment, event_lists, IsPreparedRun, IsSetAside, IsServedThere}
 use Rattle.image_core.proofs.Slices.{map_index, map_get, map_length, map_same, index_set}
 
 abbrev build : {C M B : Type 0} → List C → List (List Event) → List M → List (List Entry) → B → List Entry → Moment C M B
@@ -65,88 +67,86 @@ can_asked r m i (goes c) a h = absurd h
 can_asked r m i (asks x l k) a h = ap (λ y. ready_there r m i y (place_of y)) (sym h)
 can_asked r m i over a h = absurd h
 
-module _ {M O B C MM BM : Type 0} (config : M → C) (step : C → Move C Ask Reply)
-    (made : O → MM) (history : O → List Entry) (has_room : O → ℕ → Ask → Type 0) (test : MM → List Entry → ℕ → Ask → Bool) (answer : MM → List Entry → ℕ → Ask → Reply)
-    (board_made : B → BM) (board_history : B → List Entry) (board_room : B → ℕ → Ask → Type 0) (board_test : BM → List Entry → ℕ → Ask → Bool) (board_answer : BM → List Entry → ℕ → Ask → Reply)
+module _ {M O B : Type 0} (walks : walker.Ghosts M) (memory : object.Ghosts O) (control : object.Ghosts B)
     (p : PartsOf M O B) (k : ℕ) (r : ImageRun M) (image_in : k < length p.images.items) (run_is : r ≡ slice_index_or p.images.items k r) where
-  abbrev pub R : Rules C MM BM
-  R = rules step test answer board_test board_answer
+  abbrev pub R : Rules walks.Config memory.Made control.Made
+  R = rules walks memory control
 
-  abbrev pub now : Moment C MM BM
-  now = moment_of config made history board_made board_history p
+  abbrev pub now : Moment walks.Config memory.Made control.Made
+  now = moment walks memory control p
 
   -- an image is written again as it was, and so are the objects
-  pub same_moment : (p' : PartsOf M O B) (r' : ImageRun M) → p'.images.items ≡ slice_set p.images.items k r' → config r'.machine ≡ config r.machine → r'.events.items ≡ r.events.items
-      → map made p'.memories.items ≡ map made p.memories.items → map history p'.memories.items ≡ map history p.memories.items → board_made p'.board ≡ board_made p.board → board_history p'.board ≡ board_history p.board
-      → moment_of config made history board_made board_history p' ≡ now
+  pub same_moment : (p' : PartsOf M O B) (r' : ImageRun M) → p'.images.items ≡ slice_set p.images.items k r' → walks.config r'.machine ≡ walks.config r.machine → r'.events.items ≡ r.events.items
+      → map memory.made p'.memories.items ≡ map memory.made p.memories.items → map memory.history p'.memories.items ≡ map memory.history p.memories.items → control.made p'.board ≡ control.made p.board → control.history p'.board ≡ control.history p.board
+      → moment walks memory control p' ≡ now
   same_moment p' r' s c e m h b t =
       build_same _ _ _ _ _ _ _ _ _ _ _ _
-      (ap (map (λ (x : ImageRun M). config x.machine)) s ∙ map_same (λ (x : ImageRun M). config x.machine) p.images.items k r r' image_in run_is c)
+      (ap (map (λ (x : ImageRun M). walks.config x.machine)) s ∙ map_same (λ (x : ImageRun M). walks.config x.machine) p.images.items k r r' image_in run_is c)
       (ap event_lists s ∙ map_same (λ (x : ImageRun M). x.events.items) p.images.items k r r' image_in run_is e)
       m h b t
 
-  can_is : can_step R now (suc k) ≡ can_move R now (suc k) (step (config r.machine))
-  can_is = ap (can_move_from R now (suc k)) (map_get (λ (x : ImageRun M). config x.machine) p.images.items k r image_in run_is)
+  can_is : can_step R now (suc k) ≡ can_move R now (suc k) (move_of walks r)
+  can_is = ap (can_move_from R now (suc k)) (map_get (λ (x : ImageRun M). walks.config x.machine) p.images.items k r image_in run_is)
 
-  ended_is : HasEnded R now (suc k) ≡ IsOver (step (config r.machine))
-  ended_is = ap (HasEndedFrom R) (map_get (λ (x : ImageRun M). config x.machine) p.images.items k r image_in run_is)
+  ended_is : HasEnded R now (suc k) ≡ IsOver (move_of walks r)
+  ended_is = ap (HasEndedFrom R) (map_get (λ (x : ImageRun M). walks.config x.machine) p.images.items k r image_in run_is)
 
-  pub ended : IsOver (step (config r.machine)) → HasEnded R now (suc k)
+  pub ended : IsOver (move_of walks r) → HasEnded R now (suc k)
   ended h = subst (λ (X : Type 0). X) (sym ended_is) h
 
-  pub not_ended : (q : Place) → AsksAt q (step (config r.machine)) → HasEnded R now (suc k) → ⊥
-  not_ended q a h = not_over q (step (config r.machine)) a (subst (λ (X : Type 0). X) ended_is h)
+  pub not_ended : (q : Place) → AsksAt q (move_of walks r) → HasEnded R now (suc k) → ⊥
+  not_ended q a h = not_over q (move_of walks r) a (subst (λ (X : Type 0). X) ended_is h)
 
-  ready_is : (q : Place) (a : Ask) → AsksAt q (step (config r.machine)) → AsksNext (step (config r.machine)) a → can_step R now (suc k) ≡ ready_there R now (suc k) a q
-  ready_is q a h n = can_is ∙ can_asked R now (suc k) (step (config r.machine)) a n ∙ ap (ready_there R now (suc k) a) (asked_at q (step (config r.machine)) a h n)
+  ready_is : (q : Place) (a : Ask) → AsksAt q (move_of walks r) → AsksNext (move_of walks r) a → can_step R now (suc k) ≡ ready_there R now (suc k) a q
+  ready_is q a h n = can_is ∙ can_asked R now (suc k) (move_of walks r) a n ∙ ap (ready_there R now (suc k) a) (asked_at q (move_of walks r) a h n)
 
-  pub own_can : (a : Ask) → AsksAt places.Own (step (config r.machine)) → AsksNext (step (config r.machine)) a → true ≡ can_step R now (suc k)
+  pub own_can : (a : Ask) → AsksAt places.Own (move_of walks r) → AsksNext (move_of walks r) a → true ≡ can_step R now (suc k)
   own_can a h n = sym (ready_is places.Own a h n)
 
-  pub board_can : (a : Ask) (i : ℕ) → AsksAt places.Board (step (config r.machine)) → AsksNext (step (config r.machine)) a → i ≡ suc k → board_test (board_made p.board) (board_history p.board) i a ≡ can_step R now (suc k)
-  board_can a i h n e = ap (λ m. board_test (board_made p.board) (board_history p.board) m a) e ∙ sym (ready_is places.Board a h n)
+  pub board_can : (a : Ask) (i : ℕ) → AsksAt places.Board (move_of walks r) → AsksNext (move_of walks r) a → i ≡ suc k → control.ready_after (control.made p.board) (control.history p.board) i a ≡ can_step R now (suc k)
+  board_can a i h n e = ap (λ m. control.ready_after (control.made p.board) (control.history p.board) m a) e ∙ sym (ready_is places.Board a h n)
 
-  pub memory_can : (owner : ImageNo) (j : ℕ) (o : O) (a : Ask) (i : ℕ) → owner.0 ≡ suc j → j < length p.memories.items → o ≡ slice_index_or p.memories.items j o → AsksAt (places.Memory owner) (step (config r.machine)) → AsksNext (step (config r.machine)) a → i ≡ suc k → test (made o) (history o) i a ≡ can_step R now (suc k)
+  pub memory_can : (owner : ImageNo) (j : ℕ) (o : O) (a : Ask) (i : ℕ) → owner.0 ≡ suc j → j < length p.memories.items → o ≡ slice_index_or p.memories.items j o → AsksAt (places.Memory owner) (move_of walks r) → AsksNext (move_of walks r) a → i ≡ suc k → memory.ready_after (memory.made o) (memory.history o) i a ≡ can_step R now (suc k)
   memory_can owner j o a i w l q h n e =
-      ap (λ m. test (made o) (history o) m a) e
+      ap (λ m. memory.ready_after (memory.made o) (memory.history o) m a) e
       ∙ sym (ready_is (places.Memory owner) a h n
       ∙ ap (λ m. memory_ready_at R (list_at now.histories m) (suc k) a (item_at now.memories m)) w
-      ∙ ap (λ v. memory_ready_at R (list_at now.histories (suc j)) (suc k) a v) (map_get made p.memories.items j o l q)
-      ∙ ap (λ v. memory_ready_at R v (suc k) a (Some (made o))) (map_index history p.memories.items j o [] l q))
+      ∙ ap (λ v. memory_ready_at R (list_at now.histories (suc j)) (suc k) a v) (map_get memory.made p.memories.items j o l q)
+      ∙ ap (λ v. memory_ready_at R v (suc k) a (Some (memory.made o))) (map_index memory.history p.memories.items j o [] l q))
 
   no_memory : (n : ℕ) → (n ≡ 0) ⊎ (length p.memories.items < n) → item_at now.memories n ≡ None
   no_memory zero h = refl
   no_memory (suc j) (inl h) = absurd (omega arith)
-  no_memory (suc j) (inr h) = get_past now.memories j (let l = map_length made p.memories.items in omega arith)
+  no_memory (suc j) (inr h) = get_past now.memories j (let l = map_length memory.made p.memories.items in omega arith)
 
-  no_move : (owner : ImageNo) (mv : Move C Ask Reply) → (owner.0 ≡ 0) ⊎ (length p.memories.items < owner.0) → AsksAt (places.Memory owner) mv → can_move R now (suc k) mv ≡ false
+  no_move : (owner : ImageNo) (mv : Move walks.Config Ask Reply) → (owner.0 ≡ 0) ⊎ (length p.memories.items < owner.0) → AsksAt (places.Memory owner) mv → can_move R now (suc k) mv ≡ false
   no_move owner (goes c) d h = refl
   no_move owner (asks a l n) d h = ap (ready_there R now (suc k) a) h ∙ ap (memory_ready_at R (list_at now.histories owner.0) (suc k) a) (no_memory owner.0 d)
   no_move owner over d h = refl
 
   -- at a memory that the run hasn't no step can be made
-  pub stranger : (owner : ImageNo) → (owner.0 ≡ 0) ⊎ (length p.memories.items < owner.0) → AsksAt (places.Memory owner) (step (config r.machine)) → false ≡ can_step R now (suc k)
-  stranger owner d h = sym (can_is ∙ no_move owner (step (config r.machine)) d h)
+  pub stranger : (owner : ImageNo) → (owner.0 ≡ 0) ⊎ (length p.memories.items < owner.0) → AsksAt (places.Memory owner) (move_of walks r) → false ≡ can_step R now (suc k)
+  stranger owner d h = sym (can_is ∙ no_move owner (move_of walks r) d h)
 
-  served_aside : (p' : PartsOf M O B) (mv : Move C Ask Reply) (i : ℕ) → AsksAt places.Board mv → (pr : Prepared) → IsServedNext board_made board_history board_room board_test board_answer mv i p'.board pr
-      → IsSetAside config step made history has_room test answer board_made board_history board_room board_test board_answer p' i mv pr
+  served_aside : (p' : PartsOf M O B) (mv : Move walks.Config Ask Reply) (i : ℕ) → AsksAt places.Board mv → (pr : Prepared) → IsServedNext control mv i p'.board pr
+      → IsSetAside walks memory control p' i mv pr
   served_aside p' mv i h prepareds.Nothing s = absurd s
   served_aside p' mv i h (prepareds.Own ask) s = absurd s
   served_aside p' mv i h (prepareds.Served ask spare) s =
-      (s.0, subst (IsServedThere config step made history has_room test answer board_made board_history board_room board_test board_answer p' i ask spare) (sym (asked_at places.Board mv ask h s.0)) s.1)
+      (s.0, subst (IsServedThere walks memory control p' i ask spare) (sym (asked_at places.Board mv ask h s.0)) s.1)
 
   -- the board set the step aside
-  pub board_aside : (p' : PartsOf M O B) (r1 r' : ImageRun M) → p'.images.items ≡ slice_set p.images.items k r' → r1.image.0 ≡ suc k → config r1.machine ≡ config r.machine → config r'.machine ≡ config r1.machine
-      → vec_len r1.events < vec_capacity r1.events → r'.events ≡ r1.events → AsksAt places.Board (step (config r.machine))
-      → IsServedNext board_made board_history board_room board_test board_answer (step (config r1.machine)) r1.image.0 p'.board r'.prepared
-      → (x : ImageRun M) → x ≡ slice_index_or p'.images.items k x → IsPreparedRun config step made history has_room test answer board_made board_history board_room board_test board_answer p' k x
+  pub board_aside : (p' : PartsOf M O B) (r1 r' : ImageRun M) → p'.images.items ≡ slice_set p.images.items k r' → r1.image.0 ≡ suc k → walks.config r1.machine ≡ walks.config r.machine → walks.config r'.machine ≡ walks.config r1.machine
+      → vec_len r1.events < vec_capacity r1.events → r'.events ≡ r1.events → AsksAt places.Board (move_of walks r)
+      → IsServedNext control (move_of walks r1) r1.image.0 p'.board r'.prepared
+      → (x : ImageRun M) → x ≡ slice_index_or p'.images.items k x → IsPreparedRun walks memory control p' k x
   board_aside p' r1 r' s e c1 c room es h v x q =
       let w : x ≡ r' = index_set p.images.items k r' x image_in (subst (λ xs. x ≡ slice_index_or xs k x) s q) in
-      let n = subst (λ i. IsServedNext board_made board_history board_room board_test board_answer (step (config r1.machine)) i p'.board r'.prepared) e v in
-      let h1 = subst (λ d. AsksAt places.Board (step d)) (sym c1) h in
-      subst (IsPreparedRun config step made history has_room test answer board_made board_history board_room board_test board_answer p' k) (sym w) (record {
+      let n = subst (λ i. IsServedNext control (move_of walks r1) i p'.board r'.prepared) e v in
+      let h1 = subst (λ d. AsksAt places.Board (walks.step d)) (sym c1) h in
+      subst (IsPreparedRun walks memory control p' k) (sym w) (record {
         room = subst (λ (t : Vec Event Global). vec_len t < vec_capacity t) (sym es) room;
-        next = subst (λ d. IsSetAside config step made history has_room test answer board_made board_history board_room board_test board_answer p' (suc k) (step d) r'.prepared) (sym c) (served_aside p' (step (config r1.machine)) (suc k) h1 r'.prepared n);
+        next = subst (λ d. IsSetAside walks memory control p' (suc k) (walks.step d) r'.prepared) (sym c) (served_aside p' (move_of walks r1) (suc k) h1 r'.prepared n);
       })
 
 -- a fact of an Ok that follows from another

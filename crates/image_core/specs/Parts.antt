@@ -2,6 +2,8 @@
 use Rattle.std.specs.Prelude.{ℕ, suc, ◌≡◌, ◌<◌, ◌≤◌, ◌+◌, ◌-◌, ◌^◌, Bool, true, false, List, [], ◌∷◌, map, length, slice_index_or, vec_len, vec_capacity, Some}
 use Rattle.caf_base.specs.declared.place.Place.{Place}
 use Rattle.caf_base.specs.declared.place.Place.TheVariants.{Memory, Board, Own}
+use Rattle.caf_events.specs.declared.object.Object as object
+use Rattle.caf_events.specs.declared.walker.Walker as walker
 use Rattle.caf_events.specs.declared.ask.Ask.{Ask}
 use Rattle.caf_events.specs.declared.reply.Reply.{Reply}
 use Rattle.caf_events.specs.declared.event.Event.{Event}
@@ -19,21 +21,21 @@ use Rattle.image_core.specs.declared.prepared.Prepared.{Prepared}
 use Rattle.image_core.specs.declared.prepared.Prepared.TheVariants as prepareds
 use Rattle.core_runs.specs.Lists.{list_at, last_of}
 use Rattle.core_runs.specs.Moments.{Rules, Moment, can_step, HasEnded, item_at, with_item}
-use Rattle.image_core.specs.Prepared.{IsServed}
+use Rattle.image_core.specs.Prepared.{IsServed, move_of}
 
 -- the events of each image
 abbrev pub event_lists : {M : Type 0} → List (ImageRun M) → List (List Event)
 event_lists images = map (λ r. r.events.items) images
 
 -- how the parts stand at a moment
-abbrev pub moment_of : {M O B C MM BM : Type 0} → (M → C) → (O → MM) → (O → List Entry) → (B → BM) → (B → List Entry) → PartsOf M O B → Moment C MM BM
-moment_of config made history board_made board_history p = record {
-  configs = map (λ r. config r.machine) p.images.items;
+abbrev pub moment : {M O B : Type 0} (walks : walker.Ghosts M) (memory : object.Ghosts O) (control : object.Ghosts B) → PartsOf M O B → Moment walks.Config memory.Made control.Made
+moment walks memory control p = record {
+  configs = map (λ r. walks.config r.machine) p.images.items;
   events = event_lists p.images.items;
-  memories = map made p.memories.items;
-  histories = map history p.memories.items;
-  board = board_made p.board;
-  board_history = board_history p.board;
+  memories = map memory.made p.memories.items;
+  histories = map memory.history p.memories.items;
+  board = control.made p.board;
+  board_history = control.history p.board;
 }
 
 -- what holds of the item at each place of a list, counted from 0
@@ -73,17 +75,15 @@ pub record Spends {C M B : Type 0} (left : C → ℕ) (m : Moment C M B) (i : �
   pub falls : left after < left before
 
 -- what is set aside for the image at a place of the list is its next step
-module _ {M O B C MM BM : Type 0} (config : M → C) (step : C → Move C Ask Reply)
-    (made : O → MM) (history : O → List Entry) (has_room : O → ℕ → Ask → Type 0) (test : MM → List Entry → ℕ → Ask → Bool) (answer : MM → List Entry → ℕ → Ask → Reply)
-    (board_made : B → BM) (board_history : B → List Entry) (board_room : B → ℕ → Ask → Type 0) (board_test : BM → List Entry → ℕ → Ask → Bool) (board_answer : BM → List Entry → ℕ → Ask → Reply) where
+module _ {M O B : Type 0} (walks : walker.Ghosts M) (memory : object.Ghosts O) (control : object.Ghosts B) where
   -- the object at this place set the step aside
   abbrev pub IsServedThere : PartsOf M O B → ℕ → Ask → Spare → Place → Type 0
   IsServedThere p i ask spare Own = ⊥
-  IsServedThere p i ask spare Board = IsServed board_made board_history board_room board_test board_answer i p.board ask spare
+  IsServedThere p i ask spare Board = IsServed control i p.board ask spare
   IsServedThere p i ask spare (Memory owner) =
-      (0 < owner.0) × (owner.0 ≤ length p.memories.items) × ((o : O) → o ≡ slice_index_or p.memories.items (owner.0 - 1) o → IsServed made history has_room test answer i o ask spare)
+      (0 < owner.0) × (owner.0 ≤ length p.memories.items) × ((o : O) → o ≡ slice_index_or p.memories.items (owner.0 - 1) o → IsServed memory i o ask spare)
 
-  abbrev pub IsSetAside : PartsOf M O B → ℕ → Move C Ask Reply → Prepared → Type 0
+  abbrev pub IsSetAside : PartsOf M O B → ℕ → Move walks.Config Ask Reply → Prepared → Type 0
   IsSetAside p i move prepareds.Nothing = ⊥
   IsSetAside p i move (prepareds.Own ask) = AsksNext move ask × (place_of ask ≡ Own)
   IsSetAside p i move (prepareds.Served ask spare) = AsksNext move ask × IsServedThere p i ask spare (place_of ask)
@@ -91,7 +91,7 @@ module _ {M O B C MM BM : Type 0} (config : M → C) (step : C → Move C Ask Re
   -- the step of the image at this place is set aside, with room for its event
   pub record IsPreparedRun (p : PartsOf M O B) (k : ℕ) (r : ImageRun M) : Type 0 where
     pub room : vec_len r.events < vec_capacity r.events
-    pub next : IsSetAside p (suc k) (step (config r.machine)) r.prepared
+    pub next : IsSetAside p (suc k) (move_of walks r) r.prepared
 
   abbrev pub IsPrepared : PartsOf M O B → ℕ → Type 0
   IsPrepared p k = (r : ImageRun M) → r ≡ slice_index_or p.images.items k r → IsPreparedRun p k r

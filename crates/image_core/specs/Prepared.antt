@@ -2,6 +2,8 @@
 use Rattle.std.specs.Prelude.{ℕ, ◌≡◌, ◌+◌, max, Bool, IsTrue, List, [], ◌∷◌, ◌++◌}
 use Rattle.caf_base.specs.declared.place.Place.{Place}
 use Rattle.caf_base.specs.declared.place.Place.TheVariants.{Own}
+use Rattle.caf_events.specs.declared.object.Object as objects
+use Rattle.caf_events.specs.declared.walker.Walker as walker
 use Rattle.caf_events.specs.declared.ask.Ask.{Ask}
 use Rattle.caf_events.specs.declared.reply.Reply.{Reply}
 use Rattle.caf_events.specs.declared.reply.Reply.TheVariants as replies
@@ -12,35 +14,38 @@ use Rattle.caf_events.specs.Asks.{place_of}
 use Rattle.caf_events.specs.Histories.{last_stamp_of, IsSpare}
 use Rattle.caf_events.specs.Walkers.{AsksNext, IsAtLine, Continues}
 use Rattle.trace_theory.specs.Machines.{Move, asks, goes, over}
+use Rattle.image_core.specs.declared.run.ImageRun.{ImageRun}
 use Rattle.image_core.specs.declared.prepared.Prepared.{Prepared}
 use Rattle.image_core.specs.declared.prepared.Prepared.TheVariants as prepareds
 use Rattle.core_runs.specs.Lists.{entry, last_of}
 
--- how an object serves: what it was made with, its history, its room, when it is ready and what it replies
-module _ {O M : Type 0} (made : O → M) (history : O → List Entry) (has_room : O → ℕ → Ask → Type 0) (test : M → List Entry → ℕ → Ask → Bool) (answer : M → List Entry → ℕ → Ask → Reply) where
-  -- the object is ready for the ask, has room for its entry, and set aside the ask and the reply
-  pub record IsServed (i : ℕ) (o : O) (ask : Ask) (spare : Spare) : Type 0 where
-    pub ready : IsTrue (test (made o) (history o) i ask)
-    pub room : has_room o i ask
-    pub spare_is : IsSpare ask (answer (made o) (history o) i ask) spare
+-- the next move of an image
+abbrev pub move_of : {M : Type 0} (walks : walker.Ghosts M) → ImageRun M → Move walks.Config Ask Reply
+move_of walks r = walks.step (walks.config r.machine)
 
-  -- what is set aside is the next ask, for which this object is ready
-  abbrev pub IsServedNext : {C : Type 0} → Move C Ask Reply → ℕ → O → Prepared → Type 0
-  IsServedNext move i o prepareds.Nothing = ⊥
-  IsServedNext move i o (prepareds.Own ask) = ⊥
-  IsServedNext move i o (prepareds.Served ask spare) = AsksNext move ask × IsServed i o ask spare
+-- the object is ready for the ask of image i, has room for its entry, and set aside the ask and the reply
+pub record IsServed {O : Type 0} (object : objects.Ghosts O) (i : ℕ) (o : O) (ask : Ask) (spare : Spare) : Type 0 where
+  pub ready : IsTrue (object.ready_after (object.made o) (object.history o) i ask)
+  pub room : object.has_room o i ask
+  pub spare_is : IsSpare ask (object.reply_after (object.made o) (object.history o) i ask) spare
 
-  -- one step of an image at an object: one event at the end of both lists, with the stamp and the reply that were due
-  pub record StepsAt {C : Type 0} (step : C → Move C Ask Reply) (i : ℕ) (from to : C) (es es' : List Event) (o o' : O) (e : Event) : Type 0 where
-    pub asked : AsksNext (step from) e.ask
-    pub line : IsAtLine (step from) e.line
-    pub ready : IsTrue (test (made o) (history o) i e.ask)
-    pub reply : e.reply ≡ answer (made o) (history o) i e.ask
-    pub stamp : e.stamp ≡ max (last_of es) (last_stamp_of (history o)) + 1
-    pub goes_on : Continues step (step from) e.reply to
-    pub events : es' ≡ es ++ e ∷ []
-    pub made_same : made o' ≡ made o
-    pub history_more : history o' ≡ history o ++ entry i e ∷ []
+-- what is set aside is the next ask, for which this object is ready
+abbrev pub IsServedNext : {O C : Type 0} (object : objects.Ghosts O) → Move C Ask Reply → ℕ → O → Prepared → Type 0
+IsServedNext object move i o prepareds.Nothing = ⊥
+IsServedNext object move i o (prepareds.Own ask) = ⊥
+IsServedNext object move i o (prepareds.Served ask spare) = AsksNext move ask × IsServed object i o ask spare
+
+-- one step of an image at an object: one event at the end of both lists, with the stamp and the reply that were due
+pub record StepsAt {M O : Type 0} (walks : walker.Ghosts M) (object : objects.Ghosts O) (r r' : ImageRun M) (o o' : O) (e : Event) : Type 0 where
+  pub asked : AsksNext (move_of walks r) e.ask
+  pub line : IsAtLine (move_of walks r) e.line
+  pub ready : IsTrue (object.ready_after (object.made o) (object.history o) r.image.0 e.ask)
+  pub reply : e.reply ≡ object.reply_after (object.made o) (object.history o) r.image.0 e.ask
+  pub stamp : e.stamp ≡ max (last_of r.events.items) (last_stamp_of (object.history o)) + 1
+  pub goes_on : Continues walks.step (move_of walks r) e.reply (walks.config r'.machine)
+  pub events : r'.events.items ≡ r.events.items ++ e ∷ []
+  pub made_same : object.made o' ≡ object.made o
+  pub history_more : object.history o' ≡ object.history o ++ entry r.image.0 e ∷ []
 
 -- what is set aside is the next ask, which the image makes by itself
 abbrev pub IsOwnNext : {C : Type 0} → Move C Ask Reply → Prepared → Type 0
@@ -55,13 +60,13 @@ place_aside (prepareds.Own ask) = Own
 place_aside (prepareds.Served ask spare) = place_of ask
 
 -- one step that an image makes by itself: one event at the end of its list
-pub record StepsAlone {C : Type 0} (step : C → Move C Ask Reply) (from to : C) (es es' : List Event) (e : Event) : Type 0 where
-  pub asked : AsksNext (step from) e.ask
-  pub line : IsAtLine (step from) e.line
+pub record StepsAlone {M : Type 0} (walks : walker.Ghosts M) (r r' : ImageRun M) (e : Event) : Type 0 where
+  pub asked : AsksNext (move_of walks r) e.ask
+  pub line : IsAtLine (move_of walks r) e.line
   pub reply : e.reply ≡ replies.Done
-  pub stamp : e.stamp ≡ last_of es + 1
-  pub goes_on : Continues step (step from) e.reply to
-  pub events : es' ≡ es ++ e ∷ []
+  pub stamp : e.stamp ≡ last_of r.events.items + 1
+  pub goes_on : Continues walks.step (move_of walks r) e.reply (walks.config r'.machine)
+  pub events : r'.events.items ≡ r.events.items ++ e ∷ []
 
 -- the next move is an ask at this place
 abbrev pub AsksAt : {C : Type 0} → Place → Move C Ask Reply → Type 0

@@ -1,14 +1,16 @@
 -- The start of a run: every machine at the first ask of its image, and no event.
-use Rattle.std.specs.Prelude.{ℕ, suc, ◌≡◌, ◌≤◌, [], length}
+use Rattle.std.specs.Prelude.{ℕ, suc, ◌≡◌, ◌≤◌, [], length, map}
 use Rattle.caf_base.specs.declared.thin.ThinProgram.{ThinProgram}
 use Rattle.caf_base.specs.Thin.{counts}
+use Rattle.caf_events.specs.Memories.{DeclaredMemory}
+use Rattle.core_runs.specs.Moments.{Moment}
 use Rattle.trace_theory.specs.Machines.{go, goes, Stops}
 use Rattle.thin_parts.specs.ThinWalk.{Config, thin_step, start_of, moves_left}
 use Rattle.thin_parts.specs.ThinMemory.{MemoryMeaning, declared_memory}
 use Rattle.thin_parts.specs.ThinBoard.{BoardMeaning}
 use Rattle.image_core.specs.declared.run.ImageRun.{ImageRun}
 use Rattle.image_core.specs.declared.parts.PartsOf.{PartsOf}
-use Rattle.image_core.specs.Parts.{EachAt}
+use Rattle.image_core.specs.Parts.{EachAt, event_lists}
 
 -- the image at a place of the list: numbered from 1, without an event, at the first ask of its program or its end
 pub record IsFresh (p : ThinProgram) (n k : ℕ) (r : ImageRun Config) : Type 0 where
@@ -31,3 +33,14 @@ pub record IsStart (p : ThinProgram) (n : ℕ) (parts : PartsOf Config MemoryMea
   pub memories : EachAt (IsNewMemory p) parts.memories.items
   pub board : parts.board.images ≡ n
   pub board_history : parts.board.history ≡ []
+
+-- how the parts of a run of a thin program stand at a moment
+abbrev pub thin_moment : PartsOf Config MemoryMeaning BoardMeaning → Moment Config DeclaredMemory ℕ
+thin_moment p = record {
+  configs = map (λ r. r.machine) p.images.items;
+  events = event_lists p.images.items;
+  memories = map (λ o. o.declared) p.memories.items;
+  histories = map (λ o. o.history) p.memories.items;
+  board = p.board.images;
+  board_history = p.board.history;
+}

@@ -7,7 +7,7 @@ ghost use Rattle.core_runs.specs.Moments.{can_step, rules};
 ghost use Rattle.core_runs.specs.Beginnings.{Beginning};
 ghost use Rattle.core_runs.specs.Kept.{IsKept};
 ghost use Rattle.core_runs.specs.Orders.{candidates};
-ghost use Rattle.image_core.specs.Parts.{moment_of, event_lists, AreNumbered, IsBounded, IsPrepared, total};
+ghost use Rattle.image_core.specs.Parts.{moment, event_lists, AreNumbered, IsBounded, IsPrepared, total};
 ghost use Rattle.image_core.specs.Choosing.{chosen_by, drawn};
 ghost use Rattle.image_core.specs.Orders.{IsNextBehind, NoneCan, AllEnded, OneWaits, PicksOne, Advances, IsOrderRun, MatchesIdle, IsFirstOf, AreFewer};
 ghost use Rattle.image_core.specs.declared.run.ImageRun.{ImageRun};
@@ -26,9 +26,9 @@ impl<M: Walker, O: Object, B: Object> PartsOf<M, O, B> {
         requires high { high ≤ length self.old.images.items + 1 }
         requires numbered { AreNumbered self.old.images.items }
         ensures numbered { AreNumbered self.new.images.items }
-        ensures same { moment_of M.config O.made O.history B.made B.history self.new ≡ moment_of M.config O.made O.history B.made B.history self.old }
-        ensures first { IfOk result (IsFirstOf (can_step (rules M.step O.ready_after O.reply_after B.ready_after B.reply_after) (moment_of M.config O.made O.history B.made B.history self.old)) low high) }
-        ensures prepared { IfOk result (λ o. IfSome o (λ i. IsPrepared M.config M.step O.made O.history O.has_room O.ready_after O.reply_after B.made B.history B.has_room B.ready_after B.reply_after self.new (i.0 - 1))) }
+        ensures same { moment M.Walker O.Object B.Object self.new ≡ moment M.Walker O.Object B.Object self.old }
+        ensures first { IfOk result (IsFirstOf (can_step (rules M.Walker O.Object B.Object) (moment M.Walker O.Object B.Object self.old)) low high) }
+        ensures prepared { IfOk result (λ o. IfSome o (λ i. IsPrepared M.Walker O.Object B.Object self.new (i.0 - 1))) }
     {
         for image in low..high {
             if let Ready::Can = self.prepare(ImageNo(image))? {
@@ -43,10 +43,10 @@ impl<M: Walker, O: Object, B: Object> PartsOf<M, O, B> {
         requires few { length self.old.images.items < 2 ^ 31 }
         requires numbered { AreNumbered self.old.images.items }
         ensures numbered { AreNumbered self.new.images.items }
-        ensures same { moment_of M.config O.made O.history B.made B.history self.new ≡ moment_of M.config O.made O.history B.made B.history self.old }
-        ensures picked { IfOk result (λ o. MatchOption o (NoneCan (rules M.step O.ready_after O.reply_after B.ready_after B.reply_after) (moment_of M.config O.made O.history B.made B.history self.old)) (λ i. IsNextBehind (rules M.step O.ready_after O.reply_after B.ready_after B.reply_after) (moment_of M.config O.made O.history B.made B.history self.old) last i.0)) }
+        ensures same { moment M.Walker O.Object B.Object self.new ≡ moment M.Walker O.Object B.Object self.old }
+        ensures picked { IfOk result (λ o. MatchOption o (NoneCan (rules M.Walker O.Object B.Object) (moment M.Walker O.Object B.Object self.old)) (λ i. IsNextBehind (rules M.Walker O.Object B.Object) (moment M.Walker O.Object B.Object self.old) last i.0)) }
         ensures within { IfOk result (λ o. IfSome o (λ i. (0 < i.0) × (i.0 ≤ length self.old.images.items))) }
-        ensures prepared { IfOk result (λ o. IfSome o (λ i. IsPrepared M.config M.step O.made O.history O.has_room O.ready_after O.reply_after B.made B.history B.has_room B.ready_after B.reply_after self.new (i.0 - 1))) }
+        ensures prepared { IfOk result (λ o. IfSome o (λ i. IsPrepared M.Walker O.Object B.Object self.new (i.0 - 1))) }
     {
         let count = self.images.len() as u32;
         if last < count {
@@ -62,9 +62,9 @@ impl<M: Walker, O: Object, B: Object> PartsOf<M, O, B> {
         requires image { (0 < image.0) × (image.0 ≤ length self.old.images.items) }
         requires numbered { AreNumbered self.old.images.items }
         ensures numbered { AreNumbered self.new.images.items }
-        ensures same { moment_of M.config O.made O.history B.made B.history self.new ≡ moment_of M.config O.made O.history B.made B.history self.old }
-        ensures can { IfOk result (λ b. b ≡ can_step (rules M.step O.ready_after O.reply_after B.ready_after B.reply_after) (moment_of M.config O.made O.history B.made B.history self.old) image.0) }
-        ensures prepared { IfOk result (λ b. b ≡ true → IsPrepared M.config M.step O.made O.history O.has_room O.ready_after O.reply_after B.made B.history B.has_room B.ready_after B.reply_after self.new (image.0 - 1)) }
+        ensures same { moment M.Walker O.Object B.Object self.new ≡ moment M.Walker O.Object B.Object self.old }
+        ensures can { IfOk result (λ b. b ≡ can_step (rules M.Walker O.Object B.Object) (moment M.Walker O.Object B.Object self.old) image.0) }
+        ensures prepared { IfOk result (λ b. b ≡ true → IsPrepared M.Walker O.Object B.Object self.new (image.0 - 1)) }
     {
         match self.prepare(image)? {
             Ready::Can => Ok(true),
@@ -77,8 +77,8 @@ impl<M: Walker, O: Object, B: Object> PartsOf<M, O, B> {
         requires few { length self.old.images.items < 2 ^ 31 }
         requires numbered { AreNumbered self.old.images.items }
         ensures numbered { AreNumbered self.new.images.items }
-        ensures same { moment_of M.config O.made O.history B.made B.history self.new ≡ moment_of M.config O.made O.history B.made B.history self.old }
-        ensures count { IfOk result (λ n. n ≡ length (candidates (rules M.step O.ready_after O.reply_after B.ready_after B.reply_after) (moment_of M.config O.made O.history B.made B.history self.old))) }
+        ensures same { moment M.Walker O.Object B.Object self.new ≡ moment M.Walker O.Object B.Object self.old }
+        ensures count { IfOk result (λ n. n ≡ length (candidates (rules M.Walker O.Object B.Object) (moment M.Walker O.Object B.Object self.old))) }
     {
         let mut count: u32 = 0;
         for image in 1..self.images.len() as u32 + 1 {
@@ -93,12 +93,12 @@ impl<M: Walker, O: Object, B: Object> PartsOf<M, O, B> {
     fn candidate_at(&mut self, place: u32) -> Result<ImageNo, NoMemory>
         requires few { length self.old.images.items < 2 ^ 31 }
         requires numbered { AreNumbered self.old.images.items }
-        requires place { place < length (candidates (rules M.step O.ready_after O.reply_after B.ready_after B.reply_after) (moment_of M.config O.made O.history B.made B.history self.old)) }
+        requires place { place < length (candidates (rules M.Walker O.Object B.Object) (moment M.Walker O.Object B.Object self.old)) }
         ensures numbered { AreNumbered self.new.images.items }
-        ensures same { moment_of M.config O.made O.history B.made B.history self.new ≡ moment_of M.config O.made O.history B.made B.history self.old }
-        ensures it { IfOk result (λ i. i.0 ≡ slice_index (candidates (rules M.step O.ready_after O.reply_after B.ready_after B.reply_after) (moment_of M.config O.made O.history B.made B.history self.old)) place) }
+        ensures same { moment M.Walker O.Object B.Object self.new ≡ moment M.Walker O.Object B.Object self.old }
+        ensures it { IfOk result (λ i. i.0 ≡ slice_index (candidates (rules M.Walker O.Object B.Object) (moment M.Walker O.Object B.Object self.old)) place) }
         ensures within { IfOk result (λ i. (0 < i.0) × (i.0 ≤ length self.old.images.items)) }
-        ensures prepared { IfOk result (λ i. IsPrepared M.config M.step O.made O.history O.has_room O.ready_after O.reply_after B.made B.history B.has_room B.ready_after B.reply_after self.new (i.0 - 1)) }
+        ensures prepared { IfOk result (λ i. IsPrepared M.Walker O.Object B.Object self.new (i.0 - 1)) }
     {
         let mut left = place;
         for image in 1..self.images.len() as u32 + 1 {
@@ -117,10 +117,10 @@ impl<M: Walker, O: Object, B: Object> PartsOf<M, O, B> {
         requires few { length self.old.images.items < 2 ^ 31 }
         requires numbered { AreNumbered self.old.images.items }
         ensures numbered { AreNumbered self.new.images.items }
-        ensures same { moment_of M.config O.made O.history B.made B.history self.new ≡ moment_of M.config O.made O.history B.made B.history self.old }
-        ensures picked { IfOk result (PicksOne (rules M.step O.ready_after O.reply_after B.ready_after B.reply_after) (moment_of M.config O.made O.history B.made B.history self.old) (drawn state)) }
+        ensures same { moment M.Walker O.Object B.Object self.new ≡ moment M.Walker O.Object B.Object self.old }
+        ensures picked { IfOk result (PicksOne (rules M.Walker O.Object B.Object) (moment M.Walker O.Object B.Object self.old) (drawn state)) }
         ensures within { IfOk result (λ o. IfSome o (λ i. (0 < i.0) × (i.0 ≤ length self.old.images.items))) }
-        ensures prepared { IfOk result (λ o. IfSome o (λ i. IsPrepared M.config M.step O.made O.history O.has_room O.ready_after O.reply_after B.made B.history B.has_room B.ready_after B.reply_after self.new (i.0 - 1))) }
+        ensures prepared { IfOk result (λ o. IfSome o (λ i. IsPrepared M.Walker O.Object B.Object self.new (i.0 - 1))) }
     {
         let count = self.count_candidates()?;
         if count == 0 {
@@ -135,10 +135,10 @@ impl<M: Walker, O: Object, B: Object> PartsOf<M, O, B> {
         requires few { length self.old.images.items < 2 ^ 31 }
         requires numbered { AreNumbered self.old.images.items }
         ensures numbered { AreNumbered self.new.images.items }
-        ensures same { moment_of M.config O.made O.history B.made B.history self.new ≡ moment_of M.config O.made O.history B.made B.history self.old }
-        ensures picked { IfOk result (PicksOne (rules M.step O.ready_after O.reply_after B.ready_after B.reply_after) (moment_of M.config O.made O.history B.made B.history self.old) (chosen_by choices.now)) }
+        ensures same { moment M.Walker O.Object B.Object self.new ≡ moment M.Walker O.Object B.Object self.old }
+        ensures picked { IfOk result (PicksOne (rules M.Walker O.Object B.Object) (moment M.Walker O.Object B.Object self.old) (chosen_by choices.now)) }
         ensures within { IfOk result (λ o. IfSome o (λ i. (0 < i.0) × (i.0 ≤ length self.old.images.items))) }
-        ensures prepared { IfOk result (λ o. IfSome o (λ i. IsPrepared M.config M.step O.made O.history O.has_room O.ready_after O.reply_after B.made B.history B.has_room B.ready_after B.reply_after self.new (i.0 - 1))) }
+        ensures prepared { IfOk result (λ o. IfSome o (λ i. IsPrepared M.Walker O.Object B.Object self.new (i.0 - 1))) }
     {
         match choices {
             Choices::Rotate { last } => self.next_behind(*last),
@@ -150,14 +150,14 @@ impl<M: Walker, O: Object, B: Object> PartsOf<M, O, B> {
     fn advance(&mut self, choices: &mut Choices) -> Result<Option<ImageNo>, NoMemory>
         requires few { length self.old.images.items < 2 ^ 31 }
         requires numbered { AreNumbered self.old.images.items }
-        requires bounded { IsBounded M.asks_left (moment_of M.config O.made O.history B.made B.history self.old) }
+        requires bounded { IsBounded M.asks_left (moment M.Walker O.Object B.Object self.old) }
         ensures numbered { AreNumbered self.new.images.items }
-        ensures bounded { IsBounded M.asks_left (moment_of M.config O.made O.history B.made B.history self.new) }
+        ensures bounded { IsBounded M.asks_left (moment M.Walker O.Object B.Object self.new) }
         ensures count { length self.new.images.items ≡ length self.old.images.items }
-        ensures advances { IfOk result (Advances (rules M.step O.ready_after O.reply_after B.ready_after B.reply_after) choices.old (moment_of M.config O.made O.history B.made B.history self.old) choices.new (moment_of M.config O.made O.history B.made B.history self.new)) }
+        ensures advances { IfOk result (Advances (rules M.Walker O.Object B.Object) choices.old (moment M.Walker O.Object B.Object self.old) choices.new (moment M.Walker O.Object B.Object self.new)) }
         ensures within { IfOk result (λ o. IfSome o (λ i. (0 < i.0) × (i.0 ≤ length self.old.images.items))) }
-        ensures fewer { IfOk result (λ o. IfSome o (λ _. AreFewer M.asks_left (moment_of M.config O.made O.history B.made B.history self.old) (moment_of M.config O.made O.history B.made B.history self.new))) }
-        ensures err { OnErr result (moment_of M.config O.made O.history B.made B.history self.new ≡ moment_of M.config O.made O.history B.made B.history self.old) }
+        ensures fewer { IfOk result (λ o. IfSome o (λ _. AreFewer M.asks_left (moment M.Walker O.Object B.Object self.old) (moment M.Walker O.Object B.Object self.new))) }
+        ensures err { OnErr result (moment M.Walker O.Object B.Object self.new ≡ moment M.Walker O.Object B.Object self.old) }
         ensures err_choices { OnErr result (choices.new ≡ choices.old) }
     {
         match self.pick(choices)? {
@@ -172,7 +172,7 @@ impl<M: Walker, O: Object, B: Object> PartsOf<M, O, B> {
 
     // Whether every image has ended.
     fn all_ended(&self) -> bool
-        ensures { MatchesIdle (rules M.step O.ready_after O.reply_after B.ready_after B.reply_after) (moment_of M.config O.made O.history B.made B.history self.now) result }
+        ensures { MatchesIdle (rules M.Walker O.Object B.Object) (moment M.Walker O.Object B.Object self.now) result }
     {
         for run in &self.images {
             match run.machine.next() {
@@ -198,11 +198,11 @@ impl<M: Walker, O: Object, B: Object> PartsOf<M, O, B> {
     fn go_on(&mut self, choices: &mut Choices) -> Result<RunEnd, NoMemory>
         requires few { length self.old.images.items < 2 ^ 31 }
         requires numbered { AreNumbered self.old.images.items }
-        requires bounded { IsBounded M.asks_left (moment_of M.config O.made O.history B.made B.history self.old) }
+        requires bounded { IsBounded M.asks_left (moment M.Walker O.Object B.Object self.old) }
         ensures numbered { AreNumbered self.new.images.items }
-        ensures bounded { IsBounded M.asks_left (moment_of M.config O.made O.history B.made B.history self.new) }
+        ensures bounded { IsBounded M.asks_left (moment M.Walker O.Object B.Object self.new) }
         ensures count { length self.new.images.items ≡ length self.old.images.items }
-        ensures run { IsOrderRun (rules M.step O.ready_after O.reply_after B.ready_after B.reply_after) choices.old (moment_of M.config O.made O.history B.made B.history self.old) choices.new (moment_of M.config O.made O.history B.made B.history self.new) result }
+        ensures run { IsOrderRun (rules M.Walker O.Object B.Object) choices.old (moment M.Walker O.Object B.Object self.old) choices.new (moment M.Walker O.Object B.Object self.new) result }
     {
         loop {
             match self.advance(choices)? {
@@ -223,12 +223,12 @@ impl<M: Walker, O: Object, B: Object> PartsOf<M, O, B> {
     pub fn run_order(&mut self, choices: &mut Choices) -> Result<RunEnd, NoMemory>
         requires few { length self.old.images.items < 2 ^ 31 }
         requires numbered { AreNumbered self.old.images.items }
-        requires bounded { IsBounded M.asks_left (moment_of M.config O.made O.history B.made B.history self.old) }
+        requires bounded { IsBounded M.asks_left (moment M.Walker O.Object B.Object self.old) }
         ensures numbered { AreNumbered self.new.images.items }
-        ensures bounded { IsBounded M.asks_left (moment_of M.config O.made O.history B.made B.history self.new) }
+        ensures bounded { IsBounded M.asks_left (moment M.Walker O.Object B.Object self.new) }
         ensures count { length self.new.images.items ≡ length self.old.images.items }
-        ensures run { IsOrderRun (rules M.step O.ready_after O.reply_after B.ready_after B.reply_after) choices.old (moment_of M.config O.made O.history B.made B.history self.old) choices.new (moment_of M.config O.made O.history B.made B.history self.new) result }
-        ensures kept { (b : Beginning M.Config O.Made B.Made) → IsKept (rules M.step O.ready_after O.reply_after B.ready_after B.reply_after) b (moment_of M.config O.made O.history B.made B.history self.old) → IsKept (rules M.step O.ready_after O.reply_after B.ready_after B.reply_after) b (moment_of M.config O.made O.history B.made B.history self.new) }
+        ensures run { IsOrderRun (rules M.Walker O.Object B.Object) choices.old (moment M.Walker O.Object B.Object self.old) choices.new (moment M.Walker O.Object B.Object self.new) result }
+        ensures kept { (b : Beginning M.Config O.Made B.Made) → IsKept (rules M.Walker O.Object B.Object) b (moment M.Walker O.Object B.Object self.old) → IsKept (rules M.Walker O.Object B.Object) b (moment M.Walker O.Object B.Object self.new) }
     {
         self.go_on(choices)
     }

@@ -4,8 +4,8 @@ ghost use Rattle.std.specs.Prelude.{◌≡◌, ◌<◌, ◌≤◌, ◌+◌, ◌-
 ghost use Rattle.caf_base.specs.declared.place.Place.TheVariants as places;
 ghost use Rattle.core_runs.specs.Moments.{can_step};
 ghost use Rattle.core_runs.specs.Moments.{rules};
-ghost use Rattle.image_core.specs.Parts.{moment_of, AreNumbered, IsPrepared, AnswersReady};
-ghost use Rattle.image_core.specs.Prepared.{AsksAt};
+ghost use Rattle.image_core.specs.Parts.{moment, AreNumbered, IsPrepared, AnswersReady};
+ghost use Rattle.image_core.specs.Prepared.{AsksAt, move_of};
 ghost use Rattle.image_core.specs.declared.run.ImageRun.{ImageRun};
 
 use crate::parts::{PartsOf, Ready};
@@ -20,11 +20,11 @@ impl<M: Walker, O: Object, B: Object> PartsOf<M, O, B> {
     fn set_aside_alone(&mut self, k: usize) -> Result<bool, NoMemory>
         requires image { k < length self.old.images.items }
         requires numbered { AreNumbered self.old.images.items }
-        requires place { (r : ImageRun M) → r ≡ slice_index_or self.old.images.items k r → AsksAt places.Own (M.step (M.config r.machine)) }
+        requires place { (r : ImageRun M) → r ≡ slice_index_or self.old.images.items k r → AsksAt places.Own (move_of M.Walker r) }
         ensures numbered { AreNumbered self.new.images.items }
-        ensures same { moment_of M.config O.made O.history B.made B.history self.new ≡ moment_of M.config O.made O.history B.made B.history self.old }
-        ensures answer { IfOk result (λ b. b ≡ can_step (rules M.step O.ready_after O.reply_after B.ready_after B.reply_after) (moment_of M.config O.made O.history B.made B.history self.old) (suc k)) }
-        ensures prepared { IfOk result (λ b. b ≡ true → IsPrepared M.config M.step O.made O.history O.has_room O.ready_after O.reply_after B.made B.history B.has_room B.ready_after B.reply_after self.new k) }
+        ensures same { moment M.Walker O.Object B.Object self.new ≡ moment M.Walker O.Object B.Object self.old }
+        ensures answer { IfOk result (λ b. b ≡ can_step (rules M.Walker O.Object B.Object) (moment M.Walker O.Object B.Object self.old) (suc k)) }
+        ensures prepared { IfOk result (λ b. b ≡ true → IsPrepared M.Walker O.Object B.Object self.new k) }
     {
         let run = &mut self.images[k];
         let ask = next_ask(run)?;
@@ -36,11 +36,11 @@ impl<M: Walker, O: Object, B: Object> PartsOf<M, O, B> {
     fn set_aside_at_board(&mut self, k: usize) -> Result<bool, NoMemory>
         requires image { k < length self.old.images.items }
         requires numbered { AreNumbered self.old.images.items }
-        requires place { (r : ImageRun M) → r ≡ slice_index_or self.old.images.items k r → AsksAt places.Board (M.step (M.config r.machine)) }
+        requires place { (r : ImageRun M) → r ≡ slice_index_or self.old.images.items k r → AsksAt places.Board (move_of M.Walker r) }
         ensures numbered { AreNumbered self.new.images.items }
-        ensures same { moment_of M.config O.made O.history B.made B.history self.new ≡ moment_of M.config O.made O.history B.made B.history self.old }
-        ensures answer { IfOk result (λ b. b ≡ can_step (rules M.step O.ready_after O.reply_after B.ready_after B.reply_after) (moment_of M.config O.made O.history B.made B.history self.old) (suc k)) }
-        ensures prepared { IfOk result (λ b. b ≡ true → IsPrepared M.config M.step O.made O.history O.has_room O.ready_after O.reply_after B.made B.history B.has_room B.ready_after B.reply_after self.new k) }
+        ensures same { moment M.Walker O.Object B.Object self.new ≡ moment M.Walker O.Object B.Object self.old }
+        ensures answer { IfOk result (λ b. b ≡ can_step (rules M.Walker O.Object B.Object) (moment M.Walker O.Object B.Object self.old) (suc k)) }
+        ensures prepared { IfOk result (λ b. b ≡ true → IsPrepared M.Walker O.Object B.Object self.new k) }
     {
         let run = &mut self.images[k];
         let ask = next_ask(run)?;
@@ -51,11 +51,11 @@ impl<M: Walker, O: Object, B: Object> PartsOf<M, O, B> {
     fn set_aside_at_memory(&mut self, k: usize, owner: ImageNo) -> Result<bool, NoMemory>
         requires image { k < length self.old.images.items }
         requires numbered { AreNumbered self.old.images.items }
-        requires place { (r : ImageRun M) → r ≡ slice_index_or self.old.images.items k r → AsksAt (places.Memory owner) (M.step (M.config r.machine)) }
+        requires place { (r : ImageRun M) → r ≡ slice_index_or self.old.images.items k r → AsksAt (places.Memory owner) (move_of M.Walker r) }
         ensures numbered { AreNumbered self.new.images.items }
-        ensures same { moment_of M.config O.made O.history B.made B.history self.new ≡ moment_of M.config O.made O.history B.made B.history self.old }
-        ensures answer { IfOk result (λ b. b ≡ can_step (rules M.step O.ready_after O.reply_after B.ready_after B.reply_after) (moment_of M.config O.made O.history B.made B.history self.old) (suc k)) }
-        ensures prepared { IfOk result (λ b. b ≡ true → IsPrepared M.config M.step O.made O.history O.has_room O.ready_after O.reply_after B.made B.history B.has_room B.ready_after B.reply_after self.new k) }
+        ensures same { moment M.Walker O.Object B.Object self.new ≡ moment M.Walker O.Object B.Object self.old }
+        ensures answer { IfOk result (λ b. b ≡ can_step (rules M.Walker O.Object B.Object) (moment M.Walker O.Object B.Object self.old) (suc k)) }
+        ensures prepared { IfOk result (λ b. b ≡ true → IsPrepared M.Walker O.Object B.Object self.new k) }
     {
         if owner.0 == 0 || owner.0 as usize > self.memories.len() {
             return Ok(false);
@@ -70,11 +70,11 @@ impl<M: Walker, O: Object, B: Object> PartsOf<M, O, B> {
     fn set_aside(&mut self, k: usize, place: Place) -> Result<bool, NoMemory>
         requires image { k < length self.old.images.items }
         requires numbered { AreNumbered self.old.images.items }
-        requires place { (r : ImageRun M) → r ≡ slice_index_or self.old.images.items k r → AsksAt place (M.step (M.config r.machine)) }
+        requires place { (r : ImageRun M) → r ≡ slice_index_or self.old.images.items k r → AsksAt place (move_of M.Walker r) }
         ensures numbered { AreNumbered self.new.images.items }
-        ensures same { moment_of M.config O.made O.history B.made B.history self.new ≡ moment_of M.config O.made O.history B.made B.history self.old }
-        ensures answer { IfOk result (λ b. b ≡ can_step (rules M.step O.ready_after O.reply_after B.ready_after B.reply_after) (moment_of M.config O.made O.history B.made B.history self.old) (suc k)) }
-        ensures prepared { IfOk result (λ b. b ≡ true → IsPrepared M.config M.step O.made O.history O.has_room O.ready_after O.reply_after B.made B.history B.has_room B.ready_after B.reply_after self.new k) }
+        ensures same { moment M.Walker O.Object B.Object self.new ≡ moment M.Walker O.Object B.Object self.old }
+        ensures answer { IfOk result (λ b. b ≡ can_step (rules M.Walker O.Object B.Object) (moment M.Walker O.Object B.Object self.old) (suc k)) }
+        ensures prepared { IfOk result (λ b. b ≡ true → IsPrepared M.Walker O.Object B.Object self.new k) }
     {
         match place {
             Place::Own => self.set_aside_alone(k),
@@ -89,9 +89,9 @@ impl<M: Walker, O: Object, B: Object> PartsOf<M, O, B> {
         requires image { (0 < image.0) × (image.0 ≤ length self.old.images.items) }
         requires numbered { AreNumbered self.old.images.items }
         ensures numbered { AreNumbered self.new.images.items }
-        ensures same { moment_of M.config O.made O.history B.made B.history self.new ≡ moment_of M.config O.made O.history B.made B.history self.old }
-        ensures answer { IfOk result (AnswersReady (rules M.step O.ready_after O.reply_after B.ready_after B.reply_after) (moment_of M.config O.made O.history B.made B.history self.old) image.0) }
-        ensures prepared { IfOk result (λ a. a ≡ Ready.Can → IsPrepared M.config M.step O.made O.history O.has_room O.ready_after O.reply_after B.made B.history B.has_room B.ready_after B.reply_after self.new (image.0 - 1)) }
+        ensures same { moment M.Walker O.Object B.Object self.new ≡ moment M.Walker O.Object B.Object self.old }
+        ensures answer { IfOk result (AnswersReady (rules M.Walker O.Object B.Object) (moment M.Walker O.Object B.Object self.old) image.0) }
+        ensures prepared { IfOk result (λ a. a ≡ Ready.Can → IsPrepared M.Walker O.Object B.Object self.new (image.0 - 1)) }
     {
         let k = (image.0 - 1) as usize;
         match self.images[k].machine.next() {

@@ -3,8 +3,8 @@
 ghost use Rattle.std.specs.Prelude.{◌≡◌, ◌<◌, ◌≤◌, ◌+◌, ◌-◌, ◌^◌, ℕ, suc, List, [], ◌∷◌, ◌++◌, length, map, IfOk};
 ghost use Rattle.std.specs.Arc.{arc_value};
 ghost use Rattle.caf_base.specs.Thin.{counts};
-ghost use Rattle.image_core.specs.Starts.{IsFresh, IsNewMemory, IsStart};
-ghost use Rattle.image_core.specs.Parts.{EachAt, AreNumbered, IsBounded, moment_of, event_lists};
+ghost use Rattle.image_core.specs.Starts.{IsFresh, IsNewMemory, IsStart, thin_moment};
+ghost use Rattle.image_core.specs.Parts.{EachAt, AreNumbered, IsBounded};
 ghost use Rattle.core_runs.specs.Beginnings.{IsFirst};
 ghost use Rattle.core_runs.specs.Kept.{IsKept};
 ghost use Rattle.thin_parts.specs.ThinRuns.{thin_rules, thin_beginning};
@@ -94,9 +94,9 @@ pub fn start(alloc: Global, program: Arc<ThinProgram>, n: u32) -> Result<Parts, 
     requires images { (1 ≤ n) × (n ≤ 64) }
     requires few { counts (arc_value program) ≤ 262000 }
     ensures numbered { IfOk result (λ p. AreNumbered p.images.items) }
-    ensures bounded { IfOk result (λ p. IsBounded moves_left (moment_of (λ m. m) (λ o. o.declared) (λ o. o.history) (λ b. b.images) (λ b. b.history) p)) }
-    ensures first { IfOk result (λ p. IsFirst thin_rules (thin_beginning (arc_value program) n) (moment_of (λ m. m) (λ o. o.declared) (λ o. o.history) (λ b. b.images) (λ b. b.history) p)) }
-    ensures kept { IfOk result (λ p. IsKept thin_rules (thin_beginning (arc_value program) n) (moment_of (λ m. m) (λ o. o.declared) (λ o. o.history) (λ b. b.images) (λ b. b.history) p)) }
+    ensures bounded { IfOk result (λ p. IsBounded moves_left (thin_moment p)) }
+    ensures first { IfOk result (λ p. IsFirst thin_rules (thin_beginning (arc_value program) n) (thin_moment p)) }
+    ensures kept { IfOk result (λ p. IsKept thin_rules (thin_beginning (arc_value program) n) (thin_moment p)) }
     ensures count { IfOk result (λ p. length p.images.items ≡ n) }
 {
     first_parts(alloc, &program, n)

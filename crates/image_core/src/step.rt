@@ -8,7 +8,7 @@ ghost use Rattle.caf_events.specs.Histories.{last_stamp_of};
 ghost use Rattle.caf_events.specs.Walkers.{IsAtAsk, IsOver, AsksNext, IsAtLine, Continues, EndsAfter};
 ghost use Rattle.caf_events.specs.declared.event.Event.{Event};
 ghost use Rattle.core_runs.specs.Lists.{last_of};
-ghost use Rattle.image_core.specs.Prepared.{IsServedNext, StepsAt, IsOwnNext, StepsAlone};
+ghost use Rattle.image_core.specs.Prepared.{move_of, IsServedNext, StepsAt, IsOwnNext, StepsAlone};
 
 use crate::prepared::Prepared;
 use crate::run::ImageRun;
@@ -24,13 +24,13 @@ fn give_up(_ask: Ask) {}
 
 // The image's next ask, with room for its event.
 pub(crate) fn next_ask<M: Walker>(run: &mut ImageRun<M>) -> Result<Ask, NoMemory>
-    requires at { IsAtAsk (M.step (M.config run.old.machine)) }
+    requires at { IsAtAsk (move_of M.Walker run.old) }
     ensures image { run.new.image ≡ run.old.image }
     ensures machine { M.config run.new.machine ≡ M.config run.old.machine }
     ensures events { run.new.events.items ≡ run.old.events.items }
     ensures last { run.new.last ≡ run.old.last }
     ensures room { OnOk result (vec_len run.new.events < vec_capacity run.new.events) }
-    ensures asked { IfOk result (AsksNext (M.step (M.config run.old.machine))) }
+    ensures asked { IfOk result (AsksNext (move_of M.Walker run.old)) }
 {
     run.make_room()?;
     run.machine.ask()
@@ -38,13 +38,13 @@ pub(crate) fn next_ask<M: Walker>(run: &mut ImageRun<M>) -> Result<Ask, NoMemory
 
 // Sets an ask aside that the image makes by itself.
 pub(crate) fn prepare_alone<M: Walker>(run: &mut ImageRun<M>, ask: Ask)
-    requires asked { AsksNext (M.step (M.config run.old.machine)) ask }
+    requires asked { AsksNext (move_of M.Walker run.old) ask }
     requires place { place_of ask ≡ places.Own }
     ensures image { run.new.image ≡ run.old.image }
     ensures machine { M.config run.new.machine ≡ M.config run.old.machine }
     ensures events { run.new.events ≡ run.old.events }
     ensures last { run.new.last ≡ run.old.last }
-    ensures prepared { IsOwnNext (M.step (M.config run.old.machine)) run.new.prepared }
+    ensures prepared { IsOwnNext (move_of M.Walker run.old) run.new.prepared }
 {
     run.prepared = Prepared::Own { ask };
 }
@@ -55,7 +55,7 @@ pub(crate) fn prepare_at<M: Walker, O: Object>(
     object: &mut O,
     ask: Ask,
 ) -> Result<bool, NoMemory>
-    requires asked { AsksNext (M.step (M.config run.old.machine)) ask }
+    requires asked { AsksNext (move_of M.Walker run.old) ask }
     ensures image { run.new.image ≡ run.old.image }
     ensures machine { M.config run.new.machine ≡ M.config run.old.machine }
     ensures events { run.new.events ≡ run.old.events }
@@ -63,7 +63,7 @@ pub(crate) fn prepare_at<M: Walker, O: Object>(
     ensures made { O.made object.new ≡ O.made object.old }
     ensures history { O.history object.new ≡ O.history object.old }
     ensures answer { IfOk result (λ b. b ≡ O.ready_after (O.made object.old) (O.history object.old) run.old.image.0 ask) }
-    ensures prepared { IfOk result (λ b. b ≡ true → IsServedNext O.made O.history O.has_room O.ready_after O.reply_after (M.step (M.config run.old.machine)) run.old.image.0 object.new run.new.prepared) }
+    ensures prepared { IfOk result (λ b. b ≡ true → IsServedNext O.Object (move_of M.Walker run.old) run.old.image.0 object.new run.new.prepared) }
 {
     let image = run.image;
     if !object.ready(image, &ask) {
@@ -84,14 +84,14 @@ pub(crate) fn prepare_at<M: Walker, O: Object>(
 
 // Makes the step that was set aside at an object.
 pub(crate) fn commit_at<M: Walker, O: Object>(run: &mut ImageRun<M>, object: &mut O)
-    requires at { IsAtAsk (M.step (M.config run.old.machine)) }
+    requires at { IsAtAsk (move_of M.Walker run.old) }
     requires room { vec_len run.old.events < vec_capacity run.old.events }
-    requires prepared { IsServedNext O.made O.history O.has_room O.ready_after O.reply_after (M.step (M.config run.old.machine)) run.old.image.0 object.old run.old.prepared }
+    requires prepared { IsServedNext O.Object (move_of M.Walker run.old) run.old.image.0 object.old run.old.prepared }
     requires after { run.old.last < 2 ^ 62 }
     requires last { last_stamp_of (O.history object.old) < 2 ^ 62 }
     ensures image { run.new.image ≡ run.old.image }
-    ensures step { (e : Event) × StepsAt O.made O.history O.has_room O.ready_after O.reply_after M.step run.old.image.0 (M.config run.old.machine) (M.config run.new.machine) run.old.events.items run.new.events.items object.old object.new e }
-    ensures rests { Stops (M.step (M.config run.new.machine)) }
+    ensures step { (e : Event) × StepsAt M.Walker O.Object run.old run.new object.old object.new e }
+    ensures rests { Stops (move_of M.Walker run.new) }
     ensures spends { M.asks_left (M.config run.new.machine) < M.asks_left (M.config run.old.machine) }
 {
     let image = run.image;
@@ -108,13 +108,13 @@ pub(crate) fn commit_at<M: Walker, O: Object>(run: &mut ImageRun<M>, object: &mu
 
 // Makes the step that was set aside for the image itself.
 pub(crate) fn commit_alone<M: Walker>(run: &mut ImageRun<M>)
-    requires at { IsAtAsk (M.step (M.config run.old.machine)) }
+    requires at { IsAtAsk (move_of M.Walker run.old) }
     requires room { vec_len run.old.events < vec_capacity run.old.events }
-    requires prepared { IsOwnNext (M.step (M.config run.old.machine)) run.old.prepared }
+    requires prepared { IsOwnNext (move_of M.Walker run.old) run.old.prepared }
     requires after { run.old.last < 2 ^ 62 }
     ensures image { run.new.image ≡ run.old.image }
-    ensures step { (e : Event) × StepsAlone M.step (M.config run.old.machine) (M.config run.new.machine) run.old.events.items run.new.events.items e }
-    ensures rests { Stops (M.step (M.config run.new.machine)) }
+    ensures step { (e : Event) × StepsAlone M.Walker run.old run.new e }
+    ensures rests { Stops (move_of M.Walker run.new) }
     ensures spends { M.asks_left (M.config run.new.machine) < M.asks_left (M.config run.old.machine) }
 {
     let line = run.machine.line();

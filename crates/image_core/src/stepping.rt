@@ -8,7 +8,7 @@ ghost use Rattle.core_runs.specs.Moments.{Steps};
 ghost use Rattle.core_runs.specs.Moments.{rules};
 ghost use Rattle.core_runs.specs.Beginnings.{Beginning};
 ghost use Rattle.core_runs.specs.Kept.{IsKept};
-ghost use Rattle.image_core.specs.Parts.{moment_of, AreNumbered, IsBounded, IsPrepared, AnswersReady, Spends};
+ghost use Rattle.image_core.specs.Parts.{moment, AreNumbered, IsBounded, IsPrepared, AnswersReady, Spends};
 ghost use Rattle.image_core.specs.Prepared.{place_aside};
 ghost use Rattle.image_core.specs.declared.run.ImageRun.{ImageRun};
 
@@ -35,12 +35,12 @@ impl<M: Walker, O: Object, B: Object> PartsOf<M, O, B> {
     fn commit_own(&mut self, k: usize)
         requires image { k < length self.old.images.items }
         requires numbered { AreNumbered self.old.images.items }
-        requires bounded { IsBounded M.asks_left (moment_of M.config O.made O.history B.made B.history self.old) }
-        requires prepared { IsPrepared M.config M.step O.made O.history O.has_room O.ready_after O.reply_after B.made B.history B.has_room B.ready_after B.reply_after self.old k }
+        requires bounded { IsBounded M.asks_left (moment M.Walker O.Object B.Object self.old) }
+        requires prepared { IsPrepared M.Walker O.Object B.Object self.old k }
         requires place { (r : ImageRun M) → r ≡ slice_index_or self.old.images.items k r → place_aside r.prepared ≡ places.Own }
         ensures numbered { AreNumbered self.new.images.items }
-        ensures step { (e : Event) × Steps (rules M.step O.ready_after O.reply_after B.ready_after B.reply_after) (moment_of M.config O.made O.history B.made B.history self.old) (suc k) e (moment_of M.config O.made O.history B.made B.history self.new) }
-        ensures spends { Spends M.asks_left (moment_of M.config O.made O.history B.made B.history self.old) (suc k) (moment_of M.config O.made O.history B.made B.history self.new) }
+        ensures step { (e : Event) × Steps (rules M.Walker O.Object B.Object) (moment M.Walker O.Object B.Object self.old) (suc k) e (moment M.Walker O.Object B.Object self.new) }
+        ensures spends { Spends M.asks_left (moment M.Walker O.Object B.Object self.old) (suc k) (moment M.Walker O.Object B.Object self.new) }
     {
         commit_alone(&mut self.images[k]);
     }
@@ -49,12 +49,12 @@ impl<M: Walker, O: Object, B: Object> PartsOf<M, O, B> {
     fn commit_at_board(&mut self, k: usize)
         requires image { k < length self.old.images.items }
         requires numbered { AreNumbered self.old.images.items }
-        requires bounded { IsBounded M.asks_left (moment_of M.config O.made O.history B.made B.history self.old) }
-        requires prepared { IsPrepared M.config M.step O.made O.history O.has_room O.ready_after O.reply_after B.made B.history B.has_room B.ready_after B.reply_after self.old k }
+        requires bounded { IsBounded M.asks_left (moment M.Walker O.Object B.Object self.old) }
+        requires prepared { IsPrepared M.Walker O.Object B.Object self.old k }
         requires place { (r : ImageRun M) → r ≡ slice_index_or self.old.images.items k r → place_aside r.prepared ≡ places.Board }
         ensures numbered { AreNumbered self.new.images.items }
-        ensures step { (e : Event) × Steps (rules M.step O.ready_after O.reply_after B.ready_after B.reply_after) (moment_of M.config O.made O.history B.made B.history self.old) (suc k) e (moment_of M.config O.made O.history B.made B.history self.new) }
-        ensures spends { Spends M.asks_left (moment_of M.config O.made O.history B.made B.history self.old) (suc k) (moment_of M.config O.made O.history B.made B.history self.new) }
+        ensures step { (e : Event) × Steps (rules M.Walker O.Object B.Object) (moment M.Walker O.Object B.Object self.old) (suc k) e (moment M.Walker O.Object B.Object self.new) }
+        ensures spends { Spends M.asks_left (moment M.Walker O.Object B.Object self.old) (suc k) (moment M.Walker O.Object B.Object self.new) }
     {
         commit_at(&mut self.images[k], &mut self.board);
     }
@@ -63,14 +63,14 @@ impl<M: Walker, O: Object, B: Object> PartsOf<M, O, B> {
     fn commit_at_memory(&mut self, k: usize, owner: ImageNo)
         requires image { k < length self.old.images.items }
         requires numbered { AreNumbered self.old.images.items }
-        requires bounded { IsBounded M.asks_left (moment_of M.config O.made O.history B.made B.history self.old) }
-        requires prepared { IsPrepared M.config M.step O.made O.history O.has_room O.ready_after O.reply_after B.made B.history B.has_room B.ready_after B.reply_after self.old k }
+        requires bounded { IsBounded M.asks_left (moment M.Walker O.Object B.Object self.old) }
+        requires prepared { IsPrepared M.Walker O.Object B.Object self.old k }
         requires place { (r : ImageRun M) → r ≡ slice_index_or self.old.images.items k r → place_aside r.prepared ≡ places.Memory owner }
         requires owner { 0 < owner.0 }
         requires there { owner.0 ≤ length self.old.memories.items }
         ensures numbered { AreNumbered self.new.images.items }
-        ensures step { (e : Event) × Steps (rules M.step O.ready_after O.reply_after B.ready_after B.reply_after) (moment_of M.config O.made O.history B.made B.history self.old) (suc k) e (moment_of M.config O.made O.history B.made B.history self.new) }
-        ensures spends { Spends M.asks_left (moment_of M.config O.made O.history B.made B.history self.old) (suc k) (moment_of M.config O.made O.history B.made B.history self.new) }
+        ensures step { (e : Event) × Steps (rules M.Walker O.Object B.Object) (moment M.Walker O.Object B.Object self.old) (suc k) e (moment M.Walker O.Object B.Object self.new) }
+        ensures spends { Spends M.asks_left (moment M.Walker O.Object B.Object self.old) (suc k) (moment M.Walker O.Object B.Object self.new) }
     {
         let at = (owner.0 - 1) as usize;
         commit_at(&mut self.images[k], &mut self.memories[at]);
@@ -81,13 +81,13 @@ impl<M: Walker, O: Object, B: Object> PartsOf<M, O, B> {
     pub fn commit(&mut self, image: ImageNo)
         requires image { (0 < image.0) × (image.0 ≤ length self.old.images.items) }
         requires numbered { AreNumbered self.old.images.items }
-        requires bounded { IsBounded M.asks_left (moment_of M.config O.made O.history B.made B.history self.old) }
-        requires prepared { IsPrepared M.config M.step O.made O.history O.has_room O.ready_after O.reply_after B.made B.history B.has_room B.ready_after B.reply_after self.old (image.0 - 1) }
+        requires bounded { IsBounded M.asks_left (moment M.Walker O.Object B.Object self.old) }
+        requires prepared { IsPrepared M.Walker O.Object B.Object self.old (image.0 - 1) }
         ensures numbered { AreNumbered self.new.images.items }
-        ensures step { (e : Event) × Steps (rules M.step O.ready_after O.reply_after B.ready_after B.reply_after) (moment_of M.config O.made O.history B.made B.history self.old) image.0 e (moment_of M.config O.made O.history B.made B.history self.new) }
-        ensures kept { (b : Beginning M.Config O.Made B.Made) → IsKept (rules M.step O.ready_after O.reply_after B.ready_after B.reply_after) b (moment_of M.config O.made O.history B.made B.history self.old)
-            → IsKept (rules M.step O.ready_after O.reply_after B.ready_after B.reply_after) b (moment_of M.config O.made O.history B.made B.history self.new) }
-        ensures spends { Spends M.asks_left (moment_of M.config O.made O.history B.made B.history self.old) image.0 (moment_of M.config O.made O.history B.made B.history self.new) }
+        ensures step { (e : Event) × Steps (rules M.Walker O.Object B.Object) (moment M.Walker O.Object B.Object self.old) image.0 e (moment M.Walker O.Object B.Object self.new) }
+        ensures kept { (b : Beginning M.Config O.Made B.Made) → IsKept (rules M.Walker O.Object B.Object) b (moment M.Walker O.Object B.Object self.old)
+            → IsKept (rules M.Walker O.Object B.Object) b (moment M.Walker O.Object B.Object self.new) }
+        ensures spends { Spends M.asks_left (moment M.Walker O.Object B.Object self.old) image.0 (moment M.Walker O.Object B.Object self.new) }
     {
         let k = (image.0 - 1) as usize;
         match place_set_aside(&self.images[k]) {

@@ -3,4 +3,4 @@ use Rattle.core_runs.proofs.Waits.{stopped}
 use Rattle.core_runs.proofs.laws.law_stopped.Goals as goal
 
 pub returns : goal.returns
-returns g c b m t i d kept trace at over = stopped (rules g.M.Walker.step g.O.Object.ready_after g.O.Object.reply_after g.B.Object.ready_after g.B.Object.reply_after) b m t kept trace i d at over
+returns g c b m t i d kept trace at over = stopped (rules g.M.Walker g.O.Object g.B.Object) b m t kept trace i d at over

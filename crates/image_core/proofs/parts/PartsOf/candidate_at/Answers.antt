@@ -1,6 +1,6 @@
 use Rattle.std.proofs.Common.{◌-◌, ◌∙◌, ap, sym, length, refl, arith}
 use Rattle.core_runs.specs.Moments.{can_step, rules}
-use Rattle.image_core.specs.Parts.{moment_of}
+use Rattle.image_core.specs.Parts.{moment}
 use Rattle.image_core.proofs.Slices.{map_length}
 use Rattle.std.specs.List.{filter}
 use Rattle.core_runs.specs.Beginnings.{numbers_to}
@@ -13,7 +13,7 @@ returns-then-left-eq0-clause-it g c =
     let n = (map_length (λ r. g.M.Walker.config r.machine) c.args.self.now.images.items) in
     let none_left = c.if-left-eq0.true in
     let counted = c.loop-image.invariant.counted in
-    stands_behind (can_step (rules g.M.Walker.step g.O.Object.ready_after g.O.Object.reply_after g.B.Object.ready_after g.B.Object.reply_after) (moment_of g.M.Walker.config g.O.Object.made g.O.Object.history g.B.Object.made g.B.Object.history c.args.self.now)) (length (moment_of g.M.Walker.config g.O.Object.made g.O.Object.history g.B.Object.made g.B.Object.history c.args.self.now).configs) c.loop-image.image c.args.place (omega arith) (omega arith) (ap (λ m. can_step (rules g.M.Walker.step g.O.Object.ready_after g.O.Object.reply_after g.B.Object.ready_after g.B.Object.reply_after) m c.loop-image.image) (sym c.loop-image.invariant.same) ∙ sym c.in_ok-is_candidate.ensures.can ∙ c.if-branch.true) (omega arith)
+    stands_behind (can_step (rules g.M.Walker g.O.Object g.B.Object) (moment g.M.Walker g.O.Object g.B.Object c.args.self.now)) (length (moment g.M.Walker g.O.Object g.B.Object c.args.self.now).configs) c.loop-image.image c.args.place (omega arith) (omega arith) (ap (λ m. can_step (rules g.M.Walker g.O.Object g.B.Object) m c.loop-image.image) (sym c.loop-image.invariant.same) ∙ sym c.in_ok-is_candidate.ensures.can ∙ c.if-branch.true) (omega arith)
 
 pub loop-image-preserved : goal.loop-image-preserved
 loop-image-preserved g c = record {
@@ -21,13 +21,13 @@ loop-image-preserved g c = record {
   same = c.is_candidate.ensures.same ∙ c.loop-image.invariant.same;
   counted = elim c.if-branch.branch [
     | then-branch+else-left-eq0 w ↦ (
-        let more = counted_one (can_step (rules g.M.Walker.step g.O.Object.ready_after g.O.Object.reply_after g.B.Object.ready_after g.B.Object.reply_after) (moment_of g.M.Walker.config g.O.Object.made g.O.Object.history g.B.Object.made g.B.Object.history c.args.self.now)) c.loop-image.image (length (filter (can_step (rules g.M.Walker.step g.O.Object.ready_after g.O.Object.reply_after g.B.Object.ready_after g.B.Object.reply_after) (moment_of g.M.Walker.config g.O.Object.made g.O.Object.history g.B.Object.made g.B.Object.history c.args.self.now)) (numbers_to (c.loop-image.image - 1)))) (omega arith) (ap (λ m. can_step (rules g.M.Walker.step g.O.Object.ready_after g.O.Object.reply_after g.B.Object.ready_after g.B.Object.reply_after) m c.loop-image.image) (sym c.loop-image.invariant.same) ∙ sym c.in_ok-is_candidate.ensures.can ∙ w.if-branch.true) refl in
+        let more = counted_one (can_step (rules g.M.Walker g.O.Object g.B.Object) (moment g.M.Walker g.O.Object g.B.Object c.args.self.now)) c.loop-image.image (length (filter (can_step (rules g.M.Walker g.O.Object g.B.Object) (moment g.M.Walker g.O.Object g.B.Object c.args.self.now)) (numbers_to (c.loop-image.image - 1)))) (omega arith) (ap (λ m. can_step (rules g.M.Walker g.O.Object g.B.Object) m c.loop-image.image) (sym c.loop-image.invariant.same) ∙ sym c.in_ok-is_candidate.ensures.can ∙ w.if-branch.true) refl in
         let left_is = w.left-is in
         let counted = c.loop-image.invariant.counted in
         let some = w.if-left-eq0.false in
         omega arith)
     | else-branch w ↦ (
-        let same = counted_none (can_step (rules g.M.Walker.step g.O.Object.ready_after g.O.Object.reply_after g.B.Object.ready_after g.B.Object.reply_after) (moment_of g.M.Walker.config g.O.Object.made g.O.Object.history g.B.Object.made g.B.Object.history c.args.self.now)) c.loop-image.image (length (filter (can_step (rules g.M.Walker.step g.O.Object.ready_after g.O.Object.reply_after g.B.Object.ready_after g.B.Object.reply_after) (moment_of g.M.Walker.config g.O.Object.made g.O.Object.history g.B.Object.made g.B.Object.history c.args.self.now)) (numbers_to (c.loop-image.image - 1)))) (omega arith) (ap (λ m. can_step (rules g.M.Walker.step g.O.Object.ready_after g.O.Object.reply_after g.B.Object.ready_after g.B.Object.reply_after) m c.loop-image.image) (sym c.loop-image.invariant.same) ∙ sym c.in_ok-is_candidate.ensures.can ∙ w.if-branch.false) refl in
+        let same = counted_none (can_step (rules g.M.Walker g.O.Object g.B.Object) (moment g.M.Walker g.O.Object g.B.Object c.args.self.now)) c.loop-image.image (length (filter (can_step (rules g.M.Walker g.O.Object g.B.Object) (moment g.M.Walker g.O.Object g.B.Object c.args.self.now)) (numbers_to (c.loop-image.image - 1)))) (omega arith) (ap (λ m. can_step (rules g.M.Walker g.O.Object g.B.Object) m c.loop-image.image) (sym c.loop-image.invariant.same) ∙ sym c.in_ok-is_candidate.ensures.can ∙ w.if-branch.false) refl in
         let left_is = w.left-is in
         let counted = c.loop-image.invariant.counted in
         omega arith)

@@ -1,12 +1,12 @@
 use Rattle.std.proofs.Common.{◌≡◌, ◌≤◌, ◌<◌, ℕ, false}
 use Rattle.core_runs.specs.Moments.{can_step}
 use Rattle.core_runs.specs.Moments.{rules}
-use Rattle.image_core.specs.Parts.{moment_of, AreNumbered}
+use Rattle.image_core.specs.Parts.{moment, AreNumbered}
 use Rattle.image_core.proofs.parts.PartsOf.first_ready.Given as goal
 
 abbrev pub invariant-loop-image : goal.invariant-loop-image
 invariant-loop-image g l = record {
   numbered : AreNumbered l.self.images.items;
-  same : moment_of g.M.Walker.config g.O.Object.made g.O.Object.history g.B.Object.made g.B.Object.history l.self ≡ moment_of g.M.Walker.config g.O.Object.made g.O.Object.history g.B.Object.made g.B.Object.history l.initial.self;
-  none : (j : ℕ) → l.low ≤ j → j < l.image → can_step (rules g.M.Walker.step g.O.Object.ready_after g.O.Object.reply_after g.B.Object.ready_after g.B.Object.reply_after) (moment_of g.M.Walker.config g.O.Object.made g.O.Object.history g.B.Object.made g.B.Object.history l.initial.self) j ≡ false;
+  same : moment g.M.Walker g.O.Object g.B.Object l.self ≡ moment g.M.Walker g.O.Object g.B.Object l.initial.self;
+  none : (j : ℕ) → l.low ≤ j → j < l.image → can_step (rules g.M.Walker g.O.Object g.B.Object) (moment g.M.Walker g.O.Object g.B.Object l.initial.self) j ≡ false;
 }

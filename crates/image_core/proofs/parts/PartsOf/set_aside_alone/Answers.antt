@@ -5,16 +5,16 @@ use Rattle.image_core.proofs.parts.PartsOf.set_aside_alone.Goals as goal
 
 pub returns-in_err-ask-clause-same : goal.returns-in_err-ask-clause-same
 returns-in_err-ask-clause-same g c =
-    same_moment g.M.Walker.config g.M.Walker.step g.O.Object.made g.O.Object.history g.O.Object.has_room g.O.Object.ready_after g.O.Object.reply_after g.B.Object.made g.B.Object.history g.B.Object.has_room g.B.Object.ready_after g.B.Object.reply_after
+    same_moment g.M.Walker g.O.Object g.B.Object
     c.args.self.now c.args.k c.index_mut-run.result.now c.requires.image c.index_mut-run.ensures.value (record { images = with_item c.args.self.now.images c.args.k c.next_ask.new.run; memories = c.args.self.now.memories; board = c.args.self.now.board }) c.next_ask.new.run refl c.next_ask.ensures.machine c.next_ask.ensures.events refl refl refl refl
 
 pub returns-clause-same : goal.returns-clause-same
 returns-clause-same g c =
-    same_moment g.M.Walker.config g.M.Walker.step g.O.Object.made g.O.Object.history g.O.Object.has_room g.O.Object.ready_after g.O.Object.reply_after g.B.Object.made g.B.Object.history g.B.Object.has_room g.B.Object.ready_after g.B.Object.reply_after
+    same_moment g.M.Walker g.O.Object g.B.Object
     c.args.self.now c.args.k c.index_mut-run.result.now c.requires.image c.index_mut-run.ensures.value (record { images = with_item c.args.self.now.images c.args.k c.prepare_alone.new.run; memories = c.args.self.now.memories; board = c.args.self.now.board }) c.prepare_alone.new.run refl
     (c.prepare_alone.ensures.machine ∙ c.next_ask.ensures.machine) (ap (λ v. v.items) c.prepare_alone.ensures.events ∙ c.next_ask.ensures.events) refl refl refl refl
 
 pub returns-clause-answer : goal.returns-clause-answer
 returns-clause-answer g c =
-    own_can g.M.Walker.config g.M.Walker.step g.O.Object.made g.O.Object.history g.O.Object.has_room g.O.Object.ready_after g.O.Object.reply_after g.B.Object.made g.B.Object.history g.B.Object.has_room g.B.Object.ready_after g.B.Object.reply_after
+    own_can g.M.Walker g.O.Object g.B.Object
     c.args.self.now c.args.k c.index_mut-run.result.now c.requires.image c.index_mut-run.ensures.value c.in_ok-ask.ask (c.requires.place c.index_mut-run.result.now c.index_mut-run.ensures.value) c.in_ok-ask.ensures.asked
