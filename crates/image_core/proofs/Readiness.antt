@@ -67,6 +67,23 @@ can_asked r m i (goes c) a h = absurd h
 can_asked r m i (asks x l k) a h = ap (λ y. ready_there r m i y (place_of y)) (sym h)
 can_asked r m i over a h = absurd h
 
+-- whether a memory of the parts is ready
+module _ {M O B : Type 0} (walks : walker.Ghosts M) (memory : object.Ghosts O) (control : object.Ghosts B) (p : PartsOf M O B) (i : ℕ) (a : Ask) (owner : ImageNo) where
+  pub memory_there : (j : ℕ) (o : O) → owner.0 ≡ suc j → j < length p.memories.items → o ≡ slice_index_or p.memories.items j o
+      → memory.ready_after (memory.made o) (memory.history o) i a ≡ ready_there (rules walks memory control) (moment walks memory control p) i a (places.Memory owner)
+  memory_there j o w l q =
+      sym (ap (λ m. memory_ready_at (rules walks memory control) (list_at (moment walks memory control p).histories m) i a (item_at (moment walks memory control p).memories m)) w
+      ∙ ap (λ v. memory_ready_at (rules walks memory control) (list_at (moment walks memory control p).histories (suc j)) i a v) (map_get memory.made p.memories.items j o l q)
+      ∙ ap (λ v. memory_ready_at (rules walks memory control) v i a (Some (memory.made o))) (map_index memory.history p.memories.items j o [] l q))
+
+  no_item : (n : ℕ) → (n ≡ 0) ⊎ (length p.memories.items < n) → item_at (moment walks memory control p).memories n ≡ None
+  no_item zero h = refl
+  no_item (suc j) (inl h) = absurd (omega arith)
+  no_item (suc j) (inr h) = get_past (moment walks memory control p).memories j (let l = map_length memory.made p.memories.items in omega arith)
+
+  pub no_memory_there : (owner.0 ≡ 0) ⊎ (length p.memories.items < owner.0) → false ≡ ready_there (rules walks memory control) (moment walks memory control p) i a (places.Memory owner)
+  no_memory_there h = sym (ap (memory_ready_at (rules walks memory control) (list_at (moment walks memory control p).histories owner.0) i a) (no_item owner.0 h))
+
 module _ {M O B : Type 0} (walks : walker.Ghosts M) (memory : object.Ghosts O) (control : object.Ghosts B)
     (p : PartsOf M O B) (k : ℕ) (r : ImageRun M) (image_in : k < length p.images.items) (run_is : r ≡ slice_index_or p.images.items k r) where
   abbrev pub R : Rules walks.Config memory.Made control.Made
@@ -97,7 +114,7 @@ module _ {M O B : Type 0} (walks : walker.Ghosts M) (memory : object.Ghosts O) (
   pub not_ended : (q : Place) → AsksAt q (move_of walks r) → HasEnded R now (suc k) → ⊥
   not_ended q a h = not_over q (move_of walks r) a (subst (λ (X : Type 0). X) ended_is h)
 
-  ready_is : (q : Place) (a : Ask) → AsksAt q (move_of walks r) → AsksNext (move_of walks r) a → can_step R now (suc k) ≡ ready_there R now (suc k) a q
+  pub ready_is : (q : Place) (a : Ask) → AsksAt q (move_of walks r) → AsksNext (move_of walks r) a → can_step R now (suc k) ≡ ready_there R now (suc k) a q
   ready_is q a h n = can_is ∙ can_asked R now (suc k) (move_of walks r) a n ∙ ap (ready_there R now (suc k) a) (asked_at q (move_of walks r) a h n)
 
   pub own_can : (a : Ask) → AsksAt places.Own (move_of walks r) → AsksNext (move_of walks r) a → true ≡ can_step R now (suc k)
@@ -109,19 +126,12 @@ module _ {M O B : Type 0} (walks : walker.Ghosts M) (memory : object.Ghosts O) (
   pub memory_can : (owner : ImageNo) (j : ℕ) (o : O) (a : Ask) (i : ℕ) → owner.0 ≡ suc j → j < length p.memories.items → o ≡ slice_index_or p.memories.items j o → AsksAt (places.Memory owner) (move_of walks r) → AsksNext (move_of walks r) a → i ≡ suc k → memory.ready_after (memory.made o) (memory.history o) i a ≡ can_step R now (suc k)
   memory_can owner j o a i w l q h n e =
       ap (λ m. memory.ready_after (memory.made o) (memory.history o) m a) e
-      ∙ sym (ready_is (places.Memory owner) a h n
-      ∙ ap (λ m. memory_ready_at R (list_at now.histories m) (suc k) a (item_at now.memories m)) w
-      ∙ ap (λ v. memory_ready_at R (list_at now.histories (suc j)) (suc k) a v) (map_get memory.made p.memories.items j o l q)
-      ∙ ap (λ v. memory_ready_at R v (suc k) a (Some (memory.made o))) (map_index memory.history p.memories.items j o [] l q))
-
-  no_memory : (n : ℕ) → (n ≡ 0) ⊎ (length p.memories.items < n) → item_at now.memories n ≡ None
-  no_memory zero h = refl
-  no_memory (suc j) (inl h) = absurd (omega arith)
-  no_memory (suc j) (inr h) = get_past now.memories j (let l = map_length memory.made p.memories.items in omega arith)
+      ∙ memory_there walks memory control p (suc k) a owner j o w l q
+      ∙ sym (ready_is (places.Memory owner) a h n)
 
   no_move : (owner : ImageNo) (mv : Move walks.Config Ask Reply) → (owner.0 ≡ 0) ⊎ (length p.memories.items < owner.0) → AsksAt (places.Memory owner) mv → can_move R now (suc k) mv ≡ false
   no_move owner (goes c) d h = refl
-  no_move owner (asks a l n) d h = ap (ready_there R now (suc k) a) h ∙ ap (memory_ready_at R (list_at now.histories owner.0) (suc k) a) (no_memory owner.0 d)
+  no_move owner (asks a l n) d h = ap (ready_there R now (suc k) a) h ∙ sym (no_memory_there walks memory control p (suc k) a owner d)
   no_move owner over d h = refl
 
   -- at a memory that the run hasn't no step can be made

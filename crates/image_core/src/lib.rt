@@ -4,6 +4,7 @@
 //! until no image can step; `trace` gives the events of all images by stamp, then image.
 #![tactic(auto)]
 
+mod candidates;
 pub mod choices;
 pub mod order;
 pub mod parts;

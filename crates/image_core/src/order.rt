@@ -57,61 +57,6 @@ impl<M: Walker, O: Object, B: Object> PartsOf<M, O, B> {
         self.first_ready(1, last.min(count) + 1)
     }
 
-    // Whether an image can step now; its step is set aside then.
-    fn is_candidate(&mut self, image: ImageNo) -> Result<bool, NoMemory>
-        requires image { (0 < image.0) × (image.0 ≤ length self.old.images.items) }
-        requires numbered { AreNumbered self.old.images.items }
-        ensures numbered { AreNumbered self.new.images.items }
-        ensures same { moment M.Walker O.Object B.Object self.new ≡ moment M.Walker O.Object B.Object self.old }
-        ensures can { IfOk result (λ b. b ≡ can_step (rules M.Walker O.Object B.Object) (moment M.Walker O.Object B.Object self.old) image.0) }
-        ensures prepared { IfOk result (λ b. b ≡ true → IsPrepared M.Walker O.Object B.Object self.new (image.0 - 1)) }
-    {
-        match self.prepare(image)? {
-            Ready::Can => Ok(true),
-            Ready::NotYet | Ready::Over => Ok(false),
-        }
-    }
-
-    // How many candidates there are.
-    fn count_candidates(&mut self) -> Result<u32, NoMemory>
-        requires few { length self.old.images.items < 2 ^ 31 }
-        requires numbered { AreNumbered self.old.images.items }
-        ensures numbered { AreNumbered self.new.images.items }
-        ensures same { moment M.Walker O.Object B.Object self.new ≡ moment M.Walker O.Object B.Object self.old }
-        ensures count { IfOk result (λ n. n ≡ length (candidates (rules M.Walker O.Object B.Object) (moment M.Walker O.Object B.Object self.old))) }
-    {
-        let mut count: u32 = 0;
-        for image in 1..self.images.len() as u32 + 1 {
-            if self.is_candidate(ImageNo(image))? {
-                count += 1;
-            }
-        }
-        Ok(count)
-    }
-
-    // The candidate at a place, from 0, with its step set aside.
-    fn candidate_at(&mut self, place: u32) -> Result<ImageNo, NoMemory>
-        requires few { length self.old.images.items < 2 ^ 31 }
-        requires numbered { AreNumbered self.old.images.items }
-        requires place { place < length (candidates (rules M.Walker O.Object B.Object) (moment M.Walker O.Object B.Object self.old)) }
-        ensures numbered { AreNumbered self.new.images.items }
-        ensures same { moment M.Walker O.Object B.Object self.new ≡ moment M.Walker O.Object B.Object self.old }
-        ensures it { IfOk result (λ i. i.0 ≡ slice_index (candidates (rules M.Walker O.Object B.Object) (moment M.Walker O.Object B.Object self.old)) place) }
-        ensures within { IfOk result (λ i. (0 < i.0) × (i.0 ≤ length self.old.images.items)) }
-        ensures prepared { IfOk result (λ i. IsPrepared M.Walker O.Object B.Object self.new (i.0 - 1)) }
-    {
-        let mut left = place;
-        for image in 1..self.images.len() as u32 + 1 {
-            if self.is_candidate(ImageNo(image))? {
-                if left == 0 {
-                    return Ok(ImageNo(image));
-                }
-                left -= 1;
-            }
-        }
-        unreachable!()
-    }
-
     // The candidate that this state of the generator gives, with its step set aside; none where there is no candidate.
     fn pick_drawn(&mut self, state: u32) -> Result<Option<ImageNo>, NoMemory>
         requires few { length self.old.images.items < 2 ^ 31 }
@@ -127,7 +72,10 @@ impl<M: Walker, O: Object, B: Object> PartsOf<M, O, B> {
             return Ok(None);
         }
         let image = self.candidate_at(state / 65_536 % count)?;
-        Ok(Some(image))
+        match self.prepare(image)? {
+            Ready::Can => Ok(Some(image)),
+            Ready::NotYet | Ready::Over => unreachable!(),
+        }
     }
 
     // The candidate that is chosen, with its step set aside; none where there is no candidate.
