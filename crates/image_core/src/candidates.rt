@@ -1,11 +1,14 @@
-//! The candidates of an ordered run: the images that can step now, in rising order.
+//! The candidates of an ordered run, which are the images that can step now, in rising order, and the one that is chosen.
 
-ghost use Rattle.std.specs.Prelude.{◌≡◌, ◌<◌, ◌≤◌, ◌^◌, ℕ, List, length, IfOk, true, slice_index};
+ghost use Rattle.std.specs.Prelude.{◌≡◌, ◌<◌, ◌≤◌, ◌+◌, ◌^◌, ℕ, length, IfOk, IfSome, MatchOption, true, slice_index};
 ghost use Rattle.caf_base.specs.declared.place.Place.TheVariants as places;
 ghost use Rattle.core_runs.specs.Moments.{can_step, ready_there, rules};
 ghost use Rattle.core_runs.specs.Orders.{candidates};
+ghost use Rattle.image_core.specs.Choosing.{chosen_by, drawn};
+ghost use Rattle.image_core.specs.Orders.{IsFirstOf, IsNextBehind, NoneCan, PicksOne};
 ghost use Rattle.image_core.specs.Parts.{moment};
 
+use crate::choices::{Choices, generator_step};
 use crate::parts::PartsOf;
 use caf_base::place::{ImageNo, Place};
 use caf_base::refusal::NoMemory;
@@ -55,7 +58,7 @@ impl<M: Walker, O: Object, B: Object> PartsOf<M, O, B> {
     }
 
     // How many candidates there are.
-    pub(crate) fn count_candidates(&self) -> Result<u32, NoMemory>
+    fn count_candidates(&self) -> Result<u32, NoMemory>
         requires few { length self.now.images.items < 2 ^ 31 }
         ensures { IfOk result (λ n. n ≡ length (candidates (rules M.Walker O.Object B.Object) (moment M.Walker O.Object B.Object self.now))) }
     {
@@ -69,7 +72,7 @@ impl<M: Walker, O: Object, B: Object> PartsOf<M, O, B> {
     }
 
     // The candidate at a place, from 0.
-    pub(crate) fn candidate_at(&self, place: u32) -> Result<ImageNo, NoMemory>
+    fn candidate_at(&self, place: u32) -> Result<ImageNo, NoMemory>
         requires few { length self.now.images.items < 2 ^ 31 }
         requires place { place < length (candidates (rules M.Walker O.Object B.Object) (moment M.Walker O.Object B.Object self.now)) }
         ensures it { IfOk result (λ i. i.0 ≡ slice_index (candidates (rules M.Walker O.Object B.Object) (moment M.Walker O.Object B.Object self.now)) place) }
@@ -86,5 +89,63 @@ impl<M: Walker, O: Object, B: Object> PartsOf<M, O, B> {
             }
         }
         unreachable!()
+    }
+
+    // The first candidate from `low` on and below `high`.
+    fn first_candidate(&self, low: u32, high: u32) -> Result<Option<ImageNo>, NoMemory>
+        requires low { 0 < low }
+        requires high { high ≤ length self.now.images.items + 1 }
+        ensures { IfOk result (IsFirstOf (can_step (rules M.Walker O.Object B.Object) (moment M.Walker O.Object B.Object self.now)) low high) }
+    {
+        for image in low..high {
+            if self.is_candidate(ImageNo(image))? {
+                return Ok(Some(ImageNo(image)));
+            }
+        }
+        Ok(None)
+    }
+
+    // The candidate behind the last image that was chosen; none where no image can step.
+    fn next_behind(&self, last: u32) -> Result<Option<ImageNo>, NoMemory>
+        requires few { length self.now.images.items < 2 ^ 31 }
+        ensures picked { IfOk result (λ o. MatchOption o (NoneCan (rules M.Walker O.Object B.Object) (moment M.Walker O.Object B.Object self.now)) (λ i. IsNextBehind (rules M.Walker O.Object B.Object) (moment M.Walker O.Object B.Object self.now) last i.0)) }
+        ensures within { IfOk result (λ o. IfSome o (λ i. (0 < i.0) × (i.0 ≤ length self.now.images.items))) }
+        ensures can { IfOk result (λ o. IfSome o (λ i. can_step (rules M.Walker O.Object B.Object) (moment M.Walker O.Object B.Object self.now) i.0 ≡ true)) }
+    {
+        let count = self.images.len() as u32;
+        if last < count {
+            if let Some(image) = self.first_candidate(last + 1, count + 1)? {
+                return Ok(Some(image));
+            }
+        }
+        self.first_candidate(1, last.min(count) + 1)
+    }
+
+    // The candidate that this state of the generator gives; none where there is no candidate.
+    fn drawn_by(&self, state: u32) -> Result<Option<ImageNo>, NoMemory>
+        requires few { length self.now.images.items < 2 ^ 31 }
+        ensures picked { IfOk result (PicksOne (rules M.Walker O.Object B.Object) (moment M.Walker O.Object B.Object self.now) (drawn state)) }
+        ensures within { IfOk result (λ o. IfSome o (λ i. (0 < i.0) × (i.0 ≤ length self.now.images.items))) }
+        ensures can { IfOk result (λ o. IfSome o (λ i. can_step (rules M.Walker O.Object B.Object) (moment M.Walker O.Object B.Object self.now) i.0 ≡ true)) }
+    {
+        let count = self.count_candidates()?;
+        if count == 0 {
+            return Ok(None);
+        }
+        let image = self.candidate_at(state / 65_536 % count)?;
+        Ok(Some(image))
+    }
+
+    // The candidate that is chosen; none where there is no candidate.
+    pub(crate) fn pick(&self, choices: &Choices) -> Result<Option<ImageNo>, NoMemory>
+        requires few { length self.now.images.items < 2 ^ 31 }
+        ensures picked { IfOk result (PicksOne (rules M.Walker O.Object B.Object) (moment M.Walker O.Object B.Object self.now) (chosen_by choices.now)) }
+        ensures within { IfOk result (λ o. IfSome o (λ i. (0 < i.0) × (i.0 ≤ length self.now.images.items))) }
+        ensures can { IfOk result (λ o. IfSome o (λ i. can_step (rules M.Walker O.Object B.Object) (moment M.Walker O.Object B.Object self.now) i.0 ≡ true)) }
+    {
+        match choices {
+            Choices::Rotate { last } => self.next_behind(*last),
+            Choices::Seed { state } => self.drawn_by(generator_step(*state)),
+        }
     }
 }

@@ -1,18 +1,15 @@
 //! The ordered run: steps one after the other, each by the image that is chosen among the candidates, until none can be made.
 
-ghost use Rattle.std.specs.Prelude.{◌≡◌, ◌<◌, ◌≤◌, ◌+◌, ◌-◌, ◌^◌, ◌↔◌, ℕ, suc, List, [], ◌∷◌, ◌++◌, length, map, IfOk, OnOk, OnErr, IfSome, IfNone, IsTrue, Some, None, true, false, slice_index, slice_index_or, MatchOption};
+ghost use Rattle.std.specs.Prelude.{◌≡◌, ◌<◌, ◌≤◌, ◌^◌, ◌↔◌, List, [], ◌∷◌, ◌++◌, length, IfOk, OnOk, OnErr, IfSome, IsTrue, true, slice_index_or};
 ghost use Rattle.caf_events.specs.Events.{EndsRun};
 ghost use Rattle.caf_events.specs.declared.event.Event.{Event};
-ghost use Rattle.core_runs.specs.Moments.{can_step, rules};
+ghost use Rattle.core_runs.specs.Moments.{can_step, rules, Steps};
 ghost use Rattle.core_runs.specs.Beginnings.{Beginning};
 ghost use Rattle.core_runs.specs.Kept.{IsKept};
-ghost use Rattle.core_runs.specs.Orders.{candidates};
-ghost use Rattle.image_core.specs.Parts.{moment, event_lists, AreNumbered, IsBounded, IsPrepared, total};
-ghost use Rattle.image_core.specs.Choosing.{chosen_by, drawn};
-ghost use Rattle.image_core.specs.Orders.{IsNextBehind, NoneCan, AllEnded, OneWaits, PicksOne, Advances, IsOrderRun, MatchesIdle, IsFirstOf, AreFewer};
-ghost use Rattle.image_core.specs.declared.run.ImageRun.{ImageRun};
+ghost use Rattle.image_core.specs.Parts.{moment, event_lists, AreNumbered, IsBounded, Spends};
+ghost use Rattle.image_core.specs.Orders.{Advances, IsOrderRun, MatchesIdle, AreFewer};
 
-use crate::choices::{Choices, RunEnd, generator_step};
+use crate::choices::{Choices, RunEnd};
 use crate::parts::{PartsOf, Ready};
 use caf_base::place::ImageNo;
 use caf_base::refusal::NoMemory;
@@ -20,77 +17,23 @@ use caf_events::object::Object;
 use caf_events::walker::{Next, Walker};
 
 impl<M: Walker, O: Object, B: Object> PartsOf<M, O, B> {
-    // The first of the images from `low` on and below `high` that can step now, with its step set aside.
-    fn first_ready(&mut self, low: u32, high: u32) -> Result<Option<ImageNo>, NoMemory>
-        requires low { 0 < low }
-        requires high { high ≤ length self.old.images.items + 1 }
+    // The next step of an image that can step.
+    fn make_step(&mut self, image: ImageNo) -> Result<(), NoMemory>
+        requires image { (0 < image.0) × (image.0 ≤ length self.old.images.items) }
         requires numbered { AreNumbered self.old.images.items }
+        requires bounded { IsBounded M.asks_left (moment M.Walker O.Object B.Object self.old) }
+        requires can { can_step (rules M.Walker O.Object B.Object) (moment M.Walker O.Object B.Object self.old) image.0 ≡ true }
         ensures numbered { AreNumbered self.new.images.items }
-        ensures same { moment M.Walker O.Object B.Object self.new ≡ moment M.Walker O.Object B.Object self.old }
-        ensures first { IfOk result (IsFirstOf (can_step (rules M.Walker O.Object B.Object) (moment M.Walker O.Object B.Object self.old)) low high) }
-        ensures prepared { IfOk result (λ o. IfSome o (λ i. IsPrepared M.Walker O.Object B.Object self.new (i.0 - 1))) }
+        ensures step { OnOk result ((e : Event) × Steps (rules M.Walker O.Object B.Object) (moment M.Walker O.Object B.Object self.old) image.0 e (moment M.Walker O.Object B.Object self.new)) }
+        ensures spends { OnOk result (Spends M.asks_left (moment M.Walker O.Object B.Object self.old) image.0 (moment M.Walker O.Object B.Object self.new)) }
+        ensures err { OnErr result (moment M.Walker O.Object B.Object self.new ≡ moment M.Walker O.Object B.Object self.old) }
     {
-        for image in low..high {
-            if let Ready::Can = self.prepare(ImageNo(image))? {
-                return Ok(Some(ImageNo(image)));
-            }
-        }
-        Ok(None)
-    }
-
-    // The image behind the last one that can step now, with its step set aside; none where no image can step.
-    fn next_behind(&mut self, last: u32) -> Result<Option<ImageNo>, NoMemory>
-        requires few { length self.old.images.items < 2 ^ 31 }
-        requires numbered { AreNumbered self.old.images.items }
-        ensures numbered { AreNumbered self.new.images.items }
-        ensures same { moment M.Walker O.Object B.Object self.new ≡ moment M.Walker O.Object B.Object self.old }
-        ensures picked { IfOk result (λ o. MatchOption o (NoneCan (rules M.Walker O.Object B.Object) (moment M.Walker O.Object B.Object self.old)) (λ i. IsNextBehind (rules M.Walker O.Object B.Object) (moment M.Walker O.Object B.Object self.old) last i.0)) }
-        ensures within { IfOk result (λ o. IfSome o (λ i. (0 < i.0) × (i.0 ≤ length self.old.images.items))) }
-        ensures prepared { IfOk result (λ o. IfSome o (λ i. IsPrepared M.Walker O.Object B.Object self.new (i.0 - 1))) }
-    {
-        let count = self.images.len() as u32;
-        if last < count {
-            if let Some(image) = self.first_ready(last + 1, count + 1)? {
-                return Ok(Some(image));
-            }
-        }
-        self.first_ready(1, last.min(count) + 1)
-    }
-
-    // The candidate that this state of the generator gives, with its step set aside; none where there is no candidate.
-    fn pick_drawn(&mut self, state: u32) -> Result<Option<ImageNo>, NoMemory>
-        requires few { length self.old.images.items < 2 ^ 31 }
-        requires numbered { AreNumbered self.old.images.items }
-        ensures numbered { AreNumbered self.new.images.items }
-        ensures same { moment M.Walker O.Object B.Object self.new ≡ moment M.Walker O.Object B.Object self.old }
-        ensures picked { IfOk result (PicksOne (rules M.Walker O.Object B.Object) (moment M.Walker O.Object B.Object self.old) (drawn state)) }
-        ensures within { IfOk result (λ o. IfSome o (λ i. (0 < i.0) × (i.0 ≤ length self.old.images.items))) }
-        ensures prepared { IfOk result (λ o. IfSome o (λ i. IsPrepared M.Walker O.Object B.Object self.new (i.0 - 1))) }
-    {
-        let count = self.count_candidates()?;
-        if count == 0 {
-            return Ok(None);
-        }
-        let image = self.candidate_at(state / 65_536 % count)?;
         match self.prepare(image)? {
-            Ready::Can => Ok(Some(image)),
+            Ready::Can => {
+                self.commit(image);
+                Ok(())
+            }
             Ready::NotYet | Ready::Over => unreachable!(),
-        }
-    }
-
-    // The candidate that is chosen, with its step set aside; none where there is no candidate.
-    fn pick(&mut self, choices: &Choices) -> Result<Option<ImageNo>, NoMemory>
-        requires few { length self.old.images.items < 2 ^ 31 }
-        requires numbered { AreNumbered self.old.images.items }
-        ensures numbered { AreNumbered self.new.images.items }
-        ensures same { moment M.Walker O.Object B.Object self.new ≡ moment M.Walker O.Object B.Object self.old }
-        ensures picked { IfOk result (PicksOne (rules M.Walker O.Object B.Object) (moment M.Walker O.Object B.Object self.old) (chosen_by choices.now)) }
-        ensures within { IfOk result (λ o. IfSome o (λ i. (0 < i.0) × (i.0 ≤ length self.old.images.items))) }
-        ensures prepared { IfOk result (λ o. IfSome o (λ i. IsPrepared M.Walker O.Object B.Object self.new (i.0 - 1))) }
-    {
-        match choices {
-            Choices::Rotate { last } => self.next_behind(*last),
-            Choices::Seed { state } => self.pick_drawn(generator_step(*state)),
         }
     }
 
@@ -108,14 +51,12 @@ impl<M: Walker, O: Object, B: Object> PartsOf<M, O, B> {
         ensures err { OnErr result (moment M.Walker O.Object B.Object self.new ≡ moment M.Walker O.Object B.Object self.old) }
         ensures err_choices { OnErr result (choices.new ≡ choices.old) }
     {
-        match self.pick(choices)? {
-            None => Ok(None),
-            Some(image) => {
-                self.commit(image);
-                choices.settle(image);
-                Ok(Some(image))
-            }
-        }
+        let Some(image) = self.pick(choices)? else {
+            return Ok(None);
+        };
+        self.make_step(image)?;
+        choices.settle(image);
+        Ok(Some(image))
     }
 
     // Whether every image has ended.
