@@ -6,7 +6,7 @@ ghost use Rattle.caf_events.specs.declared.event.Event.{Event};
 ghost use Rattle.core_runs.specs.Moments.{can_step, rules, Steps};
 ghost use Rattle.core_runs.specs.Beginnings.{Beginning};
 ghost use Rattle.core_runs.specs.Kept.{IsKept};
-ghost use Rattle.image_core.specs.Parts.{moment, event_lists, AreNumbered, IsBounded, Spends};
+ghost use Rattle.image_core.specs.Parts.{moment, event_lists, AreSound, Spends};
 ghost use Rattle.image_core.specs.Orders.{Advances, IsOrderRun, MatchesIdle, AreFewer};
 
 use crate::choices::{Choices, RunEnd};
@@ -20,10 +20,9 @@ impl<M: Walker, O: Object, B: Object> PartsOf<M, O, B> {
     // The next step of an image that can step.
     fn make_step(&mut self, image: ImageNo) -> Result<(), NoMemory>
         requires image { (0 < image.0) × (image.0 ≤ length self.old.images.items) }
-        requires numbered { AreNumbered self.old.images.items }
-        requires bounded { IsBounded M.asks_left (moment M.Walker O.Object B.Object self.old) }
+        requires sound { AreSound M.Walker O.Object B.Object self.old }
         requires can { can_step (rules M.Walker O.Object B.Object) (moment M.Walker O.Object B.Object self.old) image.0 ≡ true }
-        ensures numbered { AreNumbered self.new.images.items }
+        ensures sound { AreSound M.Walker O.Object B.Object self.new }
         ensures step { OnOk result ((e : Event) × Steps (rules M.Walker O.Object B.Object) (moment M.Walker O.Object B.Object self.old) image.0 e (moment M.Walker O.Object B.Object self.new)) }
         ensures spends { OnOk result (Spends M.asks_left (moment M.Walker O.Object B.Object self.old) image.0 (moment M.Walker O.Object B.Object self.new)) }
         ensures err { OnErr result (moment M.Walker O.Object B.Object self.new ≡ moment M.Walker O.Object B.Object self.old) }
@@ -39,11 +38,8 @@ impl<M: Walker, O: Object, B: Object> PartsOf<M, O, B> {
 
     // One step of the ordered run; none where there is no candidate.
     fn advance(&mut self, choices: &mut Choices) -> Result<Option<ImageNo>, NoMemory>
-        requires few { length self.old.images.items < 2 ^ 31 }
-        requires numbered { AreNumbered self.old.images.items }
-        requires bounded { IsBounded M.asks_left (moment M.Walker O.Object B.Object self.old) }
-        ensures numbered { AreNumbered self.new.images.items }
-        ensures bounded { IsBounded M.asks_left (moment M.Walker O.Object B.Object self.new) }
+        requires sound { AreSound M.Walker O.Object B.Object self.old }
+        ensures sound { AreSound M.Walker O.Object B.Object self.new }
         ensures count { length self.new.images.items ≡ length self.old.images.items }
         ensures advances { IfOk result (Advances (rules M.Walker O.Object B.Object) choices.old (moment M.Walker O.Object B.Object self.old) choices.new (moment M.Walker O.Object B.Object self.new)) }
         ensures within { IfOk result (λ o. IfSome o (λ i. (0 < i.0) × (i.0 ≤ length self.old.images.items))) }
@@ -85,11 +81,8 @@ impl<M: Walker, O: Object, B: Object> PartsOf<M, O, B> {
 
     // The ordered run from here on.
     fn go_on(&mut self, choices: &mut Choices) -> Result<RunEnd, NoMemory>
-        requires few { length self.old.images.items < 2 ^ 31 }
-        requires numbered { AreNumbered self.old.images.items }
-        requires bounded { IsBounded M.asks_left (moment M.Walker O.Object B.Object self.old) }
-        ensures numbered { AreNumbered self.new.images.items }
-        ensures bounded { IsBounded M.asks_left (moment M.Walker O.Object B.Object self.new) }
+        requires sound { AreSound M.Walker O.Object B.Object self.old }
+        ensures sound { AreSound M.Walker O.Object B.Object self.new }
         ensures count { length self.new.images.items ≡ length self.old.images.items }
         ensures run { IsOrderRun (rules M.Walker O.Object B.Object) choices.old (moment M.Walker O.Object B.Object self.old) choices.new (moment M.Walker O.Object B.Object self.new) result }
     {
@@ -110,11 +103,8 @@ impl<M: Walker, O: Object, B: Object> PartsOf<M, O, B> {
     /// (`Ending`), every image has ended (`AllOver`), or none can step and one hasn't ended (`AllWait`). After want of
     /// memory the steps made stand and no other.
     pub fn run_order(&mut self, choices: &mut Choices) -> Result<RunEnd, NoMemory>
-        requires few { length self.old.images.items < 2 ^ 31 }
-        requires numbered { AreNumbered self.old.images.items }
-        requires bounded { IsBounded M.asks_left (moment M.Walker O.Object B.Object self.old) }
-        ensures numbered { AreNumbered self.new.images.items }
-        ensures bounded { IsBounded M.asks_left (moment M.Walker O.Object B.Object self.new) }
+        requires sound { AreSound M.Walker O.Object B.Object self.old }
+        ensures sound { AreSound M.Walker O.Object B.Object self.new }
         ensures count { length self.new.images.items ≡ length self.old.images.items }
         ensures run { IsOrderRun (rules M.Walker O.Object B.Object) choices.old (moment M.Walker O.Object B.Object self.old) choices.new (moment M.Walker O.Object B.Object self.new) result }
         ensures kept { (b : Beginning M.Config O.Made B.Made) → IsKept (rules M.Walker O.Object B.Object) b (moment M.Walker O.Object B.Object self.old) → IsKept (rules M.Walker O.Object B.Object) b (moment M.Walker O.Object B.Object self.new) }

@@ -4,7 +4,7 @@ ghost use Rattle.std.specs.Prelude.{◌≡◌, ◌<◌, ◌≤◌, ◌+◌, ◌-
 ghost use Rattle.caf_base.specs.declared.place.Place.TheVariants as places;
 ghost use Rattle.core_runs.specs.Moments.{can_step};
 ghost use Rattle.core_runs.specs.Moments.{rules};
-ghost use Rattle.image_core.specs.Parts.{moment, AreNumbered, IsPrepared, AnswersReady};
+ghost use Rattle.image_core.specs.Parts.{moment, AreNumbered, AreSound, IsPrepared, AnswersReady};
 ghost use Rattle.image_core.specs.Prepared.{AsksAt, move_of};
 ghost use Rattle.image_core.specs.declared.run.ImageRun.{ImageRun};
 
@@ -87,8 +87,8 @@ impl<M: Walker, O: Object, B: Object> PartsOf<M, O, B> {
     /// isn't ready, `Over` exactly where the image stopped or made an ending step. No step is made, also after want of memory.
     pub fn prepare(&mut self, image: ImageNo) -> Result<Ready, NoMemory>
         requires image { (0 < image.0) × (image.0 ≤ length self.old.images.items) }
-        requires numbered { AreNumbered self.old.images.items }
-        ensures numbered { AreNumbered self.new.images.items }
+        requires sound { AreSound M.Walker O.Object B.Object self.old }
+        ensures sound { AreSound M.Walker O.Object B.Object self.new }
         ensures same { moment M.Walker O.Object B.Object self.new ≡ moment M.Walker O.Object B.Object self.old }
         ensures answer { IfOk result (AnswersReady (rules M.Walker O.Object B.Object) (moment M.Walker O.Object B.Object self.old) image.0) }
         ensures prepared { IfOk result (λ a. a ≡ Ready.Can → IsPrepared M.Walker O.Object B.Object self.new (image.0 - 1)) }

@@ -4,11 +4,10 @@ ghost use Rattle.std.specs.Prelude.{◌≡◌, ◌<◌, ◌≤◌, ◌+◌, ◌-
 ghost use Rattle.std.specs.Arc.{arc_value};
 ghost use Rattle.caf_base.specs.Thin.{counts};
 ghost use Rattle.image_core.specs.Starts.{IsFresh, IsNewMemory, IsStart, thin_moment};
-ghost use Rattle.image_core.specs.Parts.{EachAt, AreNumbered, IsBounded};
+ghost use Rattle.image_core.specs.Parts.{EachAt, AreSound};
 ghost use Rattle.core_runs.specs.Beginnings.{IsFirst};
 ghost use Rattle.core_runs.specs.Kept.{IsKept};
 ghost use Rattle.thin_parts.specs.ThinRuns.{thin_rules, thin_beginning};
-ghost use Rattle.thin_parts.specs.ThinWalk.{moves_left};
 
 use crate::parts::PartsOf;
 use crate::prepared::Prepared;
@@ -16,6 +15,8 @@ use crate::run::ImageRun;
 use caf_base::place::ImageNo;
 use caf_base::refusal::NoMemory;
 use caf_base::thin::ThinProgram;
+use caf_events::object::Object;
+use caf_events::walker::Walker;
 use std::alloc::Global;
 use std::sync::Arc;
 use thin_parts::board::ThinBoard;
@@ -93,8 +94,7 @@ fn first_parts(alloc: Global, program: &Arc<ThinProgram>, n: u32) -> Result<Part
 pub fn start(alloc: Global, program: Arc<ThinProgram>, n: u32) -> Result<Parts, NoMemory>
     requires images { (1 ≤ n) × (n ≤ 64) }
     requires few { counts (arc_value program) ≤ 262000 }
-    ensures numbered { IfOk result (λ p. AreNumbered p.images.items) }
-    ensures bounded { IfOk result (λ p. IsBounded moves_left (thin_moment p)) }
+    ensures sound { IfOk result (AreSound ⟦<ThinMachine as Walker>⟧ ⟦<ThinMemory as Object>⟧ ⟦<ThinBoard as Object>⟧) }
     ensures first { IfOk result (λ p. IsFirst thin_rules (thin_beginning (arc_value program) n) (thin_moment p)) }
     ensures kept { IfOk result (λ p. IsKept thin_rules (thin_beginning (arc_value program) n) (thin_moment p)) }
     ensures count { IfOk result (λ p. length p.images.items ≡ n) }

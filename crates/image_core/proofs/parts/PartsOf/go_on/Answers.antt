@@ -18,8 +18,7 @@ returns-then-ended_run-clause-run g c =
 
 pub loop-self-preserved : goal.loop-self-preserved
 loop-self-preserved g c = record {
-  numbered = c.advance.ensures.numbered;
-  bounded = c.advance.ensures.bounded;
+  sound = c.advance.ensures.sound;
   count = c.advance.ensures.count ∙ c.loop-self.invariant.count;
   run = turn_on (rules g.M.Walker g.O.Object g.B.Object) c.args.choices.now c.loop-self.choices c.advance.new.choices (moment g.M.Walker g.O.Object g.B.Object c.args.self.now) (moment g.M.Walker g.O.Object g.B.Object c.loop-self.self) (moment g.M.Walker g.O.Object g.B.Object c.advance.new.self) c.in-Some.image
       (map_length (λ r. r.events.items) c.loop-self.self.images.items ∙ sym (map_length (λ r. g.M.Walker.config r.machine) c.loop-self.self.images.items))
