@@ -102,9 +102,10 @@ module _ (p : ThinProgram) (n : ℕ) (t : List Entry) (declared : IsDeclared p) 
         ]
       ]) w.unready
 
+  -- no image waits
+  pub none_waits : (i line : ℕ) (a : Ask) → IsWaiting thin_rules (thin_beginning p n) t i line a → ⊥
+  none_waits i line a w = none_below (suc (arrivals 1 i (at_board t))) i line a w (omega arith)
+
   -- every image has stopped
   pub all_stopped : (i : ℕ) → IsImage (thin_beginning p n) i → HasStopped i t
-  all_stopped i in_run = elim (each i in_run) [
-    | inl stopped ↦ stopped
-    | inr (line, a, waits) ↦ absurd (none_below (suc (arrivals 1 i (at_board t))) i line a waits (omega arith))
-  ]
+  all_stopped i in_run = elim (each i in_run) [ inl stopped ↦ stopped | inr (line, a, waits) ↦ absurd (none_waits i line a waits) ]
