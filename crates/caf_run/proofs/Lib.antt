@@ -7,3 +7,4 @@ pub mod Settled
 pub mod Usages
 pub mod Written
 pub mod WhatIsDue
+pub mod Ended

@@ -68,7 +68,8 @@ none_at : (xs : List Entry) → ((k : ℕ) (x : Entry) → slice_get xs k ≡ So
 none_at [] h = tt
 none_at (x ∷ xs) h = (h 0 x refl, none_at xs (λ k y at. h (suc k) y at))
 
-no_ending : (t : Trace) → HasNoEnding t → Each (λ x. EndsRun x.event → ⊥) t.entries
+-- no entry of a trace without an ending event ends the run
+pub no_ending : (t : Trace) → HasNoEnding t → Each (λ x. EndsRun x.event → ⊥) t.entries
 no_ending t h = none_at t.entries (λ k x at ends. h k (ends_at k x at ends))
   where
     ends_at : (k : ℕ) (x : Entry) → slice_get t.entries k ≡ Some x → EndsRun x.event → EndsAt t k

@@ -21,9 +21,9 @@ usage_text k = codes "usage: word " ++ decimal k ++ codes "\n"
 abbrev pub refusal_text : List ℕ
 refusal_text = codes "refused 10 at 1:1\n"
 
--- a status with which a run ends
+-- a status with which a run ends: 0 where every image has stopped, 8 with a run fault; in the present form no run ends otherwise
 abbrev pub IsRunStatus : ℕ → Type 0
-IsRunStatus s = (s ≡ 0) ⊎ ((4 ≤ s) × (s ≤ 9))
+IsRunStatus s = (s ≡ 0) ⊎ (s ≡ 8)
 
 -- the name of the file that valid words name
 abbrev pub NamesFile : List Word → Word → Type 0

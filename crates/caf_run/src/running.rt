@@ -1,10 +1,11 @@
 //! The run of a program, and its report.
 
 ghost use Rattle.std.specs.Prelude.{◌≡◌, ◌≤◌, IfOk, length, map};
-ghost use Rattle.caf_base.specs.Thin.{counts};
-ghost use Rattle.caf_report.specs.Ends.{HasEnd};
+ghost use Rattle.caf_base.specs.Thin.{IsDeclared, counts};
+ghost use Rattle.caf_report.specs.Ends.{HasEnd, status_of};
 ghost use Rattle.image_core.specs.Parts.{AreNumbered};
 ghost use Rattle.thin_parts.specs.ThinWalk.{thin_step};
+ghost use Rattle.caf_run.specs.Dues.{IsRunStatus};
 ghost use Rattle.caf_run.specs.Runs.{choices_of, AreHeld, IsReportOf};
 
 use caf_base::listing::Listing;
@@ -45,7 +46,7 @@ fn choices_of_seed(seed: u32) -> Choices
     }
 }
 
-/// The run of a program on n images, in the order of a SEED, and its report.
+/// The run of a program on n images, in the order of a SEED, and its report: it finishes or ends with a run fault.
 pub fn run_program(
     alloc: Global,
     program: ThinProgram,
@@ -54,8 +55,10 @@ pub fn run_program(
 ) -> Result<Report, NoMemory>
     requires images { (1 ≤ n) × (n ≤ 64) }
     requires few { counts program ≤ 262000 }
+    requires declared { IsDeclared program }
     ensures report { IfOk result (IsReportOf program n seed) }
     ensures has_end { IfOk result HasEnd }
+    ensures status { IfOk result (λ r. IsRunStatus (status_of r.end)) }
 {
     let mut parts = start(alloc, Arc::new(alloc, program)?, n)?;
     let mut choices = choices_of_seed(seed);

@@ -1,0 +1,28 @@
+//! What holds of the end of every run of a thin program.
+
+ghost use Rattle.std.specs.Prelude.{ℕ, List};
+ghost use Rattle.caf_base.specs.declared.thin.ThinProgram.{ThinProgram};
+ghost use Rattle.caf_base.specs.Thin.{IsDeclared};
+ghost use Rattle.caf_events.specs.declared.ask.Ask.{Ask};
+ghost use Rattle.caf_events.specs.declared.event.Entry.{Entry};
+ghost use Rattle.trace_theory.specs.Entries.{Each};
+ghost use Rattle.core_runs.specs.Beginnings.{IsImage};
+ghost use Rattle.core_runs.specs.CoreRuns.{IsCoreRun};
+ghost use Rattle.core_runs.specs.Waits.{HasStopped, IsWaiting};
+ghost use Rattle.thin_parts.specs.ThinRuns.{thin_rules, thin_beginning};
+ghost use Rattle.thin_ends.specs.Ends.{EndsByFault, NoneEnds, HasStoppedOrWaits};
+
+/// An event that ends a run of a thin program is a run fault: an overflow, or a cosubscript that names no image.
+pub fn law_ends_are_faults()
+    ensures { (p : ThinProgram) (n : ℕ) (t : List Entry) → IsCoreRun thin_rules (thin_beginning p n) t → Each EndsByFault t }
+{}
+
+/// Where no event ends the run, and each image has stopped or waits, every image has stopped: none waits for ever.
+pub fn law_none_waits()
+    ensures stopped { (p : ThinProgram) (n : ℕ) (t : List Entry) → IsDeclared p → IsCoreRun thin_rules (thin_beginning p n) t → NoneEnds t
+        → ((i : ℕ) → IsImage (thin_beginning p n) i → HasStoppedOrWaits thin_rules (thin_beginning p n) t i)
+        → (i : ℕ) → IsImage (thin_beginning p n) i → HasStopped i t }
+    ensures none_waits { (p : ThinProgram) (n : ℕ) (t : List Entry) → IsDeclared p → IsCoreRun thin_rules (thin_beginning p n) t → NoneEnds t
+        → ((i : ℕ) → IsImage (thin_beginning p n) i → HasStoppedOrWaits thin_rules (thin_beginning p n) t i)
+        → (i line : ℕ) (ask : Ask) → IsWaiting thin_rules (thin_beginning p n) t i line ask → ⊥ }
+{}
