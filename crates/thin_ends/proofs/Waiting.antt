@@ -21,7 +21,8 @@ use Rattle.thin_parts.specs.ThinBoard.{is_image, is_sync, board_ready, can_leave
 use Rattle.thin_parts.specs.ThinMemory.{memory_ready, declared_memory}
 use Rattle.thin_parts.specs.ThinRuns.{thin_rules, thin_beginning}
 use Rattle.thin_parts.specs.ThinWalk.{Config, start_of, thin_step}
-use Rattle.thin_ends.specs.Ends.{NoneEnds, HasStoppedOrWaits}
+use Rattle.core_runs.specs.Orders.{NoneEnds}
+use Rattle.thin_ends.specs.Ends.{HasStoppedOrWaits}
 use Rattle.thin_ends.proofs.Syncs.{syncs}
 use Rattle.thin_ends.proofs.Standing.{Who, AskIs, Keeps, after}
 use Rattle.thin_ends.proofs.Steps.{count_from, AllAsk, walk_to_stands, start_stands}

@@ -5,7 +5,6 @@ use Rattle.caf_events.specs.declared.ask.Ask.{Ask}
 use Rattle.caf_events.specs.declared.ask.Ask.TheVariants as asks
 use Rattle.caf_events.specs.declared.event.Entry.{Entry}
 use Rattle.caf_events.specs.Events.{EndsRun}
-use Rattle.trace_theory.specs.Entries.{Each}
 use Rattle.core_runs.specs.Moments.{Rules}
 use Rattle.core_runs.specs.Beginnings.{Beginning}
 use Rattle.core_runs.specs.Waits.{HasStopped, IsWaiting}
@@ -18,10 +17,6 @@ IsThinFault ask = ⊥
 -- where the entry ends the run, it is such a fault
 abbrev pub EndsByFault : Entry → Type 0
 EndsByFault x = EndsRun x.event → IsThinFault x.event.ask
-
--- no entry ends the run
-abbrev pub NoneEnds : List Entry → Type 0
-NoneEnds t = Each (λ x. EndsRun x.event → ⊥) t
 
 -- after the trace the image has stopped, or it waits at an ask that isn't ready
 abbrev pub HasStoppedOrWaits : {C M B : Type 0} → Rules C M B → Beginning C M B → List Entry → ℕ → Type 0

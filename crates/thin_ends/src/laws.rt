@@ -8,9 +8,10 @@ ghost use Rattle.caf_events.specs.declared.event.Entry.{Entry};
 ghost use Rattle.trace_theory.specs.Entries.{Each};
 ghost use Rattle.core_runs.specs.Beginnings.{IsImage};
 ghost use Rattle.core_runs.specs.CoreRuns.{IsCoreRun};
+ghost use Rattle.core_runs.specs.Orders.{NoneEnds};
 ghost use Rattle.core_runs.specs.Waits.{HasStopped, IsWaiting};
 ghost use Rattle.thin_parts.specs.ThinRuns.{thin_rules, thin_beginning};
-ghost use Rattle.thin_ends.specs.Ends.{EndsByFault, NoneEnds, HasStoppedOrWaits};
+ghost use Rattle.thin_ends.specs.Ends.{EndsByFault, HasStoppedOrWaits};
 
 /// An event that ends a run of a thin program is a run fault: an overflow, or a cosubscript that names no image.
 pub fn law_ends_are_faults()
