@@ -1,8 +1,8 @@
 //! Action statements, printed.
 
-use crate::maker::{AT, Maker, action_prints, number};
+use crate::maker::{AT, Maker, action_prints, bounds, explicit, number};
 use fortran_tree::action::{ActionForm, Allocation, Format, ImageSet, Item};
-use fortran_tree::declaration::{Bounds, Coshape, Dimension};
+use fortran_tree::declaration::{Coshape, Dimension};
 use fortran_tree::expr::{Argument, Specifier};
 use std::process::Abort;
 
@@ -21,10 +21,7 @@ fn call_prints<R: Abort>(make: &Maker<'_, R>, arguments: Option<Vec<Argument>>, 
 
 #[test]
 fn assignments_and_calls(rt: HostRuntime) {
-    let make = Maker {
-        rt: &rt,
-        alloc: rt.alloc(),
-    };
+    let make = Maker::new(&rt);
     let stored = ActionForm::Assignment {
         variable: make.coindexed("x", number(4)),
         value: make.variable("a"),
@@ -47,10 +44,7 @@ fn free_prints<R: Abort>(make: &Maker<'_, R>, items: Vec<Item>, line: &str) {
 /// A quote in a literal is doubled.
 #[test]
 fn prints(rt: HostRuntime) {
-    let make = Maker {
-        rt: &rt,
-        alloc: rt.alloc(),
-    };
+    let make = Maker::new(&rt);
     free_prints(&make, make.none(), "print *");
     free_prints(&make, make.list([Item::Value(number(1))]), "print * , 1");
     free_prints(
@@ -82,10 +76,7 @@ fn prints(rt: HostRuntime) {
 
 #[test]
 fn branches(rt: HostRuntime) {
-    let make = Maker {
-        rt: &rt,
-        alloc: rt.alloc(),
-    };
+    let make = Maker::new(&rt);
     action_prints(&make, ActionForm::Exit { construct: None }, "exit");
     let construct = Some(make.name("l"));
     action_prints(&make, ActionForm::Exit { construct }, "exit l");
@@ -130,36 +121,26 @@ fn allocate_prints<R: Abort>(make: &Maker<'_, R>, object: Allocation, line: &str
     action_prints(make, form, line);
 }
 
-fn upto(lower: Option<u64>, upper: u64) -> Bounds {
-    Bounds {
-        lower: lower.map(number),
-        upper: number(upper),
-    }
-}
-
 #[test]
 fn allocations(rt: HostRuntime) {
-    let make = Maker {
-        rt: &rt,
-        alloc: rt.alloc(),
-    };
+    let make = Maker::new(&rt);
     allocate_prints(
         &make,
         object(&make, "a", make.none(), None),
         "allocate ( a )",
     );
-    let bounds = make.list([
-        Dimension::Explicit(upto(Some(0), 2)),
-        Dimension::Explicit(upto(None, 3)),
+    let dimensions = make.list([
+        explicit(Some(0), 2),
+        explicit(None, 3),
         Dimension::Deferred { at: AT },
     ]);
     allocate_prints(
         &make,
-        object(&make, "a", bounds, None),
+        object(&make, "a", dimensions, None),
         "allocate ( a ( 0 : 2 , 3 , : ) )",
     );
     let cobounds = Coshape::Explicit {
-        cobounds: make.list([upto(None, 2)]),
+        cobounds: make.list([bounds(None, 2)]),
         last_lower: Some(number(0)),
     };
     allocate_prints(
@@ -181,10 +162,7 @@ fn allocations(rt: HostRuntime) {
 
 #[test]
 fn deallocations(rt: HostRuntime) {
-    let make = Maker {
-        rt: &rt,
-        alloc: rt.alloc(),
-    };
+    let make = Maker::new(&rt);
     let one = ActionForm::Deallocate {
         objects: make.list([make.name("a")]),
         specifiers: make.stat(),
@@ -205,10 +183,7 @@ fn stat_and_errmsg<R: Abort>(make: &Maker<'_, R>) -> Vec<Specifier> {
 /// Brackets may stand with nothing in them.
 #[test]
 fn synchronization_of_all_and_of_memory(rt: HostRuntime) {
-    let make = Maker {
-        rt: &rt,
-        alloc: rt.alloc(),
-    };
+    let make = Maker::new(&rt);
     action_prints(&make, ActionForm::SyncAll { specifiers: None }, "sync all");
     let specifiers = Some(make.none());
     action_prints(&make, ActionForm::SyncAll { specifiers }, "sync all ( )");
@@ -239,10 +214,7 @@ fn synchronization_of_all_and_of_memory(rt: HostRuntime) {
 
 #[test]
 fn synchronization_of_images_and_teams(rt: HostRuntime) {
-    let make = Maker {
-        rt: &rt,
-        alloc: rt.alloc(),
-    };
+    let make = Maker::new(&rt);
     let all = ActionForm::SyncImages {
         images: ImageSet::All,
         specifiers: make.none(),
@@ -274,10 +246,7 @@ fn synchronization_of_images_and_teams(rt: HostRuntime) {
 
 #[test]
 fn locks_and_events(rt: HostRuntime) {
-    let make = Maker {
-        rt: &rt,
-        alloc: rt.alloc(),
-    };
+    let make = Maker::new(&rt);
     let lock = ActionForm::Lock {
         variable: make.coindexed("l", number(1)),
         specifiers: make.list([make.specifier("acquired_lock", "a")]),

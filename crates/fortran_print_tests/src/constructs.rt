@@ -35,10 +35,7 @@ fn choice<R: Abort>(
 
 #[test]
 fn ifs(rt: HostRuntime) {
-    let make = Maker {
-        rt: &rt,
-        alloc: rt.alloc(),
-    };
+    let make = Maker::new(&rt);
     statement_prints(
         &make,
         choice(&make, make.none(), None),
@@ -107,10 +104,7 @@ fn while_a<R: Abort>(make: &Maker<'_, R>) -> LoopControl {
 
 #[test]
 fn loops_without_names(rt: HostRuntime) {
-    let make = Maker {
-        rt: &rt,
-        alloc: rt.alloc(),
-    };
+    let make = Maker::new(&rt);
     loop_prints(
         &make,
         (None, end()),
@@ -140,10 +134,7 @@ fn loops_without_names(rt: HostRuntime) {
 /// The name behind END DO is printed where it stands.
 #[test]
 fn loops_with_names(rt: HostRuntime) {
-    let make = Maker {
-        rt: &rt,
-        alloc: rt.alloc(),
-    };
+    let make = Maker::new(&rt);
     loop_prints(
         &make,
         (Some("l"), make.named_end("l")),
@@ -197,10 +188,7 @@ fn select_prints<R: Abort>(make: &Maker<'_, R>, cases: Vec<CaseBlock>, lines: &s
 
 #[test]
 fn selects(rt: HostRuntime) {
-    let make = Maker {
-        rt: &rt,
-        alloc: rt.alloc(),
-    };
+    let make = Maker::new(&rt);
     select_prints(&make, make.none(), "select case ( a )\nend select");
     let cases = make.list([
         case(&make, CaseRange::Value(number(1))),
@@ -257,10 +245,7 @@ fn critical_prints<R: Abort>(make: &Maker<'_, R>, specifier: BracketedSpecifier,
 
 #[test]
 fn criticals(rt: HostRuntime) {
-    let make = Maker {
-        rt: &rt,
-        alloc: rt.alloc(),
-    };
+    let make = Maker::new(&rt);
     critical_prints(
         &make,
         BracketedSpecifier::Absent,
@@ -280,10 +265,7 @@ fn criticals(rt: HostRuntime) {
 
 #[test]
 fn changes_of_team(rt: HostRuntime) {
-    let make = Maker {
-        rt: &rt,
-        alloc: rt.alloc(),
-    };
+    let make = Maker::new(&rt);
     let plain = Statement::ChangeTeam {
         team: make.variable("t"),
         specifiers: make.none(),
@@ -316,10 +298,7 @@ fn changes_of_team(rt: HostRuntime) {
 /// Nothing is indented.
 #[test]
 fn constructs_in_constructs(rt: HostRuntime) {
-    let make = Maker {
-        rt: &rt,
-        alloc: rt.alloc(),
-    };
+    let make = Maker::new(&rt);
     let critical = Statement::Critical {
         specifier: BracketedSpecifier::Absent,
         body: make.list([choice(&make, make.none(), None)]),

@@ -1,8 +1,8 @@
 //! Type declaration statements, printed.
 
-use crate::maker::{AT, Maker, number, program_prints};
+use crate::maker::{AT, Maker, bounds, explicit, number, program_prints};
 use fortran_tree::declaration::{
-    Attribute, Bounds, Coshape, Declaration, Dimension, Entity, Intent, TypeSpec,
+    Attribute, Coshape, Declaration, Dimension, Entity, Intent, TypeSpec,
 };
 use std::process::Abort;
 
@@ -37,10 +37,7 @@ fn type_prints<R: Abort>(make: &Maker<'_, R>, type_spec: TypeSpec, line: &str) {
 
 #[test]
 fn types(rt: HostRuntime) {
-    let make = Maker {
-        rt: &rt,
-        alloc: rt.alloc(),
-    };
+    let make = Maker::new(&rt);
     type_prints(&make, TypeSpec::Integer { kind: None }, "integer :: x");
     let kind = Some(number(8));
     type_prints(&make, TypeSpec::Integer { kind }, "integer ( 8 ) :: x");
@@ -64,10 +61,7 @@ fn attribute_prints<R: Abort>(make: &Maker<'_, R>, attribute: Attribute, line: &
 
 #[test]
 fn attributes(rt: HostRuntime) {
-    let make = Maker {
-        rt: &rt,
-        alloc: rt.alloc(),
-    };
+    let make = Maker::new(&rt);
     attribute_prints(&make, Attribute::Parameter, "integer , parameter :: x");
     attribute_prints(&make, Attribute::Allocatable, "integer , allocatable :: x");
     attribute_prints(&make, Attribute::Save, "integer , save :: x");
@@ -89,21 +83,6 @@ fn attributes(rt: HostRuntime) {
     ] {
         attribute_prints(&make, Attribute::Intent(intent), line);
     }
-}
-
-fn bounds(lower: Option<u64>, upper: u64) -> Bounds {
-    let lower = match lower {
-        None => None,
-        Some(value) => Some(number(value)),
-    };
-    Bounds {
-        lower,
-        upper: number(upper),
-    }
-}
-
-fn explicit(lower: Option<u64>, upper: u64) -> Dimension {
-    Dimension::Explicit(bounds(lower, upper))
 }
 
 /// Asserts that the declaration of this integer is printed so.
@@ -130,10 +109,7 @@ fn dimensions_print<R: Abort>(make: &Maker<'_, R>, dimensions: Vec<Dimension>, l
 
 #[test]
 fn dimensions(rt: HostRuntime) {
-    let make = Maker {
-        rt: &rt,
-        alloc: rt.alloc(),
-    };
+    let make = Maker::new(&rt);
     dimensions_print(&make, make.list([explicit(None, 9)]), "integer :: a ( 9 )");
     dimensions_print(
         &make,
@@ -160,10 +136,7 @@ fn coshape_prints<R: Abort>(make: &Maker<'_, R>, coshape: Coshape, line: &str) {
 
 #[test]
 fn coshapes(rt: HostRuntime) {
-    let make = Maker {
-        rt: &rt,
-        alloc: rt.alloc(),
-    };
+    let make = Maker::new(&rt);
     let star = Coshape::Explicit {
         cobounds: make.none(),
         last_lower: None,
@@ -189,10 +162,7 @@ fn coshapes(rt: HostRuntime) {
 
 #[test]
 fn entities(rt: HostRuntime) {
-    let make = Maker {
-        rt: &rt,
-        alloc: rt.alloc(),
-    };
+    let make = Maker::new(&rt);
     let first = Entity {
         name: make.name("a"),
         dimensions: make.list([explicit(None, 2)]),

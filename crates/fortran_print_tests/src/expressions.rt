@@ -32,10 +32,7 @@ fn logical(value: bool) -> Expr {
 
 #[test]
 fn literals(rt: HostRuntime) {
-    let make = Maker {
-        rt: &rt,
-        alloc: rt.alloc(),
-    };
+    let make = Maker::new(&rt);
     value_prints(&make, number(0), "0");
     value_prints(&make, largest(NumberKind::Unstated), "9223372036854775807");
     value_prints(&make, largest(NumberKind::Four), "9223372036854775807_4");
@@ -51,10 +48,7 @@ fn literals(rt: HostRuntime) {
 
 #[test]
 fn prefix_operators(rt: HostRuntime) {
-    let make = Maker {
-        rt: &rt,
-        alloc: rt.alloc(),
-    };
+    let make = Maker::new(&rt);
     for (operator, text) in [
         (PrefixOperator::Plus, "+ a"),
         (PrefixOperator::Minus, "- a"),
@@ -75,10 +69,7 @@ fn prefix_operators(rt: HostRuntime) {
 
 #[test]
 fn operators(rt: HostRuntime) {
-    let make = Maker {
-        rt: &rt,
-        alloc: rt.alloc(),
-    };
+    let make = Maker::new(&rt);
     for (operator, text) in [
         (Operator::Power, "a ** b"),
         (Operator::Multiply, "a * b"),
@@ -103,10 +94,7 @@ fn operators(rt: HostRuntime) {
 
 #[test]
 fn primaries_with_parts(rt: HostRuntime) {
-    let make = Maker {
-        rt: &rt,
-        alloc: rt.alloc(),
-    };
+    let make = Maker::new(&rt);
     let sum = make.binary(make.variable("a"), Operator::Add, number(1));
     value_prints(&make, make.parenthesized(sum), "( a + 1 )");
     let values = make.list([number(1)]);
@@ -155,10 +143,7 @@ fn maybe<R: Abort>(make: &Maker<'_, R>, value: u64) -> Option<Box<Expr>> {
 
 #[test]
 fn subscripts(rt: HostRuntime) {
-    let make = Maker {
-        rt: &rt,
-        alloc: rt.alloc(),
-    };
+    let make = Maker::new(&rt);
     designator_prints(&make, make.whole("a"), "a");
     designator_prints(&make, make.element("a", number(4)), "a ( 4 )");
     for (lower, upper, stride, text) in [
@@ -182,10 +167,7 @@ fn subscripts(rt: HostRuntime) {
 
 #[test]
 fn image_selectors(rt: HostRuntime) {
-    let make = Maker {
-        rt: &rt,
-        alloc: rt.alloc(),
-    };
+    let make = Maker::new(&rt);
     designator_prints(&make, make.coindexed("a", number(5)), "a [ 5 ]");
     let part = Designator {
         name: make.name("a"),

@@ -5,6 +5,7 @@ use caf_base::listing::{Listing, Text};
 use caf_base::place::Pos;
 use fortran_print::print;
 use fortran_tree::action::{Action, ActionForm};
+use fortran_tree::declaration::{Bounds, Dimension};
 use fortran_tree::expr::{
     Argument, Designator, Expr, NumberKind, Operator, Selector, Specifier, Subscript,
 };
@@ -21,6 +22,15 @@ pub const AT: Pos = Pos { line: 0, col: 0 };
 pub struct Maker<'a, R> {
     pub rt: &'a R,
     pub alloc: Global,
+}
+
+impl<'a, R: AllocGlobal> Maker<'a, R> {
+    pub fn new(rt: &'a R) -> Maker<'a, R> {
+        Maker {
+            rt,
+            alloc: rt.alloc(),
+        }
+    }
 }
 
 impl<R: Abort> Maker<'_, R> {
@@ -179,6 +189,22 @@ pub fn number(value: u64) -> Expr {
         kind: NumberKind::Unstated,
         at: AT,
     }
+}
+
+pub fn bounds(lower: Option<u64>, upper: u64) -> Bounds {
+    let lower = match lower {
+        None => None,
+        Some(value) => Some(number(value)),
+    };
+    Bounds {
+        lower,
+        upper: number(upper),
+    }
+}
+
+/// A dimension with these bounds.
+pub fn explicit(lower: Option<u64>, upper: u64) -> Dimension {
+    Dimension::Explicit(bounds(lower, upper))
 }
 
 pub fn argument(value: Expr) -> Argument {

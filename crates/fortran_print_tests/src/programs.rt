@@ -1,8 +1,11 @@
 //! The worked programs, and lines and literals that are continued, printed.
 
-use crate::maker::{AT, Maker, action, argument, assignment, end, number, program_prints};
+use crate::maker::{
+    AT, Maker, action, argument, assignment, end, explicit, number, program_prints,
+    statement_prints,
+};
 use fortran_tree::action::{ActionForm, Format, Item};
-use fortran_tree::declaration::{Bounds, Coshape, Declaration, Dimension, Entity, TypeSpec};
+use fortran_tree::declaration::{Coshape, Declaration, Entity, TypeSpec};
 use fortran_tree::expr::{Designator, Expr, Operator, PrefixOperator};
 use fortran_tree::statement::{LoopControl, Statement};
 use fortran_tree::unit::{Body, Program};
@@ -48,10 +51,7 @@ fn sync_all() -> Statement {
 /// The program of a read from a neighbour has one blank between its tokens.
 #[test]
 fn neighbour_read(rt: HostRuntime) {
-    let make = Maker {
-        rt: &rt,
-        alloc: rt.alloc(),
-    };
+    let make = Maker::new(&rt);
     let shown = Item::Value(Expr::Designator(make.coindexed("x", number(4))));
     let is_first = make.binary(make.function("this_image"), Operator::Equal, number(1));
     let statements = make.list([
@@ -185,10 +185,7 @@ fn ring_statements<R: Abort>(make: &Maker<'_, R>) -> Vec<Statement> {
 fn ring_variables<R: Abort>(make: &Maker<'_, R>) -> Declaration {
     let u = Entity {
         name: make.name("u"),
-        dimensions: make.list([Dimension::Explicit(Bounds {
-            lower: None,
-            upper: number(1000),
-        })]),
+        dimensions: make.list([explicit(None, 1000)]),
         coshape: None,
         initial: None,
     };
@@ -209,10 +206,7 @@ fn ring_variables<R: Abort>(make: &Maker<'_, R>) -> Declaration {
 /// The halo exchange on a ring.
 #[test]
 fn ring(rt: HostRuntime) {
-    let make = Maker {
-        rt: &rt,
-        alloc: rt.alloc(),
-    };
+    let make = Maker::new(&rt);
     let program = Program {
         name: Some(make.name("ring")),
         uses: make.none(),
@@ -234,19 +228,16 @@ s = 0\ndo i = 1 , 1000\ns = s + u ( i )\nend do\nt = s\ncall co_sum ( t )\nif ( 
     );
 }
 
-/// So many letters.
-fn letters<R: Abort>(make: &Maker<'_, R>, count: usize) -> String {
-    "a".repeat(make.alloc, count).expect(make.rt, "memory")
+/// A text, so many times.
+fn repeated<R: Abort>(make: &Maker<'_, R>, text: &str, times: usize) -> String {
+    text.repeat(make.alloc, times).expect(make.rt, "memory")
 }
 
 /// A literal of 1,200 letters stands in three lines.
 #[test]
 fn long_literal(rt: HostRuntime) {
-    let make = Maker {
-        rt: &rt,
-        alloc: rt.alloc(),
-    };
-    let letters = letters(&make, 1200);
+    let make = Maker::new(&rt);
+    let letters = repeated(&make, "a", 1200);
     let literal = Item::Literal(make.literal(letters.as_str()));
     let statement = action(print_values(make.list([literal])));
     let wanted = format!(in make.alloc;
@@ -256,4 +247,41 @@ fn long_literal(rt: HostRuntime) {
     )
     .expect(&rt, "memory");
     program_prints(&make, make.plain(make.list([statement])), wanted.as_str());
+}
+
+/// PRINT of a literal of so many letters, and then so many times of the name with 63 letters `b`.
+fn wide_print<R: Abort>(make: &Maker<'_, R>, letters: usize, names: usize) -> Statement {
+    let literal = repeated(make, "a", letters);
+    let name = repeated(make, "b", 63);
+    let mut items = make.list([Item::Literal(make.literal(literal.as_str()))]);
+    for _turn in 0..names {
+        let item = Item::Value(make.variable(name.as_str()));
+        items.push(item).expect(make.rt, "memory");
+    }
+    action(print_values(items))
+}
+
+/// A line has 998 bytes where a token ends it, so that ` &` would still fit; a token that would bring it to 999 begins the next one.
+/// Seven bytes are `print *`, and 66 each name with its comma and its blanks: 7 + 3 + 64 + 14 * 66 is 998.
+#[test]
+fn full_line(rt: HostRuntime) {
+    let make = Maker::new(&rt);
+    let name = repeated(&make, "b", 63);
+    let item = format!(in make.alloc; " , {name}").expect(&rt, "memory");
+    let items = repeated(&make, item.as_str(), 13);
+    let literal = repeated(&make, "a", 62);
+    statement_prints(
+        &make,
+        wide_print(&make, 62, 14),
+        format!(in make.alloc; "print * , '{literal}'{items} , {name}")
+            .expect(&rt, "memory")
+            .as_str(),
+    );
+    statement_prints(
+        &make,
+        wide_print(&make, 63, 14),
+        format!(in make.alloc; "print * , '{literal}a'{items} , &\n{name}")
+            .expect(&rt, "memory")
+            .as_str(),
+    );
 }

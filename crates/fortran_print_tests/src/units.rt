@@ -22,10 +22,7 @@ fn empty_program_prints<R: Abort>(make: &Maker<'_, R>, name: Option<Name>, end: 
 
 #[test]
 fn names_of_programs(rt: HostRuntime) {
-    let make = Maker {
-        rt: &rt,
-        alloc: rt.alloc(),
-    };
+    let make = Maker::new(&rt);
     empty_program_prints(&make, None, end(), "end\n");
     empty_program_prints(&make, Some(make.name("p")), end(), "program p\nend\n");
     empty_program_prints(&make, None, make.named_end("p"), "end program p\n");
@@ -63,10 +60,7 @@ fn use_prints<R: Abort>(
 /// An ONLY with no names stands.
 #[test]
 fn uses(rt: HostRuntime) {
-    let make = Maker {
-        rt: &rt,
-        alloc: rt.alloc(),
-    };
+    let make = Maker::new(&rt);
     use_prints(&make, ModuleNature::Unstated, None, "use :: m\nend\n");
     use_prints(
         &make,
@@ -135,10 +129,7 @@ fn subroutine<R: Abort>(
 
 #[test]
 fn subroutines(rt: HostRuntime) {
-    let make = Maker {
-        rt: &rt,
-        alloc: rt.alloc(),
-    };
+    let make = Maker::new(&rt);
     procedure_prints(
         &make,
         subroutine(&make, Recursion::Unstated, None),
@@ -182,10 +173,7 @@ fn function<R: Abort>(
 
 #[test]
 fn functions(rt: HostRuntime) {
-    let make = Maker {
-        rt: &rt,
-        alloc: rt.alloc(),
-    };
+    let make = Maker::new(&rt);
     procedure_prints(
         &make,
         function(&make, make.none(), make.none(), None),
@@ -253,10 +241,7 @@ fn procedure<R: Abort>(make: &Maker<'_, R>, heading: Heading, body: Body) -> Pro
 /// A CONTAINS with no procedures stands.
 #[test]
 fn contained_procedures(rt: HostRuntime) {
-    let make = Maker {
-        rt: &rt,
-        alloc: rt.alloc(),
-    };
+    let make = Maker::new(&rt);
     contained_prints(&make, Some(make.none()), "contains\nend\n");
     let first = procedure(
         &make,
@@ -278,10 +263,7 @@ function f ( )\nreturn\nend function\nend\n",
 
 #[test]
 fn parts_in_their_order(rt: HostRuntime) {
-    let make = Maker {
-        rt: &rt,
-        alloc: rt.alloc(),
-    };
+    let make = Maker::new(&rt);
     let import = Use {
         nature: ModuleNature::Unstated,
         module: make.name("m"),
