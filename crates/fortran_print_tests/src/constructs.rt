@@ -9,7 +9,7 @@ use fortran_tree::statement::{
 };
 use std::process::Abort;
 
-fn else_if<R: Abort>(make: &Maker<'_, R>, condition: &str, body: Vec<Statement>) -> ElseIf {
+fn else_if<R: Abort + Copy>(make: Maker<R>, condition: &str, body: Vec<Statement>) -> ElseIf {
     ElseIf {
         condition: make.variable(condition),
         body,
@@ -18,8 +18,8 @@ fn else_if<R: Abort>(make: &Maker<'_, R>, condition: &str, body: Vec<Statement>)
 }
 
 /// IF on `a` with RETURN in its first block.
-fn choice<R: Abort>(
-    make: &Maker<'_, R>,
+fn choice<R: Abort + Copy>(
+    make: Maker<R>,
     else_ifs: Vec<ElseIf>,
     otherwise: Option<Otherwise>,
 ) -> Statement {
@@ -35,10 +35,10 @@ fn choice<R: Abort>(
 
 #[test]
 fn ifs(rt: HostRuntime) {
-    let make = Maker::new(&rt);
+    let make = Maker::new(rt);
     statement_prints(
-        &make,
-        choice(&make, make.none(), None),
+        make,
+        choice(make, make.none(), None),
         "if ( a ) then\nreturn\nend if",
     );
     let otherwise = Otherwise {
@@ -46,28 +46,28 @@ fn ifs(rt: HostRuntime) {
         at: AT,
     };
     statement_prints(
-        &make,
-        choice(&make, make.none(), Some(otherwise)),
+        make,
+        choice(make, make.none(), Some(otherwise)),
         "if ( a ) then\nreturn\nelse\nreturn\nend if",
     );
     let else_ifs = make.list([
-        else_if(&make, "b", make.none()),
-        else_if(&make, "c", make.list([action(ActionForm::FailImage)])),
+        else_if(make, "b", make.none()),
+        else_if(make, "c", make.list([action(ActionForm::FailImage)])),
     ]);
     let otherwise = Otherwise {
         body: make.none(),
         at: AT,
     };
     statement_prints(
-        &make,
-        choice(&make, else_ifs, Some(otherwise)),
+        make,
+        choice(make, else_ifs, Some(otherwise)),
         "if ( a ) then\nreturn\nelse if ( b ) then\nelse if ( c ) then\nfail image\nelse\nend if",
     );
 }
 
 /// Asserts that DO with this control is printed so, without and with the construct name `l`.
-fn loop_prints<R: Abort>(
-    make: &Maker<'_, R>,
+fn loop_prints<R: Abort + Copy>(
+    make: Maker<R>,
     (construct, end): (Option<&str>, End),
     control: LoopControl,
     lines: &str,
@@ -87,7 +87,7 @@ fn loop_prints<R: Abort>(
     statement_prints(make, statement, lines);
 }
 
-fn counted<R: Abort>(make: &Maker<'_, R>, step: Option<Expr>) -> LoopControl {
+fn counted<R: Abort + Copy>(make: Maker<R>, step: Option<Expr>) -> LoopControl {
     LoopControl::Counted {
         variable: make.name("i"),
         first: number(1),
@@ -96,7 +96,7 @@ fn counted<R: Abort>(make: &Maker<'_, R>, step: Option<Expr>) -> LoopControl {
     }
 }
 
-fn while_a<R: Abort>(make: &Maker<'_, R>) -> LoopControl {
+fn while_a<R: Abort + Copy>(make: Maker<R>) -> LoopControl {
     LoopControl::While {
         condition: make.variable("a"),
     }
@@ -104,29 +104,29 @@ fn while_a<R: Abort>(make: &Maker<'_, R>) -> LoopControl {
 
 #[test]
 fn loops_without_names(rt: HostRuntime) {
-    let make = Maker::new(&rt);
+    let make = Maker::new(rt);
     loop_prints(
-        &make,
+        make,
         (None, end()),
         LoopControl::Unlimited,
         "do\nreturn\nend do",
     );
     loop_prints(
-        &make,
+        make,
         (None, end()),
-        counted(&make, None),
+        counted(make, None),
         "do i = 1 , n\nreturn\nend do",
     );
     loop_prints(
-        &make,
+        make,
         (None, end()),
-        counted(&make, Some(number(2))),
+        counted(make, Some(number(2))),
         "do i = 1 , n , 2\nreturn\nend do",
     );
     loop_prints(
-        &make,
+        make,
         (None, end()),
-        while_a(&make),
+        while_a(make),
         "do while ( a )\nreturn\nend do",
     );
 }
@@ -134,40 +134,40 @@ fn loops_without_names(rt: HostRuntime) {
 /// The name behind END DO is printed where it stands.
 #[test]
 fn loops_with_names(rt: HostRuntime) {
-    let make = Maker::new(&rt);
+    let make = Maker::new(rt);
     loop_prints(
-        &make,
+        make,
         (Some("l"), make.named_end("l")),
         LoopControl::Unlimited,
         "l : do\nreturn\nend do l",
     );
     loop_prints(
-        &make,
+        make,
         (Some("l"), make.named_end("l")),
-        counted(&make, None),
+        counted(make, None),
         "l : do i = 1 , n\nreturn\nend do l",
     );
     loop_prints(
-        &make,
+        make,
         (Some("l"), make.named_end("l")),
-        counted(&make, Some(number(2))),
+        counted(make, Some(number(2))),
         "l : do i = 1 , n , 2\nreturn\nend do l",
     );
     loop_prints(
-        &make,
+        make,
         (Some("l"), make.named_end("l")),
-        while_a(&make),
+        while_a(make),
         "l : do while ( a )\nreturn\nend do l",
     );
     loop_prints(
-        &make,
+        make,
         (Some("l"), end()),
         LoopControl::Unlimited,
         "l : do\nreturn\nend do",
     );
 }
 
-fn case<R: Abort>(make: &Maker<'_, R>, range: CaseRange) -> CaseBlock {
+fn case<R: Abort + Copy>(make: Maker<R>, range: CaseRange) -> CaseBlock {
     CaseBlock {
         selector: CaseSelector::Ranges(make.list([range])),
         body: make.none(),
@@ -176,7 +176,7 @@ fn case<R: Abort>(make: &Maker<'_, R>, range: CaseRange) -> CaseBlock {
 }
 
 /// Asserts that SELECT CASE on `a` with these cases is printed so.
-fn select_prints<R: Abort>(make: &Maker<'_, R>, cases: Vec<CaseBlock>, lines: &str) {
+fn select_prints<R: Abort + Copy>(make: Maker<R>, cases: Vec<CaseBlock>, lines: &str) {
     let select = Statement::SelectCase {
         selector: make.variable("a"),
         cases,
@@ -188,22 +188,22 @@ fn select_prints<R: Abort>(make: &Maker<'_, R>, cases: Vec<CaseBlock>, lines: &s
 
 #[test]
 fn selects(rt: HostRuntime) {
-    let make = Maker::new(&rt);
-    select_prints(&make, make.none(), "select case ( a )\nend select");
+    let make = Maker::new(rt);
+    select_prints(make, make.none(), "select case ( a )\nend select");
     let cases = make.list([
-        case(&make, CaseRange::Value(number(1))),
-        case(&make, CaseRange::AtLeast(number(2))),
+        case(make, CaseRange::Value(number(1))),
+        case(make, CaseRange::AtLeast(number(2))),
         case(
-            &make,
+            make,
             CaseRange::AtMost {
                 upper: number(3),
                 at: AT,
             },
         ),
-        case(&make, CaseRange::Between(number(4), number(5))),
+        case(make, CaseRange::Between(number(4), number(5))),
     ]);
     select_prints(
-        &make,
+        make,
         cases,
         "select case ( a )\ncase ( 1 )\ncase ( 2 : )\ncase ( : 3 )\ncase ( 4 : 5 )\nend select",
     );
@@ -226,14 +226,14 @@ fn selects(rt: HostRuntime) {
         at: AT,
     };
     select_prints(
-        &make,
+        make,
         make.list([several, default]),
         "select case ( a )\ncase ( 1 , : 0 , n : )\nreturn\ncase default\nreturn\nend select",
     );
 }
 
 /// Asserts that CRITICAL with this behind it is printed so.
-fn critical_prints<R: Abort>(make: &Maker<'_, R>, specifier: BracketedSpecifier, lines: &str) {
+fn critical_prints<R: Abort + Copy>(make: Maker<R>, specifier: BracketedSpecifier, lines: &str) {
     let critical = Statement::Critical {
         specifier,
         body: make.returns(),
@@ -245,19 +245,19 @@ fn critical_prints<R: Abort>(make: &Maker<'_, R>, specifier: BracketedSpecifier,
 
 #[test]
 fn criticals(rt: HostRuntime) {
-    let make = Maker::new(&rt);
+    let make = Maker::new(rt);
     critical_prints(
-        &make,
+        make,
         BracketedSpecifier::Absent,
         "critical\nreturn\nend critical",
     );
     critical_prints(
-        &make,
+        make,
         BracketedSpecifier::Empty,
         "critical ( )\nreturn\nend critical",
     );
     critical_prints(
-        &make,
+        make,
         BracketedSpecifier::Present(make.specifier("stat", "e")),
         "critical ( stat = e )\nreturn\nend critical",
     );
@@ -265,7 +265,7 @@ fn criticals(rt: HostRuntime) {
 
 #[test]
 fn changes_of_team(rt: HostRuntime) {
-    let make = Maker::new(&rt);
+    let make = Maker::new(rt);
     let plain = Statement::ChangeTeam {
         team: make.variable("t"),
         specifiers: make.none(),
@@ -274,7 +274,7 @@ fn changes_of_team(rt: HostRuntime) {
         at: AT,
         end: AT,
     };
-    statement_prints(&make, plain, "change team ( t )\nreturn\nend team");
+    statement_prints(make, plain, "change team ( t )\nreturn\nend team");
     let empty = Statement::ChangeTeam {
         team: make.variable("t"),
         specifiers: make.stat(),
@@ -283,7 +283,7 @@ fn changes_of_team(rt: HostRuntime) {
         at: AT,
         end: AT,
     };
-    statement_prints(&make, empty, "change team ( t , stat = e )\nend team ( )");
+    statement_prints(make, empty, "change team ( t , stat = e )\nend team ( )");
     let present = Statement::ChangeTeam {
         team: make.variable("t"),
         specifiers: make.none(),
@@ -292,16 +292,16 @@ fn changes_of_team(rt: HostRuntime) {
         at: AT,
         end: AT,
     };
-    statement_prints(&make, present, "change team ( t )\nend team ( stat = e )");
+    statement_prints(make, present, "change team ( t )\nend team ( stat = e )");
 }
 
 /// Nothing is indented.
 #[test]
 fn constructs_in_constructs(rt: HostRuntime) {
-    let make = Maker::new(&rt);
+    let make = Maker::new(rt);
     let critical = Statement::Critical {
         specifier: BracketedSpecifier::Absent,
-        body: make.list([choice(&make, make.none(), None)]),
+        body: make.list([choice(make, make.none(), None)]),
         at: AT,
         end: AT,
     };
@@ -313,7 +313,7 @@ fn constructs_in_constructs(rt: HostRuntime) {
         end: end(),
     };
     statement_prints(
-        &make,
+        make,
         outer,
         "do\ncritical\nif ( a ) then\nreturn\nend if\nend critical\nexit\nend do",
     );

@@ -18,46 +18,44 @@ use std::process::Abort;
 pub const AT: Pos = Pos { line: 0, col: 0 };
 
 /// Makes trees.
-#[derive(Drop)]
-pub struct Maker<'a, R> {
-    pub rt: &'a R,
+#[derive(Clone, Copy)]
+pub struct Maker<R> {
+    pub rt: R,
     pub alloc: Global,
 }
 
-impl<'a, R: AllocGlobal> Maker<'a, R> {
-    pub fn new(rt: &'a R) -> Maker<'a, R> {
-        Maker {
-            rt,
-            alloc: rt.alloc(),
-        }
+impl<R: AllocGlobal> Maker<R> {
+    pub fn new(rt: R) -> Maker<R> {
+        let alloc = rt.alloc();
+        Maker { rt, alloc }
     }
 }
 
-impl<R: Abort> Maker<'_, R> {
-    pub fn none<T>(&self) -> Vec<T> {
+impl<R: Abort + Copy> Maker<R> {
+    pub fn none<T>(self) -> Vec<T> {
         Vec::new(self.alloc)
     }
 
-    pub fn list<T: Drop, const N: usize>(&self, items: [T; N]) -> Vec<T> {
-        Vec::from_array(self.alloc, items).expect(self.rt, "memory")
+    pub fn list<T: Drop, const N: usize>(self, items: [T; N]) -> Vec<T> {
+        Vec::from_array(self.alloc, items).expect(&self.rt, "memory")
     }
 
-    pub fn boxed<T: Drop>(&self, value: T) -> Box<T> {
-        Box::new(self.alloc, value).expect(self.rt, "memory")
+    pub fn boxed<T: Drop>(self, value: T) -> Box<T> {
+        Box::new(self.alloc, value).expect(&self.rt, "memory")
     }
 
-    pub fn text(&self, text: &str) -> Text {
-        Listing::from_slice(self.alloc, text.as_bytes()).expect(self.rt, "memory")
+    pub fn text(self, text: &str) -> Text {
+        Listing::from_slice(self.alloc, text.as_bytes()).expect(&self.rt, "memory")
     }
 
-    pub fn name(&self, text: &str) -> Name {
+    pub fn name(self, text: &str) -> Name {
         Name {
             text: self.text(text),
             at: AT,
         }
     }
 
-    pub fn literal(&self, text: &str) -> Literal {
+    pub fn literal(self, text: &str) -> Literal {
         Literal {
             text: self.text(text),
             at: AT,
@@ -65,7 +63,7 @@ impl<R: Abort> Maker<'_, R> {
     }
 
     /// The designator of a variable without subscripts.
-    pub fn whole(&self, text: &str) -> Designator {
+    pub fn whole(self, text: &str) -> Designator {
         Designator {
             name: self.name(text),
             subscripts: self.none(),
@@ -73,7 +71,7 @@ impl<R: Abort> Maker<'_, R> {
         }
     }
 
-    pub fn element(&self, text: &str, index: Expr) -> Designator {
+    pub fn element(self, text: &str, index: Expr) -> Designator {
         Designator {
             name: self.name(text),
             subscripts: self.list([Subscript::Element(index)]),
@@ -81,7 +79,7 @@ impl<R: Abort> Maker<'_, R> {
         }
     }
 
-    pub fn coindexed(&self, text: &str, image: Expr) -> Designator {
+    pub fn coindexed(self, text: &str, image: Expr) -> Designator {
         Designator {
             name: self.name(text),
             subscripts: self.none(),
@@ -92,26 +90,26 @@ impl<R: Abort> Maker<'_, R> {
         }
     }
 
-    pub fn variable(&self, text: &str) -> Expr {
+    pub fn variable(self, text: &str) -> Expr {
         Expr::Designator(self.whole(text))
     }
 
     /// A function without arguments.
-    pub fn function(&self, text: &str) -> Expr {
+    pub fn function(self, text: &str) -> Expr {
         Expr::FunctionReference {
             function: self.name(text),
             arguments: self.none(),
         }
     }
 
-    pub fn parenthesized(&self, inner: Expr) -> Expr {
+    pub fn parenthesized(self, inner: Expr) -> Expr {
         Expr::Parenthesized {
             inner: self.boxed(inner),
             at: AT,
         }
     }
 
-    pub fn binary(&self, left: Expr, operator: Operator, right: Expr) -> Expr {
+    pub fn binary(self, left: Expr, operator: Operator, right: Expr) -> Expr {
         Expr::Binary {
             operator,
             left: self.boxed(left),
@@ -121,7 +119,7 @@ impl<R: Abort> Maker<'_, R> {
     }
 
     /// The arguments `a , k = b`.
-    pub fn arguments(&self) -> Vec<Argument> {
+    pub fn arguments(self) -> Vec<Argument> {
         self.list([
             argument(self.variable("a")),
             Argument {
@@ -131,7 +129,7 @@ impl<R: Abort> Maker<'_, R> {
         ])
     }
 
-    pub fn specifier(&self, name: &str, variable: &str) -> Specifier {
+    pub fn specifier(self, name: &str, variable: &str) -> Specifier {
         Specifier {
             name: self.name(name),
             value: self.variable(variable),
@@ -139,12 +137,12 @@ impl<R: Abort> Maker<'_, R> {
     }
 
     /// The specifier `stat = e` alone.
-    pub fn stat(&self) -> Vec<Specifier> {
+    pub fn stat(self) -> Vec<Specifier> {
         self.list([self.specifier("stat", "e")])
     }
 
     /// The one-line IF of a condition and an action.
-    pub fn guarded(&self, condition: Expr, form: ActionForm) -> ActionForm {
+    pub fn guarded(self, condition: Expr, form: ActionForm) -> ActionForm {
         ActionForm::If {
             condition,
             action: self.boxed(Action { form, at: AT }),
@@ -152,11 +150,12 @@ impl<R: Abort> Maker<'_, R> {
     }
 
     /// The statement RETURN alone.
-    pub fn returns(&self) -> Vec<Statement> {
+    pub fn returns(self) -> Vec<Statement> {
         self.list([action(ActionForm::Return)])
     }
 
-    pub fn body(&self, statements: Vec<Statement>) -> Body {
+    /// A body of statements alone.
+    pub fn body(self, statements: Vec<Statement>) -> Body {
         Body {
             implicit_none: None,
             declarations: self.none(),
@@ -164,18 +163,18 @@ impl<R: Abort> Maker<'_, R> {
         }
     }
 
-    /// A program of statements alone.
-    pub fn plain(&self, statements: Vec<Statement>) -> Program {
+    /// A program of this body alone.
+    pub fn program(self, body: Body) -> Program {
         Program {
             name: None,
             uses: self.none(),
-            body: self.body(statements),
+            body,
             procedures: None,
             end: end(),
         }
     }
 
-    pub fn named_end(&self, name: &str) -> End {
+    pub fn named_end(self, name: &str) -> End {
         End {
             name: Some(self.name(name)),
             at: AT,
@@ -230,20 +229,24 @@ pub fn end() -> End {
 fn give_up<T: Drop>(_value: T) {}
 
 /// Asserts that the program is printed so.
-pub fn program_prints<R: Abort>(make: &Maker<'_, R>, program: Program, wanted: &str) {
+pub fn program_prints<R: Abort + Copy>(make: Maker<R>, program: Program, wanted: &str) {
     let text = print(make.alloc, &program);
     give_up(program);
-    let text = text.expect(make.rt, "memory");
+    let text = text.expect(&make.rt, "memory");
     assert_eq!(make.rt; text.as_slice(), wanted.as_bytes(), "{wanted}");
 }
 
 /// Asserts that a program of this statement alone is printed as these lines and END.
-pub fn statement_prints<R: Abort>(make: &Maker<'_, R>, statement: Statement, lines: &str) {
-    let wanted = format!(in make.alloc; "{lines}\nend\n").expect(make.rt, "memory");
-    program_prints(make, make.plain(make.list([statement])), wanted.as_str());
+pub fn statement_prints<R: Abort + Copy>(make: Maker<R>, statement: Statement, lines: &str) {
+    let wanted = format!(in make.alloc; "{lines}\nend\n").expect(&make.rt, "memory");
+    program_prints(
+        make,
+        make.program(make.body(make.list([statement]))),
+        wanted.as_str(),
+    );
 }
 
 /// Asserts that the action is printed so.
-pub fn action_prints<R: Abort>(make: &Maker<'_, R>, form: ActionForm, line: &str) {
+pub fn action_prints<R: Abort + Copy>(make: Maker<R>, form: ActionForm, line: &str) {
     statement_prints(make, action(form), line);
 }
