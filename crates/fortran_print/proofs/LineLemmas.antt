@@ -1,10 +1,9 @@
 -- The lines of a printed text have 1,000 bytes at most.
-use Rattle.std.proofs.Common.{◌≡◌, ℕ, suc, ◌+◌, ◌≤◌, Bool, true, false, cond, not, ◌&&◌, nat_eq, nat_le, List, [], ◌∷◌, ◌++◌, length, map, codes, refl, ap, sym, ◌∙◌, subst, arith, append_assoc}
+use Rattle.std.proofs.Common.{◌≡◌, ℕ, ◌+◌, ◌≤◌, Bool, true, false, cond, not, ◌&&◌, nat_eq, nat_le, List, [], ◌∷◌, ◌++◌, length, map, codes, refl, ap, sym, ◌∙◌, subst, arith, append_assoc}
 use Rattle.std.specs.Prelude.{fold, flat_map}
 use Rattle.std.specs.List.{list_all}
 use Rattle.std.proofs.lemmas.Bool.{and_parts, and_from, leb-true, le-leb, eqb-true}
 use Rattle.std.proofs.lemmas.List.Folds.{list_all-append}
-use Rattle.fortran_tree.specs.Units.{Program}
 use Rattle.fortran_grammar.specs.Tokens.{Tok, word, integer, literal, sign, over}
 use Rattle.fortran_tokens.specs.declared.token.Sign.{Sign}
 use Rattle.fortran_tokens.specs.declared.token.Sign.TheVariants as s
