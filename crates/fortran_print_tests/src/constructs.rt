@@ -167,10 +167,10 @@ fn loops_with_names(rt: HostRuntime) {
     );
 }
 
-fn case<R: Abort + Copy>(make: Maker<R>, range: CaseRange) -> CaseBlock {
+fn case(ranges: Vec<CaseRange>, body: Vec<Statement>) -> CaseBlock {
     CaseBlock {
-        selector: CaseSelector::Ranges(make.list([range])),
-        body: make.none(),
+        selector: CaseSelector::Ranges(ranges),
+        body,
         at: AT,
     }
 }
@@ -190,17 +190,18 @@ fn select_prints<R: Abort + Copy>(make: Maker<R>, cases: Vec<CaseBlock>, lines: 
 fn selects(rt: HostRuntime) {
     let make = Maker::new(rt);
     select_prints(make, make.none(), "select case ( a )\nend select");
+    let upper = number(3);
     let cases = make.list([
-        case(make, CaseRange::Value(number(1))),
-        case(make, CaseRange::AtLeast(number(2))),
+        case(make.list([CaseRange::Value(number(1))]), make.none()),
+        case(make.list([CaseRange::AtLeast(number(2))]), make.none()),
         case(
-            make,
-            CaseRange::AtMost {
-                upper: number(3),
-                at: AT,
-            },
+            make.list([CaseRange::AtMost { upper, at: AT }]),
+            make.none(),
         ),
-        case(make, CaseRange::Between(number(4), number(5))),
+        case(
+            make.list([CaseRange::Between(number(4), number(5))]),
+            make.none(),
+        ),
     ]);
     select_prints(
         make,
@@ -209,17 +210,8 @@ fn selects(rt: HostRuntime) {
     );
     let ranges = make.list([
         CaseRange::Value(number(1)),
-        CaseRange::AtMost {
-            upper: number(0),
-            at: AT,
-        },
         CaseRange::AtLeast(make.variable("n")),
     ]);
-    let several = CaseBlock {
-        selector: CaseSelector::Ranges(ranges),
-        body: make.returns(),
-        at: AT,
-    };
     let default = CaseBlock {
         selector: CaseSelector::Default,
         body: make.returns(),
@@ -227,8 +219,8 @@ fn selects(rt: HostRuntime) {
     };
     select_prints(
         make,
-        make.list([several, default]),
-        "select case ( a )\ncase ( 1 , : 0 , n : )\nreturn\ncase default\nreturn\nend select",
+        make.list([case(ranges, make.returns()), default]),
+        "select case ( a )\ncase ( 1 , n : )\nreturn\ncase default\nreturn\nend select",
     );
 }
 
