@@ -1,5 +1,5 @@
 -- Expressions as they are printed; the texts were written by hand.
-use Rattle.std.proofs.Common.{◌≡◌, ℕ, zero, suc, ◌+◌, true, false, List, [], ◌∷◌, ◌++◌, refl, codes, Some, None}
+use Rattle.std.proofs.Common.{◌≡◌, true, false, refl, codes, Some, None}
 use Rattle.fortran_tree.specs.declared.expr.Operator.TheVariants as o
 use Rattle.fortran_tree.specs.declared.expr.PrefixOperator.TheVariants as b
 use Rattle.fortran_tree.specs.Expressions as s

@@ -1,5 +1,5 @@
 -- What is laid of a form is what is laid of its parts.
-use Rattle.std.proofs.Common.{◌≡◌, ℕ, suc, ◌+◌, ◌-◌, ◌<◌, List, [], ◌∷◌, ◌++◌, refl, ap, sym, ◌∙◌, arith}
+use Rattle.std.proofs.Common.{◌≡◌, ℕ, suc, ◌+◌, ◌-◌, ◌<◌, refl, ap, sym, ◌∙◌, arith}
 use Rattle.fortran_tokens.specs.declared.token.Sign.TheVariants.{Comma, Colon}
 use Rattle.fortran_tree.specs.declared.expr.Operator.{Operator}
 use Rattle.fortran_tree.specs.declared.expr.Operator.TheVariants as operators

@@ -1,4 +1,5 @@
 pub mod Forms
+pub mod TextLines
 pub mod LineLemmas
 mod Small
 mod ExpressionPrints

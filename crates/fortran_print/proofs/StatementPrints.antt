@@ -1,5 +1,5 @@
 -- Actions and constructs as they are printed; the texts were written by hand.
-use Rattle.std.proofs.Common.{◌≡◌, true, false, [], ◌∷◌, refl, codes, Some, None}
+use Rattle.std.proofs.Common.{◌≡◌, [], ◌∷◌, refl, codes, Some, None}
 use Rattle.fortran_tree.specs.Expressions as e
 use Rattle.fortran_tree.specs.Statements as s
 use Rattle.fortran_grammar.specs.ActionGrammar.{action}

@@ -1,5 +1,5 @@
 -- Declarations and programs as they are printed; the texts were written by hand.
-use Rattle.std.proofs.Common.{◌≡◌, true, false, [], ◌∷◌, refl, codes, Some, None}
+use Rattle.std.proofs.Common.{◌≡◌, [], ◌∷◌, refl, codes, Some, None}
 use Rattle.fortran_tree.specs.declared.declaration.Intent.TheVariants as t
 use Rattle.fortran_tree.specs.declared.unit.ModuleNature.TheVariants as u
 use Rattle.fortran_tree.specs.declared.unit.Recursion.TheVariants as r

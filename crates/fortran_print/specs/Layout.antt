@@ -1,5 +1,5 @@
 -- How tokens are laid in lines of 1,000 bytes at most.
-use Rattle.std.specs.Prelude.{ℕ, ◌+◌, cond, nat_eq, nat_le, List, [], ◌∷◌, ◌++◌, length, codes, fold}
+use Rattle.std.specs.Prelude.{ℕ, ◌+◌, cond, nat_eq, nat_le, List, [], ◌++◌, length, codes, fold}
 use Rattle.fortran_grammar.specs.Tokens.{Tok, word, integer, literal, sign, over}
 use Rattle.fortran_grammar.specs.Phrases as p
 use Rattle.fortran_grammar.specs.Phrases.{Phrase, ◌▸◌, ◌∪◌, canonical}

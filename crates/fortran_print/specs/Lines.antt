@@ -1,8 +1,8 @@
 -- The lines of a printed text.
-use Rattle.std.specs.Prelude.{ℕ, ◌≡◌, ◌+◌, ◌≤◌, Bool, true, false, cond, not, ◌&&◌, nat_eq, nat_le, List, [], ◌∷◌, ◌++◌, length}
+use Rattle.std.specs.Prelude.{ℕ, ◌≡◌, ◌+◌, Bool, true, cond, not, ◌&&◌, nat_eq, nat_le, List, [], ◌∷◌, length}
 use Rattle.std.specs.List.{list_all}
 use Rattle.fortran_tree.specs.Units.{Program}
-use Rattle.fortran_grammar.specs.Tokens.{Tok, word, integer, literal, sign, over}
+use Rattle.fortran_grammar.specs.Tokens.{Tok, word, integer, literal}
 use Rattle.fortran_grammar.specs.Phrases.{canonical}
 use Rattle.fortran_grammar.specs.ProgramGrammar.{program}
 use Rattle.fortran_print.specs.Spelling.{number_text}

@@ -1,13 +1,15 @@
 //! Action statements.
 
-ghost use Rattle.std.specs.Prelude.{◌≡◌, OnOk, map};
+ghost use Rattle.std.specs.Prelude.{◌≡◌, OnOk, map, codes};
 ghost use Rattle.fortran_grammar.specs.ActionGrammar as grammar;
 ghost use Rattle.fortran_grammar.specs.ExpressionGrammar as expressions;
 ghost use Rattle.fortran_grammar.specs.Phrases as phrases;
+ghost use Rattle.fortran_grammar.specs.Phrases.{◌▸◌};
 ghost use Rattle.fortran_print.specs.Layout.{write};
 ghost use Rattle.fortran_tree.specs.ActionViews as view;
 ghost use Rattle.fortran_tree.specs.DeclarationViews as declared_view;
 ghost use Rattle.fortran_tree.specs.ExpressionViews as expression_view;
+ghost use Rattle.fortran_tree.specs.Statements as forms;
 
 use crate::declaration::{lay_maybe_coshape, lay_shape};
 use crate::expr::{
@@ -166,15 +168,148 @@ pub fn lay_team(page: &mut Page, team: &Expr, specifiers: &[Specifier]) -> Resul
     page.sign(Sign::CloseRound)
 }
 
-/// Lays what stands behind FORM TEAM.
-fn lay_new_team(
+/// Lays an assignment.
+fn lay_assignment(page: &mut Page, variable: &Designator, value: &Expr) -> Result<(), NoMemory>
+    ensures { OnOk result (page.new ≡ write (grammar.action_form (forms.assignment (expression_view.design variable.now) (expression_view.term value.now))) page.old) }
+{
+    lay_design(page, variable)?;
+    page.sign(Sign::Assign)?;
+    lay_expr(page, value)
+}
+
+/// Lays a CALL statement.
+fn lay_call(
+    page: &mut Page,
+    subroutine: &Name,
+    arguments: &Option<Vec<Argument>>,
+) -> Result<(), NoMemory>
+    ensures { OnOk result (page.new ≡ write (grammar.action_form (forms.call subroutine.now (view.maybe_arguments arguments.now))) page.old) }
+{
+    page.put(b"call")?;
+    lay_name(page, subroutine)?;
+    lay_maybe_arguments(page, arguments)
+}
+
+/// Lays a PRINT statement.
+fn lay_print(page: &mut Page, format: &Format, items: &[Item]) -> Result<(), NoMemory>
+    ensures { OnOk result (page.new ≡ write (grammar.action_form (forms.print (view.format format.now) (map view.item items.now))) page.old) }
+{
+    page.put(b"print")?;
+    lay_format(page, format)?;
+    lay_items(page, items)
+}
+
+/// Lays an EXIT or CYCLE statement, whose keyword this is.
+fn lay_branch(page: &mut Page, word: &[u8], construct: &Option<Name>) -> Result<(), NoMemory>
+    ensures { OnOk result (page.new ≡ write (phrases.key word.now ▸ phrases.optional phrases.name construct.now) page.old) }
+{
+    page.put(word)?;
+    lay_maybe_name(page, construct)
+}
+
+/// Lays a STOP statement.
+fn lay_stop(page: &mut Page, code: &Option<Expr>) -> Result<(), NoMemory>
+    ensures { OnOk result (page.new ≡ write (grammar.action_form (forms.stop (declared_view.maybe_term code.now))) page.old) }
+{
+    page.put(b"stop")?;
+    lay_maybe_expr(page, code)
+}
+
+/// Lays an ERROR STOP statement.
+fn lay_error_stop(page: &mut Page, code: &Option<Expr>) -> Result<(), NoMemory>
+    ensures { OnOk result (page.new ≡ write (grammar.action_form (forms.error_stop (declared_view.maybe_term code.now))) page.old) }
+{
+    page.put(b"error")?;
+    lay_stop(page, code)
+}
+
+/// Lays a FAIL IMAGE statement.
+fn lay_fail_image(page: &mut Page) -> Result<(), NoMemory>
+    ensures { OnOk result (page.new ≡ write (grammar.action_form forms.fail_image) page.old) }
+{
+    page.put(b"fail")?;
+    page.put(b"image")
+}
+
+/// Lays an ALLOCATE statement.
+fn lay_allocate(
+    page: &mut Page,
+    objects: &[Allocation],
+    specifiers: &[Specifier],
+) -> Result<(), NoMemory>
+    ensures { OnOk result (page.new ≡ write (grammar.action_form (forms.allocate (map view.allocation objects.now) (expression_view.specifiers specifiers.now))) page.old) }
+{
+    page.put(b"allocate")?;
+    page.sign(Sign::OpenRound)?;
+    lay_allocations(page, objects)?;
+    lay_specifiers(page, specifiers)?;
+    page.sign(Sign::CloseRound)
+}
+
+/// Lays a DEALLOCATE statement.
+fn lay_deallocate(
+    page: &mut Page,
+    objects: &[Name],
+    specifiers: &[Specifier],
+) -> Result<(), NoMemory>
+    ensures { OnOk result (page.new ≡ write (grammar.action_form (forms.deallocate objects.now (expression_view.specifiers specifiers.now))) page.old) }
+{
+    page.put(b"deallocate")?;
+    page.sign(Sign::OpenRound)?;
+    lay_names(page, objects)?;
+    lay_specifiers(page, specifiers)?;
+    page.sign(Sign::CloseRound)
+}
+
+/// Lays a SYNC ALL or SYNC MEMORY statement, whose second keyword this is.
+fn lay_sync(
+    page: &mut Page,
+    word: &[u8],
+    specifiers: &Option<Vec<Specifier>>,
+) -> Result<(), NoMemory>
+    ensures { OnOk result (page.new ≡ write (phrases.key (codes "sync") ▸ phrases.key word.now ▸ phrases.optional grammar.bracketed_specs (view.maybe_specifiers specifiers.now)) page.old) }
+{
+    page.put(b"sync")?;
+    page.put(word)?;
+    lay_maybe_specifiers(page, specifiers)
+}
+
+/// Lays a SYNC IMAGES statement.
+fn lay_sync_images(
+    page: &mut Page,
+    images: &ImageSet,
+    specifiers: &[Specifier],
+) -> Result<(), NoMemory>
+    ensures { OnOk result (page.new ≡ write (grammar.action_form (forms.sync_images (view.image_set images.now) (expression_view.specifiers specifiers.now))) page.old) }
+{
+    page.put(b"sync")?;
+    page.put(b"images")?;
+    page.sign(Sign::OpenRound)?;
+    lay_image_set(page, images)?;
+    lay_specifiers(page, specifiers)?;
+    page.sign(Sign::CloseRound)
+}
+
+/// Lays a SYNC TEAM statement.
+fn lay_sync_team(page: &mut Page, team: &Expr, specifiers: &[Specifier]) -> Result<(), NoMemory>
+    ensures { OnOk result (page.new ≡ write (grammar.action_form (forms.sync_team (expression_view.term team.now) (expression_view.specifiers specifiers.now))) page.old) }
+{
+    page.put(b"sync")?;
+    page.put(b"team")?;
+    lay_team(page, team, specifiers)
+}
+
+/// Lays a FORM TEAM statement.
+fn lay_form_team(
     page: &mut Page,
     number: &Expr,
     team: &Name,
     specifiers: &[Specifier],
 ) -> Result<(), NoMemory>
-    ensures { OnOk result (page.new ≡ write (grammar.new_team (expression_view.term number.now) team.now (expression_view.specifiers specifiers.now)) page.old) }
+    ensures { OnOk result (page.new ≡ write (grammar.action_form (forms.form_team (expression_view.term number.now) team.now (expression_view.specifiers specifiers.now))) page.old) }
 {
+    page.put(b"form")?;
+    page.put(b"team")?;
     page.sign(Sign::OpenRound)?;
     lay_expr(page, number)?;
     page.sign(Sign::Comma)?;
@@ -183,46 +318,31 @@ fn lay_new_team(
     page.sign(Sign::CloseRound)
 }
 
-/// Lays what stands behind ALLOCATE.
-fn lay_allocate(
+/// Lays a LOCK or UNLOCK statement, whose keyword this is.
+fn lay_lock(
     page: &mut Page,
-    objects: &[Allocation],
+    word: &[u8],
+    variable: &Designator,
     specifiers: &[Specifier],
 ) -> Result<(), NoMemory>
-    ensures { OnOk result (page.new ≡ write (grammar.allocated (map view.allocation objects.now) (expression_view.specifiers specifiers.now)) page.old) }
+    ensures { OnOk result (page.new ≡ write (phrases.key word.now ▸ grammar.object (expression_view.design variable.now) (expression_view.specifiers specifiers.now)) page.old) }
 {
-    page.sign(Sign::OpenRound)?;
-    lay_allocations(page, objects)?;
-    lay_specifiers(page, specifiers)?;
-    page.sign(Sign::CloseRound)
+    page.put(word)?;
+    lay_object(page, variable, specifiers)
 }
 
-/// Lays what stands behind DEALLOCATE.
-fn lay_deallocate(
+/// Lays an EVENT POST or EVENT WAIT statement, whose second keyword this is.
+fn lay_event(
     page: &mut Page,
-    objects: &[Name],
+    word: &[u8],
+    variable: &Designator,
     specifiers: &[Specifier],
 ) -> Result<(), NoMemory>
-    ensures { OnOk result (page.new ≡ write (grammar.deallocated objects.now (expression_view.specifiers specifiers.now)) page.old) }
+    ensures { OnOk result (page.new ≡ write (phrases.key (codes "event") ▸ phrases.key word.now ▸ grammar.object (expression_view.design variable.now) (expression_view.specifiers specifiers.now)) page.old) }
 {
-    page.sign(Sign::OpenRound)?;
-    lay_names(page, objects)?;
-    lay_specifiers(page, specifiers)?;
-    page.sign(Sign::CloseRound)
-}
-
-/// Lays what stands behind SYNC IMAGES.
-fn lay_sync_images(
-    page: &mut Page,
-    images: &ImageSet,
-    specifiers: &[Specifier],
-) -> Result<(), NoMemory>
-    ensures { OnOk result (page.new ≡ write (grammar.synchronized (view.image_set images.now) (expression_view.specifiers specifiers.now)) page.old) }
-{
-    page.sign(Sign::OpenRound)?;
-    lay_image_set(page, images)?;
-    lay_specifiers(page, specifiers)?;
-    page.sign(Sign::CloseRound)
+    page.put(b"event")?;
+    page.put(word)?;
+    lay_object(page, variable, specifiers)
 }
 
 /// Lays an action.
@@ -231,119 +351,51 @@ pub fn lay_action(page: &mut Page, form: &ActionForm) -> Result<(), NoMemory>
     ensures { OnOk result (page.new ≡ write (grammar.action_form (view.form form.now)) page.old) }
 {
     match form {
-        ActionForm::Assignment { variable, value } => {
-            lay_design(page, variable)?;
-            page.sign(Sign::Assign)?;
-            lay_expr(page, value)
-        }
+        ActionForm::Assignment { variable, value } => lay_assignment(page, variable, value),
         ActionForm::Call {
             subroutine,
             arguments,
-        } => {
-            page.put(b"call")?;
-            lay_name(page, subroutine)?;
-            lay_maybe_arguments(page, arguments)
-        }
-        ActionForm::Print { format, items } => {
-            page.put(b"print")?;
-            lay_format(page, format)?;
-            lay_items(page, items)
-        }
-        ActionForm::Exit { construct } => {
-            page.put(b"exit")?;
-            lay_maybe_name(page, construct)
-        }
-        ActionForm::Cycle { construct } => {
-            page.put(b"cycle")?;
-            lay_maybe_name(page, construct)
-        }
+        } => lay_call(page, subroutine, arguments),
+        ActionForm::Print { format, items } => lay_print(page, format, items),
+        ActionForm::Exit { construct } => lay_branch(page, b"exit", construct),
+        ActionForm::Cycle { construct } => lay_branch(page, b"cycle", construct),
         ActionForm::Return => page.put(b"return"),
-        ActionForm::Stop { code } => {
-            page.put(b"stop")?;
-            lay_maybe_expr(page, code)
-        }
-        ActionForm::ErrorStop { code } => {
-            page.put(b"error")?;
-            page.put(b"stop")?;
-            lay_maybe_expr(page, code)
-        }
-        ActionForm::FailImage => {
-            page.put(b"fail")?;
-            page.put(b"image")
-        }
+        ActionForm::Stop { code } => lay_stop(page, code),
+        ActionForm::ErrorStop { code } => lay_error_stop(page, code),
+        ActionForm::FailImage => lay_fail_image(page),
         ActionForm::Allocate {
             objects,
             specifiers,
-        } => {
-            page.put(b"allocate")?;
-            lay_allocate(page, objects, specifiers)
-        }
+        } => lay_allocate(page, objects, specifiers),
         ActionForm::Deallocate {
             objects,
             specifiers,
-        } => {
-            page.put(b"deallocate")?;
-            lay_deallocate(page, objects, specifiers)
-        }
-        ActionForm::SyncAll { specifiers } => {
-            page.put(b"sync")?;
-            page.put(b"all")?;
-            lay_maybe_specifiers(page, specifiers)
-        }
-        ActionForm::SyncMemory { specifiers } => {
-            page.put(b"sync")?;
-            page.put(b"memory")?;
-            lay_maybe_specifiers(page, specifiers)
-        }
-        ActionForm::SyncImages { images, specifiers } => {
-            page.put(b"sync")?;
-            page.put(b"images")?;
-            lay_sync_images(page, images, specifiers)
-        }
-        ActionForm::SyncTeam { team, specifiers } => {
-            page.put(b"sync")?;
-            page.put(b"team")?;
-            lay_team(page, team, specifiers)
-        }
+        } => lay_deallocate(page, objects, specifiers),
+        ActionForm::SyncAll { specifiers } => lay_sync(page, b"all", specifiers),
+        ActionForm::SyncMemory { specifiers } => lay_sync(page, b"memory", specifiers),
+        ActionForm::SyncImages { images, specifiers } => lay_sync_images(page, images, specifiers),
+        ActionForm::SyncTeam { team, specifiers } => lay_sync_team(page, team, specifiers),
         ActionForm::FormTeam {
             number,
             team,
             specifiers,
-        } => {
-            page.put(b"form")?;
-            page.put(b"team")?;
-            lay_new_team(page, number, team, specifiers)
-        }
+        } => lay_form_team(page, number, team, specifiers),
         ActionForm::Lock {
             variable,
             specifiers,
-        } => {
-            page.put(b"lock")?;
-            lay_object(page, variable, specifiers)
-        }
+        } => lay_lock(page, b"lock", variable, specifiers),
         ActionForm::Unlock {
             variable,
             specifiers,
-        } => {
-            page.put(b"unlock")?;
-            lay_object(page, variable, specifiers)
-        }
+        } => lay_lock(page, b"unlock", variable, specifiers),
         ActionForm::EventPost {
             variable,
             specifiers,
-        } => {
-            page.put(b"event")?;
-            page.put(b"post")?;
-            lay_object(page, variable, specifiers)
-        }
+        } => lay_event(page, b"post", variable, specifiers),
         ActionForm::EventWait {
             variable,
             specifiers,
-        } => {
-            page.put(b"event")?;
-            page.put(b"wait")?;
-            lay_object(page, variable, specifiers)
-        }
+        } => lay_event(page, b"wait", variable, specifiers),
         ActionForm::If { condition, action } => {
             page.put(b"if")?;
             page.sign(Sign::OpenRound)?;

@@ -9,11 +9,7 @@ pub mod action;
 pub mod declaration;
 pub mod expr;
 pub mod law;
-#[cfg(test)]
-mod maker;
 pub mod page;
-#[cfg(test)]
-mod rows;
 pub mod statement;
 pub mod unit;
 

@@ -1,9 +1,13 @@
 //! Statements and constructs.
 
 ghost use Rattle.std.specs.Prelude.{◌≡◌, OnOk, map, codes};
+ghost use Rattle.fortran_grammar.specs.ActionGrammar as actions;
+ghost use Rattle.fortran_grammar.specs.ExpressionGrammar as expressions;
 ghost use Rattle.fortran_grammar.specs.Phrases as phrases;
+ghost use Rattle.fortran_grammar.specs.Phrases.{◌▸◌};
 ghost use Rattle.fortran_grammar.specs.StatementGrammar as grammar;
 ghost use Rattle.fortran_print.specs.Layout.{write, end_line};
+ghost use Rattle.fortran_tree.specs.ExpressionViews as expression_view;
 ghost use Rattle.fortran_tree.specs.StatementViews as view;
 
 use crate::action::{lay_action, lay_maybe_name, lay_team};
@@ -11,6 +15,7 @@ use crate::expr::{lay_expr, lay_name, lay_specifier};
 use crate::page::Page;
 use caf_base::refusal::NoMemory;
 use fortran_tokens::token::Sign;
+use fortran_tree::expr::{Expr, Specifier};
 use fortran_tree::name::Name;
 use fortran_tree::statement::{
     BracketedSpecifier, CaseBlock, CaseRange, CaseSelector, ElseIf, LoopControl, Otherwise,
@@ -144,6 +149,75 @@ fn lay_end(page: &mut Page, word: &[u8]) -> Result<(), NoMemory>
     page.over()
 }
 
+/// Lays a condition in brackets, THEN and a line's end.
+fn lay_then(page: &mut Page, condition: &Expr) -> Result<(), NoMemory>
+    ensures { OnOk result (page.new ≡ end_line (write (phrases.round (expressions.expr (expression_view.term condition.now)) ▸ phrases.key (codes "then")) page.old)) }
+{
+    page.sign(Sign::OpenRound)?;
+    lay_expr(page, condition)?;
+    page.sign(Sign::CloseRound)?;
+    page.put(b"then")?;
+    page.over()
+}
+
+/// Lays a DO statement.
+fn lay_do(page: &mut Page, construct: &Option<Name>, control: &LoopControl) -> Result<(), NoMemory>
+    ensures { OnOk result (page.new ≡ end_line (write (phrases.optional grammar.construct_name construct.now ▸ phrases.key (codes "do") ▸ grammar.control (view.control control.now)) page.old)) }
+{
+    lay_construct_name(page, construct)?;
+    page.put(b"do")?;
+    lay_control(page, control)?;
+    page.over()
+}
+
+/// Lays an END DO statement.
+fn lay_end_do(page: &mut Page, name: &Option<Name>) -> Result<(), NoMemory>
+    ensures { OnOk result (page.new ≡ end_line (write (phrases.joined (codes "end") (codes "do") ▸ phrases.optional phrases.name name.now) page.old)) }
+{
+    lay_joined(page, b"end", b"do")?;
+    lay_maybe_name(page, name)?;
+    page.over()
+}
+
+/// Lays a SELECT CASE statement.
+fn lay_select(page: &mut Page, selector: &Expr) -> Result<(), NoMemory>
+    ensures { OnOk result (page.new ≡ end_line (write (phrases.joined (codes "select") (codes "case") ▸ phrases.round (expressions.expr (expression_view.term selector.now))) page.old)) }
+{
+    lay_joined(page, b"select", b"case")?;
+    page.sign(Sign::OpenRound)?;
+    lay_expr(page, selector)?;
+    page.sign(Sign::CloseRound)?;
+    page.over()
+}
+
+/// Lays a CRITICAL statement.
+fn lay_critical(page: &mut Page, specifier: &BracketedSpecifier) -> Result<(), NoMemory>
+    ensures { OnOk result (page.new ≡ end_line (write (phrases.key (codes "critical") ▸ grammar.bracketed (view.bracketed specifier.now)) page.old)) }
+{
+    page.put(b"critical")?;
+    lay_bracketed(page, specifier)?;
+    page.over()
+}
+
+/// Lays a CHANGE TEAM statement.
+fn lay_change_team(page: &mut Page, team: &Expr, specifiers: &[Specifier]) -> Result<(), NoMemory>
+    ensures { OnOk result (page.new ≡ end_line (write (phrases.key (codes "change") ▸ phrases.key (codes "team") ▸ actions.team (expression_view.term team.now) (expression_view.specifiers specifiers.now)) page.old)) }
+{
+    page.put(b"change")?;
+    page.put(b"team")?;
+    lay_team(page, team, specifiers)?;
+    page.over()
+}
+
+/// Lays an END TEAM statement.
+fn lay_end_team(page: &mut Page, specifier: &BracketedSpecifier) -> Result<(), NoMemory>
+    ensures { OnOk result (page.new ≡ end_line (write (phrases.joined (codes "end") (codes "team") ▸ grammar.bracketed (view.bracketed specifier.now)) page.old)) }
+{
+    lay_joined(page, b"end", b"team")?;
+    lay_bracketed(page, specifier)?;
+    page.over()
+}
+
 /// Lays a statement or construct.
 #[cycle(statement)]
 #[tactic(auto, using(fortran_tree::specs::StatementViews::statement_forms))]
@@ -163,11 +237,7 @@ fn lay_statement(page: &mut Page, statement: &Statement) -> Result<(), NoMemory>
             ..
         } => {
             page.put(b"if")?;
-            page.sign(Sign::OpenRound)?;
-            lay_expr(page, condition)?;
-            page.sign(Sign::CloseRound)?;
-            page.put(b"then")?;
-            page.over()?;
+            lay_then(page, condition)?;
             lay_statements(page, body)?;
             lay_else_ifs(page, else_ifs)?;
             lay_otherwise(page, otherwise)?;
@@ -180,25 +250,16 @@ fn lay_statement(page: &mut Page, statement: &Statement) -> Result<(), NoMemory>
             end,
             ..
         } => {
-            lay_construct_name(page, construct)?;
-            page.put(b"do")?;
-            lay_control(page, control)?;
-            page.over()?;
+            lay_do(page, construct, control)?;
             lay_statements(page, body)?;
-            lay_joined(page, b"end", b"do")?;
-            lay_maybe_name(page, &end.name)?;
-            page.over()
+            lay_end_do(page, &end.name)
         }
         Statement::SelectCase {
             selector,
             cases,
             ..
         } => {
-            lay_joined(page, b"select", b"case")?;
-            page.sign(Sign::OpenRound)?;
-            lay_expr(page, selector)?;
-            page.sign(Sign::CloseRound)?;
-            page.over()?;
+            lay_select(page, selector)?;
             lay_case_blocks(page, cases)?;
             lay_end(page, b"select")
         }
@@ -207,9 +268,7 @@ fn lay_statement(page: &mut Page, statement: &Statement) -> Result<(), NoMemory>
             body,
             ..
         } => {
-            page.put(b"critical")?;
-            lay_bracketed(page, specifier)?;
-            page.over()?;
+            lay_critical(page, specifier)?;
             lay_statements(page, body)?;
             lay_end(page, b"critical")
         }
@@ -220,14 +279,9 @@ fn lay_statement(page: &mut Page, statement: &Statement) -> Result<(), NoMemory>
             end_specifier,
             ..
         } => {
-            page.put(b"change")?;
-            page.put(b"team")?;
-            lay_team(page, team, specifiers)?;
-            page.over()?;
+            lay_change_team(page, team, specifiers)?;
             lay_statements(page, body)?;
-            lay_joined(page, b"end", b"team")?;
-            lay_bracketed(page, end_specifier)?;
-            page.over()
+            lay_end_team(page, end_specifier)
         }
     }
 }
@@ -250,11 +304,7 @@ fn lay_else_ifs(page: &mut Page, else_ifs: &[ElseIf]) -> Result<(), NoMemory>
 {
     for else_if in else_ifs {
         lay_joined(page, b"else", b"if")?;
-        page.sign(Sign::OpenRound)?;
-        lay_expr(page, &else_if.condition)?;
-        page.sign(Sign::CloseRound)?;
-        page.put(b"then")?;
-        page.over()?;
+        lay_then(page, &else_if.condition)?;
         lay_statements(page, &else_if.body)?;
     }
     Ok(())

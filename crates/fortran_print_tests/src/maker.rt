@@ -1,0 +1,252 @@
+//! Small trees without places, and what is printed of them. A test ends where memory is wanting: so no function here
+//! gives up a tree half made.
+
+use caf_base::listing::{Listing, Text};
+use caf_base::place::Pos;
+use fortran_print::print;
+use fortran_tree::action::{Action, ActionForm};
+use fortran_tree::declaration::{Bounds, Dimension};
+use fortran_tree::expr::{
+    Argument, Designator, Expr, NumberKind, Operator, Selector, Specifier, Subscript,
+};
+use fortran_tree::name::{Literal, Name};
+use fortran_tree::statement::{End, Statement};
+use fortran_tree::unit::{Body, Program};
+use std::alloc::Global;
+use std::process::Abort;
+
+pub const AT: Pos = Pos { line: 0, col: 0 };
+
+/// Makes trees.
+#[derive(Clone, Copy)]
+pub struct Maker<R> {
+    pub rt: R,
+    pub alloc: Global,
+}
+
+impl<R: AllocGlobal> Maker<R> {
+    pub fn new(rt: R) -> Maker<R> {
+        let alloc = rt.alloc();
+        Maker { rt, alloc }
+    }
+}
+
+impl<R: Abort + Copy> Maker<R> {
+    pub fn none<T>(self) -> Vec<T> {
+        Vec::new(self.alloc)
+    }
+
+    pub fn list<T: Drop, const N: usize>(self, items: [T; N]) -> Vec<T> {
+        Vec::from_array(self.alloc, items).expect(&self.rt, "memory")
+    }
+
+    pub fn boxed<T: Drop>(self, value: T) -> Box<T> {
+        Box::new(self.alloc, value).expect(&self.rt, "memory")
+    }
+
+    pub fn text(self, text: &str) -> Text {
+        Listing::from_slice(self.alloc, text.as_bytes()).expect(&self.rt, "memory")
+    }
+
+    pub fn name(self, text: &str) -> Name {
+        Name {
+            text: self.text(text),
+            at: AT,
+        }
+    }
+
+    pub fn literal(self, text: &str) -> Literal {
+        Literal {
+            text: self.text(text),
+            at: AT,
+        }
+    }
+
+    /// The designator of a variable without subscripts.
+    pub fn whole(self, text: &str) -> Designator {
+        Designator {
+            name: self.name(text),
+            subscripts: self.none(),
+            selector: None,
+        }
+    }
+
+    pub fn element(self, text: &str, index: Expr) -> Designator {
+        Designator {
+            name: self.name(text),
+            subscripts: self.list([Subscript::Element(index)]),
+            selector: None,
+        }
+    }
+
+    pub fn coindexed(self, text: &str, image: Expr) -> Designator {
+        Designator {
+            name: self.name(text),
+            subscripts: self.none(),
+            selector: Some(Selector {
+                cosubscripts: self.list([image]),
+                specifiers: self.none(),
+            }),
+        }
+    }
+
+    pub fn variable(self, text: &str) -> Expr {
+        Expr::Designator(self.whole(text))
+    }
+
+    /// A function without arguments.
+    pub fn function(self, text: &str) -> Expr {
+        Expr::FunctionReference {
+            function: self.name(text),
+            arguments: self.none(),
+        }
+    }
+
+    pub fn parenthesized(self, inner: Expr) -> Expr {
+        Expr::Parenthesized {
+            inner: self.boxed(inner),
+            at: AT,
+        }
+    }
+
+    pub fn binary(self, left: Expr, operator: Operator, right: Expr) -> Expr {
+        Expr::Binary {
+            operator,
+            left: self.boxed(left),
+            right: self.boxed(right),
+            at: AT,
+        }
+    }
+
+    /// The arguments `a , k = b`.
+    pub fn arguments(self) -> Vec<Argument> {
+        self.list([
+            argument(self.variable("a")),
+            Argument {
+                keyword: Some(self.name("k")),
+                value: self.variable("b"),
+            },
+        ])
+    }
+
+    pub fn specifier(self, name: &str, variable: &str) -> Specifier {
+        Specifier {
+            name: self.name(name),
+            value: self.variable(variable),
+        }
+    }
+
+    /// The specifier `stat = e` alone.
+    pub fn stat(self) -> Vec<Specifier> {
+        self.list([self.specifier("stat", "e")])
+    }
+
+    /// The one-line IF of a condition and an action.
+    pub fn guarded(self, condition: Expr, form: ActionForm) -> ActionForm {
+        ActionForm::If {
+            condition,
+            action: self.boxed(Action { form, at: AT }),
+        }
+    }
+
+    /// The statement RETURN alone.
+    pub fn returns(self) -> Vec<Statement> {
+        self.list([action(ActionForm::Return)])
+    }
+
+    /// A body of statements alone.
+    pub fn body(self, statements: Vec<Statement>) -> Body {
+        Body {
+            implicit_none: None,
+            declarations: self.none(),
+            statements,
+        }
+    }
+
+    /// A program of this body alone.
+    pub fn program(self, body: Body) -> Program {
+        Program {
+            name: None,
+            uses: self.none(),
+            body,
+            procedures: None,
+            end: end(),
+        }
+    }
+
+    pub fn named_end(self, name: &str) -> End {
+        End {
+            name: Some(self.name(name)),
+            at: AT,
+        }
+    }
+}
+
+pub fn number(value: u64) -> Expr {
+    Expr::Number {
+        value,
+        kind: NumberKind::Unstated,
+        at: AT,
+    }
+}
+
+pub fn bounds(lower: Option<u64>, upper: u64) -> Bounds {
+    let lower = match lower {
+        None => None,
+        Some(value) => Some(number(value)),
+    };
+    Bounds {
+        lower,
+        upper: number(upper),
+    }
+}
+
+/// A dimension with these bounds.
+pub fn explicit(lower: Option<u64>, upper: u64) -> Dimension {
+    Dimension::Explicit(bounds(lower, upper))
+}
+
+pub fn argument(value: Expr) -> Argument {
+    Argument {
+        keyword: None,
+        value,
+    }
+}
+
+pub fn assignment(variable: Designator, value: Expr) -> Statement {
+    action(ActionForm::Assignment { variable, value })
+}
+
+pub fn action(form: ActionForm) -> Statement {
+    Statement::Action(Action { form, at: AT })
+}
+
+pub fn end() -> End {
+    End { name: None, at: AT }
+}
+
+/// Gives up a value, in a function that knows no variants.
+fn give_up<T: Drop>(_value: T) {}
+
+/// Asserts that the program is printed so.
+pub fn program_prints<R: Abort + Copy>(make: Maker<R>, program: Program, wanted: &str) {
+    let text = print(make.alloc, &program);
+    give_up(program);
+    let text = text.expect(&make.rt, "memory");
+    assert_eq!(make.rt; text.as_slice(), wanted.as_bytes(), "{wanted}");
+}
+
+/// Asserts that a program of this statement alone is printed as these lines and END.
+pub fn statement_prints<R: Abort + Copy>(make: Maker<R>, statement: Statement, lines: &str) {
+    let wanted = format!(in make.alloc; "{lines}\nend\n").expect(&make.rt, "memory");
+    program_prints(
+        make,
+        make.program(make.body(make.list([statement]))),
+        wanted.as_str(),
+    );
+}
+
+/// Asserts that the action is printed so.
+pub fn action_prints<R: Abort + Copy>(make: Maker<R>, form: ActionForm, line: &str) {
+    statement_prints(make, action(form), line);
+}
