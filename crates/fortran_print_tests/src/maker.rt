@@ -25,37 +25,37 @@ pub struct Maker<R> {
 }
 
 impl<R: AllocGlobal> Maker<R> {
-    pub fn new(rt: R) -> Maker<R> {
+    pub(crate) fn new(rt: R) -> Maker<R> {
         let alloc = rt.alloc();
         Maker { rt, alloc }
     }
 }
 
 impl<R: Abort + Copy> Maker<R> {
-    pub fn none<T>(self) -> Vec<T> {
+    pub(crate) fn none<T>(self) -> Vec<T> {
         Vec::new(self.alloc)
     }
 
-    pub fn list<T: Drop, const N: usize>(self, items: [T; N]) -> Vec<T> {
+    pub(crate) fn list<T: Drop, const N: usize>(self, items: [T; N]) -> Vec<T> {
         Vec::from_array(self.alloc, items).expect(&self.rt, "memory")
     }
 
-    pub fn boxed<T: Drop>(self, value: T) -> Box<T> {
+    pub(crate) fn boxed<T: Drop>(self, value: T) -> Box<T> {
         Box::new(self.alloc, value).expect(&self.rt, "memory")
     }
 
-    pub fn text(self, text: &str) -> Text {
+    pub(crate) fn text(self, text: &str) -> Text {
         Listing::from_slice(self.alloc, text.as_bytes()).expect(&self.rt, "memory")
     }
 
-    pub fn name(self, text: &str) -> Name {
+    pub(crate) fn name(self, text: &str) -> Name {
         Name {
             text: self.text(text),
             at: AT,
         }
     }
 
-    pub fn literal(self, text: &str) -> Literal {
+    pub(crate) fn literal(self, text: &str) -> Literal {
         Literal {
             text: self.text(text),
             at: AT,
@@ -63,7 +63,7 @@ impl<R: Abort + Copy> Maker<R> {
     }
 
     /// The designator of a variable without subscripts.
-    pub fn whole(self, text: &str) -> Designator {
+    pub(crate) fn whole(self, text: &str) -> Designator {
         Designator {
             name: self.name(text),
             subscripts: self.none(),
@@ -71,7 +71,7 @@ impl<R: Abort + Copy> Maker<R> {
         }
     }
 
-    pub fn element(self, text: &str, index: Expr) -> Designator {
+    pub(crate) fn element(self, text: &str, index: Expr) -> Designator {
         Designator {
             name: self.name(text),
             subscripts: self.list([Subscript::Element(index)]),
@@ -79,7 +79,7 @@ impl<R: Abort + Copy> Maker<R> {
         }
     }
 
-    pub fn coindexed(self, text: &str, image: Expr) -> Designator {
+    pub(crate) fn coindexed(self, text: &str, image: Expr) -> Designator {
         Designator {
             name: self.name(text),
             subscripts: self.none(),
@@ -90,26 +90,26 @@ impl<R: Abort + Copy> Maker<R> {
         }
     }
 
-    pub fn variable(self, text: &str) -> Expr {
+    pub(crate) fn variable(self, text: &str) -> Expr {
         Expr::Designator(self.whole(text))
     }
 
     /// A function without arguments.
-    pub fn function(self, text: &str) -> Expr {
+    pub(crate) fn function(self, text: &str) -> Expr {
         Expr::FunctionReference {
             function: self.name(text),
             arguments: self.none(),
         }
     }
 
-    pub fn parenthesized(self, inner: Expr) -> Expr {
+    pub(crate) fn parenthesized(self, inner: Expr) -> Expr {
         Expr::Parenthesized {
             inner: self.boxed(inner),
             at: AT,
         }
     }
 
-    pub fn binary(self, left: Expr, operator: Operator, right: Expr) -> Expr {
+    pub(crate) fn binary(self, left: Expr, operator: Operator, right: Expr) -> Expr {
         Expr::Binary {
             operator,
             left: self.boxed(left),
@@ -119,7 +119,7 @@ impl<R: Abort + Copy> Maker<R> {
     }
 
     /// The arguments `a , k = b`.
-    pub fn arguments(self) -> Vec<Argument> {
+    pub(crate) fn arguments(self) -> Vec<Argument> {
         self.list([
             argument(self.variable("a")),
             Argument {
@@ -129,7 +129,7 @@ impl<R: Abort + Copy> Maker<R> {
         ])
     }
 
-    pub fn specifier(self, name: &str, variable: &str) -> Specifier {
+    pub(crate) fn specifier(self, name: &str, variable: &str) -> Specifier {
         Specifier {
             name: self.name(name),
             value: self.variable(variable),
@@ -137,12 +137,12 @@ impl<R: Abort + Copy> Maker<R> {
     }
 
     /// The specifier `stat = e` alone.
-    pub fn stat(self) -> Vec<Specifier> {
+    pub(crate) fn stat(self) -> Vec<Specifier> {
         self.list([self.specifier("stat", "e")])
     }
 
     /// The one-line IF of a condition and an action.
-    pub fn guarded(self, condition: Expr, form: ActionForm) -> ActionForm {
+    pub(crate) fn guarded(self, condition: Expr, form: ActionForm) -> ActionForm {
         ActionForm::If {
             condition,
             action: self.boxed(Action { form, at: AT }),
@@ -150,12 +150,12 @@ impl<R: Abort + Copy> Maker<R> {
     }
 
     /// The statement RETURN alone.
-    pub fn returns(self) -> Vec<Statement> {
+    pub(crate) fn returns(self) -> Vec<Statement> {
         self.list([action(ActionForm::Return)])
     }
 
     /// A body of statements alone.
-    pub fn body(self, statements: Vec<Statement>) -> Body {
+    pub(crate) fn body(self, statements: Vec<Statement>) -> Body {
         Body {
             implicit_none: None,
             declarations: self.none(),
@@ -164,7 +164,7 @@ impl<R: Abort + Copy> Maker<R> {
     }
 
     /// A program of this body alone.
-    pub fn program(self, body: Body) -> Program {
+    pub(crate) fn program(self, body: Body) -> Program {
         Program {
             name: None,
             uses: self.none(),
@@ -174,7 +174,7 @@ impl<R: Abort + Copy> Maker<R> {
         }
     }
 
-    pub fn named_end(self, name: &str) -> End {
+    pub(crate) fn named_end(self, name: &str) -> End {
         End {
             name: Some(self.name(name)),
             at: AT,
@@ -182,7 +182,7 @@ impl<R: Abort + Copy> Maker<R> {
     }
 }
 
-pub fn number(value: u64) -> Expr {
+pub(crate) fn number(value: u64) -> Expr {
     Expr::Number {
         value,
         kind: NumberKind::Unstated,
@@ -190,7 +190,7 @@ pub fn number(value: u64) -> Expr {
     }
 }
 
-pub fn bounds(lower: Option<u64>, upper: u64) -> Bounds {
+pub(crate) fn bounds(lower: Option<u64>, upper: u64) -> Bounds {
     let lower = match lower {
         None => None,
         Some(value) => Some(number(value)),
@@ -202,26 +202,26 @@ pub fn bounds(lower: Option<u64>, upper: u64) -> Bounds {
 }
 
 /// A dimension with these bounds.
-pub fn explicit(lower: Option<u64>, upper: u64) -> Dimension {
+pub(crate) fn explicit(lower: Option<u64>, upper: u64) -> Dimension {
     Dimension::Explicit(bounds(lower, upper))
 }
 
-pub fn argument(value: Expr) -> Argument {
+pub(crate) fn argument(value: Expr) -> Argument {
     Argument {
         keyword: None,
         value,
     }
 }
 
-pub fn assignment(variable: Designator, value: Expr) -> Statement {
+pub(crate) fn assignment(variable: Designator, value: Expr) -> Statement {
     action(ActionForm::Assignment { variable, value })
 }
 
-pub fn action(form: ActionForm) -> Statement {
+pub(crate) fn action(form: ActionForm) -> Statement {
     Statement::Action(Action { form, at: AT })
 }
 
-pub fn end() -> End {
+pub(crate) fn end() -> End {
     End { name: None, at: AT }
 }
 
@@ -229,7 +229,7 @@ pub fn end() -> End {
 fn give_up<T: Drop>(_value: T) {}
 
 /// Asserts that the program is printed so.
-pub fn program_prints<R: Abort + Copy>(make: Maker<R>, program: Program, wanted: &str) {
+pub(crate) fn program_prints<R: Abort + Copy>(make: Maker<R>, program: Program, wanted: &str) {
     let text = print(make.alloc, &program);
     give_up(program);
     let text = text.expect(&make.rt, "memory");
@@ -237,7 +237,7 @@ pub fn program_prints<R: Abort + Copy>(make: Maker<R>, program: Program, wanted:
 }
 
 /// Asserts that a program of this statement alone is printed as these lines and END.
-pub fn statement_prints<R: Abort + Copy>(make: Maker<R>, statement: Statement, lines: &str) {
+pub(crate) fn statement_prints<R: Abort + Copy>(make: Maker<R>, statement: Statement, lines: &str) {
     let wanted = format!(in make.alloc; "{lines}\nend\n").expect(&make.rt, "memory");
     program_prints(
         make,
@@ -247,6 +247,6 @@ pub fn statement_prints<R: Abort + Copy>(make: Maker<R>, statement: Statement, l
 }
 
 /// Asserts that the action is printed so.
-pub fn action_prints<R: Abort + Copy>(make: Maker<R>, form: ActionForm, line: &str) {
+pub(crate) fn action_prints<R: Abort + Copy>(make: Maker<R>, form: ActionForm, line: &str) {
     statement_prints(make, action(form), line);
 }
