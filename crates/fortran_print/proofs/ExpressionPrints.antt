@@ -6,8 +6,8 @@ use Rattle.fortran_tree.specs.Expressions as s
 use Rattle.fortran_tree.specs.Expressions.{Term}
 use Rattle.fortran_grammar.specs.ExpressionGrammar.{expr}
 use Rattle.fortran_print.proofs.Small.{here, n, v, text_of}
-use Rattle.fortran_print.specs.Spelling.{sign_text, literal_text}
-use Rattle.fortran_print.specs.Layout.{put, put_literal, end_line}
+use Rattle.fortran_layout.specs.Spelling.{sign_text, literal_text}
+use Rattle.fortran_layout.specs.Layout.{put, put_literal, end_line}
 
 grouped : text_of (expr (s.binary o.Divide (s.group (s.binary o.Add (v (codes "a") 3) (v (codes "b") 7) (here 3)) (here 1)) (v (codes "c") 13) (here 1))) ≡ codes "( a + b ) / c"
 unfolding put put_literal end_line sign_text literal_text

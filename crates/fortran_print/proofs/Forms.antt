@@ -12,8 +12,9 @@ use Rattle.fortran_grammar.specs.Phrases.{Phrase, ◌▸◌, ◌∪◌, canonica
 use Rattle.fortran_grammar.specs.ProgramGrammar.{program}
 use Rattle.fortran_grammar.specs.ExpressionGrammar.{right_of}
 use Rattle.fortran_grammar.specs.ActionGrammar.{more_colons}
-use Rattle.fortran_print.specs.Spelling.{sign_text}
-use Rattle.fortran_print.specs.Layout.{Sheet, put, laid, write, blank, printed}
+use Rattle.fortran_layout.specs.Spelling.{sign_text}
+use Rattle.fortran_layout.specs.Layout.{Sheet, put, laid, blank}
+use Rattle.fortran_print.specs.Printing.{write, printed}
 
 -- a level leaves no mark on the page
 pub write_right : (o : Operator) (P : Phrase) (s : Sheet) → write (right_of o P) s ≡ write P s

@@ -6,7 +6,8 @@ use Rattle.fortran_tree.specs.declared.name.Literal.{Literal}
 use Rattle.fortran_tree.specs.Expressions as s
 use Rattle.fortran_tree.specs.Expressions.{Term, Design}
 use Rattle.fortran_grammar.specs.Phrases.{Phrase}
-use Rattle.fortran_print.specs.Layout.{write, blank}
+use Rattle.fortran_layout.specs.Layout.{blank}
+use Rattle.fortran_print.specs.Printing.{write}
 
 abbrev pub text_of : Phrase → List ℕ
 text_of P = (write P blank).text

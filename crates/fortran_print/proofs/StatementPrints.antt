@@ -5,8 +5,8 @@ use Rattle.fortran_tree.specs.Statements as s
 use Rattle.fortran_grammar.specs.ActionGrammar.{action}
 use Rattle.fortran_grammar.specs.StatementGrammar.{statement}
 use Rattle.fortran_print.proofs.Small.{here, n, d, l, v, text_of}
-use Rattle.fortran_print.specs.Spelling.{sign_text, literal_text}
-use Rattle.fortran_print.specs.Layout.{put, put_literal, end_line}
+use Rattle.fortran_layout.specs.Spelling.{sign_text, literal_text}
+use Rattle.fortran_layout.specs.Layout.{put, put_literal, end_line}
 
 assignment : text_of (action (s.assignment (e.designator (n (codes "x") 1) (e.more_subscripts (e.element (v (codes "n2") 5)) e.no_subscripts) (e.selector (e.more_terms (v (codes "n3") 11) e.no_terms) e.no_specifiers)) (v (codes "n4") 17)) (here 1)) ≡ codes "x ( n2 ) [ n3 ] = n4"
 unfolding put put_literal end_line sign_text literal_text

@@ -8,8 +8,8 @@ use Rattle.fortran_tree.specs.Units as unit
 use Rattle.fortran_grammar.specs.ActionGrammar.{decl}
 use Rattle.fortran_grammar.specs.ProgramGrammar.{program}
 use Rattle.fortran_print.proofs.Small.{here, n, d, v, text_of}
-use Rattle.fortran_print.specs.Spelling.{sign_text, literal_text}
-use Rattle.fortran_print.specs.Layout.{put, put_literal, end_line}
+use Rattle.fortran_layout.specs.Spelling.{sign_text, literal_text}
+use Rattle.fortran_layout.specs.Layout.{put, put_literal, end_line}
 
 declares : text_of (decl (record { type_spec = s.integer None; attributes = []; entities = record { name = (n (codes "x") 12); dimensions = []; coshape = None; initial = None } ∷ record { name = (n (codes "y") 16); dimensions = []; coshape = None; initial = None } ∷ []; at = (here 1) })) ≡ codes "integer :: x , y\n"
 unfolding put put_literal end_line sign_text literal_text

@@ -1,3 +1,1 @@
-pub mod Spelling
-pub mod Layout
-pub mod Lines
+pub mod Printing

@@ -5,7 +5,7 @@ ghost use Rattle.fortran_grammar.specs.ActionGrammar as grammar;
 ghost use Rattle.fortran_grammar.specs.ExpressionGrammar as expressions;
 ghost use Rattle.fortran_grammar.specs.Phrases as phrases;
 ghost use Rattle.fortran_grammar.specs.Phrases.{◌▸◌};
-ghost use Rattle.fortran_print.specs.Layout.{write};
+ghost use Rattle.fortran_print.specs.Printing.{write};
 ghost use Rattle.fortran_tree.specs.ActionViews as view;
 ghost use Rattle.fortran_tree.specs.DeclarationViews as declared_view;
 ghost use Rattle.fortran_tree.specs.ExpressionViews as expression_view;
@@ -15,8 +15,8 @@ use crate::declaration::{lay_maybe_coshape, lay_shape};
 use crate::expr::{
     lay_arguments, lay_design, lay_expr, lay_literal, lay_name, lay_specifier, lay_specifiers,
 };
-use crate::page::Page;
 use caf_base::refusal::NoMemory;
+use fortran_layout::page::Page;
 use fortran_tokens::token::Sign;
 use fortran_tree::action::{ActionForm, Allocation, Format, ImageSet, Item};
 use fortran_tree::expr::{Argument, Designator, Expr, Specifier};

@@ -3,12 +3,12 @@
 ghost use Rattle.std.specs.Prelude.{◌≡◌, OnOk, map};
 ghost use Rattle.fortran_grammar.specs.ActionGrammar as grammar;
 ghost use Rattle.fortran_grammar.specs.Phrases as phrases;
-ghost use Rattle.fortran_print.specs.Layout.{write};
+ghost use Rattle.fortran_print.specs.Printing.{write};
 ghost use Rattle.fortran_tree.specs.DeclarationViews as view;
 
 use crate::expr::{lay_expr, lay_name};
-use crate::page::Page;
 use caf_base::refusal::NoMemory;
+use fortran_layout::page::Page;
 use fortran_tokens::token::Sign;
 use fortran_tree::declaration::{
     Attribute, Bounds, Coshape, Declaration, Dimension, Entity, Intent, TypeSpec,

@@ -3,11 +3,11 @@
 ghost use Rattle.std.specs.Prelude.{◌≡◌, OnOk};
 ghost use Rattle.fortran_grammar.specs.ExpressionGrammar as grammar;
 ghost use Rattle.fortran_grammar.specs.Phrases as phrases;
-ghost use Rattle.fortran_print.specs.Layout.{write};
+ghost use Rattle.fortran_print.specs.Printing.{write};
 ghost use Rattle.fortran_tree.specs.ExpressionViews as view;
 
-use crate::page::Page;
 use caf_base::refusal::NoMemory;
+use fortran_layout::page::Page;
 use fortran_tokens::token::Sign;
 use fortran_tree::expr::{
     Argument, Designator, Expr, Operator, PrefixOperator, Selector, Specifier, Subscript,

@@ -6,14 +6,15 @@ ghost use Rattle.fortran_grammar.specs.ExpressionGrammar as expressions;
 ghost use Rattle.fortran_grammar.specs.Phrases as phrases;
 ghost use Rattle.fortran_grammar.specs.Phrases.{◌▸◌};
 ghost use Rattle.fortran_grammar.specs.StatementGrammar as grammar;
-ghost use Rattle.fortran_print.specs.Layout.{write, end_line};
+ghost use Rattle.fortran_layout.specs.Layout.{end_line};
+ghost use Rattle.fortran_print.specs.Printing.{write};
 ghost use Rattle.fortran_tree.specs.ExpressionViews as expression_view;
 ghost use Rattle.fortran_tree.specs.StatementViews as view;
 
 use crate::action::{lay_action, lay_maybe_name, lay_team};
 use crate::expr::{lay_expr, lay_name, lay_specifier};
-use crate::page::Page;
 use caf_base::refusal::NoMemory;
+use fortran_layout::page::Page;
 use fortran_tokens::token::Sign;
 use fortran_tree::expr::{Expr, Specifier};
 use fortran_tree::name::Name;

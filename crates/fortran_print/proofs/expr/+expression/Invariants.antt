@@ -1,6 +1,6 @@
 use Rattle.std.proofs.Common.{◌≡◌, drop}
 use Rattle.fortran_grammar.specs.ExpressionGrammar as grammar
-use Rattle.fortran_print.specs.Layout.{write}
+use Rattle.fortran_print.specs.Printing.{write}
 use Rattle.fortran_tree.specs.ExpressionViews as view
 use Rattle.fortran_print.proofs.expr.+expression.Given as goal
 

@@ -1,7 +1,7 @@
 use Rattle.std.proofs.Common.{◌≡◌, drop, map}
 use Rattle.fortran_grammar.specs.Phrases as phrases
 use Rattle.fortran_grammar.specs.StatementGrammar as grammar
-use Rattle.fortran_print.specs.Layout.{write}
+use Rattle.fortran_print.specs.Printing.{write}
 use Rattle.fortran_tree.specs.StatementViews as view
 use Rattle.fortran_print.proofs.statement.lay_ranges.Given as goal
 

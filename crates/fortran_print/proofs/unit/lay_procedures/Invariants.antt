@@ -1,7 +1,7 @@
 use Rattle.std.proofs.Common.{◌≡◌, drop, map}
 use Rattle.fortran_grammar.specs.Phrases as phrases
 use Rattle.fortran_grammar.specs.ProgramGrammar as grammar
-use Rattle.fortran_print.specs.Layout.{write}
+use Rattle.fortran_print.specs.Printing.{write}
 use Rattle.fortran_tree.specs.UnitViews as view
 use Rattle.fortran_print.proofs.unit.lay_procedures.Given as goal
 

@@ -1,8 +1,8 @@
 //! A page that tokens are laid on, in lines of 1,000 bytes at most.
 
 ghost use Rattle.std.specs.Prelude.{◌≡◌, ◌+◌, ◌≤◌, ◌++◌, List, length, decimal, IfOk, OnOk};
-ghost use Rattle.fortran_print.specs.Layout as spec;
-ghost use Rattle.fortran_print.specs.Spelling as spelling;
+ghost use Rattle.fortran_layout.specs.Layout as spec;
+ghost use Rattle.fortran_layout.specs.Spelling as spelling;
 
 use caf_base::refusal::NoMemory;
 use fortran_tokens::token::Sign;
@@ -21,7 +21,7 @@ pub struct Page {
 }
 
 impl Model for Page {
-    ghost use Rattle.fortran_print.specs.Layout.{Sheet};
+    ghost use Rattle.fortran_layout.specs.Layout.{Sheet};
 
     ghost Value = { Sheet };
 

@@ -1,8 +1,8 @@
 use Rattle.std.proofs.Common.{◌≡◌, ◌≤◌, drop, map}
 use Rattle.std.specs.Prelude.{fold}
-use Rattle.fortran_print.specs.Spelling.{cell}
-use Rattle.fortran_print.specs.Layout.{poured}
-use Rattle.fortran_print.proofs.page.Page.long_literal.Given as goal
+use Rattle.fortran_layout.specs.Spelling.{cell}
+use Rattle.fortran_layout.specs.Layout.{poured}
+use Rattle.fortran_layout.proofs.page.Page.long_literal.Given as goal
 
 abbrev pub invariant-loop-character : goal.invariant-loop-character
 invariant-loop-character l = record {

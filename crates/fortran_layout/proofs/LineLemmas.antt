@@ -7,12 +7,10 @@ use Rattle.std.proofs.lemmas.List.Folds.{list_all-append}
 use Rattle.fortran_grammar.specs.Tokens.{Tok, word, integer, literal, sign, over}
 use Rattle.fortran_tokens.specs.declared.token.Sign.{Sign}
 use Rattle.fortran_tokens.specs.declared.token.Sign.TheVariants as s
-use Rattle.fortran_grammar.specs.Phrases.{canonical}
-use Rattle.fortran_grammar.specs.ProgramGrammar.{program}
-use Rattle.fortran_print.specs.Spelling.{sign_text, number_text, cell, cells, literal_text}
-use Rattle.fortran_print.specs.Layout.{Sheet, blank, put, fresh, Pour, poured, pour, put_literal, end_line, laid, printed}
-use Rattle.fortran_print.specs.Lines.{no_feed, has_room, LinesFit}
-use Rattle.fortran_print.proofs.TextLines.{last_line, ended, fit, Fits, more, feed}
+use Rattle.fortran_layout.specs.Spelling.{sign_text, number_text, cell, cells, literal_text}
+use Rattle.fortran_layout.specs.Layout.{Sheet, blank, put, fresh, Pour, poured, pour, put_literal, end_line, laid, laid_text}
+use Rattle.fortran_layout.specs.Lines.{no_feed, has_room, LinesFit}
+use Rattle.fortran_layout.proofs.TextLines.{last_line, ended, fit, Fits, more, feed}
 
 record Good (x : Sheet) : Type 0 where
   text : Fits x.text x.column
@@ -158,9 +156,9 @@ all_good x (t ∷ ts) g h =
     all_good (laid x t) ts (laid_good x t g k.0) k.1
 
 pub lines_fit_all : LinesFit
-lines_fit_all x h =
-    let g = all_good blank (canonical (program x)) (record { text = record { ends = refl; size = omega arith }; room = omega arith }) h in
+lines_fit_all ts h =
+    let g = all_good blank ts (record { text = record { ends = refl; size = omega arith }; room = omega arith }) h in
     let f = g.text in
     let r = g.room in
-    fit 0 (printed x) ∙ and_from (ended 0 (printed x)) (nat_le (last_line 0 (printed x)) 1000) f.ends
-    (le-leb (last_line 0 (printed x)) 1000 (let s = f.size in omega arith))
+    fit 0 (laid_text ts) ∙ and_from (ended 0 (laid_text ts)) (nat_le (last_line 0 (laid_text ts)) 1000) f.ends
+    (le-leb (last_line 0 (laid_text ts)) 1000 (let s = f.size in omega arith))

@@ -1,7 +1,7 @@
 -- Texts whose lines have 1,000 bytes at most.
 use Rattle.std.proofs.Common.{◌≡◌, ℕ, ◌+◌, ◌≤◌, Bool, true, false, cond, not, ◌&&◌, nat_eq, nat_le, List, [], ◌∷◌, ◌++◌, length, refl, ap, ◌∙◌, arith}
 use Rattle.std.proofs.lemmas.Bool.{and_parts, and_from, le-leb, false≢true}
-use Rattle.fortran_print.specs.Lines.{lines_fit, no_feed}
+use Rattle.fortran_layout.specs.Lines.{lines_fit, no_feed}
 
 -- how many bytes the last line has, where so many stand before the text
 abbrev pub last_line : ℕ → List ℕ → ℕ

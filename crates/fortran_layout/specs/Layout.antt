@@ -1,11 +1,7 @@
 -- How tokens are laid in lines of 1,000 bytes at most.
 use Rattle.std.specs.Prelude.{ℕ, ◌+◌, cond, nat_eq, nat_le, List, [], ◌++◌, length, codes, fold}
 use Rattle.fortran_grammar.specs.Tokens.{Tok, word, integer, literal, sign, over}
-use Rattle.fortran_grammar.specs.Phrases as p
-use Rattle.fortran_grammar.specs.Phrases.{Phrase, ◌▸◌, ◌∪◌, canonical}
-use Rattle.fortran_grammar.specs.ProgramGrammar.{program}
-use Rattle.fortran_tree.specs.Units.{Program}
-use Rattle.fortran_print.specs.Spelling.{sign_text, number_text, cells, literal_text}
+use Rattle.fortran_layout.specs.Spelling.{sign_text, number_text, cells, literal_text}
 
 -- the text so far, and how many bytes its last line has
 pub record Sheet : Type 0 where
@@ -52,17 +48,6 @@ laid s (literal x) = put_literal s x
 laid s (sign x) = put s (sign_text x)
 laid s over = end_line s
 
--- the canonical tokens of a phrase more
-abbrev pub write : Phrase → Sheet → Sheet
-write p.nothing s = s
-write (p.token x) s = laid s x
-write (p.token_at at x) s = laid s x
-write (P ▸ Q) s = write Q (write P s)
-write (P ∪ Q) s = write P s
-write (p.only b P) s = write P s
-write (p.deeper P) s = write P s
-write (p.from at P) s = write P s
-
--- the canonical spelling of a program: its canonical tokens, laid in lines
-abbrev pub printed : Program → List ℕ
-printed x = (fold laid blank (canonical (program x))).text
+-- the text of these tokens
+abbrev pub laid_text : List Tok → List ℕ
+laid_text ts = (fold laid blank ts).text

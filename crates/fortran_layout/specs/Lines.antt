@@ -1,12 +1,9 @@
--- The lines of a printed text.
+-- The lines of a text of laid tokens.
 use Rattle.std.specs.Prelude.{ℕ, ◌≡◌, ◌+◌, Bool, true, cond, not, ◌&&◌, nat_eq, nat_le, List, [], ◌∷◌, length}
 use Rattle.std.specs.List.{list_all}
-use Rattle.fortran_tree.specs.Units.{Program}
 use Rattle.fortran_grammar.specs.Tokens.{Tok, word, integer, literal}
-use Rattle.fortran_grammar.specs.Phrases.{canonical}
-use Rattle.fortran_grammar.specs.ProgramGrammar.{program}
-use Rattle.fortran_print.specs.Spelling.{number_text}
-use Rattle.fortran_print.specs.Layout.{printed}
+use Rattle.fortran_layout.specs.Spelling.{number_text}
+use Rattle.fortran_layout.specs.Layout.{laid_text}
 
 -- each line of the text has 1,000 bytes at most, where so many bytes of its first line stand before it
 abbrev pub lines_fit : ℕ → List ℕ → Bool
@@ -24,6 +21,6 @@ has_room (integer n k) = no_feed (number_text n k) && nat_le (length (number_tex
 has_room (literal x) = no_feed x
 has_room t = true
 
--- then a program's lines fit
+-- then the lines of such tokens fit
 abbrev pub LinesFit : Type 0
-LinesFit = (x : Program) → list_all has_room (canonical (program x)) ≡ true → lines_fit 0 (printed x) ≡ true
+LinesFit = (ts : List Tok) → list_all has_room ts ≡ true → lines_fit 0 (laid_text ts) ≡ true
