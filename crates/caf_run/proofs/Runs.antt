@@ -5,7 +5,6 @@ use Rattle.std.specs.List.{filter, range_with_len}
 use Rattle.std.proofs.lemmas.Bool.{cases_Bool, cases_lt}
 use Rattle.caf_base.specs.declared.refusal.NoMemory.{NoMemory}
 use Rattle.caf_base.specs.declared.thin.ThinProgram.{ThinProgram}
-use Rattle.caf_events.specs.Memories.{DeclaredMemory}
 use Rattle.caf_events.specs.declared.event.Entry.{Entry}
 use Rattle.caf_events.specs.declared.event.Trace.{Trace}
 use Rattle.caf_events.specs.Events.{EndsRun}

@@ -1,16 +1,13 @@
 -- The step that was set aside, made at its place, as a step of the whole run.
-use Rattle.std.proofs.Common.{◌≡◌, ℕ, suc, ◌<◌, ◌^◌, List, [], length, ap, ◌∙◌, arith, Bool}
+use Rattle.std.proofs.Common.{◌≡◌, ℕ, suc, ◌<◌, ◌^◌, [], length, ap, ◌∙◌, arith}
 use Rattle.std.specs.Prelude.{map, slice_index_or, slice_set}
 use Rattle.caf_base.specs.declared.place.Place.TheVariants as places
 use Rattle.caf_base.specs.declared.place.ImageNo.{ImageNo}
 use Rattle.caf_events.specs.declared.object.Object as object
 use Rattle.caf_events.specs.declared.walker.Walker as walker
-use Rattle.caf_events.specs.declared.ask.Ask.{Ask}
-use Rattle.caf_events.specs.declared.reply.Reply.{Reply}
 use Rattle.caf_events.specs.declared.event.Event.{Event}
-use Rattle.caf_events.specs.declared.event.Entry.{Entry}
 use Rattle.caf_events.specs.Histories.{last_stamp_of}
-use Rattle.trace_theory.specs.Machines.{Move, Stops}
+use Rattle.trace_theory.specs.Machines.{Stops}
 use Rattle.image_core.specs.declared.run.ImageRun.{ImageRun}
 use Rattle.image_core.specs.declared.parts.PartsOf.{PartsOf}
 use Rattle.core_runs.specs.Lists.{last_of}

@@ -1,5 +1,5 @@
 -- A step of one image at one object as a step of the whole run.
-use Rattle.std.proofs.Common.{◌≡◌, ℕ, suc, ◌+◌, ◌-◌, ◌<◌, ◌≤◌, max, List, [], ◌∷◌, ◌++◌, length, refl, ap, sym, ◌∙◌, subst, arith, Bool, IsTrue}
+use Rattle.std.proofs.Common.{◌≡◌, ℕ, suc, ◌+◌, ◌-◌, ◌<◌, ◌≤◌, max, List, [], ◌∷◌, ◌++◌, length, refl, ap, sym, ◌∙◌, subst, arith, IsTrue}
 use Rattle.std.specs.Prelude.{map, slice_index_or, slice_get, slice_set, Option, Some}
 use Rattle.caf_base.specs.declared.place.Place.TheVariants as places
 use Rattle.caf_base.specs.declared.place.ImageNo.{ImageNo}

@@ -1,5 +1,5 @@
 -- What is set aside for an image's next step.
-use Rattle.std.specs.Prelude.{ℕ, ◌≡◌, ◌+◌, max, Bool, IsTrue, List, [], ◌∷◌, ◌++◌}
+use Rattle.std.specs.Prelude.{ℕ, ◌≡◌, ◌+◌, max, IsTrue, [], ◌∷◌, ◌++◌}
 use Rattle.caf_base.specs.declared.place.Place.{Place}
 use Rattle.caf_base.specs.declared.place.Place.TheVariants.{Own}
 use Rattle.caf_events.specs.declared.object.Object as objects
@@ -8,7 +8,6 @@ use Rattle.caf_events.specs.declared.ask.Ask.{Ask}
 use Rattle.caf_events.specs.declared.reply.Reply.{Reply}
 use Rattle.caf_events.specs.declared.reply.Reply.TheVariants as replies
 use Rattle.caf_events.specs.declared.event.Event.{Event}
-use Rattle.caf_events.specs.declared.event.Entry.{Entry}
 use Rattle.caf_events.specs.declared.object.Spare.{Spare}
 use Rattle.caf_events.specs.Asks.{place_of}
 use Rattle.caf_events.specs.Histories.{last_stamp_of, IsSpare}
