@@ -14,6 +14,11 @@ last_stamp_from n (e ∷ es) = last_stamp_from e.event.stamp es
 abbrev pub last_stamp_of : List Entry → ℕ
 last_stamp_of h = last_stamp_from 0 h
 
+-- what contracts see of an object's history: its entries, and the room for further ones
+pub record Recorded : Type 0 where
+  pub entries : List Entry
+  pub room : ℕ
+
 -- what is set aside for a step: the ask, and its reply twice
 pub record IsSpare (ask : Ask) (reply : Reply) (s : Spare) : Type 0 where
   pub same_ask : s.ask ≡ ask

@@ -7,6 +7,7 @@
 pub mod ask;
 pub mod event;
 pub mod fault;
+pub mod history;
 pub mod object;
 pub mod reply;
 pub mod round;

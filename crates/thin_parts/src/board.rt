@@ -11,7 +11,8 @@ use caf_base::listing::Listing;
 use caf_base::place::{INITIAL_TEAM, ImageNo};
 use caf_base::refusal::NoMemory;
 use caf_events::ask::Ask;
-use caf_events::event::{Entry, Event};
+use caf_events::event::Event;
+use caf_events::history::History;
 use caf_events::object::{Object, Spare};
 use caf_events::reply::Reply;
 use caf_events::round::Arriving;
@@ -22,25 +23,22 @@ use std::marker::Model;
 #[derive(Drop)]
 pub struct ThinBoard {
     joined: Vec<u64>,
-    history: Vec<Entry>,
-    last: u64,
+    history: History,
 }
 
 impl Model for ThinBoard {
-    ghost use Rattle.std.specs.Prelude.{◌-◌, ◌≡◌, length};
-    ghost use Rattle.std.specs.Vec.{vec_capacity, vec_len};
-    ghost use Rattle.caf_events.specs.Histories.{last_stamp_of};
+    ghost use Rattle.std.specs.Prelude.{◌≡◌, length};
     ghost use Rattle.thin_parts.specs.ThinBoard.{BoardMeaning, joined_by};
 
     ghost Value = { BoardMeaning };
 
     ghost view = { λ b. record {
       images = length b.joined.items;
-      history = b.history.items;
-      room = vec_capacity b.history - vec_len b.history;
+      history = b.history.entries;
+      room = b.history.room;
     } };
 
-    ghost invariant = { λ b. (b.joined.items ≡ joined_by (length b.joined.items) b.history.items) × (b.last ≡ last_stamp_of b.history.items) };
+    ghost invariant = { λ b. b.joined.items ≡ joined_by (length b.joined.items) b.history.entries };
 }
 
 impl ThinBoard {
@@ -51,8 +49,7 @@ impl ThinBoard {
     {
         Ok(ThinBoard {
             joined: filled(alloc, images as usize, 0)?,
-            history: Vec::new(alloc),
-            last: 0,
+            history: History::new(alloc),
         })
     }
 
@@ -114,7 +111,7 @@ fn count_arrival(joined: &mut Vec<u64>, image: ImageNo, ask: &Ask)
 }
 
 impl Object for ThinBoard {
-    ghost use Rattle.std.specs.Prelude.{ℕ, List, ◌<◌};
+    ghost use Rattle.std.specs.Prelude.{ℕ, List, ◌<◌, ◌+◌, ◌^◌, length};
     ghost use Rattle.thin_parts.specs.ThinBoard.{BoardMeaning, board_ready, board_reply};
 
     ghost Made = { ℕ };
@@ -123,7 +120,7 @@ impl Object for ThinBoard {
 
     ghost history = { λ b. b.history };
 
-    ghost has_room = { λ b image ask. 0 < b.room };
+    ghost has_room = { λ b image ask. (0 < b.room) × (length b.history + 1 < 2 ^ 64) };
 
     ghost ready_after = { board_ready };
 
@@ -148,12 +145,12 @@ impl Object for ThinBoard {
     }
 
     fn last_stamp(&self) -> u64 {
-        self.last
+        self.history.last_stamp()
     }
 
     fn reserve(&mut self, image: ImageNo, ask: &Ask) -> Result<Spare, NoMemory> {
-        let alloc = *self.history.allocator();
-        self.history.reserve(1)?;
+        let alloc = self.history.allocator();
+        self.history.reserve()?;
         let one = reply_of(alloc, &self.joined, image, ask);
         let two = reply_of(alloc, &self.joined, image, ask);
         Ok(Spare {
@@ -164,28 +161,7 @@ impl Object for ThinBoard {
     }
 
     fn apply(&mut self, image: ImageNo, ask: Ask, spare: Spare, line: u32, after: u64) -> Event {
-        let stamp = after.max(self.last) + 1;
         count_arrival(&mut self.joined, image, &ask);
-        let Spare {
-            ask: again,
-            one,
-            two,
-        } = spare;
-        self.history.push_reserved(Entry {
-            image,
-            event: Event {
-                ask,
-                reply: one,
-                stamp,
-                line,
-            },
-        });
-        self.last = stamp;
-        Event {
-            ask: again,
-            reply: two,
-            stamp,
-            line,
-        }
+        self.history.append(image, ask, spare, line, after)
     }
 }

@@ -12,7 +12,8 @@ use caf_base::span::Span;
 use caf_base::thin::{ThinProgram, ThinVariable};
 use caf_base::value::Value;
 use caf_events::ask::Ask;
-use caf_events::event::{Entry, Event};
+use caf_events::event::Event;
+use caf_events::history::History;
 use caf_events::object::{Object, Spare};
 use caf_events::reply::Reply;
 use std::alloc::Global;
@@ -25,25 +26,22 @@ pub struct ThinMemory {
     owner: ImageNo,
     coarrays: Vec<bool>,
     cells: Vec<Value>,
-    history: Vec<Entry>,
-    last: u64,
+    history: History,
 }
 
 impl Model for ThinMemory {
-    ghost use Rattle.std.specs.Prelude.{◌-◌, ◌≡◌, map};
-    ghost use Rattle.std.specs.Vec.{vec_capacity, vec_len};
-    ghost use Rattle.caf_events.specs.Histories.{last_stamp_of};
+    ghost use Rattle.std.specs.Prelude.{map};
     ghost use Rattle.thin_parts.specs.ThinMemory.{MemoryMeaning, CellsAre, cells_for};
 
     ghost Value = { MemoryMeaning };
 
     ghost view = { λ m. record {
       declared = record { owner = m.owner; coarrays = map cells_for m.coarrays.items };
-      history = m.history.items;
-      room = vec_capacity m.history - vec_len m.history;
+      history = m.history.entries;
+      room = m.history.room;
     } };
 
-    ghost invariant = { λ m. CellsAre (record { owner = m.owner; coarrays = map cells_for m.coarrays.items }) m.history.items m.cells.items × (m.last ≡ last_stamp_of m.history.items) };
+    ghost invariant = { λ m. CellsAre (record { owner = m.owner; coarrays = map cells_for m.coarrays.items }) m.history.entries m.cells.items };
 }
 
 impl ThinMemory {
@@ -58,8 +56,7 @@ impl ThinMemory {
             owner,
             coarrays: which_are_coarrays(alloc, variables)?,
             cells: filled(alloc, variables.len(), Value::Int(0))?,
-            history: Vec::new(alloc),
-            last: 0,
+            history: History::new(alloc),
         })
     }
 }
@@ -154,12 +151,12 @@ impl Object for ThinMemory {
     }
 
     fn last_stamp(&self) -> u64 {
-        self.last
+        self.history.last_stamp()
     }
 
     fn reserve(&mut self, _image: ImageNo, ask: &Ask) -> Result<Spare, NoMemory> {
-        let alloc = *self.history.allocator();
-        self.history.reserve(1)?;
+        let alloc = self.history.allocator();
+        self.history.reserve()?;
         Ok(Spare {
             ask: ask.copy()?,
             one: reply_of(alloc, &self.cells, ask)?,
@@ -168,28 +165,7 @@ impl Object for ThinMemory {
     }
 
     fn apply(&mut self, image: ImageNo, ask: Ask, spare: Spare, line: u32, after: u64) -> Event {
-        let stamp = after.max(self.last) + 1;
         write_cells(&mut self.cells, &ask);
-        let Spare {
-            ask: again,
-            one,
-            two,
-        } = spare;
-        self.history.push_reserved(Entry {
-            image,
-            event: Event {
-                ask,
-                reply: one,
-                stamp,
-                line,
-            },
-        });
-        self.last = stamp;
-        Event {
-            ask: again,
-            reply: two,
-            stamp,
-            line,
-        }
+        self.history.append(image, ask, spare, line, after)
     }
 }
