@@ -10,7 +10,7 @@ use Rattle.caf_events.specs.declared.event.Trace.{Trace}
 use Rattle.caf_events.specs.Events.{EndsRun}
 use Rattle.caf_events.specs.Walkers.{AsksNext, IsAtLine}
 use Rattle.trace_theory.specs.Entries.{Each}
-use Rattle.trace_theory.proofs.Filters.{of_inside}
+use Rattle.trace_theory.proofs.Filters.{of_inside, each_filter}
 use Rattle.trace_theory.proofs.Snocs.{each_at}
 use Rattle.core_runs.specs.Lists.{image_of}
 use Rattle.core_runs.specs.Moments.{Rules, Moment, item_at, can_step}
@@ -73,13 +73,6 @@ no_ending t h = none_at t.entries (λ k x at ends. h k (ends_at k x at ends))
   where
     ends_at : (k : ℕ) (x : Entry) → slice_get t.entries k ≡ Some x → EndsRun x.event → EndsAt t k
     ends_at k x at ends = rw at ends
-
-each_filter : {E : Type 0} (P : E → Type 0) (p : E → Bool) (xs : List E) → Each P xs → Each P (filter p xs)
-each_filter P p [] h = tt
-each_filter P p (x ∷ xs) h = elim (cases_Bool (p x)) [
-  | inl t ↦ rw t (h.0, each_filter P p xs h.1)
-  | inr f ↦ rw f (each_filter P p xs h.1)
-]
 
 -- a trace without an ending event is that of steps of which none ends the run
 ends_nowhere : (t : Trace) (xs : List Entry) → ((i : ℕ) → of_image i t.entries ≡ of_image i xs) → HasNoEnding t → EndsAtLast xs → ⊥

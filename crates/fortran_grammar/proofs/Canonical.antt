@@ -9,7 +9,7 @@ use Rattle.fortran_grammar.specs.Tokens.{Tok, Token, word}
 use Rattle.fortran_grammar.specs.Phrases as p
 use Rattle.fortran_grammar.specs.Phrases.{Phrase, ◌▸◌, ◌∪◌, Words, FirstAt, canonical, key, sign, joined, square, optional, followed, listed, maybe_listed, repeated}
 use Rattle.fortran_grammar.specs.Laws.{placeless, tok_of}
-use Rattle.fortran_grammar.proofs.Deciding.{bare_append, shallow_append, shallow_front, shallow_back}
+use Rattle.reader_theory.proofs.Marks.{bare_append, shallow_append, shallow_front, shallow_back}
 
 pub record Canon (P : Phrase) (l d : ℕ) : Type 0 where
   pub word : List (Mark Token)

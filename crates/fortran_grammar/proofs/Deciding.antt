@@ -5,6 +5,7 @@ use Rattle.std.proofs.Math.Bool.{or-true}
 use Rattle.caf_base.specs.declared.place.Pos.{Pos}
 use Rattle.reader_theory.specs.Words.{Mark, bare, Shallow}
 use Rattle.reader_theory.specs.Levels.{mark}
+use Rattle.reader_theory.proofs.Marks.{bare_append, shallow_append, shallow_front, shallow_back}
 use Rattle.fortran_tokens.specs.declared.token.Sign.{Sign}
 use Rattle.fortran_tokens.specs.declared.token.Sign.TheVariants as s
 use Rattle.fortran_tree.specs.declared.expr.NumberKind.{NumberKind}
@@ -123,22 +124,6 @@ pub record Front (P : Phrase) (limit level : ℕ) (behind : List Token → Bool)
   pub shallow : Shallow word
   pub split : ts ≡ bare word ++ rest
   pub passes : behind rest ≡ true
-
-pub bare_append : (u v : List (Mark Token)) → bare (u ++ v) ≡ bare u ++ bare v
-bare_append [] v = refl
-bare_append (m ∷ u) v = ap (λ x. m.token ∷ x) (bare_append u v)
-
-pub shallow_append : (u v : List (Mark Token)) → Shallow u → Shallow v → Shallow (u ++ v)
-shallow_append [] v a b = b
-shallow_append (m ∷ u) v a b = (a.0, shallow_append u v a.1 b)
-
-pub shallow_front : (u v : List (Mark Token)) → Shallow (u ++ v) → Shallow u
-shallow_front [] v a = tt
-shallow_front (m ∷ u) v a = (a.0, shallow_front u v a.1)
-
-pub shallow_back : (u v : List (Mark Token)) → Shallow (u ++ v) → Shallow v
-shallow_back [] v a = a
-shallow_back (m ∷ u) v a = shallow_back u v a.1
 
 found_token : (x : Tok) (limit level : ℕ) (behind : List Token → Bool) (y : Token) (rest : List Token)
     → x ≡ y.tok → not (nat_lt limit level) ≡ true → behind rest ≡ true → Front (p.token x) limit level behind (y ∷ rest)

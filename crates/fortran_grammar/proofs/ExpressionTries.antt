@@ -10,7 +10,8 @@ use Rattle.fortran_grammar.specs.Tokens as t
 use Rattle.fortran_grammar.specs.Tokens.{Token}
 use Rattle.fortran_grammar.specs.ExpressionGrammar.{expr}
 use Rattle.fortran_grammar.specs.Acceptance.{spelled}
-use Rattle.fortran_grammar.proofs.Trying.{here, cut, n, v, i}
+use Rattle.fortran_grammar.proofs.SmallTrees.{here, n, v, i}
+use Rattle.fortran_grammar.proofs.Trying.{cut}
 
 -- differences are taken from the left
 minus_left : spelled (expr (s.binary o.Subtract (s.binary o.Subtract (v (codes "a") 1) (v (codes "b") 5) (here 1)) (v (codes "c") 9) (here 1))) 64 (cut (codes "a - b - c")) ≡ true

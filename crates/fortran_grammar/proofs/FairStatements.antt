@@ -14,7 +14,7 @@ use Rattle.fortran_grammar.specs.Phrases.{◌▸◌, Words, name, key, sign, rou
 use Rattle.fortran_grammar.specs.ExpressionGrammar.{expr}
 use Rattle.fortran_grammar.specs.ActionGrammar as g
 use Rattle.fortran_grammar.specs.StatementGrammar as h
-use Rattle.fortran_grammar.proofs.Deciding.{shallow_front, shallow_back}
+use Rattle.reader_theory.proofs.Marks.{shallow_front, shallow_back}
 use Rattle.fortran_grammar.proofs.Canonical.{Fair, Canon, canon, canon_nothing, canon_token, canon_at, canon_both, opened, fair_joined, fair_square, fair_optional, fair_followed, fair_listed, fair_repeated}
 use Rattle.fortran_grammar.proofs.FairExpressions.{fair_expr, fair_design, fair_more_specs, fair_arguments}
 

@@ -3,6 +3,7 @@ pub mod Canonical
 pub mod FairExpressions
 pub mod FairStatements
 pub mod FairPrograms
+pub mod SmallTrees
 mod Trying
 mod ExpressionTries
 mod StatementTries

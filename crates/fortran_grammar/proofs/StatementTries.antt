@@ -5,7 +5,8 @@ use Rattle.fortran_tree.specs.Statements as s
 use Rattle.fortran_grammar.specs.ActionGrammar.{action}
 use Rattle.fortran_grammar.specs.StatementGrammar.{statement}
 use Rattle.fortran_grammar.specs.Acceptance.{spelled}
-use Rattle.fortran_grammar.proofs.Trying.{here, cut, n, d, l, v, i}
+use Rattle.fortran_grammar.proofs.SmallTrees.{here, n, d, l, v, i}
+use Rattle.fortran_grammar.proofs.Trying.{cut}
 
 -- an assignment
 assignment : spelled (action (s.assignment (e.designator (n (codes "x") 1) (e.more_subscripts (e.element (i 2 5)) e.no_subscripts) (e.selector (e.more_terms (i 3 11) e.no_terms) e.no_specifiers)) (i 4 17)) (here 1)) 64 (cut (codes "x ( 2 ) [ 3 ] = 4")) ≡ true

@@ -1,19 +1,12 @@
--- Short sources for tries: tokens with blanks between them, on line 1, `;` for the end of a statement; and names for small trees.
+-- Short sources for tries: tokens with blanks between them, on line 1, `;` for the end of a statement.
 use Rattle.std.proofs.Common.{ℕ, ◌+◌, ◌-◌, ◌*◌, true, false, nat_eq, nat_le, ◌&&◌, List, [], ◌∷◌, ◌++◌}
-use Rattle.caf_base.specs.declared.place.Pos.{Pos}
 use Rattle.fortran_tokens.specs.Forms.{spellings}
 use Rattle.fortran_tokens.specs.declared.token.Sign.{Sign}
-use Rattle.fortran_tree.specs.declared.name.Name.{Name}
-use Rattle.fortran_tree.specs.declared.name.Literal.{Literal}
 use Rattle.fortran_tree.specs.declared.expr.NumberKind.TheVariants.{Unstated}
-use Rattle.fortran_tree.specs.Expressions as s
-use Rattle.fortran_tree.specs.Expressions.{Term, Design}
 use Rattle.fortran_grammar.specs.Tokens as t
 use Rattle.fortran_grammar.specs.Tokens.{Tok, Token}
 use Rattle.fortran_grammar.specs.Acceptance.{same_text}
-
-abbrev pub here : ℕ → Pos
-here c = record { line = 1; col = c }
+use Rattle.fortran_grammar.proofs.SmallTrees.{here}
 
 -- the sign with this spelling
 abbrev sign_in : List (List ℕ × Sign) → List ℕ → Tok
@@ -51,20 +44,3 @@ cut_from c start x (b ∷ more) = elim (nat_eq b 32) [ true ↦ flush start x ++
 -- the tokens of a source, each at its column
 abbrev pub cut : List ℕ → List Token
 cut x = cut_from 1 1 [] x
-
--- a name, a variable without subscripts as a designator and as an expression, and a number, each at a column
-abbrev pub n : List ℕ → ℕ → Name
-n x c = record { text = x; at = here c }
-
-abbrev pub d : List ℕ → ℕ → Design
-d x c = s.designator (n x c) s.no_subscripts s.no_selector
-
-abbrev pub v : List ℕ → ℕ → Term
-v x c = s.design (d x c)
-
-abbrev pub i : ℕ → ℕ → Term
-i k c = s.number k Unstated (here c)
-
--- a character literal at a column
-abbrev pub l : List ℕ → ℕ → Literal
-l x c = record { text = x; at = here c }

@@ -8,7 +8,8 @@ use Rattle.fortran_tree.specs.Units as unit
 use Rattle.fortran_grammar.specs.ActionGrammar.{decl}
 use Rattle.fortran_grammar.specs.ProgramGrammar.{program}
 use Rattle.fortran_grammar.specs.Acceptance.{spelled}
-use Rattle.fortran_grammar.proofs.Trying.{here, cut, n, d, i}
+use Rattle.fortran_grammar.proofs.SmallTrees.{here, n, d, i}
+use Rattle.fortran_grammar.proofs.Trying.{cut}
 
 -- a declaration
 declares : spelled (decl (record { type_spec = s.integer None; attributes = []; entities = record { name = (n (codes "x") 12); dimensions = []; coshape = None; initial = None } ∷ record { name = (n (codes "y") 16); dimensions = []; coshape = None; initial = None } ∷ []; at = (here 1) })) 64 (cut (codes "integer :: x , y ;")) ≡ true

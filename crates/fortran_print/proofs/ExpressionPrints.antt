@@ -5,7 +5,8 @@ use Rattle.fortran_tree.specs.declared.expr.PrefixOperator.TheVariants as b
 use Rattle.fortran_tree.specs.Expressions as s
 use Rattle.fortran_tree.specs.Expressions.{Term}
 use Rattle.fortran_grammar.specs.ExpressionGrammar.{expr}
-use Rattle.fortran_print.proofs.Small.{here, n, v, text_of}
+use Rattle.fortran_grammar.proofs.SmallTrees.{here, n, v}
+use Rattle.fortran_print.proofs.PrintedAlone.{text_of}
 use Rattle.fortran_layout.specs.Spelling.{sign_text, literal_text}
 use Rattle.fortran_layout.specs.Layout.{put, put_literal, end_line}
 

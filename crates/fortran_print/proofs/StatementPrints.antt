@@ -4,7 +4,8 @@ use Rattle.fortran_tree.specs.Expressions as e
 use Rattle.fortran_tree.specs.Statements as s
 use Rattle.fortran_grammar.specs.ActionGrammar.{action}
 use Rattle.fortran_grammar.specs.StatementGrammar.{statement}
-use Rattle.fortran_print.proofs.Small.{here, n, d, l, v, text_of}
+use Rattle.fortran_grammar.proofs.SmallTrees.{here, n, d, l, v}
+use Rattle.fortran_print.proofs.PrintedAlone.{text_of}
 use Rattle.fortran_layout.specs.Spelling.{sign_text, literal_text}
 use Rattle.fortran_layout.specs.Layout.{put, put_literal, end_line}
 

@@ -7,7 +7,8 @@ use Rattle.fortran_tree.specs.Statements as s
 use Rattle.fortran_tree.specs.Units as unit
 use Rattle.fortran_grammar.specs.ActionGrammar.{decl}
 use Rattle.fortran_grammar.specs.ProgramGrammar.{program}
-use Rattle.fortran_print.proofs.Small.{here, n, d, v, text_of}
+use Rattle.fortran_grammar.proofs.SmallTrees.{here, n, d, v}
+use Rattle.fortran_print.proofs.PrintedAlone.{text_of}
 use Rattle.fortran_layout.specs.Spelling.{sign_text, literal_text}
 use Rattle.fortran_layout.specs.Layout.{put, put_literal, end_line}
 

@@ -1,14 +1,12 @@
 -- From each image's entries to all of a trace, and from a trace to what an image said.
-use Rattle.std.proofs.Common.{ℕ, Bool, nat_eq, List, [], ◌∷◌, map, inl, inr, subst}
-use Rattle.std.specs.List.{filter}
-use Rattle.std.proofs.lemmas.Bool.{cases_Bool}
+use Rattle.std.proofs.Common.{ℕ, nat_eq, List, [], ◌∷◌, map, inl, inr, subst}
 use Rattle.std.proofs.lemmas.Bool.Decides.{eqb_tells}
 use Rattle.caf_events.specs.declared.ask.Ask.{Ask}
 use Rattle.caf_events.specs.declared.reply.Reply.{Reply}
 use Rattle.caf_events.specs.declared.event.Entry.{Entry}
 use Rattle.trace_theory.specs.Entries.{Each}
 use Rattle.trace_theory.specs.Machines.{Said}
-use Rattle.trace_theory.proofs.Filters.{of_first}
+use Rattle.trace_theory.proofs.Filters.{of_first, each_filter}
 use Rattle.core_runs.specs.Lists.{image_of, said}
 use Rattle.core_runs.specs.CoreRuns.{of_image, said_by}
 
@@ -23,13 +21,6 @@ pub each_image : (P : Entry → Type 0) (In : ℕ → Type 0) (xs : List Entry) 
 each_image P In [] all h = tt
 each_image P In (x ∷ xs) all h =
     ((subst (Each P) (of_first image_of x xs) (h (image_of x) all.0)).0, each_image P In xs all.1 (λ i is. each_tail P x xs i (h i is)))
-
-each_filter : (P : Entry → Type 0) (p : Entry → Bool) (xs : List Entry) → Each P xs → Each P (filter p xs)
-each_filter P p [] h = tt
-each_filter P p (x ∷ xs) h = elim (cases_Bool (p x)) [
-  | inl t ↦ rw t (h.0, each_filter P p xs h.1)
-  | inr f ↦ rw f (each_filter P p xs h.1)
-]
 
 each_map : (P : Said Ask Reply → Type 0) (xs : List Entry) → Each (λ x. P (said x.event)) xs → Each P (map (λ x. said x.event) xs)
 each_map P [] h = tt

@@ -4,7 +4,7 @@ use Rattle.std.proofs.lemmas.List.{append-nil}
 use Rattle.std.proofs.lemmas.Bool.{eq-eqb, cases_Bool}
 use Rattle.std.proofs.lemmas.Bool.Decides.{eqb_tells}
 use Rattle.std.specs.List.{filter}
-use Rattle.trace_theory.specs.Entries.{of}
+use Rattle.trace_theory.specs.Entries.{of, Each}
 
 -- what is behind the first entry, where both lists begin with one or neither does
 pub cond_tails : {E : Type 0} (b : Bool) (x y : E) (xs ys : List E) → cond b (x ∷ xs) xs ≡ cond b (y ∷ ys) ys → xs ≡ ys
@@ -20,6 +20,14 @@ module _ {E : Type 0} where
         | inl a ↦ elim (cases_Bool (q e)) [ inl b ↦ simp (a, b) (ap (λ xs. e ∷ xs) (filters_swap p q es)) | inr b ↦ simp (a, b) (filters_swap p q es) ]
         | inr a ↦ elim (cases_Bool (q e)) [ inl b ↦ simp (a, b) (filters_swap p q es) | inr b ↦ simp (a, b) (filters_swap p q es) ]
       ]
+
+  -- what holds of each entry of a list holds of each that a filter keeps
+  pub each_filter : (P : E → Type 0) (p : E → Bool) (xs : List E) → Each P xs → Each P (filter p xs)
+  each_filter P p [] h = tt
+  each_filter P p (x ∷ xs) h = elim (cases_Bool (p x)) [
+    | inl t ↦ rw t (h.0, each_filter P p xs h.1)
+    | inr f ↦ rw f (each_filter P p xs h.1)
+  ]
 
   -- a filter goes over the parts of a list
   pub filter_append : (p : E → Bool) (xs ys : List E) → filter p (xs ++ ys) ≡ filter p xs ++ filter p ys
