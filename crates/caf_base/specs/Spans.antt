@@ -1,4 +1,4 @@
--- The cells of a section, in array element order (ISO/IEC 1539-1:2018, 9.5.3.3).
+-- The cells of an array section (ISO/IEC 1539-1:2018, 9.5.3.3), in array element order (9.5.3.2).
 use Rattle.std.specs.Prelude.{ℕ, zero, suc, ◌≤◌, ◌<◌, ℤ, pos, ◌+ℤ◌, ◌≤ℤ◌, ◌<ℤ◌, List, [], ◌∷◌, ◌++◌, length, All}
 use Rattle.caf_base.specs.declared.span.Span.{Span}
 

@@ -1,8 +1,8 @@
 //! The shared words of `caf`: numbers of images and teams, places, values, spans, small lists, statuses and limits,
 //! the traits of the outside (`Source`, `Sink`, `Hook`), and the thin program of the first path.
-//! It stands on `smallvec` alone; every other crate of the repository but the theories stands on it.
+//! It stands on `smallvec` alone; every other crate but the theories and `reader_small` stands on it.
 //! Its main contracts are those of the traits: a source's bytes move from its front, a sink's bytes grow at its end,
-//! and neither answers `Failed` unless its count of faults rose in that call.
+//! and `Failed` is answered only where the count of faults rose in that call, or where `begin` is given a name that the files haven't.
 #![tactic(auto)]
 
 pub mod copying;

@@ -1,4 +1,4 @@
--- What an event weighs in the record, and which events end a run.
+-- How many words an event takes in the record of a run, and which events end a run or an image (ISO/IEC 1539-1:2018, 5.3.6, 5.3.7).
 use Rattle.std.specs.Prelude.{ℕ, ◌+◌, ◌/◌, Bool, true, false, cond, length, sum_by}
 use Rattle.caf_events.specs.declared.ask.Ask.{Ask}
 use Rattle.caf_events.specs.declared.ask.Ask.TheVariants as asks
@@ -22,10 +22,11 @@ EndsBy (asks.Arrive team arriving) reply = IsClash reply
 EndsBy (asks.Gather team op root kind values) reply = IsClash reply
 EndsBy ask reply = ⊥
 
+-- the event ends the run
 abbrev pub EndsRun : Event → Type 0
 EndsRun e = EndsBy e.ask e.reply
 
--- after such a step an image makes no other: it stopped, is gone, or ended the run
+-- after such a step an image makes no other: it initiated normal termination (5.3.7), has failed (5.3.6), or ended the run
 abbrev pub EndsImage : Ask → Reply → Type 0
 EndsImage (asks.Stop code) reply = Unit {0}
 EndsImage asks.Gone reply = Unit {0}
@@ -65,5 +66,5 @@ abbrev pub words_by : Ask → Reply → ℕ
 words_by ask reply = cond (counts_words ask) (4 + ask_words ask + reply_words reply) 0
 
 -- the recorded words of an event
-abbrev pub words_of : Event → ℕ
-words_of e = words_by e.ask e.reply
+abbrev pub recorded_words : Event → ℕ
+recorded_words e = words_by e.ask e.reply

@@ -1,4 +1,5 @@
--- The last-write rule of a memory: what its history says of its cells (ISO/IEC 1539-1:2018, 19.6).
+-- The last-write rule of a memory: what its history says of its cells (ISO/IEC 1539-1:2018, 19.6.5). Of references and definitions alone: atomic
+-- actions and allocations, which define cells too, aren't in it yet.
 use Rattle.std.specs.Prelude.{ℕ, zero, suc, ℤ, pos, negsuc, ◌≡◌, Bool, true, false, ◌&&◌, nat_eq, cond, List, [], ◌∷◌, ◌++◌, length, Option, Some, None, slice_get, is_some}
 use Rattle.std.specs.List.{list_all}
 use Rattle.std.specs.Ordering.{int_eq}

@@ -1,4 +1,5 @@
--- Rounds of a team: its arrivals, and when a round closes (ISO/IEC 1539-1:2018, 11.6.3).
+-- Rounds of a team: an image leaves its k-th SYNC ALL once each image of the team has executed SYNC ALL as many times (ISO/IEC 1539-1:2018, 11.6.3).
+-- Stopped and failed images aren't told apart here, and the rounds of collective subroutines aren't counted yet.
 use Rattle.std.specs.Prelude.{ℕ, zero, suc, ◌+◌, ◌≤◌, Bool, true, false, ◌&&◌, nat_eq, nat_le, cond, List, [], ◌∷◌}
 use Rattle.std.specs.List.{list_all}
 use Rattle.caf_events.specs.declared.ask.Ask.{Ask}

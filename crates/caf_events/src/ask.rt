@@ -12,7 +12,8 @@ use caf_base::refusal::NoMemory;
 use caf_base::span::Span;
 use caf_base::value::{AtomicOp, Kind, Value};
 
-/// An ask. Those at a memory name its owner first; the rest are the parts of the ask's text in a trace, in order.
+/// An ask: an access to a memory, a control action, or a step of the image alone. Those at a memory name its owner first. Sections are
+/// those of ISO/IEC 1539-1:2018.
 #[derive(Drop, PartialEq, Debug)]
 pub enum Ask {
     /// Reference of the cells of a span.
@@ -26,18 +27,18 @@ pub enum Ask {
         span: Span,
         values: Listing<Value>,
     },
-    /// Allocation of a coarray of so many cells.
+    /// Allocation of a coarray of so many cells (9.7.1.2).
     Create {
         owner: ImageNo,
         coarray: u32,
         cells: u32,
     },
-    /// Deallocation of a coarray.
+    /// Deallocation of a coarray (9.7.3.2).
     Delete {
         owner: ImageNo,
         coarray: u32,
     },
-    /// An atomic action on one cell; a missing operand is 0, for `Cas` x is COMPARE and y is NEW.
+    /// An atomic action on one cell (16.5); a missing operand is 0, for `Cas` x is COMPARE and y is NEW.
     Atomic {
         owner: ImageNo,
         op: AtomicOp,
@@ -45,33 +46,33 @@ pub enum Ask {
         x: Value,
         y: Value,
     },
-    /// LOCK, which waits while another image holds the variable.
+    /// LOCK (11.6.10), which waits while another image holds the variable.
     Lock {
         owner: ImageNo,
         span: Span,
     },
-    /// LOCK with ACQUIRED_LOCK=, which doesn't wait.
+    /// LOCK with ACQUIRED_LOCK= (11.6.10), which doesn't wait.
     TryLock {
         owner: ImageNo,
         span: Span,
     },
-    /// UNLOCK.
+    /// UNLOCK (11.6.10).
     Unlock {
         owner: ImageNo,
         span: Span,
     },
-    /// EVENT POST.
+    /// EVENT POST (11.6.7).
     Post {
         owner: ImageNo,
         span: Span,
     },
-    /// EVENT WAIT with its threshold, at least 1.
+    /// EVENT WAIT (11.6.8) with its threshold, at least 1.
     Wait {
         owner: ImageNo,
         span: Span,
         threshold: u64,
     },
-    /// EVENT_QUERY.
+    /// EVENT_QUERY (16.9).
     Query {
         owner: ImageNo,
         span: Span,
@@ -85,7 +86,8 @@ pub enum Ask {
         owner: ImageNo,
         span: Span,
     },
-    /// The arrival at a round of a team.
+    /// The arrival at a round of a team: its image has come to SYNC ALL, SYNC TEAM, FORM TEAM, CHANGE TEAM, END TEAM, or ALLOCATE or DEALLOCATE
+    /// of coarrays (11.6.3, 11.6.6, 11.6.9, 11.1.5, 9.7).
     Arrive {
         team: TeamNo,
         arriving: Arriving,
@@ -95,7 +97,7 @@ pub enum Ask {
         team: TeamNo,
         round: u64,
     },
-    /// The arrival at a collective: the index of the root in the team, 0 for none, and the values to be combined.
+    /// The arrival at a collective subroutine (16.6): the index of the root in the team, 0 for none, and the values to be combined.
     Gather {
         team: TeamNo,
         op: GatherOp,
@@ -103,40 +105,40 @@ pub enum Ask {
         kind: Kind,
         values: Listing<Value>,
     },
-    /// The departure from a collective.
+    /// The departure from a collective subroutine.
     Take {
         team: TeamNo,
         round: u64,
     },
-    /// The arrival at SYNC IMAGES with these images.
+    /// The arrival at SYNC IMAGES (11.6.4) with these images.
     Pair {
         images: Listing<ImageNo>,
     },
     /// The departure from SYNC IMAGES.
     Unpair,
-    /// CRITICAL, by the number of the construct in source order from 1.
+    /// CRITICAL (11.1.6), by the number of the construct in source order from 1.
     Enter {
         construct: u32,
     },
-    /// END CRITICAL.
+    /// END CRITICAL (11.1.6).
     Exit {
         construct: u32,
     },
     /// The failure of the image, for control from here on.
     Gone,
-    /// STOP or END PROGRAM, code 0 where none is given.
+    /// STOP (11.4) or END PROGRAM: normal termination (5.3.7), code 0 where none is given.
     Stop {
         code: i64,
     },
-    /// FAILED_IMAGES of a team.
+    /// FAILED_IMAGES (16.9) of a team.
     Failed {
         team: TeamNo,
     },
-    /// STOPPED_IMAGES of a team.
+    /// STOPPED_IMAGES (16.9) of a team.
     Stopped {
         team: TeamNo,
     },
-    /// IMAGE_STATUS of an index in a team.
+    /// IMAGE_STATUS (16.9) of an image index in a team.
     Status {
         team: TeamNo,
         index: u32,
@@ -145,11 +147,11 @@ pub enum Ask {
     Print {
         text: Text,
     },
-    /// SYNC MEMORY.
+    /// SYNC MEMORY (11.6.5): a step of the image alone.
     Memory,
-    /// The start of a failure.
+    /// The start of a failure, by FAIL IMAGE (11.5) or from outside.
     Fail,
-    /// ERROR STOP, or a status that no STAT= takes.
+    /// ERROR STOP (11.4), or a status that no STAT= takes (11.6.11).
     ErrorStop {
         code: i64,
     },

@@ -1,7 +1,7 @@
 //! Events, entries and traces.
 
 ghost use Rattle.std.specs.Prelude.{◌≡◌, ◌<◌, ◌^◌, length, sum_by, IfOk, IsTrue, ◌↔◌};
-ghost use Rattle.caf_events.specs.Events.{words_of, counts_words, ask_words, reply_words, EndsRun};
+ghost use Rattle.caf_events.specs.Events.{recorded_words, counts_words, ask_words, reply_words, EndsRun};
 
 use crate::ask::Ask;
 use crate::reply::{FormedTeam, Reply};
@@ -47,10 +47,10 @@ impl Event {
     }
 
     /// The recorded words of the event: none for limits and the steps of a failure, else four and those of its ask and
-    /// its reply.
+    /// its reply. Condition: that number is below 2^64.
     pub fn words(&self) -> u64
-        requires { words_of self.now < 2 ^ 64 }
-        ensures { result ≡ words_of self.now }
+        requires { recorded_words self.now < 2 ^ 64 }
+        ensures { result ≡ recorded_words self.now }
     {
         if is_recorded(&self.ask) {
             4 + ask_words_of(&self.ask) + reply_words_of(&self.reply)
@@ -175,7 +175,7 @@ mod tests {
     }
 
     fn words(event: Event) -> u64
-        requires { words_of event < 2 ^ 64 }
+        requires { recorded_words event < 2 ^ 64 }
     {
         let words = event.words();
         give_up(event);

@@ -55,7 +55,7 @@ pub trait Object {
         ensures room { OnOk result (has_room self.new image.0 ask.now) };
 
     /// One step: appends one entry and gives the same event. Its stamp is one more than the greater of `after`, the
-    /// image's last stamp, and the object's last stamp. It takes no memory.
+    /// image's last stamp, and the object's last stamp; both are below 2^62. It takes no memory.
     fn apply(&mut self, image: ImageNo, ask: Ask, spare: Spare, line: u32, after: u64) -> Event
         requires ready { IsTrue (ready_after (made self.old) (history self.old) image.0 ask) }
         requires room { has_room self.old image.0 ask }

@@ -26,10 +26,10 @@ impl TryCopy for FormedTeam {
     }
 }
 
-/// A reply, one variant for each form of text that a trace has for it.
+/// A reply.
 #[derive(Drop, PartialEq, Debug)]
 pub enum Reply {
-    /// `ok`
+    /// The step was made, and there is nothing to tell.
     Done,
     /// The memory's owner has failed.
     Dead,

@@ -4,7 +4,7 @@ use Rattle.std.specs.Prelude.{Option, None, Some}
 use Rattle.caf_base.specs.Outside.{Files, Rose, HaveNot, MayNotBegin}
 use Rattle.caf_report.specs.declared.report.Report.{Report}
 use Rattle.caf_run.specs.Words.{Word}
-use Rattle.caf_run.specs.Reading.{IsWhole, HasBytes, IsLonger}
+use Rattle.caf_run.specs.Reading.{HasBytesIfTold, HasBytes, IsLonger}
 use Rattle.caf_run.specs.Dues.{IsRunStatus, NamesFile, Settle, BytesDue}
 
 -- the status of a run is none of the others
@@ -19,7 +19,7 @@ not_run s (inr h) (inr (inr (inl k))) = omega arith
 not_run s (inr h) (inr (inr (inr k))) = omega arith
 
 -- files that have bytes under a name have the name
-pub whole_has : (files : Option Files) (file : Word) (bytes : List ℕ) → IsWhole files file bytes → HaveNot files file → ⊥
+pub whole_has : (files : Option Files) (file : Word) (bytes : List ℕ) → HasBytesIfTold files file bytes → HaveNot files file → ⊥
 whole_has None file bytes whole none = none
 whole_has (Some fs) file bytes whole none = cc
 
@@ -45,11 +45,11 @@ bytes_settle bytes n seed status text report few b = record {
 }
 
 -- they are the file's
-same_bytes : (files : Option Files) (file : Word) (bytes told : List ℕ) → IsWhole files file bytes → HasBytes files file told → bytes ≡ told
+same_bytes : (files : Option Files) (file : Word) (bytes told : List ℕ) → HasBytesIfTold files file bytes → HasBytes files file told → bytes ≡ told
 same_bytes None file bytes told whole has = absurd has
 same_bytes (Some fs) file bytes told whole has = cc
 
-pub whole_settles : (files : Option Files) (file : Word) (bytes told : List ℕ) (n seed status : ℕ) (text : List ℕ) (report : Option Report) → IsWhole files file bytes → HasBytes files file told → length bytes ≤ 65536 → BytesDue bytes n seed status text report → Settle told status
+pub whole_settles : (files : Option Files) (file : Word) (bytes told : List ℕ) (n seed status : ℕ) (text : List ℕ) (report : Option Report) → HasBytesIfTold files file bytes → HasBytes files file told → length bytes ≤ 65536 → BytesDue bytes n seed status text report → Settle told status
 whole_settles files file bytes told n seed status text report whole has few b =
     subst (λ v. Settle v status) (same_bytes files file bytes told whole has) (bytes_settle bytes n seed status text report few b)
 

@@ -13,7 +13,7 @@ use Rattle.caf_run.specs.declared.words.Command.TheVariants.{Run}
 use Rattle.caf_run.specs.declared.words.Input.TheVariants.{File}
 use Rattle.caf_run.specs.declared.words.Way.TheVariants.{Order}
 use Rattle.caf_run.specs.Words.{Word, IsRun, UsageIs, Means, IsRunAt, place_of_file, count_of_images, seed_of}
-use Rattle.caf_run.specs.Reading.{IsWhole, HasBytes, HasNothingLeft, IsLonger}
+use Rattle.caf_run.specs.Reading.{HasBytesIfTold, HasBytes, HasNothingLeft, IsLonger}
 use Rattle.caf_run.specs.Dues.{usage_text, refusal_text, IsRunStatus, IsNoProgram, IsDue, RanBytes, BytesDue, RanFile, FileDue, ReportClause, RunClause}
 use Rattle.caf_run.specs.Runs.{IsReportOf}
 use Rattle.caf_run.proofs.Usages.{usage_invalid}
@@ -41,12 +41,12 @@ run_bytes bytes p n seed status text report reads (r, is, clause, of) =
       ran = subst (RanBytes bytes n seed) (sym is) (p, reads, of);
     }
 
-ran_file : (files : Option Files) (file : Word) (n seed : ℕ) (bytes : List ℕ) (report : Option Report) → IsWhole files file bytes → RanBytes bytes n seed report → RanFile files file n seed report
+ran_file : (files : Option Files) (file : Word) (n seed : ℕ) (bytes : List ℕ) (report : Option Report) → HasBytesIfTold files file bytes → RanBytes bytes n seed report → RanFile files file n seed report
 ran_file files file n seed bytes None whole ran = tt
 ran_file files file n seed bytes (Some r) whole (p, reads, of) = (bytes, p, whole, reads, of)
 
 -- a file that was read whole
-pub whole_file : (files : Option Files) (file : Word) (n seed : ℕ) (left' : Option (List ℕ)) (faults faults' : ℕ) (bytes : List ℕ) (status : ℕ) (text : List ℕ) (report : Option Report) → IsWhole files file bytes → length bytes ≤ 65536 → HasNothingLeft files left' → BytesDue bytes n seed status text report → FileDue files file n seed left' faults faults' status text report
+pub whole_file : (files : Option Files) (file : Word) (n seed : ℕ) (left' : Option (List ℕ)) (faults faults' : ℕ) (bytes : List ℕ) (status : ℕ) (text : List ℕ) (report : Option Report) → HasBytesIfTold files file bytes → length bytes ≤ 65536 → HasNothingLeft files left' → BytesDue bytes n seed status text report → FileDue files file n seed left' faults faults' status text report
 whole_file files file n seed left' faults faults' bytes status text report whole few nothing b = record {
   usage = λ s. other (inl s);
   refused = λ s. (bytes, whole, (b.refused s).0, (b.refused s).1);

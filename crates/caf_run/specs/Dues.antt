@@ -9,7 +9,7 @@ use Rattle.caf_report.specs.Ends.{status_of}
 use Rattle.caf_report.specs.ReportText.{report_text}
 use Rattle.fortran_reader.specs.Reads.{Reads}
 use Rattle.caf_run.specs.Words.{Word, IsRun, IsValid, UsageIs}
-use Rattle.caf_run.specs.Reading.{IsWhole, HasBytes, HasNothingLeft, IsLonger}
+use Rattle.caf_run.specs.Reading.{HasBytesIfTold, HasBytes, HasNothingLeft, IsLonger}
 use Rattle.caf_run.specs.Runs.{IsReportOf}
 use Rattle.caf_run.specs.Writing.{GrewByProperPrefix}
 
@@ -40,12 +40,12 @@ pub record UsageClause (words : List Word) (status : ℕ) (text : List ℕ) : Ty
 
 -- Refusal: status 3 is due where the file's bytes, read to their end, are no thin program.
 pub record RefusalClause (words : List Word) (files : Option Files) (status : ℕ) (text : List ℕ) : Type 0 where
-  pub refused : status ≡ 3 → (file : Word) × (bytes : List ℕ) × NamesFile words file × IsWhole files file bytes × IsNoProgram bytes × (text ≡ refusal_text)
+  pub refused : status ≡ 3 → (file : Word) × (bytes : List ℕ) × NamesFile words file × HasBytesIfTold files file bytes × IsNoProgram bytes × (text ≡ refusal_text)
 
 -- Run: with a report, the file's bytes, read to their end, are a thin program, and the report is of its run on the images of the words in the order of their SEED.
 abbrev pub RunClause : List Word → Option Files → Option Report → Type 0
 RunClause words files None = Unit {0}
-RunClause words files (Some r) = (n : ℕ) × (seed : ℕ) × (file : Word) × (bytes : List ℕ) × (p : ThinProgram) × IsRun words n seed file × IsWhole files file bytes × Reads bytes p × IsReportOf p n seed r
+RunClause words files (Some r) = (n : ℕ) × (seed : ℕ) × (file : Word) × (bytes : List ℕ) × (p : ThinProgram) × IsRun words n seed file × HasBytesIfTold files file bytes × Reads bytes p × IsReportOf p n seed r
 
 -- Input: after a run or a refusal nothing of the file is left.
 abbrev pub InputClause : Option Files → Option (List ℕ) → ℕ → Type 0
@@ -121,12 +121,12 @@ pub record BytesDue (bytes : List ℕ) (n seed status : ℕ) (text : List ℕ) (
 -- with a report, the file's bytes are a thin program, and the report is of its run
 abbrev pub RanFile : Option Files → Word → ℕ → ℕ → Option Report → Type 0
 RanFile files file n seed None = Unit {0}
-RanFile files file n seed (Some r) = (bytes : List ℕ) × (p : ThinProgram) × IsWhole files file bytes × Reads bytes p × IsReportOf p n seed r
+RanFile files file n seed (Some r) = (bytes : List ℕ) × (p : ThinProgram) × HasBytesIfTold files file bytes × Reads bytes p × IsReportOf p n seed r
 
 -- what is due for a named file
 pub record FileDue (files : Option Files) (file : Word) (n seed : ℕ) (left' : Option (List ℕ)) (faults faults' status : ℕ) (text : List ℕ) (report : Option Report) : Type 0 where
   pub usage : status ≡ 2 → ⊥
-  pub refused : status ≡ 3 → (bytes : List ℕ) × IsWhole files file bytes × IsNoProgram bytes × (text ≡ refusal_text)
+  pub refused : status ≡ 3 → (bytes : List ℕ) × HasBytesIfTold files file bytes × IsNoProgram bytes × (text ≡ refusal_text)
   pub input : InputClause files left' status
   pub read_fault : status ≡ 10 → MayNotBegin files file faults faults' × (text ≡ codes "read fault\n")
   pub too_long : status ≡ 13 → IsLonger files file 65536 × (text ≡ codes "too long\n")

@@ -3,9 +3,9 @@ use Rattle.std.specs.Prelude.{ℕ, ◌≡◌, ◌<◌, List, [], length, Option,
 use Rattle.caf_base.specs.Outside.{Files, file_of}
 
 -- where the files are told, these are the bytes of the first one of that name
-abbrev pub IsWhole : Option Files → List ℕ → List ℕ → Type 0
-IsWhole None name bytes = ⊤
-IsWhole (Some files) name bytes = file_of name files ≡ Some bytes
+abbrev pub HasBytesIfTold : Option Files → List ℕ → List ℕ → Type 0
+HasBytesIfTold None name bytes = ⊤
+HasBytesIfTold (Some files) name bytes = file_of name files ≡ Some bytes
 
 -- the files are told, and these are the bytes of the first one of that name
 abbrev pub HasBytes : Option Files → List ℕ → List ℕ → Type 0

@@ -11,7 +11,7 @@ use Rattle.core_runs.specs.Beginnings.{Beginning, IsImage}
 use Rattle.core_runs.specs.CoreRuns.{IsCoreRun}
 use Rattle.core_runs.specs.Moments.{Rules, item_at}
 use Rattle.core_runs.specs.Orders.{IsOrderTrace}
-use Rattle.core_runs.specs.Waits.{HasStopped, IsWaiting}
+use Rattle.core_runs.specs.Waits.{HasEndedIn, IsWaiting}
 use Rattle.thin_parts.specs.ThinRuns.{thin_rules, thin_beginning}
 use Rattle.image_core.specs.declared.choices.Choices.{Choices}
 use Rattle.image_core.specs.declared.choices.Choices.TheVariants.{Rotate, Seed}
@@ -35,7 +35,7 @@ WaitsAs i (w ∷ ws) = (w.image.0 ≡ i) ⊎ WaitsAs i ws
 pub record AreWaiting {C M B : Type 0} (r : Rules C M B) (b : Beginning C M B) (t : Trace) (ws : List Waiting) : Type 0 where
   pub rises : Rises (λ w. w.image.0) ws
   pub each : Each (λ w. IsWaiting r b t.entries w.image.0 w.line w.ask) ws
-  pub all : (i : ℕ) → IsImage b i → HasStopped i t.entries ⊎ WaitsAs i ws
+  pub all : (i : ℕ) → IsImage b i → HasEndedIn i t.entries ⊎ WaitsAs i ws
 
 -- the end of a run with this trace: that of its first ending event; where there is none, Finished where every image has stopped, else Stuck
 pub record IsRunEnd {C M B : Type 0} (r : Rules C M B) (b : Beginning C M B) (t : Trace) (end : End) : Type 0 where

@@ -2,7 +2,7 @@
 
 ghost use Rattle.std.specs.Prelude.{◌≡◌, ◌≤◌, ◌<◌, ◌+◌, ◌^◌, ◌++◌, ℕ, List, Option, IfOk, OnOk, OnErr, Some, None, length, codes, slice_get, ◌-◌};
 ghost use Rattle.std.specs.Fmt.{decimal};
-ghost use Rattle.caf_base.specs.Thin.{IsDeclared, counts};
+ghost use Rattle.caf_base.specs.Thin.{IsDeclared, most_moves};
 ghost use Rattle.caf_report.specs.Ends.{status_of};
 ghost use Rattle.caf_report.specs.ReportText.{report_text};
 ghost use Rattle.caf_run.specs.Dues.{usage_text, IsDue, BytesDue, FileDue, ReportClause};
@@ -57,7 +57,7 @@ fn usage_due(alloc: Global, word: u32) -> Result<Due, NoMemory>
 // The run of a program on n images, in the order of a seed, with its report and the text of that.
 fn run_due(alloc: Global, program: ThinProgram, n: u32, seed: u32) -> Result<Due, NoMemory>
     requires images { (1 ≤ n) × (n ≤ 64) }
-    requires few { counts program ≤ 262000 }
+    requires few { most_moves program ≤ 262000 }
     requires declared { IsDeclared program }
     ensures { IfOk result (λ d. (r : Report) × (d.report ≡ Some r) × ReportClause d.report d.status d.text.items × IsReportOf program n seed r) }
 {

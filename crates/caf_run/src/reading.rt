@@ -2,7 +2,7 @@
 
 ghost use Rattle.std.specs.Prelude.{◌≡◌, ◌≤◌, ◌<◌, ◌^◌, IfOk, OnOk, IsErrOf, vec_len};
 ghost use Rattle.caf_base.specs.Outside.{MayNotBegin};
-ghost use Rattle.caf_run.specs.Reading.{IsWhole, HasNothingLeft, IsLonger};
+ghost use Rattle.caf_run.specs.Reading.{HasBytesIfTold, HasNothingLeft, IsLonger};
 
 use caf_base::outside::{Failed, Source};
 use std::alloc::{AllocError, Global};
@@ -51,7 +51,7 @@ pub fn read_file<S: Source>(
 ) -> Result<Vec<u8>, ReadEnd>
     requires { limit < 2 ^ 32 }
     ensures files { S.files source.new ≡ S.files source.old }
-    ensures whole { IfOk result (λ bytes. IsWhole (S.files source.old) name.now bytes.items) }
+    ensures whole { IfOk result (λ bytes. HasBytesIfTold (S.files source.old) name.now bytes.items) }
     ensures fits { IfOk result (λ bytes. vec_len bytes ≤ limit) }
     ensures end { OnOk result (HasNothingLeft (S.files source.old) (S.left source.new)) }
     ensures too_long { IsErrOf result ReadEnd.TooLong → IsLonger (S.files source.old) name.now limit }

@@ -1,7 +1,7 @@
 //! The run of a program, and its report.
 
 ghost use Rattle.std.specs.Prelude.{◌≡◌, ◌≤◌, IfOk, length, map};
-ghost use Rattle.caf_base.specs.Thin.{IsDeclared, counts};
+ghost use Rattle.caf_base.specs.Thin.{IsDeclared, most_moves};
 ghost use Rattle.caf_report.specs.Ends.{HasEnd, status_of};
 ghost use Rattle.image_core.specs.Parts.{AreNumbered};
 ghost use Rattle.thin_parts.specs.ThinWalk.{thin_step};
@@ -54,7 +54,7 @@ pub fn run_program(
     seed: u32,
 ) -> Result<Report, NoMemory>
     requires images { (1 ≤ n) × (n ≤ 64) }
-    requires few { counts program ≤ 262000 }
+    requires few { most_moves program ≤ 262000 }
     requires declared { IsDeclared program }
     ensures report { IfOk result (IsReportOf program n seed) }
     ensures has_end { IfOk result HasEnd }

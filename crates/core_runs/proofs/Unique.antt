@@ -9,13 +9,13 @@ use Rattle.caf_events.specs.declared.event.Event.{Event}
 use Rattle.caf_events.specs.declared.event.Entry.{Entry}
 use Rattle.caf_events.specs.Asks.{place_of}
 use Rattle.caf_events.specs.Walkers.{AsksNext, IsAtLine, Continues}
-use Rattle.trace_theory.specs.Machines.{Move, asks, goes, over, go, goes_on, Stops}
+use Rattle.trace_theory.specs.Machines.{Move, asks, goes, over, go, goes_on, Rests}
 use Rattle.trace_theory.proofs.Machines.{go_more, stays}
 use Rattle.trace_theory.proofs.Orders.{one_trace}
 use Rattle.caf_events.specs.Histories.{last_stamp_of}
 use Rattle.caf_events.specs.Events.{EndsRun}
 use Rattle.core_runs.specs.Lists.{image_of, stamp_of, list_at, entry, last_of}
-use Rattle.core_runs.specs.Moments.{Rules, Moment, IsDue, Steps, item_at, ready_there, reply_there, can_move, can_move_from, can_step, history_there, with_item, histories_with, board_with}
+use Rattle.core_runs.specs.Moments.{Rules, Moment, IsNextEvent, Steps, item_at, ready_there, reply_there, can_move, can_move_from, can_step, history_there, with_item, histories_with, board_with}
 use Rattle.core_runs.specs.Beginnings.{Beginning, IsFirst}
 use Rattle.core_runs.specs.CoreRuns.{of_image}
 use Rattle.core_runs.specs.Orders.{Chooser, candidates, Ordered, IsWhole, IsOrderTrace}
@@ -33,14 +33,14 @@ same_items n (x ∷ xs) (y ∷ ys) p q same =
 
 module _ {C A R : Type 0} (step : C → Move C A R) where
   -- where the steps of a machine rest, there are no further ones
-  rests_early : (n k : ℕ) (c d e : C) → go step n c ≡ goes d → go step (n + suc k) c ≡ goes e → Stops (step d) → ⊥
+  rests_early : (n k : ℕ) (c d e : C) → go step n c ≡ goes d → go step (n + suc k) c ≡ goes e → Rests (step d) → ⊥
   rests_early n k c d e p q s =
       let h = go_more C A R step n (suc k) c ∙ ap (λ v. goes_on v (go step (suc k))) p ∙ stays (step d) (go step k) s in
       let g : step d ≡ goes e = sym h ∙ q in
-      subst Stops g s
+      subst Rests g s
 
   -- a configuration goes on by itself to one place of rest
-  pub one_rest : (n k : ℕ) (c d e : C) → go step n c ≡ goes d → go step k c ≡ goes e → Stops (step d) → Stops (step e) → d ≡ e
+  pub one_rest : (n k : ℕ) (c d e : C) → go step n c ≡ goes d → go step k c ≡ goes e → Rests (step d) → Rests (step e) → d ≡ e
   one_rest n k c d e p q s t =
       elim (cases_order n k) [
         | inl same ↦ (let h : go step k c ≡ goes d = ap (λ j. go step j c) (sym same) ∙ p in let g = sym h ∙ q in cc)
@@ -72,13 +72,13 @@ module _ (C M B : Type 0) (r : Rules C M B) where
   one_line over a b p q = absurd p
 
   -- after a reply a move goes on to one place of rest
-  one_next : (m : Move C Ask Reply) (a : Reply) (d e : C) → Continues r.step m a d → Continues r.step m a e → Stops (r.step d) → Stops (r.step e) → d ≡ e
+  one_next : (m : Move C Ask Reply) (a : Reply) (d e : C) → Continues r.step m a d → Continues r.step m a e → Rests (r.step d) → Rests (r.step e) → d ≡ e
   one_next (goes c) a d e p q s t = absurd p
   one_next (asks x l k) a d e (i, p) (j, q) s t = one_rest r.step i j (k a) d e p q s t
   one_next over a d e p q s t = absurd p
 
   -- of one image from one configuration one event is due
-  pub one_due : (m : Moment C M B) (i : ℕ) (c : C) (e f : Event) → IsDue r m i c e → IsDue r m i c f → e ≡ f
+  pub one_due : (m : Moment C M B) (i : ℕ) (c : C) (e f : Event) → IsNextEvent r m i c e → IsNextEvent r m i c f → e ≡ f
   one_due m i c e f p q =
       let ask = one_ask (r.step c) e.ask f.ask p.asked q.asked in
       let line = one_line (r.step c) e.line f.line p.line q.line in
@@ -91,7 +91,7 @@ module _ (C M B : Type 0) (r : Rules C M B) where
   one_step m n k i e f p q =
       let some : Some p.from ≡ Some q.from = sym p.stands ∙ q.stands in
       let from : p.from ≡ q.from = cc in
-      let event = one_due m i p.from e f p.due (subst (λ c. IsDue r m i c f) (sym from) q.due) in
+      let event = one_due m i p.from e f p.due (subst (λ c. IsNextEvent r m i c f) (sym from) q.due) in
       let there = subst (λ c. Continues r.step (r.step c) f.reply q.to) (sym from) q.goes_on in
       let then = subst (λ (x : Event). Continues r.step (r.step p.from) x.reply q.to) (sym event) there in
       let to = one_next (r.step p.from) e.reply p.to q.to p.goes_on then p.rests q.rests in

@@ -15,7 +15,7 @@ use Rattle.core_runs.specs.Beginnings.{Beginning}
 use Rattle.core_runs.specs.Sequences.{HasEndedBy}
 use Rattle.core_runs.specs.Kept.{IsKept}
 use Rattle.core_runs.specs.Traces.{IsTraceOf}
-use Rattle.core_runs.specs.Waits.{HasStopped, IsUnready, IsWaiting}
+use Rattle.core_runs.specs.Waits.{HasEndedIn, IsUnready, IsWaiting}
 use Rattle.core_runs.proofs.CoreRuns.{said_is, board_is, memory_is, all_answer}
 use Rattle.core_runs.proofs.Lanes.{numbered_item, is_image}
 
@@ -45,7 +45,7 @@ module _ {C M B : Type 0} (r : Rules C M B) (b : Beginning C M B) (m : Moment C 
   }
 
   -- an image that has ended made a step that ended it
-  pub stopped : IsOver (r.step c) → HasStopped i t
+  pub stopped : IsOver (r.step c) → HasEndedIn i t
   stopped o =
       let lane = h.lanes i c at in
       let in_run = is_image m.configs b.images i c h.count at in

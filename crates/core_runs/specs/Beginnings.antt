@@ -3,7 +3,7 @@ use Rattle.std.specs.Prelude.{ℕ, suc, ◌≡◌, ◌<◌, ◌≤◌, List, [],
 use Rattle.std.specs.List.{range_with_len}
 use Rattle.caf_base.specs.declared.place.Place.{Place}
 use Rattle.caf_base.specs.declared.place.Place.TheVariants.{Memory, Board, Own}
-use Rattle.trace_theory.specs.Machines.{go, goes, Stops}
+use Rattle.trace_theory.specs.Machines.{go, goes, Rests}
 use Rattle.core_runs.specs.Moments.{Rules, Moment}
 
 -- how many images there are, where each one is before its first statement, and what the memory of each and the board are made with
@@ -31,7 +31,7 @@ IsPlace b Own = Unit {0}
 pub record IsFirst {C M B : Type 0} (r : Rules C M B) (b : Beginning C M B) (m : Moment C M B) : Type 0 where
   pub count : length m.configs ≡ b.images
   pub starts : (k : ℕ) (c : C) → slice_get m.configs k ≡ Some c → (n : ℕ) × (go r.step n (b.first (suc k)) ≡ goes c)
-  pub rests : (k : ℕ) (c : C) → slice_get m.configs k ≡ Some c → Stops (r.step c)
+  pub rests : (k : ℕ) (c : C) → slice_get m.configs k ≡ Some c → Rests (r.step c)
   pub events : m.events ≡ replicate b.images []
   pub memories : m.memories ≡ map b.memory (numbers_to b.images)
   pub histories : m.histories ≡ replicate b.images []

@@ -8,7 +8,7 @@ use Rattle.caf_events.specs.Answers.{Answers}
 use Rattle.caf_events.specs.Asks.{place_of}
 use Rattle.caf_events.specs.Histories.{Served}
 use Rattle.trace_theory.specs.Entries.{Each}
-use Rattle.trace_theory.specs.Machines.{WalkTo, Stops}
+use Rattle.trace_theory.specs.Machines.{WalkTo, Rests}
 use Rattle.core_runs.specs.Lists.{said, list_at, IsWoven}
 use Rattle.core_runs.specs.Moments.{Rules, Moment, item_at}
 use Rattle.core_runs.specs.Beginnings.{Beginning, IsImage, IsPlace, numbers_to}
@@ -18,7 +18,7 @@ use Rattle.core_runs.specs.CoreRuns.{IsFit}
 -- and the image's own are done
 pub record IsLane {C M B : Type 0} (r : Rules C M B) (b : Beginning C M B) (i : ℕ) (es : List Event) (c : C) : Type 0 where
   pub walks : WalkTo r.step (b.first i) (map said es) c
-  pub rests : Stops (r.step c)
+  pub rests : Rests (r.step c)
   pub places : Each (λ e. IsPlace b (place_of e.ask)) es
   pub answered : Each (λ e. Answers e.ask e.reply) es
   pub alone : Each (λ e. place_of e.ask ≡ Own → e.reply ≡ replies.Done) es

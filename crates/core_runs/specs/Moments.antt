@@ -12,7 +12,7 @@ use Rattle.caf_events.specs.declared.event.Entry.{Entry}
 use Rattle.caf_events.specs.Asks.{place_of}
 use Rattle.caf_events.specs.Histories.{last_stamp_of}
 use Rattle.caf_events.specs.Walkers.{IsOver, AsksNext, IsAtLine, Continues}
-use Rattle.trace_theory.specs.Machines.{Move, asks, goes, over, Stops}
+use Rattle.trace_theory.specs.Machines.{Move, asks, goes, over, Rests}
 use Rattle.core_runs.specs.Lists.{list_at, entry, last_of}
 
 -- how the images go on, and how the memories and the board serve them
@@ -97,7 +97,7 @@ abbrev pub HasEnded : {C M B : Type 0} → Rules C M B → Moment C M B → ℕ 
 HasEnded r m i = HasEndedFrom r (item_at m.configs i)
 
 -- the event that image i makes next: its next ask, which can come now, with the reply and the stamp that are due
-pub record IsDue {C M B : Type 0} (r : Rules C M B) (m : Moment C M B) (i : ℕ) (c : C) (e : Event) : Type 0 where
+pub record IsNextEvent {C M B : Type 0} (r : Rules C M B) (m : Moment C M B) (i : ℕ) (c : C) (e : Event) : Type 0 where
   pub asked : AsksNext (r.step c) e.ask
   pub line : IsAtLine (r.step c) e.line
   pub ready : IsTrue (ready_there r m i e.ask (place_of e.ask))
@@ -126,9 +126,9 @@ pub record Steps {C M B : Type 0} (r : Rules C M B) (m : Moment C M B) (i : ℕ)
   pub from : C
   pub to : C
   pub stands : item_at m.configs i ≡ Some from
-  pub due : IsDue r m i from e
+  pub due : IsNextEvent r m i from e
   pub goes_on : Continues r.step (r.step from) e.reply to
-  pub rests : Stops (r.step to)
+  pub rests : Rests (r.step to)
   pub configs : m'.configs ≡ with_item m.configs i to
   pub events : m'.events ≡ with_item m.events i (list_at m.events i ++ e ∷ [])
   pub memories : m'.memories ≡ m.memories

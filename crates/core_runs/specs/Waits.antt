@@ -13,8 +13,8 @@ use Rattle.core_runs.specs.CoreRuns.{at_board, of_memory, said_by}
 use Rattle.core_runs.specs.Sequences.{HasEndedBy}
 
 -- the image's last event ended it
-abbrev pub HasStopped : ℕ → List Entry → Type 0
-HasStopped i t = HasEndedBy (said_by i t)
+abbrev pub HasEndedIn : ℕ → List Entry → Type 0
+HasEndedIn i t = HasEndedBy (said_by i t)
 
 -- an ask at a place of the run isn't ready after the trace: an ask at a memory that the run hasn't never is
 abbrev pub IsUnready : {C M B : Type 0} → Rules C M B → Beginning C M B → List Entry → ℕ → Ask → Place → Type 0

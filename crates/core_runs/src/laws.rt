@@ -10,7 +10,7 @@ ghost use Rattle.core_runs.specs.Beginnings.{Beginning, IsFirst};
 ghost use Rattle.core_runs.specs.CoreRuns.{IsCoreRun, IsFit};
 ghost use Rattle.core_runs.specs.Kept.{IsKept};
 ghost use Rattle.core_runs.specs.Traces.{IsTraceOf};
-ghost use Rattle.core_runs.specs.Waits.{HasStopped, IsWaiting};
+ghost use Rattle.core_runs.specs.Waits.{HasEndedIn, IsWaiting};
 
 use caf_events::object::Object;
 use caf_events::walker::Walker;
@@ -38,10 +38,10 @@ pub fn law_core_run<M: Walker, O: Object, B: Object>()
 {}
 
 /// An image that has ended made a step that ended it.
-pub fn law_stopped<M: Walker, O: Object, B: Object>()
+pub fn law_ended<M: Walker, O: Object, B: Object>()
     ensures { (b : Beginning M.Config O.Made B.Made) (m : Moment M.Config O.Made B.Made) (t : List Entry) (i : ℕ) (c : M.Config)
         → IsKept (rules M.Walker O.Object B.Object) b m → IsTraceOf m.events t
-        → item_at m.configs i ≡ Some c → IsOver (M.step c) → HasStopped i t }
+        → item_at m.configs i ≡ Some c → IsOver (M.step c) → HasEndedIn i t }
 {}
 
 /// An image that hasn't ended and can't step waits: its next ask isn't ready after the trace.

@@ -2,7 +2,7 @@
 use Rattle.std.proofs.Common.{◌≡◌, refl, sym, ap, subst, arith, ℕ, zero, suc, ◌+◌, ◌-◌, ◌*◌, ◌<◌, ◌≤◌, ◌==◌, Bool, true, false, cond, if◌then◌else◌, List, [], ◌∷◌, ◌++◌, length, take, slice_index, inl, inr, length-append}
 use Rattle.std.specs.List.{slice_split, onto_first}
 use Rattle.std.specs.Str.Lines.{lines, lines_of_parts, strip_carriage_return}
-use Rattle.caf_base.specs.Thin.{addend_counts, act_counts, form_counts, statement_counts, counts}
+use Rattle.caf_base.specs.Thin.{addend_moves, act_moves, form_moves, statement_moves, most_moves}
 use Rattle.caf_base.specs.declared.thin.ThinProgram.{ThinProgram}
 use Rattle.caf_base.specs.declared.thin.ThinVariable.{ThinVariable}
 use Rattle.caf_base.specs.declared.thin.ThinStatement.{ThinStatement}
@@ -88,46 +88,46 @@ term_some vars (terms.Variable i) = omega arith
 term_some vars (terms.Coindexed i image) = omega arith
 term_some vars terms.ThisImage = omega arith
 
-addends_small : (vars : List ThinVariable) (more : List ThinAddend) → 4 * addend_counts more ≤ 13 * length (addend_tokens vars more)
+addends_small : (vars : List ThinVariable) (more : List ThinAddend) → 4 * addend_moves more ≤ 13 * length (addend_tokens vars more)
 addends_small vars [] = omega arith
 addends_small vars (a ∷ more) =
     let some : 0 < length (term_tokens vars a.term) = term_some vars a.term in
-    let others : 4 * addend_counts more ≤ 13 * length (addend_tokens vars more) = addends_small vars more in
+    let others : 4 * addend_moves more ≤ 13 * length (addend_tokens vars more) = addends_small vars more in
     let whole : length (term_tokens vars a.term ++ addend_tokens vars more) ≡ length (term_tokens vars a.term) + length (addend_tokens vars more) = length-append (term_tokens vars a.term) (addend_tokens vars more) in
     omega arith
 
-sum_small : (vars : List ThinVariable) (s : ThinSum) → 4 * addend_counts s.rest + 13 ≤ 13 * length (sum_tokens vars s)
+sum_small : (vars : List ThinVariable) (s : ThinSum) → 4 * addend_moves s.rest + 13 ≤ 13 * length (sum_tokens vars s)
 sum_small vars s =
     let some : 0 < length (term_tokens vars s.first) = term_some vars s.first in
-    let others : 4 * addend_counts s.rest ≤ 13 * length (addend_tokens vars s.rest) = addends_small vars s.rest in
+    let others : 4 * addend_moves s.rest ≤ 13 * length (addend_tokens vars s.rest) = addends_small vars s.rest in
     let whole : length (term_tokens vars s.first ++ addend_tokens vars s.rest) ≡ length (term_tokens vars s.first) + length (addend_tokens vars s.rest) = length-append (term_tokens vars s.first) (addend_tokens vars s.rest) in
     omega arith
 
-act_small : (vars : List ThinVariable) (a : ThinAct) → 4 * act_counts a + 32 ≤ 13 * (length (act_tokens vars a) + 1)
-act_small vars (acts.Assign i s) = let sum : 4 * addend_counts s.rest + 13 ≤ 13 * length (sum_tokens vars s) = sum_small vars s in omega arith
-act_small vars (acts.Print s) = let sum : 4 * addend_counts s.rest + 13 ≤ 13 * length (sum_tokens vars s) = sum_small vars s in omega arith
+act_small : (vars : List ThinVariable) (a : ThinAct) → 4 * act_moves a + 32 ≤ 13 * (length (act_tokens vars a) + 1)
+act_small vars (acts.Assign i s) = let sum : 4 * addend_moves s.rest + 13 ≤ 13 * length (sum_tokens vars s) = sum_small vars s in omega arith
+act_small vars (acts.Print s) = let sum : 4 * addend_moves s.rest + 13 ≤ 13 * length (sum_tokens vars s) = sum_small vars s in omega arith
 
-form_small : (vars : List ThinVariable) (f : ThinForm) → 4 * form_counts f ≤ 13 * (length (form_tokens vars f) + 1)
+form_small : (vars : List ThinVariable) (f : ThinForm) → 4 * form_moves f ≤ 13 * (length (form_tokens vars f) + 1)
 form_small vars forms.SyncAll = omega arith
-form_small vars (forms.Act a) = let act : 4 * act_counts a + 32 ≤ 13 * (length (act_tokens vars a) + 1) = act_small vars a in omega arith
-form_small vars (forms.IfImage image a) = let act : 4 * act_counts a + 32 ≤ 13 * (length (act_tokens vars a) + 1) = act_small vars a in omega arith
+form_small vars (forms.Act a) = let act : 4 * act_moves a + 32 ≤ 13 * (length (act_tokens vars a) + 1) = act_small vars a in omega arith
+form_small vars (forms.IfImage image a) = let act : 4 * act_moves a + 32 ≤ 13 * (length (act_tokens vars a) + 1) = act_small vars a in omega arith
 
-statements_small : (vars : List ThinVariable) (ss : List ThinStatement) → 4 * statement_counts ss ≤ 13 * row_size (statement_rows vars ss)
+statements_small : (vars : List ThinVariable) (ss : List ThinStatement) → 4 * statement_moves ss ≤ 13 * row_size (statement_rows vars ss)
 statements_small vars [] = omega arith
 statements_small vars (s ∷ ss) =
-    let first : 4 * form_counts s.form ≤ 13 * (length (form_tokens vars s.form) + 1) = form_small vars s.form in
-    let others : 4 * statement_counts ss ≤ 13 * row_size (statement_rows vars ss) = statements_small vars ss in
+    let first : 4 * form_moves s.form ≤ 13 * (length (form_tokens vars s.form) + 1) = form_small vars s.form in
+    let others : 4 * statement_moves ss ≤ 13 * row_size (statement_rows vars ss) = statements_small vars ss in
     omega arith
 
 -- what a file may count
-pub few_counts : (bytes : List ℕ) (p : ThinProgram) → Reads bytes p → length bytes ≤ 65536 → counts p ≤ 262000
+pub few_counts : (bytes : List ℕ) (p : ThinProgram) → Reads bytes p → length bytes ≤ 65536 → most_moves p ≤ 262000
 few_counts bytes p reads short =
     let rows : row_size ((reads.heads ++ statement_rows p.declared p.statements) ++ end_row p.end_line ∷ []) ≤ line_size (lines bytes) = lay_small 1 (lines bytes) ((reads.heads ++ statement_rows p.declared p.statements) ++ end_row p.end_line ∷ []) reads.lay in
     let outer : row_size ((reads.heads ++ statement_rows p.declared p.statements) ++ end_row p.end_line ∷ []) ≡ row_size (reads.heads ++ statement_rows p.declared p.statements) + row_size (end_row p.end_line ∷ []) = row_size-append (reads.heads ++ statement_rows p.declared p.statements) (end_row p.end_line ∷ []) in
     let inner : row_size (reads.heads ++ statement_rows p.declared p.statements) ≡ row_size reads.heads + row_size (statement_rows p.declared p.statements) = row_size-append reads.heads (statement_rows p.declared p.statements) in
     let lines : line_size (lines bytes) ≤ line_size (slice_split (λ b. b == 10) bytes) = lines_small (slice_split (λ b. b == 10) bytes) in
     let parts : line_size (slice_split (λ b. b == 10) bytes) ≡ length bytes + 1 = parts_size bytes in
-    let counted : 4 * statement_counts p.statements ≤ 13 * row_size (statement_rows p.declared p.statements) = statements_small p.declared p.statements in
-    joined (statement_counts p.statements) (row_size reads.heads) (row_size (statement_rows p.declared p.statements)) (row_size (end_row p.end_line ∷ [])) (length bytes) (omega arith) counted short where
+    let counted : 4 * statement_moves p.statements ≤ 13 * row_size (statement_rows p.declared p.statements) = statements_small p.declared p.statements in
+    joined (statement_moves p.statements) (row_size reads.heads) (row_size (statement_rows p.declared p.statements)) (row_size (end_row p.end_line ∷ [])) (length bytes) (omega arith) counted short where
       joined : (c h s e n : ℕ) → h + s + e ≤ n + 1 → 4 * c ≤ 13 * s → n ≤ 65536 → c + 8 ≤ 262000
       joined c h s e n all counted short = omega arith

@@ -1,7 +1,7 @@
 //! The reader of a file of the thin form.
 
 ghost use Rattle.std.specs.Prelude.{◌≡◌, ◌≤◌, ◌<◌, ◌-◌, ◌^◌, IfOk, IfErr, length};
-ghost use Rattle.caf_base.specs.Thin.{IsDeclared, counts};
+ghost use Rattle.caf_base.specs.Thin.{IsDeclared, most_moves};
 ghost use Rattle.caf_base.specs.declared.thin.ThinProgram.{ThinProgram};
 ghost use Rattle.fortran_reader.specs.Reading as reading;
 ghost use Rattle.fortran_reader.specs.Reads.{Reads, Refuses, OneReading};
@@ -51,7 +51,7 @@ pub fn read(alloc: Global, bytes: &[u8]) -> Result<ThinProgram, Refusal<ReadFaul
     ensures declared { IfOk result IsDeclared }
 
     // The terms and statements of a short file are few.
-    ensures few { IfOk result (λ p. length bytes.now ≤ 65536 → counts p ≤ 262000) }
+    ensures few { IfOk result (λ p. length bytes.now ≤ 65536 → most_moves p ≤ 262000) }
 {
     match tree(alloc, bytes)? {
         Some(program) => Ok(program),

@@ -13,7 +13,7 @@ use Rattle.caf_events.specs.declared.event.Entry.{Entry}
 use Rattle.caf_events.specs.Asks.{place_of}
 use Rattle.caf_events.specs.Histories.{last_stamp_of}
 use Rattle.caf_events.specs.Walkers.{IsAtAsk, AsksNext, IsAtLine, Continues}
-use Rattle.trace_theory.specs.Machines.{Move, asks, goes, over, Stops}
+use Rattle.trace_theory.specs.Machines.{Move, asks, goes, over, Rests}
 use Rattle.image_core.specs.declared.run.ImageRun.{ImageRun}
 use Rattle.image_core.specs.declared.parts.PartsOf.{PartsOf}
 use Rattle.core_runs.specs.Lists.{list_at, entry, last_of}
@@ -77,7 +77,7 @@ module _ {M O B : Type 0} (walks : walker.Ghosts M) (memory : object.Ghosts O) (
 module _ {M O B : Type 0} (walks : walker.Ghosts M) (memory : object.Ghosts O) (control : object.Ghosts B)
     (p p' : PartsOf M O B) (k : ℕ) (r r' : ImageRun M) (e : Event)
     (image_in : k < length p.images.items) (run_is : r ≡ slice_index_or p.images.items k r) (number : r.image.0 ≡ suc k)
-    (images_now : p'.images.items ≡ slice_set p.images.items k r') (rests : Stops (move_of walks r')) where
+    (images_now : p'.images.items ≡ slice_set p.images.items k r') (rests : Rests (move_of walks r')) where
   abbrev pub R : Rules walks.Config memory.Made control.Made
   R = rules walks memory control
 

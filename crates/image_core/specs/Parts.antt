@@ -11,7 +11,7 @@ use Rattle.caf_events.specs.declared.object.Spare.{Spare}
 use Rattle.caf_events.specs.Asks.{place_of}
 use Rattle.caf_events.specs.Histories.{last_stamp_of}
 use Rattle.caf_events.specs.Walkers.{AsksNext}
-use Rattle.trace_theory.specs.Machines.{Move, Stops}
+use Rattle.trace_theory.specs.Machines.{Move, Rests}
 use Rattle.image_core.specs.declared.run.ImageRun.{ImageRun}
 use Rattle.image_core.specs.declared.parts.PartsOf.{PartsOf}
 use Rattle.image_core.specs.declared.parts.Ready.{Ready}
@@ -47,7 +47,7 @@ AreNumbered images = EachAt (λ k r. r.image.0 ≡ suc k) images
 
 -- each machine stands at an ask, or has ended
 abbrev pub AreAtRest : {C : Type 0} → (C → Move C Ask Reply) → List C → Type 0
-AreAtRest step configs = EachAt (λ k c. Stops (step c)) configs
+AreAtRest step configs = EachAt (λ k c. Rests (step c)) configs
 
 -- the sum of a number of each item
 abbrev pub total : {A : Type 0} → (A → ℕ) → List A → ℕ

@@ -1,10 +1,10 @@
 -- The start of a run: every machine at the first ask of its image, and no event.
 use Rattle.std.specs.Prelude.{ℕ, suc, ◌≡◌, ◌≤◌, [], length, map}
 use Rattle.caf_base.specs.declared.thin.ThinProgram.{ThinProgram}
-use Rattle.caf_base.specs.Thin.{counts}
+use Rattle.caf_base.specs.Thin.{most_moves}
 use Rattle.caf_events.specs.Memories.{DeclaredMemory}
 use Rattle.core_runs.specs.Moments.{Moment}
-use Rattle.trace_theory.specs.Machines.{go, goes, Stops}
+use Rattle.trace_theory.specs.Machines.{go, goes, Rests}
 use Rattle.thin_parts.specs.ThinWalk.{Config, thin_step, start_of, moves_left}
 use Rattle.thin_parts.specs.ThinMemory.{MemoryMeaning, declared_memory}
 use Rattle.thin_parts.specs.ThinBoard.{BoardMeaning}
@@ -17,8 +17,8 @@ pub record IsFresh (p : ThinProgram) (n k : ℕ) (r : ImageRun Config) : Type 0 
   pub number : r.image.0 ≡ suc k
   pub events : r.events.items ≡ []
   pub starts : (j : ℕ) × (go thin_step j (start_of p (suc k) n) ≡ goes r.machine)
-  pub rests : Stops (thin_step r.machine)
-  pub few : moves_left r.machine ≤ counts p
+  pub rests : Rests (thin_step r.machine)
+  pub few : moves_left r.machine ≤ most_moves p
 
 -- the memory at a place of the list: that of the image with this number, without an entry
 pub record IsNewMemory (p : ThinProgram) (k : ℕ) (m : MemoryMeaning) : Type 0 where

@@ -23,7 +23,7 @@ pub struct ImageRun<M> {
 
 impl<M: Walker> ImageRun<M> {
     ghost use Rattle.caf_events.specs.Walkers.{IsAtAsk, IsAtLine, IsOver, AsksNext, EndsAfter, Continues};
-    ghost use Rattle.trace_theory.specs.Machines.{Stops};
+    ghost use Rattle.trace_theory.specs.Machines.{Rests};
 
     /// The image's number.
     pub fn image(&self) -> ImageNo
@@ -72,7 +72,7 @@ impl<M: Walker> ImageRun<M> {
         ensures image { self.new.image ≡ self.old.image }
         ensures events { self.new.events.items ≡ self.old.events.items ++ event ∷ [] }
         ensures goes { Continues M.step (M.step (M.config self.old.machine)) event.reply (M.config self.new.machine) }
-        ensures rests { Stops (M.step (M.config self.new.machine)) }
+        ensures rests { Rests (M.step (M.config self.new.machine)) }
         ensures ends { IsOver (M.step (M.config self.new.machine)) ↔ EndsAfter (M.step (M.config self.old.machine)) event.reply }
         ensures spends { M.asks_left (M.config self.new.machine) < M.asks_left (M.config self.old.machine) }
     {

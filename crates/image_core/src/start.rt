@@ -2,7 +2,7 @@
 
 ghost use Rattle.std.specs.Prelude.{◌≡◌, ◌<◌, ◌≤◌, ◌+◌, ◌-◌, ◌^◌, ℕ, suc, List, [], ◌∷◌, ◌++◌, length, map, IfOk};
 ghost use Rattle.std.specs.Arc.{arc_value};
-ghost use Rattle.caf_base.specs.Thin.{counts};
+ghost use Rattle.caf_base.specs.Thin.{most_moves};
 ghost use Rattle.image_core.specs.Starts.{IsFresh, IsNewMemory, IsStart, thin_moment};
 ghost use Rattle.image_core.specs.Parts.{EachAt, AreSound};
 ghost use Rattle.core_runs.specs.Beginnings.{IsFirst};
@@ -93,7 +93,7 @@ fn first_parts(alloc: Global, program: &Arc<ThinProgram>, n: u32) -> Result<Part
 /// statement of the program make at most 262,000.
 pub fn start(alloc: Global, program: Arc<ThinProgram>, n: u32) -> Result<Parts, NoMemory>
     requires images { (1 ≤ n) × (n ≤ 64) }
-    requires few { counts (arc_value program) ≤ 262000 }
+    requires few { most_moves (arc_value program) ≤ 262000 }
     ensures sound { IfOk result (AreSound ⟦<ThinMachine as Walker>⟧ ⟦<ThinMemory as Object>⟧ ⟦<ThinBoard as Object>⟧) }
     ensures first { IfOk result (λ p. IsFirst thin_rules (thin_beginning (arc_value program) n) (thin_moment p)) }
     ensures kept { IfOk result (λ p. IsKept thin_rules (thin_beginning (arc_value program) n) (thin_moment p)) }

@@ -1,7 +1,7 @@
 //! The two halves of one step of one image: what is due is set aside, and then made.
 
 ghost use Rattle.std.specs.Prelude.{◌≡◌, ◌<◌, ◌≤◌, ◌+◌, ◌^◌, ◌↔◌, ℕ, max, List, [], ◌∷◌, ◌++◌, IfOk, OnOk, OnErr, true, false, vec_len, vec_capacity};
-ghost use Rattle.trace_theory.specs.Machines.{Stops};
+ghost use Rattle.trace_theory.specs.Machines.{Rests};
 ghost use Rattle.caf_base.specs.declared.place.Place.TheVariants as places;
 ghost use Rattle.caf_events.specs.Asks.{place_of};
 ghost use Rattle.caf_events.specs.Histories.{last_stamp_of};
@@ -91,7 +91,7 @@ pub(crate) fn commit_at<M: Walker, O: Object>(run: &mut ImageRun<M>, object: &mu
     requires last { last_stamp_of (O.history object.old) < 2 ^ 62 }
     ensures image { run.new.image ≡ run.old.image }
     ensures step { (e : Event) × StepsAt M.Walker O.Object run.old run.new object.old object.new e }
-    ensures rests { Stops (move_of M.Walker run.new) }
+    ensures rests { Rests (move_of M.Walker run.new) }
     ensures spends { M.asks_left (M.config run.new.machine) < M.asks_left (M.config run.old.machine) }
 {
     let image = run.image;
@@ -114,7 +114,7 @@ pub(crate) fn commit_alone<M: Walker>(run: &mut ImageRun<M>)
     requires after { run.old.last < 2 ^ 62 }
     ensures image { run.new.image ≡ run.old.image }
     ensures step { (e : Event) × StepsAlone M.Walker run.old run.new e }
-    ensures rests { Stops (move_of M.Walker run.new) }
+    ensures rests { Rests (move_of M.Walker run.new) }
     ensures spends { M.asks_left (M.config run.new.machine) < M.asks_left (M.config run.old.machine) }
 {
     let line = run.machine.line();

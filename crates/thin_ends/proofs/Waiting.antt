@@ -16,13 +16,13 @@ use Rattle.trace_theory.specs.Machines.{Move, goes, asks as next_asks, over, Sai
 use Rattle.trace_theory.proofs.Snocs.{each_at}
 use Rattle.core_runs.specs.Beginnings.{IsImage}
 use Rattle.core_runs.specs.CoreRuns.{at_board, said_by, IsCoreRun}
-use Rattle.core_runs.specs.Waits.{HasStopped, IsUnready, IsWaiting}
+use Rattle.core_runs.specs.Waits.{HasEndedIn, IsUnready, IsWaiting}
 use Rattle.thin_parts.specs.ThinBoard.{is_image, is_sync, board_ready, can_leave}
 use Rattle.thin_parts.specs.ThinMemory.{memory_ready, declared_memory}
 use Rattle.thin_parts.specs.ThinRuns.{thin_rules, thin_beginning}
 use Rattle.thin_parts.specs.ThinWalk.{Config, start_of, thin_step}
 use Rattle.core_runs.specs.Orders.{NoneEnds}
-use Rattle.thin_ends.specs.Ends.{HasStoppedOrWaits}
+use Rattle.thin_ends.specs.Ends.{HasEndedOrWaits}
 use Rattle.thin_ends.proofs.Syncs.{syncs}
 use Rattle.thin_ends.proofs.Standing.{Who, AskIs, Keeps, after}
 use Rattle.thin_ends.proofs.Steps.{count_from, AllAsk, walk_to_stands, start_stands}
@@ -79,9 +79,9 @@ module _ (p : ThinProgram) (n : ℕ) (t : List Entry) (declared : IsDeclared p) 
   all_ready k a h all not = h
 
 module _ (p : ThinProgram) (n : ℕ) (t : List Entry) (declared : IsDeclared p) (core : IsCoreRun thin_rules (thin_beginning p n) t) (none : NoneEnds t)
-    (each : (i : ℕ) → IsImage (thin_beginning p n) i → HasStoppedOrWaits thin_rules (thin_beginning p n) t i) where
+    (each : (i : ℕ) → IsImage (thin_beginning p n) i → HasEndedOrWaits thin_rules (thin_beginning p n) t i) where
   -- an image that has stopped has arrived in every round
-  stopped_all : (j : ℕ) → IsImage (thin_beginning p n) j → HasStopped j t → arrivals 1 j (at_board t) ≡ syncs p.statements
+  stopped_all : (j : ℕ) → IsImage (thin_beginning p n) j → HasEndedIn j t → arrivals 1 j (at_board t) ≡ syncs p.statements
   stopped_all j in_run (before, e, same, ends) =
       let ask = last_ask (who p n j) 0 before e (subst (AllAsk (who p n j) 0) same (all_ask p n t core j in_run)) in
       let on = each_at (λ s. EndsBy s.ask s.reply → ⊥) before [] e (subst (Each (λ s. EndsBy s.ask s.reply → ⊥)) same (each_said (λ s. EndsBy s.ask s.reply → ⊥) j t none)) in
@@ -108,5 +108,5 @@ module _ (p : ThinProgram) (n : ℕ) (t : List Entry) (declared : IsDeclared p) 
   none_waits i line a w = none_below (suc (arrivals 1 i (at_board t))) i line a w (omega arith)
 
   -- every image has stopped
-  pub all_stopped : (i : ℕ) → IsImage (thin_beginning p n) i → HasStopped i t
+  pub all_stopped : (i : ℕ) → IsImage (thin_beginning p n) i → HasEndedIn i t
   all_stopped i in_run = elim (each i in_run) [ inl stopped ↦ stopped | inr (line, a, waits) ↦ absurd (none_waits i line a waits) ]

@@ -7,7 +7,7 @@ use Rattle.caf_events.specs.declared.event.Entry.{Entry}
 use Rattle.caf_events.specs.Events.{EndsRun}
 use Rattle.core_runs.specs.Moments.{Rules}
 use Rattle.core_runs.specs.Beginnings.{Beginning}
-use Rattle.core_runs.specs.Waits.{HasStopped, IsWaiting}
+use Rattle.core_runs.specs.Waits.{HasEndedIn, IsWaiting}
 
 -- the ask is a run fault that a thin program can have: a result that kind 4 can't hold (7.4.3.1), or an image selector that names no image (9.6)
 abbrev pub IsThinFault : Ask → Type 0
@@ -19,5 +19,5 @@ abbrev pub EndsByFault : Entry → Type 0
 EndsByFault x = EndsRun x.event → IsThinFault x.event.ask
 
 -- after the trace the image has stopped, or it waits at an ask that isn't ready
-abbrev pub HasStoppedOrWaits : {C M B : Type 0} → Rules C M B → Beginning C M B → List Entry → ℕ → Type 0
-HasStoppedOrWaits r b t i = HasStopped i t ⊎ ((line : ℕ) × (ask : Ask) × IsWaiting r b t i line ask)
+abbrev pub HasEndedOrWaits : {C M B : Type 0} → Rules C M B → Beginning C M B → List Entry → ℕ → Type 0
+HasEndedOrWaits r b t i = HasEndedIn i t ⊎ ((line : ℕ) × (ask : Ask) × IsWaiting r b t i line ask)

@@ -1,7 +1,7 @@
 -- The execution sequence of an image of a thin program, step by step (ISO/IEC 1539-1:2018, 5.3.5).
 use Rattle.std.specs.Prelude.{ℕ, ◌+◌, ◌-◌, ◌*◌, ◌<◌, ◌≡◌, ℤ, pos, negsuc, ◌+ℤ◌, ◌-ℤ◌, Bool, true, false, ◌&&◌, nat_eq, nat_le, nat_lt, cond, List, [], ◌∷◌, length, drop, replicate, Option, Some, None, slice_get, slice_set, unwrap_or}
 use Rattle.std.specs.Fmt.{signed_decimal}
-use Rattle.trace_theory.specs.Machines.{Move, goes, asks, over, Stops}
+use Rattle.trace_theory.specs.Machines.{Move, goes, asks, over, Rests}
 use Rattle.caf_base.specs.declared.value.Value.{Value}
 use Rattle.caf_base.specs.declared.value.Value.TheVariants as values
 use Rattle.caf_base.specs.declared.span.Span.{Span}
@@ -257,7 +257,7 @@ HasStatement c tasks.Over = Unit {0}
 -- one step that asks nothing, or an ask or the end
 abbrev pub Ticks : Move Config Ask Reply → Config → Config → Bool → Type 0
 Ticks m c d true = m ≡ goes d
-Ticks m c d false = (d ≡ c) × Stops m
+Ticks m c d false = (d ≡ c) × Rests m
 
 -- how a configuration at an ask goes on after the reply
 abbrev pub Takes : Move Config Ask Reply → Reply → Config → Type 0

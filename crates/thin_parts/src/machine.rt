@@ -2,8 +2,8 @@
 
 ghost use Rattle.std.specs.Prelude.{◌≡◌, ◌≤◌, ℕ, IfOk};
 ghost use Rattle.std.specs.Arc.{arc_value};
-ghost use Rattle.trace_theory.specs.Machines.{go, goes, Stops};
-ghost use Rattle.caf_base.specs.Thin.{counts};
+ghost use Rattle.trace_theory.specs.Machines.{go, goes, Rests};
+ghost use Rattle.caf_base.specs.Thin.{most_moves};
 ghost use Rattle.caf_events.specs.Walkers.{IsOver};
 ghost use Rattle.thin_parts.specs.ThinWalk.{thin_step, start_of, moves_left};
 
@@ -25,14 +25,14 @@ pub struct ThinMachine {
 }
 
 impl Model for ThinMachine {
-    ghost use Rattle.trace_theory.specs.Machines.{Stops};
+    ghost use Rattle.trace_theory.specs.Machines.{Rests};
     ghost use Rattle.thin_parts.specs.ThinWalk.{Config, thin_step};
 
     ghost Value = { Config };
 
     ghost view = { λ m. m.engine };
 
-    ghost invariant = { λ m. Stops (thin_step m.engine) };
+    ghost invariant = { λ m. Rests (thin_step m.engine) };
 }
 
 impl ThinMachine {
@@ -44,9 +44,9 @@ impl ThinMachine {
         images: u32,
     ) -> Result<ThinMachine, NoMemory>
         ensures start { IfOk result (λ m. (k : ℕ) × (go thin_step k (start_of (arc_value program) me.0 images) ≡ goes m)) }
-        ensures rests { IfOk result (λ m. Stops (thin_step m)) }
+        ensures rests { IfOk result (λ m. Rests (thin_step m)) }
         ensures runs { IfOk result (λ m. ¬ IsOver (thin_step m)) }
-        ensures bounded { IfOk result (λ m. moves_left m ≤ counts (arc_value program)) }
+        ensures bounded { IfOk result (λ m. moves_left m ≤ most_moves (arc_value program)) }
     {
         let mut engine = Engine::new(alloc, program, me, images)?;
         engine.run();

@@ -1,6 +1,6 @@
 -- What the target of a simulation says and hears, its source says and hears, where the source comes to an ask or ends.
 use Rattle.std.proofs.Common.{◌≡◌, ℕ, zero, suc, ◌+◌, List, [], ◌∷◌, refl, ap, sym, ◌∙◌, subst}
-use Rattle.trace_theory.specs.Machines.{Move, goes, asks, over, Said, goes_on, go, Comes, Walk, Stops, Ends}
+use Rattle.trace_theory.specs.Machines.{Move, goes, asks, over, Said, goes_on, go, Comes, Walk, Rests, ComesToRest}
 use Rattle.trace_theory.specs.Simulations.{Matches, Simulates, AllAnswer}
 use Rattle.trace_theory.proofs.Machines.{go_more, one_next_ask, one_stop}
 use Rattle.trace_theory.proofs.Simulations.{same_ask}
@@ -23,7 +23,7 @@ module _ (C D A R : Type 0) (alike : C → D → Type 0) (answers : A → R → 
     pub comes : Comes source c (asks a l next)
     pub then_alike : (r : R) → answers a r → alike (next r) (k r)
 
-  pub back_ask : (c : C) (d : D) (a : A) (l : ℕ) (k : R → D) → alike c d → Comes target d (asks a l k) → (n : ℕ) (m : Move C A R) → go source n c ≡ m → Stops m → Back c d a l k
+  pub back_ask : (c : C) (d : D) (a : A) (l : ℕ) (k : R → D) → alike c d → Comes target d (asks a l k) → (n : ℕ) (m : Move C A R) → go source n c ≡ m → Rests m → Back c d a l k
   back_ask c d a l k h comes n (goes e) p s = absurd s
   back_ask c d a l k h comes n (asks b m j) p s =
       let t = same_ask C D A R alike answers source target sim n b m j c d h p in
@@ -40,7 +40,7 @@ module _ (C D A R : Type 0) (alike : C → D → Type 0) (answers : A → R → 
       absurd (let e = one_stop D A R target d over (asks a l k) tt tt (same_over n c d h p) comes in cc)
 
   -- what the target says and hears, the source says and hears
-  pub simulated_back : ((c : C) (d : D) → alike c d → Ends source c) → (c : C) (d f : D) (es : List (Said A R)) → AllAnswer answers es → alike c d → Walk target d es f → (e : C) × alike e f × Walk source c es e
+  pub simulated_back : ((c : C) (d : D) → alike c d → ComesToRest source c) → (c : C) (d f : D) (es : List (Said A R)) → AllAnswer answers es → alike c d → Walk target d es f → (e : C) × alike e f × Walk source c es e
   simulated_back ends c d f [] ans h w = (c, subst (λ x. alike c x) (sym w) h, refl)
   simulated_back ends c d f (s ∷ es) ans h (k, comes, w) =
       let e = ends c d h in

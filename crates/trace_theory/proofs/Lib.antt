@@ -8,7 +8,7 @@ pub mod Machines
 pub mod Simulations
 pub mod Back
 pub mod Fronts
-pub mod Stops
+pub mod Rests
 pub mod Equivalence
 pub mod Overlay
 pub mod Ending

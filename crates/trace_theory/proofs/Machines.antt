@@ -1,8 +1,8 @@
 -- Laws of machines that go by small steps.
 use Rattle.std.proofs.Common.{◌≡◌, ℕ, zero, suc, ◌+◌, List, [], ◌∷◌, ◌++◌, refl, ap, sym, ◌∙◌, subst, arith, zero-add}
-use Rattle.trace_theory.specs.Machines.{Move, goes, asks, over, Said, goes_on, go, Comes, Walk, WalkTo, OneNextAsk, Stops}
+use Rattle.trace_theory.specs.Machines.{Move, goes, asks, over, Said, goes_on, go, Comes, Walk, WalkTo, OneNextAsk, Rests}
 
-pub stays : {C A R : Type 0} (m : Move C A R) (f : C → Move C A R) → Stops m → goes_on m f ≡ m
+pub stays : {C A R : Type 0} (m : Move C A R) (f : C → Move C A R) → Rests m → goes_on m f ≡ m
 stays (goes c) f s = absurd s
 stays (asks a l k) f s = refl
 stays over f s = refl
@@ -30,7 +30,7 @@ module _ (C A R : Type 0) (step : C → Move C A R) where
       (cc, cc, cc)
 
   -- a configuration comes to one ask, or to its end
-  pub one_stop : (c : C) (m n : Move C A R) → Stops m → Stops n → Comes step c m → Comes step c n → m ≡ n
+  pub one_stop : (c : C) (m n : Move C A R) → Rests m → Rests n → Comes step c m → Comes step c n → m ≡ n
   one_stop c m n s t (x, p) (y, q) =
       let e = go_more x y c ∙ ap (λ v. goes_on v (go step y)) p ∙ stays m (go step y) s in
       let f = go_more y x c ∙ ap (λ v. goes_on v (go step x)) q ∙ stays n (go step x) t in

@@ -43,14 +43,14 @@ OneNextAsk {C} {A} {R} step =
     (c : C) (a b : A) (l m : ℕ) (j k : R → C) → Comes step c (asks a l j) → Comes step c (asks b m k) → (a ≡ b) × (l ≡ m) × (j ≡ k)
 
 -- an ask or the end, and no step before it
-abbrev pub Stops : {C A R : Type 0} → Move C A R → Type 0
-Stops (goes c) = ⊥
-Stops (asks a l k) = Unit {0}
-Stops over = Unit {0}
+abbrev pub Rests : {C A R : Type 0} → Move C A R → Type 0
+Rests (goes c) = ⊥
+Rests (asks a l k) = Unit {0}
+Rests over = Unit {0}
 
 -- the configuration comes to an ask or ends
-abbrev pub Ends : {C A R : Type 0} → (C → Move C A R) → C → Type 0
-Ends step c = (n : ℕ) × Stops (go step n c)
+abbrev pub ComesToRest : {C A R : Type 0} → (C → Move C A R) → C → Type 0
+ComesToRest step c = (n : ℕ) × Rests (go step n c)
 
 -- after a step from c that asks nothing all is still well, and either less is left to do or one more is counted below the limit
 abbrev pub Falls : {C A R : Type 0} → (Well : C → Type 0) → (count rest : C → ℕ) → (limit : ℕ) → C → Move C A R → Type 0

@@ -1,6 +1,6 @@
 -- Two machines of which one does what the other does: the source, with configurations C, and the target, with D.
 use Rattle.std.specs.Prelude.{ℕ, suc, ◌≡◌, List, [], ◌∷◌}
-use Rattle.trace_theory.specs.Machines.{Move, goes, asks, over, Said, go, Comes, Stops}
+use Rattle.trace_theory.specs.Machines.{Move, goes, asks, over, Said, go, Comes, Rests}
 
 -- what the source does in one step the target does in any number of steps, and then they stand alike again
 abbrev pub Matches : {C D A R : Type 0} → (C → D → Type 0) → (A → R → Type 0) → (D → Move D A R) → Move C A R → D → Type 0
@@ -18,15 +18,15 @@ AllAnswer answers [] = Unit {0}
 AllAnswer answers (e ∷ es) = answers e.ask e.reply × AllAnswer answers es
 
 -- the second move is the same stop as the first: the same ask at the same line, or the end
-abbrev pub SameStop : {C D A R : Type 0} → Move C A R → Move D A R → Type 0
-SameStop (goes c) m = ⊥
-SameStop {C} {D} {A} {R} (asks a l j) m = (k : R → D) × (m ≡ asks a l k)
-SameStop over m = m ≡ over
+abbrev pub SameRest : {C D A R : Type 0} → Move C A R → Move D A R → Type 0
+SameRest (goes c) m = ⊥
+SameRest {C} {D} {A} {R} (asks a l j) m = (k : R → D) × (m ≡ asks a l k)
+SameRest over m = m ≡ over
 
 -- wherever they stand alike and the source stops, the target comes without an ask to a place near it where it stops in the same way
-abbrev pub StopsNear : {C D A R : Type 0} → (alike near : C → D → Type 0) → (C → Move C A R) → (D → Move D A R) → Type 0
-StopsNear {C} {D} alike near source target =
-    (c : C) (d : D) → alike c d → Stops (source c) → (n : ℕ) × (e : D) × (go target n d ≡ goes e) × near c e × SameStop (source c) (target e)
+abbrev pub RestsNear : {C D A R : Type 0} → (alike near : C → D → Type 0) → (C → Move C A R) → (D → Move D A R) → Type 0
+RestsNear {C} {D} alike near source target =
+    (c : C) (d : D) → alike c d → Rests (source c) → (n : ℕ) × (e : D) × (go target n d ≡ goes e) × near c e × SameRest (source c) (target e)
 
 -- what the source does in one step takes the target a step or more
 abbrev pub Advances : {C D A R : Type 0} → (C → D → Type 0) → (D → Move D A R) → Move C A R → D → Type 0

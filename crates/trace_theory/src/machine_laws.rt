@@ -1,7 +1,7 @@
 //! Machines that go by small steps and ask.
 
 ghost use Rattle.std.specs.Prelude.{◌≡◌, ℕ, suc, List, [], ◌∷◌, ◌+◌, ◌++◌};
-ghost use Rattle.trace_theory.specs.Machines.{Move, goes, asks, Said, goes_on, go, Comes, Walk, WalkTo, OneNextAsk, Ends, Falls, Onward};
+ghost use Rattle.trace_theory.specs.Machines.{Move, goes, asks, Said, goes_on, go, Comes, Walk, WalkTo, OneNextAsk, ComesToRest, Falls, Onward};
 
 /// A machine: its configurations, what it asks, what it hears, and its step; where all is well with it, what it counts, and what is left
 /// to do before the next count.
@@ -52,7 +52,7 @@ pub fn law_walk_to_join<M: Machine>()
 /// A machine that counts below a limit, and has less and less left to do between two counts, comes to an ask or ends.
 pub fn law_ends_by_falling<M: Machine>()
     ensures { (limit : ℕ) → ((c : M.Config) → M.well c → Falls M.well M.count M.rest limit c (M.step c)) → (c : M.Config) → M.well c
-        → Ends M.step c }
+        → ComesToRest M.step c }
 {}
 
 /// After several steps of such a machine that ask nothing less is left to do, or more is counted.

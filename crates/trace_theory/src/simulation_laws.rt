@@ -1,9 +1,9 @@
 //! Two machines of which one does what the other does.
 
 ghost use Rattle.std.specs.Prelude.{◌≡◌, ℕ, List};
-ghost use Rattle.trace_theory.specs.Machines.{Move, Said, Walk, WalkTo, Stops, Ends};
+ghost use Rattle.trace_theory.specs.Machines.{Move, Said, Walk, WalkTo, Rests, ComesToRest};
 ghost use Rattle.trace_theory.specs.Equivalence.{SameWalks, Lasts};
-ghost use Rattle.trace_theory.specs.Simulations.{Simulates, AllAnswer, SameStop, StopsNear, Advances};
+ghost use Rattle.trace_theory.specs.Simulations.{Simulates, AllAnswer, SameRest, RestsNear, Advances};
 
 /// Two machines with the same asks and replies, when they stand alike, what is the same of them after each reply and where
 /// both stop, and which reply answers which ask.
@@ -37,43 +37,43 @@ pub fn law_simulated<P: Pair>()
 
 /// What the target says and hears, the source says and hears, where the source comes to an ask or ends wherever they stand alike.
 pub fn law_simulated_back<P: Pair>()
-    ensures { Simulates P.alike P.answers P.source P.target → ((c : P.Source) (d : P.Target) → P.alike c d → Ends P.source c)
+    ensures { Simulates P.alike P.answers P.source P.target → ((c : P.Source) (d : P.Target) → P.alike c d → ComesToRest P.source c)
         → (c : P.Source) (d f : P.Target) (es : List (Said P.Ask P.Reply)) → AllAnswer P.answers es → P.alike c d → Walk P.target d es f
         → (e : P.Source) × P.alike e f × Walk P.source c es e }
 {}
 
 /// Where the source walks to a stop, the target walks to the same stop near it.
-pub fn law_stops_onward<P: Pair>()
-    ensures { Simulates P.alike P.answers P.source P.target → StopsNear P.alike P.near P.source P.target
+pub fn law_rests_onward<P: Pair>()
+    ensures { Simulates P.alike P.answers P.source P.target → RestsNear P.alike P.near P.source P.target
         → (c c' : P.Source) (d : P.Target) (es : List (Said P.Ask P.Reply)) → AllAnswer P.answers es → P.alike c d → WalkTo P.source c es c'
-        → Stops (P.source c') → (d' : P.Target) × WalkTo P.target d es d' × P.near c' d' × SameStop (P.source c') (P.target d') }
+        → Rests (P.source c') → (d' : P.Target) × WalkTo P.target d es d' × P.near c' d' × SameRest (P.source c') (P.target d') }
 {}
 
 /// Where the target walks to a stop, the source walks to the same stop near it, where the source comes to an ask or ends wherever
 /// they stand alike.
-pub fn law_stops_backward<P: Pair>()
-    ensures { Simulates P.alike P.answers P.source P.target → StopsNear P.alike P.near P.source P.target
-        → ((c : P.Source) (d : P.Target) → P.alike c d → Ends P.source c)
+pub fn law_rests_backward<P: Pair>()
+    ensures { Simulates P.alike P.answers P.source P.target → RestsNear P.alike P.near P.source P.target
+        → ((c : P.Source) (d : P.Target) → P.alike c d → ComesToRest P.source c)
         → (c : P.Source) (d d' : P.Target) (es : List (Said P.Ask P.Reply)) → AllAnswer P.answers es → P.alike c d → WalkTo P.target d es d'
-        → Stops (P.target d') → (c' : P.Source) × WalkTo P.source c es c' × P.near c' d' × SameStop (P.source c') (P.target d') }
+        → Rests (P.target d') → (c' : P.Source) × WalkTo P.source c es c' × P.near c' d' × SameRest (P.source c') (P.target d') }
 {}
 
 /// Where the source comes to an ask or ends, the target does.
 pub fn law_ends_too<P: Pair>()
-    ensures { Simulates P.alike P.answers P.source P.target → (c : P.Source) (d : P.Target) → P.alike c d → Ends P.source c
-        → Ends P.target d }
+    ensures { Simulates P.alike P.answers P.source P.target → (c : P.Source) (d : P.Target) → P.alike c d → ComesToRest P.source c
+        → ComesToRest P.target d }
 {}
 
 /// Where the target comes to an ask or ends, the source does, if each step of the source takes the target a step or more.
 pub fn law_ends_before<P: Pair>()
     ensures { ((c : P.Source) (d : P.Target) → P.alike c d → Advances P.alike P.target (P.source c) d) → (c : P.Source) (d : P.Target)
-        → P.alike c d → Ends P.target d → Ends P.source c }
+        → P.alike c d → ComesToRest P.target d → ComesToRest P.source c }
 {}
 
 /// A simulation whose source comes to an ask or ends wherever they stand alike gives both machines the same walks.
 pub fn law_same_walks<P: Pair>()
-    ensures { Simulates P.alike P.answers P.source P.target → StopsNear P.alike P.near P.source P.target
-        → ((x : P.Source) (y : P.Target) → P.alike x y → Ends P.source x) → ((x : P.Source) (y : P.Target) → P.alike x y → P.after x y)
+    ensures { Simulates P.alike P.answers P.source P.target → RestsNear P.alike P.near P.source P.target
+        → ((x : P.Source) (y : P.Target) → P.alike x y → ComesToRest P.source x) → ((x : P.Source) (y : P.Target) → P.alike x y → P.after x y)
         → (c : P.Source) (d : P.Target) → P.alike c d → SameWalks P.answers P.after P.near P.source c P.target d }
 {}
 
@@ -85,14 +85,14 @@ pub fn law_same_walks_back<P: Pair>()
 
 /// Where the source comes to an ask or ends wherever they stand alike, each walk of the target comes to an ask or ends.
 pub fn law_lasts_too<P: Pair>()
-    ensures { Simulates P.alike P.answers P.source P.target → ((c : P.Source) (d : P.Target) → P.alike c d → Ends P.source c)
+    ensures { Simulates P.alike P.answers P.source P.target → ((c : P.Source) (d : P.Target) → P.alike c d → ComesToRest P.source c)
         → (c : P.Source) (d : P.Target) → P.alike c d → Lasts P.answers P.target d }
 {}
 
 /// A source each step of which takes the target a step or more has the same walks as the target, where each walk of the target
 /// comes to an ask or ends.
 pub fn law_same_walks_over<P: Pair>()
-    ensures { Simulates P.alike P.answers P.source P.target → StopsNear P.alike P.near P.source P.target
+    ensures { Simulates P.alike P.answers P.source P.target → RestsNear P.alike P.near P.source P.target
         → ((c : P.Source) (d : P.Target) → P.alike c d → Advances P.alike P.target (P.source c) d)
         → ((c : P.Source) (d : P.Target) → P.alike c d → P.after c d) → (c : P.Source) (d : P.Target) → P.alike c d
         → Lasts P.answers P.target d → SameWalks P.answers P.after P.near P.source c P.target d }

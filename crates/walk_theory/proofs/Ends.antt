@@ -1,7 +1,7 @@
 -- Each configuration of a walk comes to an ask or ends.
 use Rattle.std.proofs.Common.{◌≡◌, ℕ, ◌+◌, ◌<◌, nat_lt, List, [], ◌∷◌, inl, inr, refl, arith}
 use Rattle.std.proofs.lemmas.Bool.{cases_Bool, ltb-true}
-use Rattle.trace_theory.specs.Machines.{Move, Ends, Falls}
+use Rattle.trace_theory.specs.Machines.{Move, ComesToRest, Falls}
 use Rattle.trace_theory.proofs.Ending.{ends_by_falling}
 use Rattle.walk_theory.specs.Language.{Effect, goes_to, faults, asking, ends_with, stuck, Tested, no_value, holds, fails, Language, acted, counted, by_test}
 use Rattle.walk_theory.specs.Syntax.{end_parts, value, act, enter, either, otherwise, branch, Steps, stop, also}
@@ -52,5 +52,5 @@ module _ {A C Q R : Type 0} (L : Language A C Q R) (procedures : ℕ → Steps A
   list_falls (t ∷ ts) c n = falls t ts c n
 
   -- each configuration comes to an ask or ends
-  pub ends : (c : Config A C) → Ends (step L procedures limit) c
+  pub ends : (c : Config A C) → ComesToRest (step L procedures limit) c
   ends c = ends_by_falling (Config A C) Q R (step L procedures limit) (λ d. Unit {0}) (λ d. d.count) (λ d. weight d.tasks) limit (λ d h. list_falls d.tasks d.core d.count) c tt

@@ -3,7 +3,7 @@ use Rattle.std.proofs.Common.{◌≡◌, ℕ, suc, ◌+◌, ◌-◌, ◌*◌, �
 use Rattle.std.proofs.lemmas.Bool.{cases_Bool, ltb-true, ltb-false}
 use Rattle.std.proofs.lemmas.Option.{slice_get_within}
 use Rattle.std.specs.Prelude.{Option, Some, None, slice_get}
-use Rattle.trace_theory.specs.Machines.{Move, goes, Ends, Falls}
+use Rattle.trace_theory.specs.Machines.{Move, goes, ComesToRest, Falls}
 use Rattle.trace_theory.proofs.Ending.{ends_by_falling}
 use Rattle.walk_theory.specs.Language.{Effect, goes_to, faults, asking, ends_with, stuck, Tested, no_value, holds, fails, Language, acted, by_test}
 use Rattle.walk_theory.specs.Code.{Instr, does_act, count_one, jump, jump_if, jump_unless, skip, skip_unless, call, go_back, Line, on, State, at_place, does, fetched, code_step}
@@ -97,5 +97,5 @@ module _ {A C Q R : Type 0} (L : Language A C Q R) (code : List (Line A)) (limit
   code_falls d s = fetched_falls (slice_get code d.at) d refl s
 
   -- each state of good code comes to an ask or ends
-  pub good_code_ends : (d : State C) → IsShallow deepest d → Ends (code_step L code limit) d
+  pub good_code_ends : (d : State C) → IsShallow deepest d → ComesToRest (code_step L code limit) d
   good_code_ends d s = ends_by_falling (State C) Q R (code_step L code limit) (IsShallow deepest) (λ e. e.count) (rest code deepest) limit code_falls d s

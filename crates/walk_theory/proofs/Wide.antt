@@ -1,8 +1,8 @@
 -- Wide code has the walks of the code that it is laid over.
 use Rattle.std.proofs.Common.{◌≡◌, ℕ, suc, ◌+◌, List, [], refl, ap, sym, ◌∙◌, subst}
 use Rattle.std.specs.Prelude.{Option, Some, None, slice_get}
-use Rattle.trace_theory.specs.Machines.{Move, goes, asks, over, go, goes_on, Stops}
-use Rattle.trace_theory.specs.Simulations.{Matches, SameStop, Advances}
+use Rattle.trace_theory.specs.Machines.{Move, goes, asks, over, go, goes_on, Rests}
+use Rattle.trace_theory.specs.Simulations.{Matches, SameRest, Advances}
 use Rattle.trace_theory.specs.Equivalence.{SameWalks, Lasts}
 use Rattle.trace_theory.proofs.Machines.{go_more, comes_later}
 use Rattle.trace_theory.proofs.Equivalence.{same_walks_back, same_walks_through, same_walks_weaken}
@@ -33,7 +33,7 @@ module _ {A C Q R W V : Type 0} (L : Language A C Q R) (K : Wides A C Q R W) (ke
   advances (asks a l k) d h = tt
   advances over d h = tt
 
-  stops : (m : Move (State C) Q R) (d : State C) → ComesOf L K code limit kept m d → Stops m → (n : ℕ) × (e : State C) × (go (code_step L code limit) n d ≡ goes e) × Kept d e × SameStop m (code_step L code limit e)
+  stops : (m : Move (State C) Q R) (d : State C) → ComesOf L K code limit kept m d → Rests m → (n : ℕ) × (e : State C) × (go (code_step L code limit) n d ≡ goes e) × Kept d e × SameRest m (code_step L code limit e)
   stops (goes e) d h s = absurd s
   stops (asks a l k) d h s = (h.steps, h.there, h.comes, (h.core, h.count), (k, h.stops))
   stops over d h s = (h.steps, h.there, h.comes, (h.core, h.count), h.stops)
@@ -52,7 +52,7 @@ module _ {A C Q R W V : Type 0} (L : Language A C Q R) (K : Wides A C Q R W) (ke
         same_walks_over (State C) (State C) Q R answers Same (wide_step L K code limit wides) (code_step L code limit)
         (λ w d s. subst (λ (e : State C). Matches Same answers (code_step L code limit) (wide_step L K code limit wides w) e) (sym s) (matches (wide_step L K code limit wides w) w (here w)))
         Same Kept
-        (λ w d s t. subst (λ (x : State C). (n : ℕ) × (e : State C) × (go (code_step L code limit) n x ≡ goes e) × Kept w e × SameStop (wide_step L K code limit wides w) (code_step L code limit e)) (sym s) (stops (wide_step L K code limit wides w) w (here w) t))
+        (λ w d s t. subst (λ (x : State C). (n : ℕ) × (e : State C) × (go (code_step L code limit) n x ≡ goes e) × Kept w e × SameRest (wide_step L K code limit wides w) (code_step L code limit e)) (sym s) (stops (wide_step L K code limit wides w) w (here w) t))
         (λ w d s. subst (λ (e : State C). Advances Same (code_step L code limit) (wide_step L K code limit wides w) e) (sym s) (advances (wide_step L K code limit wides w) w (here w)))
         (λ w d s. s)
         d d refl lasts

@@ -1,7 +1,7 @@
 //! Flat code.
 
 ghost use Rattle.std.specs.Prelude.{◌≡◌, ◌<◌, ℕ, List, length};
-ghost use Rattle.trace_theory.specs.Machines.{Ends, Falls};
+ghost use Rattle.trace_theory.specs.Machines.{ComesToRest, Falls};
 ghost use Rattle.walk_theory.specs.Language.{Language};
 ghost use Rattle.walk_theory.specs.Syntax.{Steps};
 ghost use Rattle.walk_theory.specs.Code.{Line, State, code_step};
@@ -40,7 +40,7 @@ pub fn law_code_falls<S: Spoken>()
 /// Each state of good code comes to an ask or ends.
 pub fn law_good_code_ends<S: Spoken>()
     ensures { (code : List (Line S.Act)) (deepest : ℕ) → ((c : S.Core) → S.language.frames c < deepest) → IsGood code → (d : State S.Core)
-        → IsShallow deepest d → Ends (code_step S.language code S.limit) d }
+        → IsShallow deepest d → ComesToRest (code_step S.language code S.limit) d }
 {}
 
 /// A language with wide steps: what they do, and what is kept of a core while the steps that one stands for are done.

@@ -1,7 +1,7 @@
 //! Walks by tasks.
 
 ghost use Rattle.std.specs.Prelude.{◌≡◌, ℕ, ◌+◌, ◌<◌, List, [], ◌∷◌, ◌++◌};
-ghost use Rattle.trace_theory.specs.Machines.{goes, asks, Said, Walk, Ends};
+ghost use Rattle.trace_theory.specs.Machines.{goes, asks, Said, Walk, ComesToRest};
 ghost use Rattle.walk_theory.specs.Language.{faults, Language};
 ghost use Rattle.walk_theory.specs.Syntax.{Parts, act, Steps, exit, cycle, «return»};
 ghost use Rattle.walk_theory.specs.Walks.{Loop, Task, again, back, backs, Config, to, at_statement, at_parts, step};
@@ -29,7 +29,7 @@ pub trait Spoken {
 
 /// Each configuration of a walk comes to an ask or ends.
 pub fn law_ends<S: Spoken>()
-    ensures { (c : Config S.Act S.Core) → Ends (step S.language S.procedures S.limit) c }
+    ensures { (c : Config S.Act S.Core) → ComesToRest (step S.language S.procedures S.limit) c }
 {}
 
 /// An act that faults changes nothing: the walk asks where it stands, and with the reply what was being evaluated is dropped and

@@ -1,4 +1,4 @@
-use Rattle.trace_theory.proofs.Stops.{ends_too}
+use Rattle.trace_theory.proofs.Rests.{ends_too}
 use Rattle.trace_theory.proofs.simulation_laws.law_ends_too.Goals as goal
 
 pub returns : goal.returns
