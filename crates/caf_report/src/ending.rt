@@ -7,7 +7,7 @@ ghost use Rattle.caf_report.specs.ReportText.{place_text, against_text, ending_l
 
 use super::line::{push_count, push_place, push_text};
 use super::report::{End, Waiting};
-use super::words::{fault_word, first_word};
+use super::words::{fault_word, ask_word};
 use caf_base::refusal::NoMemory;
 use caf_events::ask::Ask;
 use caf_events::event::{Entry, Trace};
@@ -97,7 +97,7 @@ fn push_stuck(out: &mut Vec<u8>, wait: &Waiting) -> Result<(), NoMemory>
     push_text(out, "stuck ")?;
     push_place(out, wait.image, wait.line)?;
     push_text(out, " ")?;
-    push_text(out, first_word(&wait.ask))?;
+    push_text(out, ask_word(&wait.ask))?;
     push_text(out, "\n")
 }
 

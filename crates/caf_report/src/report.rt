@@ -24,9 +24,9 @@ pub struct Waiting {
 /// How a run ended; `at` is a place in the trace, from 0.
 #[derive(Drop, Debug)]
 pub enum End {
-    /// Every image stopped or is gone.
+    /// Normal termination (ISO/IEC 1539-1:2018, 5.3.7): every image has stopped or failed (5.3.6).
     Finished,
-    /// Error termination (ISO/IEC 1539-1:2018, 5.3.5).
+    /// Error termination (5.3.7), by ERROR STOP (11.4) or a status that no STAT= takes (11.6.11).
     ErrorStop { at: usize },
     /// A run fault.
     RunFault { at: usize },
@@ -34,7 +34,7 @@ pub enum End {
     Clash { at: usize },
     /// A limit of the run.
     Limit { at: usize },
-    /// No image can go on: those that wait, in rising order.
+    /// Deadlock: no image that hasn't ended can go on; these are named in rising order.
     Stuck { waits: Listing<Waiting> },
 }
 
@@ -89,7 +89,7 @@ impl Report {
         Report { images, trace, end }
     }
 
-    /// The exit status: 0 Finished, 4 ErrorStop, 6 Stuck, 7 Limit, 8 RunFault, 9 Clash.
+    /// The exit status: 0 Finished, 4 ErrorStop, 6 Stuck, 7 Limit, 8 RunFault, 9 Clash. 5, a race, has no end yet.
     pub fn status(&self) -> u8
         ensures { result ≡ status_of self.now.end }
     {
@@ -103,7 +103,8 @@ impl Report {
         }
     }
 
-    /// What each image printed, by image in rising order, and then the line of the end.
+    /// What each image printed, by image in rising order, and then the line of the end. Condition: the end's event stands in the
+    /// trace, as in each report that `new` makes.
     pub fn text(&self, alloc: Global) -> Result<Vec<u8>, NoMemory>
         requires { HasEnd self.now }
         ensures { IfOk result (λ bytes. bytes.items ≡ report_text self.now) }

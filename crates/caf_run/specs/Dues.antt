@@ -87,13 +87,14 @@ abbrev pub OutputClause : Option (List ℕ) → Option (List ℕ) → ℕ → �
 OutputClause written written' faults faults' answered status text =
     ((answered ≡ status) × Appends written written' text) ⊎ ((answered ≡ 11) × Rose faults faults' × GrewByProperPrefix written written' text)
 
--- what the call did: all that is due, written out, or want of memory with nothing written
+-- what the call did: all that is due, written as far as the sink took it
 pub record IsDone (words : List Word) (files : Option Files) (left' : Option (List ℕ)) (faults faults' : ℕ) (written written' : Option (List ℕ)) (sink_faults sink_faults' answered : ℕ) (report : Option Report) : Type 0 where
   pub status : ℕ
   pub text : List ℕ
   pub due : IsDue words files left' faults faults' status text report
   pub output : OutputClause written written' sink_faults sink_faults' answered status text
 
+-- what a call answers: all that is due, done; or status 12 with no report and nothing written
 abbrev pub IsAnswer : List Word → Option Files → Option (List ℕ) → ℕ → ℕ → Option (List ℕ) → Option (List ℕ) → ℕ → ℕ → ℕ → Option Report → Type 0
 IsAnswer words files left' faults faults' written written' sink_faults sink_faults' answered report =
     IsDone words files left' faults faults' written written' sink_faults sink_faults' answered report

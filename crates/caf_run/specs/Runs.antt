@@ -31,18 +31,18 @@ abbrev pub WaitsAs : ℕ → List Waiting → Type 0
 WaitsAs i [] = ⊥
 WaitsAs i (w ∷ ws) = (w.image.0 ≡ i) ⊎ WaitsAs i ws
 
--- the images that wait after a trace, in rising order: each has come to its ask, which isn't ready, and every other image has stopped
+-- the images that wait after a trace, in rising order: each has come to its ask, which isn't ready, and every other image has ended
 pub record AreWaiting {C M B : Type 0} (r : Rules C M B) (b : Beginning C M B) (t : Trace) (ws : List Waiting) : Type 0 where
   pub rises : Rises (λ w. w.image.0) ws
   pub each : Each (λ w. IsWaiting r b t.entries w.image.0 w.line w.ask) ws
   pub all : (i : ℕ) → IsImage b i → HasEndedIn i t.entries ⊎ WaitsAs i ws
 
--- the end of a run with this trace: that of its first ending event; where there is none, Finished where every image has stopped, else Stuck
+-- the end of a run with this trace: that of its first ending event; where there is none, Finished where every image has ended, else Stuck
 pub record IsRunEnd {C M B : Type 0} (r : Rules C M B) (b : Beginning C M B) (t : Trace) (end : End) : Type 0 where
   pub ended : (k : ℕ) → IsFirstEnding t k → end ≡ ending_at t k
   pub open_end : HasNoEnding t → (ws : List Waiting) × AreWaiting r b t ws × (end ≡ end_of_waits ws)
 
--- the report of a run of the program on n images, in the order of a SEED
+-- the report of a run of the program on n images, in the order of a SEED (that its trace is a core run follows from the order, by law_order_core; it is said for the reader)
 pub record IsReportOf (p : ThinProgram) (n seed : ℕ) (report : Report) : Type 0 where
   pub images : report.images ≡ n
   pub core : IsCoreRun thin_rules (thin_beginning p n) report.trace.entries

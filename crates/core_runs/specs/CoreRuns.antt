@@ -16,13 +16,15 @@ use Rattle.core_runs.specs.Moments.{Rules}
 use Rattle.core_runs.specs.Beginnings.{Beginning, IsImage, IsPlace}
 use Rattle.core_runs.specs.Sequences.{Joins, NothingAfterEnd, IsOrderly}
 
--- the trace's entries of an image; those at the board; those at the memory of an image
+-- the trace's entries of image i
 abbrev pub of_image : ℕ → List Entry → List Entry
 of_image i t = of image_of i t
 
+-- the trace's entries at the board
 abbrev pub at_board : List Entry → List Entry
 at_board t = of key_of 1 t
 
+-- the trace's entries at the memory of image i
 abbrev pub of_memory : ℕ → List Entry → List Entry
 of_memory i t = of key_of (suc i) t
 

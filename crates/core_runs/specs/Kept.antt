@@ -23,6 +23,7 @@ pub record IsLane {C M B : Type 0} (r : Rules C M B) (b : Beginning C M B) (i : 
   pub answered : Each (λ e. Answers e.ask e.reply) es
   pub alone : Each (λ e. place_of e.ask ≡ Own → e.reply ≡ replies.Done) es
 
+-- what is kept at every moment: each image's lane, each object served, and lists that are woven of one run
 pub record IsKept {C M B : Type 0} (r : Rules C M B) (b : Beginning C M B) (m : Moment C M B) : Type 0 where
   pub fit : IsFit r b
   pub count : length m.configs ≡ b.images

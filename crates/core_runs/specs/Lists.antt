@@ -9,6 +9,7 @@ use Rattle.trace_theory.specs.Entries.{last_or}
 use Rattle.trace_theory.specs.Machines.{Said}
 use Rattle.trace_theory.specs.Runs.{Woven}
 
+-- the number of the image that made an entry
 abbrev pub image_of : Entry → ℕ
 image_of e = e.image.0
 
@@ -16,6 +17,7 @@ image_of e = e.image.0
 abbrev pub key_of : Entry → ℕ
 key_of e = object_of (place_of e.event.ask)
 
+-- the stamp of an entry
 abbrev pub stamp_of : Entry → ℕ
 stamp_of e = e.event.stamp
 

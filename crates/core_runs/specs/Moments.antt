@@ -58,6 +58,7 @@ abbrev pub memory_ready_at : {C M B : Type 0} → Rules C M B → List Entry →
 memory_ready_at r h i a None = false
 memory_ready_at r h i a (Some made) = r.memory_ready made h i a
 
+-- the reply of a memory, where the run has it
 abbrev pub memory_reply_at : {C M B : Type 0} → Rules C M B → List Entry → ℕ → Ask → Option M → Reply
 memory_reply_at r h i a None = replies.Done
 memory_reply_at r h i a (Some made) = r.memory_reply made h i a
@@ -80,6 +81,7 @@ can_move r m i (goes c) = false
 can_move r m i (asks a l k) = ready_there r m i a (place_of a)
 can_move r m i over = false
 
+-- the same of where an image stands, if it is one of the run
 abbrev pub can_move_from : {C M B : Type 0} → Rules C M B → Moment C M B → ℕ → Option C → Bool
 can_move_from r m i None = false
 can_move_from r m i (Some c) = can_move r m i (r.step c)
@@ -88,11 +90,12 @@ can_move_from r m i (Some c) = can_move r m i (r.step c)
 abbrev pub can_step : {C M B : Type 0} → Rules C M B → Moment C M B → ℕ → Bool
 can_step r m i = can_move_from r m i (item_at m.configs i)
 
--- the image of a number has ended: it stopped or made an ending step
+-- the image that stands here has ended, if it is one of the run
 abbrev pub HasEndedFrom : {C M B : Type 0} → Rules C M B → Option C → Type 0
 HasEndedFrom r None = ⊥
 HasEndedFrom r (Some c) = IsOver (r.step c)
 
+-- the image of a number has ended: it stopped, failed or made a step that ends the run
 abbrev pub HasEnded : {C M B : Type 0} → Rules C M B → Moment C M B → ℕ → Type 0
 HasEnded r m i = HasEndedFrom r (item_at m.configs i)
 

@@ -1,4 +1,4 @@
--- The order of the asks of one image: an arrival and its departure (ISO/IEC 1539-1:2018, 11.6.1), and the end (5.3.6, 5.3.7).
+-- The order of the asks of one image: an arrival and its departure (ISO/IEC 1539-1:2018, 11.6.3, 11.6.4, 11.6.9), and the end (5.3.6, 5.3.7).
 use Rattle.std.specs.Prelude.{◌≡◌, ◌⊎◌, List, [], ◌∷◌, ◌++◌, Option, Some, None}
 use Rattle.trace_theory.specs.Machines.{Move, Said, Walk, WalkTo}
 use Rattle.trace_theory.specs.Simulations.{AllAnswer}

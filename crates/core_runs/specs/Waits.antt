@@ -12,7 +12,7 @@ use Rattle.core_runs.specs.Beginnings.{Beginning, IsImage}
 use Rattle.core_runs.specs.CoreRuns.{at_board, of_memory, said_by}
 use Rattle.core_runs.specs.Sequences.{HasEndedBy}
 
--- the image's last event ended it
+-- the image's last event in the trace ended it: it stopped, failed (ISO/IEC 1539-1:2018, 5.3.6) or ended the run
 abbrev pub HasEndedIn : ℕ → List Entry → Type 0
 HasEndedIn i t = HasEndedBy (said_by i t)
 

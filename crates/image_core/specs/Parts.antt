@@ -11,7 +11,7 @@ use Rattle.caf_events.specs.declared.object.Spare.{Spare}
 use Rattle.caf_events.specs.Asks.{place_of}
 use Rattle.caf_events.specs.Histories.{last_stamp_of}
 use Rattle.caf_events.specs.Walkers.{AsksNext}
-use Rattle.trace_theory.specs.Machines.{Move, Rests}
+use Rattle.trace_theory.specs.Machines.{Move}
 use Rattle.image_core.specs.declared.run.ImageRun.{ImageRun}
 use Rattle.image_core.specs.declared.parts.PartsOf.{PartsOf}
 use Rattle.image_core.specs.declared.parts.Ready.{Ready}
@@ -44,10 +44,6 @@ EachAt {A} P xs = (k : ℕ) (x : A) → k < length xs → x ≡ slice_index_or x
 -- the images are numbered from 1
 abbrev pub AreNumbered : {M : Type 0} → List (ImageRun M) → Type 0
 AreNumbered images = EachAt (λ k r. r.image.0 ≡ suc k) images
-
--- each machine stands at an ask, or has ended
-abbrev pub AreAtRest : {C : Type 0} → (C → Move C Ask Reply) → List C → Type 0
-AreAtRest step configs = EachAt (λ k c. Rests (step c)) configs
 
 -- the sum of a number of each item
 abbrev pub total : {A : Type 0} → (A → ℕ) → List A → ℕ
@@ -88,6 +84,7 @@ module _ {M O B : Type 0} (walks : walker.Ghosts M) (memory : object.Ghosts O) (
   IsServedThere p i ask spare (Memory owner) =
       (0 < owner.0) × (owner.0 ≤ length p.memories.items) × ((o : O) → o ≡ slice_index_or p.memories.items (owner.0 - 1) o → IsServed memory i o ask spare)
 
+  -- this step is set aside for the image
   abbrev pub IsSetAside : PartsOf M O B → ℕ → Move walks.Config Ask Reply → Prepared → Type 0
   IsSetAside p i move prepareds.Nothing = ⊥
   IsSetAside p i move (prepareds.Own ask) = AsksNext move ask × (place_of ask ≡ Own)
@@ -98,6 +95,7 @@ module _ {M O B : Type 0} (walks : walker.Ghosts M) (memory : object.Ghosts O) (
     pub room : vec_len r.events < vec_capacity r.events
     pub next : IsSetAside p (suc k) (move_of walks r) r.prepared
 
+  -- the next step of the image at place k, from 0, is set aside
   abbrev pub IsPrepared : PartsOf M O B → ℕ → Type 0
   IsPrepared p k = (r : ImageRun M) → r ≡ slice_index_or p.images.items k r → IsPreparedRun p k r
 

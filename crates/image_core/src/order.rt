@@ -1,4 +1,5 @@
-//! The ordered run: steps one after the other, each by the image that is chosen among the candidates, until none can be made.
+//! The ordered run: steps one after the other, each by the image that is chosen among the candidates, until one
+//! ends the run or none can be made.
 
 ghost use Rattle.std.specs.Prelude.{◌≡◌, ◌<◌, ◌≤◌, ◌^◌, ◌↔◌, List, [], ◌∷◌, ◌++◌, length, IfOk, OnOk, OnErr, IfSome, IsTrue, true, slice_index_or};
 ghost use Rattle.caf_events.specs.Events.{EndsRun};

@@ -11,7 +11,8 @@ use Rattle.caf_events.specs.declared.ask.Ask.TheVariants as asks
 use Rattle.caf_events.specs.declared.event.Entry.{Entry}
 use Rattle.caf_events.specs.Memories.{first_at}
 use Rattle.caf_events.specs.Rounds.{arrivals, all_arrived}
-use Rattle.thin_parts.specs.ThinBoard.{images_of, is_image, can_leave}
+use Rattle.thin_parts.specs.ThinBoard.{is_image, can_leave}
+use Rattle.core_runs.specs.Beginnings.{numbers_to}
 use Rattle.thin_parts.specs.ThinMemory.{cells_for, declared_memory, is_cell, is_kind_4, memory_ready}
 use Rattle.thin_parts.specs.ThinWalk.{is_coarray, is_kind_four, cell_of}
 
@@ -50,6 +51,6 @@ arrived_from a (suc n) round h all =
 -- a departure is ready where each image has arrived in the round
 pub leave_ready : (n i round : ℕ) (h : List Entry) → 0 < i → i ≤ n → 0 < round → ((j : ℕ) → 0 < j → j ≤ n → round ≤ arrivals 1 j h) → can_leave n h i round ≡ true
 leave_ready n i round h low high some all =
-    and_from (nat_le 1 round && nat_le round (arrivals 1 i h)) (all_arrived (images_of n) 1 round h)
+    and_from (nat_le 1 round && nat_le round (arrivals 1 i h)) (all_arrived (numbers_to n) 1 round h)
     (and_from (nat_le 1 round) (nat_le round (arrivals 1 i h)) (le-leb 1 round some) (le-leb round (arrivals 1 i h) (all i low high)))
     (arrived_from 1 n round h (λ j a b. all j a (omega arith)))

@@ -1,4 +1,4 @@
--- The ends of a run of a thin program: no event ends it but a run fault, and no image waits for ever (ISO/IEC 1539-1:2018, 5.3.5, 11.6.3).
+-- The ends of a run of a thin program: no event ends it but a run fault, and no image waits for ever (ISO/IEC 1539-1:2018, 5.3.7, 11.6.3).
 use Rattle.std.specs.Prelude.{ℕ, ◌≡◌, ◌⊎◌, List}
 use Rattle.caf_events.specs.declared.fault.FaultKind.TheVariants as faults
 use Rattle.caf_events.specs.declared.ask.Ask.{Ask}
@@ -9,7 +9,7 @@ use Rattle.core_runs.specs.Moments.{Rules}
 use Rattle.core_runs.specs.Beginnings.{Beginning}
 use Rattle.core_runs.specs.Waits.{HasEndedIn, IsWaiting}
 
--- the ask is a run fault that a thin program can have: a result that kind 4 can't hold (7.4.3.1), or an image selector that names no image (9.6)
+-- the ask is a run fault that a thin program can have: a result that kind 4 can't hold (prohibited by 10.1.5.2.4), or an image selector that names no image (9.6)
 abbrev pub IsThinFault : Ask → Type 0
 IsThinFault (asks.Fault kind) = (kind ≡ faults.Overflow) ⊎ (kind ≡ faults.CoBounds)
 IsThinFault ask = ⊥
@@ -18,6 +18,6 @@ IsThinFault ask = ⊥
 abbrev pub EndsByFault : Entry → Type 0
 EndsByFault x = EndsRun x.event → IsThinFault x.event.ask
 
--- after the trace the image has stopped, or it waits at an ask that isn't ready
+-- after the trace the image has ended, or it waits at an ask that isn't ready
 abbrev pub HasEndedOrWaits : {C M B : Type 0} → Rules C M B → Beginning C M B → List Entry → ℕ → Type 0
 HasEndedOrWaits r b t i = HasEndedIn i t ⊎ ((line : ℕ) × (ask : Ask) × IsWaiting r b t i line ask)

@@ -18,7 +18,8 @@ pub fn law_ends_are_faults()
     ensures { (p : ThinProgram) (n : ℕ) (t : List Entry) → IsCoreRun thin_rules (thin_beginning p n) t → Each EndsByFault t }
 {}
 
-/// Where no event ends the run, and each image has stopped or waits, every image has stopped: none waits for ever.
+/// Where no event ends the run, and each image has ended or waits, every image has ended: none waits for ever. (In a thin program an image
+/// that has ended where no event ends the run has stopped.)
 pub fn law_none_waits()
     ensures stopped { (p : ThinProgram) (n : ℕ) (t : List Entry) → IsDeclared p → IsCoreRun thin_rules (thin_beginning p n) t → NoneEnds t
         → ((i : ℕ) → IsImage (thin_beginning p n) i → HasEndedOrWaits thin_rules (thin_beginning p n) t i)

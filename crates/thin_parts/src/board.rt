@@ -3,7 +3,8 @@
 
 ghost use Rattle.std.specs.Prelude.{◌≡◌, ◌≤◌, ◌↔◌, [], All, IfOk, IsTrue};
 ghost use Rattle.caf_events.specs.Rounds.{arrivals, all_arrived};
-ghost use Rattle.thin_parts.specs.ThinBoard.{images_of, is_image, counted, counted_reply, CanCount};
+ghost use Rattle.thin_parts.specs.ThinBoard.{is_image, counted, counted_reply, CanCount};
+ghost use Rattle.core_runs.specs.Beginnings.{numbers_to};
 
 use super::filled::filled;
 use caf_base::copying::TryCopy;
@@ -70,7 +71,7 @@ impl ThinBoard {
 
     // Whether each image has arrived in the round.
     fn has_closed(&self, round: u64) -> bool
-        ensures { result ≡ all_arrived (images_of self.now.images) 1 round self.now.history }
+        ensures { result ≡ all_arrived (numbers_to self.now.images) 1 round self.now.history }
     {
         all_joined(&self.joined, round)
     }

@@ -42,13 +42,13 @@ abbrev pub OneNextAsk : {C A R : Type 0} → (C → Move C A R) → Type 0
 OneNextAsk {C} {A} {R} step =
     (c : C) (a b : A) (l m : ℕ) (j k : R → C) → Comes step c (asks a l j) → Comes step c (asks b m k) → (a ≡ b) × (l ≡ m) × (j ≡ k)
 
--- an ask or the end, and no step before it
+-- at rest: at an ask, or over
 abbrev pub Rests : {C A R : Type 0} → Move C A R → Type 0
 Rests (goes c) = ⊥
 Rests (asks a l k) = Unit {0}
 Rests over = Unit {0}
 
--- the configuration comes to an ask or ends
+-- the configuration comes to an ask or is over
 abbrev pub ComesToRest : {C A R : Type 0} → (C → Move C A R) → C → Type 0
 ComesToRest step c = (n : ℕ) × Rests (go step n c)
 
