@@ -13,4 +13,4 @@ pub invariant_of-self : goal.invariant_of-self
 invariant_of-self c =
     let ready = subst (λ (m : BoardMeaning). IsTrue (board_ready m.images m.history c.args.image.0 c.args.ask)) (sym c.self.view_is) c.requires.ready in
     let due = subst (λ (m : BoardMeaning). c.args.spare.one ≡ board_reply m.images m.history c.args.image.0 c.args.ask) (sym c.self.view_is) c.requires.spare.one in
-    rw (c.count_arrival.ensures, c.append.ensures.entries) (joined_more c.self.inside.joined.items c.self.inside.history.entries c.args.image c.args.ask _ _ _ c.self.invariant ready due)
+    rw (c.count_arrival.ensures, c.append.ensures.entries, c.append.ensures.event) (joined_more c.self.inside.joined.items c.self.inside.history.entries c.args.image c.args.ask _ _ _ c.self.invariant ready due)

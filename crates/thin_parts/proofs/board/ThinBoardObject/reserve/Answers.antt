@@ -1,4 +1,5 @@
-use Rattle.std.proofs.Common.{◌≡◌, ◌+◌, ◌<◌, ◌^◌, ℕ, List, IsTrue, length, subst, sym, ◌∙◌, arith}
+use Rattle.std.proofs.Common.{◌≡◌, ◌+◌, ◌<◌, ◌^◌, ℕ, List, IsTrue, length, subst, sym, ◌∙◌}
+use Rattle.caf_events.specs.declared.event.Entry.{Entry}
 use Rattle.thin_parts.specs.ThinBoard.{BoardMeaning, board_ready, board_reply, counted_reply, CanCount}
 use Rattle.thin_parts.proofs.ThinRounds.{can_count, counted_reply_is}
 use Rattle.thin_parts.proofs.board.ThinBoardObject.reserve.Goals as goal

@@ -11,4 +11,4 @@ write_cells-requires c =
 pub invariant_of-self : goal.invariant_of-self
 invariant_of-self c =
     let ready = subst (λ (m : MemoryMeaning). IsTrue (memory_ready m.declared c.args.ask)) (sym c.self.view_is) c.requires.ready in
-    rw (c.write_cells.ensures, c.append.ensures.entries) (cells_more _ c.self.inside.history.entries c.self.inside.cells.items _ ready c.self.invariant)
+    rw (c.write_cells.ensures, c.append.ensures.entries, c.append.ensures.event) (cells_more _ c.self.inside.history.entries c.self.inside.cells.items _ ready c.self.invariant)
