@@ -1,6 +1,6 @@
-//! The text of numbers and logicals, as PRINT, the report and the made programs write them.
+//! The text of numbers and logicals, byte for byte.
 //! It stands on `caf_base` and on the kit's `itoa`, which makes the digits.
-//! The walk of the tree, the machine of an image, the report and the maker of programs stand on it.
+//! `caf_report` and `caf_run` stand on it.
 //! Its main contract: each call appends exactly the stated bytes to the output (`decimal_text`, `logical_text`,
 //! `i_field`), and where memory is wanting it leaves the output as it was.
 #![tactic(auto)]

@@ -1,13 +1,13 @@
--- Clocks: joined along the trace they cover exactly what comes before.
+-- Clocks: joined along the trace they cover exactly what precedes.
 use Rattle.std.proofs.Common.{◌≡◌, ℕ, suc, ◌+◌, ◌<◌, ◌↔◌, max, true, nat_eq, ◌&&◌, List, [], ◌∷◌, ◌++◌, ◌⊎◌, inl, inr, refl, ap, sym, ◌∙◌, subst, arith, append_assoc}
 use Rattle.std.proofs.lemmas.List.{append-nil}
 use Rattle.std.proofs.lemmas.Bool.{cases_lt, cases_order, cases_Bool, eqb-true, and_parts}
 use Rattle.std.proofs.lemmas.Bool.Decides.{eqb_tells}
-use Rattle.order_axioms.specs.Order.{Segment, Rules, Within, done, segment_after, Begun, Before, Sound, Reaches}
+use Rattle.order_axioms.specs.Order.{Segment, EdgeRules, Within, done, segment_after, Begun, Precedes, Sound, Reaches}
 use Rattle.order_axioms.specs.Clocks.{IsClock, TellsOthers, Covers, tick}
 use Rattle.order_axioms.proofs.Splits.{done_append}
 use Rattle.order_axioms.proofs.Withins.{within_append, within_left, within_right}
-use Rattle.order_axioms.proofs.Ways.{before_last, reaches_up, reaches_down, edges_in, own_before}
+use Rattle.order_axioms.proofs.Ways.{precedes_last, reaches_up, reaches_down, edges_in, own_precedes}
 use Rattle.order_axioms.proofs.Paths.{edge_number, last_edge, prefixes, numbers_rise}
 
 -- two counts that cover the same are one
@@ -18,7 +18,7 @@ same_counts m n h =
       | inr o ↦ elim o [ inl l ↦ absurd (let k = (h m).1 l in omega arith) | inr l ↦ absurd (let k = (h n).0 l in omega arith) ]
     ]
 
-module _ (E : Type 0) (r : Rules E) (sound : Sound r) where
+module _ (E : Type 0) (r : EdgeRules E) (sound : Sound r) where
   -- the clock of an image's first segment
   pub clock_start : (t : List E) (j : ℕ) → IsClock r t (record { image = j; number = 0 }) (λ i. 0)
   clock_start t j = record {
@@ -29,8 +29,8 @@ module _ (E : Type 0) (r : Rules E) (sound : Sound r) where
   pub clock_begins : (g : List E) (x : E) (c : ℕ → ℕ) → r.entries.completes x ≡ true → Covers r g (r.sources g x) c → IsClock r (g ++ x ∷ []) (segment_after r.entries g x) c
   clock_begins g x c comp cov =
       let t = g ++ x ∷ [] in
-      let up : (a b : Segment) → Within b (r.sources g x) → Reaches r g a b → Before r t a (segment_after r.entries g x) =
-      λ a b w q. before_last E r sound t a b (segment_after r.entries g x) (reaches_up E r sound g (x ∷ []) a b q) (record { before = g; event = x; rest = []; split = refl; completing = comp; source = w; begins = refl }) in
+      let up : (a b : Segment) → Within b (r.sources g x) → Reaches r g a b → Precedes r t a (segment_after r.entries g x) =
+      λ a b w q. precedes_last E r sound t a b (segment_after r.entries g x) (reaches_up E r sound g (x ∷ []) a b q) (record { before = g; event = x; rest = []; split = refl; completing = comp; source = w; begins = refl }) in
       record {
         exactly = λ i s. (
           λ h. let k = (cov.exactly i s).0 h in up (record { image = i; number = s }) k.0 k.1 k.2,
@@ -90,7 +90,7 @@ module _ (E : Type 0) (r : Rules E) (sound : Sound r) where
   -- a segment's clock counts the segments of its image before it
   pub clock_own : (t : List E) (b : Segment) (c : ℕ → ℕ) → Begun r.entries t b → IsClock r t b c → c b.image ≡ b.number
   clock_own t b c h k =
-      same_counts (c b.image) b.number (λ s. (λ l. numbers_rise E r sound t _ b ((k.exactly b.image s).0 l) refl, λ l. (k.exactly b.image s).1 (own_before E r sound t b s h l)))
+      same_counts (c b.image) b.number (λ s. (λ l. numbers_rise E r sound t _ b ((k.exactly b.image s).0 l) refl, λ l. (k.exactly b.image s).1 (own_precedes E r sound t b s h l)))
 
   -- what reaches a segment is covered by its clock, or is it
   reached : (t : List E) (b : Segment) (c : ℕ → ℕ) → IsClock r t b c → (i s : ℕ) → Reaches r t (record { image = i; number = s }) b → (s < c i) ⊎ ((i ≡ b.image) × (s ≡ b.number))
@@ -190,8 +190,8 @@ module _ (E : Type 0) (r : Rules E) (sound : Sound r) where
   unfolding HasClock
   has_clock t b h = clocks_from [] t no_events b h
 
-  -- So it can be told whether a segment comes before one that has begun.
-  pub before_or_not : (t : List E) (a b : Segment) → Begun r.entries t b → Before r t a b ⊎ (Before r t a b → ⊥)
-  before_or_not t a b h =
+  -- So it can be told whether a segment precedes one that has begun.
+  pub precedes_or_not : (t : List E) (a b : Segment) → Begun r.entries t b → Precedes r t a b ⊎ (Precedes r t a b → ⊥)
+  precedes_or_not t a b h =
       let c = has_clock t b h in
       elim (cases_lt a.number (c.0 a.image)) [ inl l ↦ inl ((c.1.exactly a.image a.number).0 l) | inr l ↦ inr (λ p. let m = (c.1.exactly a.image a.number).1 p in absurd (omega arith)) ]

@@ -3,7 +3,7 @@ use Rattle.std.proofs.Common.{◌≡◌, ℕ, ◌↔◌, Bool, true, false, nat_
 use Rattle.std.proofs.lemmas.Bool.{eq-eqb, cases_lt, cases_Bool, eqb-true, and_parts, or_cases, or_parts, not-true, not-false, ltb-false, le-ltb, both_ways}
 use Rattle.std.proofs.lemmas.Bool.Decides.{eqb_tells}
 use Rattle.std.specs.List.{filter}
-use Rattle.order_axioms.specs.Order.{Rules, Within, Begun, Before, Reaches, Sound}
+use Rattle.order_axioms.specs.Order.{EdgeRules, Within, Begun, Precedes, Reaches, Sound}
 use Rattle.order_axioms.specs.Races.{signals, meets}
 use Rattle.order_axioms.specs.Clocks.{TellsOthers}
 use Rattle.order_axioms.specs.Marks.{Mark, outranks, same_image, clashes, any_clash, stays, noted, Under, Keeps, Noting, Unordered}
@@ -30,7 +30,7 @@ filter_within f k (x ∷ ks) (inr w) h =
       | inr a ↦ rw a (filter_within f k ks w h)
     ]
 
-module _ (E : Type 0) (r : Rules E) (sound : Sound r) (t : List E) where
+module _ (E : Type 0) (r : EdgeRules E) (sound : Sound r) (t : List E) where
   module _ (q : Mark) (seen kept : List Mark) (noting : Noting r t q seen kept) where
     -- a mark of q's image
     own_under : (m : Mark) → Within m seen → m.segment.image ≡ q.segment.image → Reaches r t m.segment q.segment
@@ -82,7 +82,7 @@ module _ (E : Type 0) (r : Rules E) (sound : Sound r) (t : List E) where
 
     module _ (c : ℕ → ℕ) (clock : TellsOthers r t q.segment c) where
       -- what a clash tells
-      clash_tells : (k : Mark) → clashes c q k ≡ true → (meets k.class q.class ≡ true) × (k.segment.image ≡ q.segment.image → ⊥) × (Before r t k.segment q.segment → ⊥)
+      clash_tells : (k : Mark) → clashes c q k ≡ true → (meets k.class q.class ≡ true) × (k.segment.image ≡ q.segment.image → ⊥) × (Precedes r t k.segment q.segment → ⊥)
       clash_tells k h =
           let p = and_parts (meets k.class q.class && not (same_image k q)) (not (nat_lt k.segment.number (c k.segment.image))) h in
           let o = and_parts (meets k.class q.class) (not (same_image k q)) p.0 in
@@ -91,7 +91,7 @@ module _ (E : Type 0) (r : Rules E) (sound : Sound r) (t : List E) where
           (o.0, other, λ b. let l = (clock.exactly k.segment.image k.segment.number other).1 b in absurd (omega arith))
 
       -- and what it tells that there is none
-      no_clash_tells : (k : Mark) → clashes c q k ≡ false → meets k.class q.class ≡ true → (k.segment.image ≡ q.segment.image) ⊎ Before r t k.segment q.segment
+      no_clash_tells : (k : Mark) → clashes c q k ≡ false → meets k.class q.class ≡ true → (k.segment.image ≡ q.segment.image) ⊎ Precedes r t k.segment q.segment
       no_clash_tells k h m =
           elim (eqb_tells k.segment.image q.segment.image) [
             | inl e ↦ inl e.1
@@ -119,7 +119,7 @@ module _ (E : Type 0) (r : Rules E) (sound : Sound r) (t : List E) where
           let y = clash_tells z.0 z.2 in
           (z.0, noting.keeps.were_seen z.0 z.1, y.0, y.1, y.2)
 
-      -- where no kept mark clashes, each mark so far that meets q comes before it
+      -- where no kept mark clashes, each mark so far that meets q precedes it
       covered : (m : Mark) → Within m seen → any_clash c q kept ≡ false → meets m.class q.class ≡ true → Reaches r t m.segment q.segment
       covered m w none met =
           let e = noting.keeps.enough m w in
@@ -137,7 +137,7 @@ module _ (E : Type 0) (r : Rules E) (sound : Sound r) (t : List E) where
       pub clash_where : (any_clash c q kept ≡ true) ↔ Unordered r t seen q
       clash_where = (clash_found, λ u. elim (cases_Bool (any_clash c q kept)) [ inl y ↦ y | inr n ↦ absurd (no_clash n u) ])
 
-      -- a mark that doesn't stay comes before q, which takes its place
+      -- a mark that doesn't stay precedes q, which takes its place
       clear_displaces : any_clash c q kept ≡ false → (k : Mark) → Within k kept → stays q k ≡ false → Under r t k q
       clear_displaces none k w out =
           let p = and_parts (outranks q.class k.class) (same_image k q || meets k.class q.class) (not-false _ out) in (

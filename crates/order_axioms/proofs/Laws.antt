@@ -1,8 +1,8 @@
 -- The law forward and the law on reads, of the edges of the table.
 use Rattle.std.proofs.Common.{◌≡◌, ℕ, ◌<◌, Bool, true, List, ◌∷◌, ◌++◌, length, arith}
-use Rattle.order_axioms.specs.Order.{segment_of, Before}
+use Rattle.order_axioms.specs.Order.{segment_of, Precedes}
 use Rattle.order_axioms.specs.Races.{Accesses, reads, Stands, place, Ahead, Forward, ReadsLast, NoRace, Justified}
-use Rattle.order_axioms.specs.Acts.{View, entries, rules}
+use Rattle.order_axioms.specs.Acts.{View, entries, edge_rules}
 use Rattle.order_axioms.specs.Facts.{OwnFacts, Pauses, AccessesCell}
 use Rattle.order_axioms.proofs.Pausing.{own_pauses}
 use Rattle.order_axioms.proofs.Paths.{forward}
@@ -21,18 +21,18 @@ module _ (E : Type 0) (v : View E) where
   pub access_pauses : (V : Type 0) (a : Accesses E V) (acts fails : E → Bool) (t : List E) → OwnFacts v acts fails t → ((g : List E) (e : E) → AccessesCell a g e → acts e ≡ true) → Pauses v (AccessesCell a) t
   access_pauses V a acts fails t facts h = fewer_act (λ g e. acts e ≡ true) (AccessesCell a) t h (own_pauses E v acts fails t facts)
 
-  -- an entry that acts stands before each entry of a segment that its own comes before
+  -- an entry that acts stands before each entry of a segment that its own precedes
   pub acts_forward : (acts : List E → E → Type 0) (t : List E) → Pauses v acts t → (g h g' h' : List E) (e f : E) → t ≡ g ++ e ∷ h → t ≡ g' ++ f ∷ h' → acts g e
-      → Before (rules v) t (segment_of (entries v) g e) (segment_of (entries v) g' f) → length g < length g'
-  acts_forward acts t p g h g' h' e f s s' a b = forward E (rules v) (sound E v) acts t (quiet E v acts t p) g h g' h' e f s s' a b
+      → Precedes (edge_rules v) t (segment_of (entries v) g e) (segment_of (entries v) g' f) → length g < length g'
+  acts_forward acts t p g h g' h' e f s s' a b = forward E (edge_rules v) (sound E v) acts t (quiet E v acts t p) g h g' h' e f s s' a b
 
-  -- no entry before one that acts stands in a segment that comes after its own
-  pub ahead : (V : Type 0) (a : Accesses E V) (acts : List E → E → Type 0) (t : List E) → Pauses v acts t → (y : Stands t) → acts y.before y.event → Ahead (rules v) a t y
+  -- no entry before one that acts stands in a segment that its own precedes
+  pub ahead : (V : Type 0) (a : Accesses E V) (acts : List E → E → Type 0) (t : List E) → Pauses v acts t → (y : Stands t) → acts y.before y.event → Ahead (edge_rules v) a t y
   ahead V a acts t p y h x short b = let l = acts_forward acts t p y.before y.rest x.before x.rest y.event x.event y.split x.split h b in absurd (omega arith)
 
   module _ (V : Type 0) (a : Accesses E V) (t : List E) (p : Pauses v (AccessesCell a) t) where
-    pub law_forward : Forward (rules v) a t
+    pub law_forward : Forward (edge_rules v) a t
     law_forward x y c d ax ay tx ty b = acts_forward (AccessesCell a) t p x.before x.rest y.before y.rest x.event y.event x.split y.split (c, tx, ax) b
 
-    pub law_reads : ReadsLast (rules v) a t → (m : ℕ) → NoRace (rules v) a t m → (x : Stands t) → a.class_of x.event ≡ reads → place x < m → Justified (rules v) a t x
-    law_reads memory m clean x k l = reads_by_any_edges E V (rules v) (sound E v) a t law_forward memory m clean x k l
+    pub law_reads : ReadsLast (edge_rules v) a t → (m : ℕ) → NoRace (edge_rules v) a t m → (x : Stands t) → a.class_of x.event ≡ reads → place x < m → Justified (edge_rules v) a t x
+    law_reads memory m clean x k l = reads_by_any_edges E V (edge_rules v) (sound E v) a t law_forward memory m clean x k l

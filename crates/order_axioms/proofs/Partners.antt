@@ -1,6 +1,6 @@
 -- Races are told by the entries up to the later one, and a mark that is unordered with an entry is a partner of a race.
 use Rattle.std.proofs.Common.{◌≡◌, ◌<◌, ◌↔◌, true, List, ◌∷◌, ◌++◌, length, refl, ap, sym, ◌∙◌, subst, arith, append_assoc, length-append}
-use Rattle.order_axioms.specs.Order.{Segment, Rules, done, Begun, Before, Sound}
+use Rattle.order_axioms.specs.Order.{Segment, EdgeRules, done, Begun, Precedes, Sound}
 use Rattle.order_axioms.specs.Races.{Cell, Accesses, meets, Stands, place, segment, Touches, Conflict, Race, Ahead}
 use Rattle.order_axioms.specs.Marks.{Unordered, mark_of, seen}
 use Rattle.order_axioms.proofs.Splits.{fronts_at, done_append}
@@ -22,10 +22,10 @@ module _ (E : Type 0) (t : List E) where
       let f = fronts_at E x.before x.rest y.before (y.event ∷ y.rest) x.event (sym x.split ∙ y.split) short in
       (record { before = x.before; event = x.event; rest = f.0; split = f.1 }, refl, refl)
 
-module _ (E V : Type 0) (r : Rules E) (sound : Sound r) (a : Accesses E V) (t : List E) where
-  -- the front before y tells what comes before a segment that has begun in it
-  told : (y : Stands t) (b c : Segment) → Begun r.entries y.before c → Before r t b c ↔ Before r y.before b c
-  told y b c h = subst (λ z. Before r z b c ↔ Before r y.before b c) (sym y.split) (prefixes E r sound y.before (y.event ∷ y.rest) b c h)
+module _ (E V : Type 0) (r : EdgeRules E) (sound : Sound r) (a : Accesses E V) (t : List E) where
+  -- the front before y tells what precedes a segment that has begun in it
+  told : (y : Stands t) (b c : Segment) → Begun r.entries y.before c → Precedes r t b c ↔ Precedes r y.before b c
+  told y b c h = subst (λ z. Precedes r z b c ↔ Precedes r y.before b c) (sym y.split) (prefixes E r sound y.before (y.event ∷ y.rest) b c h)
 
   -- y's segment has begun before y
   here_begun : (y : Stands t) → Begun r.entries y.before (segment r a t y)
@@ -40,7 +40,7 @@ module _ (E V : Type 0) (r : Rules E) (sound : Sound r) (a : Accesses E V) (t : 
 
   -- A race is told by the entries before the later one of the two.
   pub race_told : (x y : Stands t) → place x < place y
-      → Race r a t x y ↔ (Conflict r a t x y × (Before r y.before (segment r a t x) (segment r a t y) → ⊥) × (Before r y.before (segment r a t y) (segment r a t x) → ⊥))
+      → Race r a t x y ↔ (Conflict r a t x y × (Precedes r y.before (segment r a t x) (segment r a t y) → ⊥) × (Precedes r y.before (segment r a t y) (segment r a t x) → ⊥))
   race_told x y short =
       let there = told y (segment r a t x) (segment r a t y) (here_begun y) in
       let back = told y (segment r a t y) (segment r a t x) (sooner_begun x y short) in (
@@ -65,7 +65,7 @@ module _ (E V : Type 0) (r : Rules E) (sound : Sound r) (a : Accesses E V) (t : 
               shared = (k.touches, w);
               met = subst (λ z. meets z.class (a.class_of y.event) ≡ true) k.is met;
             };
-            not_before = λ b. un (subst (λ z. Before r y.before z.segment (segment r a t y)) (sym k.is) ((told y (segment r a t x) (segment r a t y) (here_begun y)).0 b));
+            not_before = λ b. un (subst (λ z. Precedes r y.before z.segment (segment r a t y)) (sym k.is) ((told y (segment r a t x) (segment r a t y) (here_begun y)).0 b));
             not_after = λ b. ahead x short b;
           },
         )

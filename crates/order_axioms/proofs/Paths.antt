@@ -1,9 +1,15 @@
 -- Paths of edges: where they begin and end, the law on prefixes, and the law forward.
-use Rattle.std.proofs.Common.{◌≡◌, suc, ◌<◌, ◌≤◌, ◌↔◌, List, [], ◌∷◌, ◌++◌, length, ◌⊎◌, inl, inr, refl, ap, sym, ◌∙◌, subst, arith, append_assoc}
-use Rattle.order_axioms.specs.Order.{Segment, Rules, done, segment_of, Begun, Edge, Linked, Before, Sound, QuietAt}
+use Rattle.std.proofs.Common.{◌≡◌, suc, ◌<◌, ◌≤◌, ◌↔◌, true, List, [], ◌∷◌, ◌++◌, length, ◌⊎◌, inl, inr, refl, ap, sym, ◌∙◌, subst, arith, append_assoc}
+use Rattle.order_axioms.specs.Order.{Segment, EdgeRules, done, segment_of, Begun, Edge, Linked, Precedes, Sound, Within}
 use Rattle.order_axioms.proofs.Splits.{fronts_at, done_front, longer, done_at, begun_more}
 
-module _ (E : Type 0) (r : Rules E) where
+-- no entry of t that acts stands after an entry that its segment is a source of
+abbrev pub QuietAt : {E : Type 0} → EdgeRules E → (List E → E → Type 0) → List E → Type 0
+QuietAt {E} r acts t =
+    (g h g' h' : List E) (x f : E) → t ≡ g ++ x ∷ h → r.entries.completes x ≡ true → t ≡ g' ++ f ∷ h' → acts g' f
+    → Within (segment_of r.entries g' f) (r.sources g x) → length g' ≤ length g
+
+module _ (E : Type 0) (r : EdgeRules E) where
   -- the number of the segment that an edge leads to
   pub edge_number : (t : List E) (a b : Segment) (e : Edge r t a b) → b.number ≡ suc (done r.entries b.image e.before)
   edge_number t a b e = subst (λ z. z.number ≡ suc (done r.entries z.image e.before)) (sym e.begins) refl
@@ -42,7 +48,7 @@ module _ (E : Type 0) (r : Rules E) where
       pub edge_from : Segment
       pub last : Edge r t edge_from b
       pub begun : Begun r.entries last.before a
-      pub either : (a ≡ edge_from) ⊎ Before r t a edge_from
+      pub either : (a ≡ edge_from) ⊎ Precedes r t a edge_from
 
     -- the source of an edge has begun before its entry
     edge_begun : (t : List E) (a b : Segment) (e : Edge r t a b) → Begun r.entries e.before a
@@ -61,7 +67,7 @@ module _ (E : Type 0) (r : Rules E) where
         omega arith
 
     -- one more edge at the front of a path
-    one_more : (t : List E) (a m b : Segment) → Edge r t a m → (a' : Segment) → (m ≡ a') ⊎ Before r t m a' → Before r t a a'
+    one_more : (t : List E) (a m b : Segment) → Edge r t a m → (a' : Segment) → (m ≡ a') ⊎ Precedes r t m a' → Precedes r t a a'
     one_more t a m b e a' (inl q) = ([], subst (λ z. Edge r t a z) q e)
     one_more t a m b e a' (inr q) = (m ∷ q.0, (e, q.1))
 
@@ -78,7 +84,7 @@ module _ (E : Type 0) (r : Rules E) where
           either = inr (one_more t a m b e l.edge_from l.either);
         }
 
-    -- The law on prefixes: what comes before a segment that has begun by t is told by t.
+    -- The law on prefixes: what precedes a segment that has begun by t is told by t.
     pub linked_down : (t u : List E) (a b : Segment) (ms : List Segment) → Begun r.entries t b → Linked (Edge r (t ++ u)) a ms b → Begun r.entries t a × Linked (Edge r t) a ms b
     linked_down t u a b [] h e =
         let d = edge_down t u a b e h in
@@ -88,11 +94,11 @@ module _ (E : Type 0) (r : Rules E) where
         let d = edge_down t u a m e q.0 in
         (subst (λ z. Begun r.entries z a) (sym d.split) (begun_more E r.entries d.before (d.event ∷ d.rest) a (edge_begun t a m d)), (d, q.1))
 
-    pub prefixes : (t u : List E) (a b : Segment) → Begun r.entries t b → Before r (t ++ u) a b ↔ Before r t a b
+    pub prefixes : (t u : List E) (a b : Segment) → Begun r.entries t b → Precedes r (t ++ u) a b ↔ Precedes r t a b
     prefixes t u a b h = (λ p. (p.0, (linked_down t u a b p.0 h p.1).1), λ p. (p.0, linked_up t u a b p.0 p.1))
 
-    -- no segment comes before itself, nor before an earlier one of its image
-    pub numbers_rise : (t : List E) (a b : Segment) → Before r t a b → a.image ≡ b.image → a.number < b.number
+    -- no segment precedes itself, nor an earlier one of its image
+    pub numbers_rise : (t : List E) (a b : Segment) → Precedes r t a b → a.image ≡ b.image → a.number < b.number
     numbers_rise t a b p same =
         let l = last_edge t a b p.0 p.1 in
         let n = edge_number t l.edge_from b l.last in
@@ -107,7 +113,7 @@ module _ (E : Type 0) (r : Rules E) where
           let n = edge_number t a b e in
           longer E r.entries b.image e.before (e.event ∷ e.rest) g' h' (sym e.split ∙ s) (omega arith)
 
-      -- an entry that acts stands before each place where a segment that its own comes before has begun
+      -- an entry that acts stands before each place where a segment that its own precedes has begun
       pub forward_to : (g h g' h' : List E) (e : E) (b : Segment) (ms : List Segment) → t ≡ g ++ e ∷ h → acts g e → t ≡ g' ++ h' → Begun r.entries g' b → Linked (Edge r t) (segment_of r.entries g e) ms b → length g < length g'
       forward_to g h g' h' e b [] s act s' begun d =
           let k = quiet d.before d.rest g h d.event e d.split d.completing s act d.source in
@@ -120,5 +126,5 @@ module _ (E : Type 0) (r : Rules E) where
           omega arith
 
       -- and before each entry of such a segment
-      pub forward : (g h g' h' : List E) (e f : E) → t ≡ g ++ e ∷ h → t ≡ g' ++ f ∷ h' → acts g e → Before r t (segment_of r.entries g e) (segment_of r.entries g' f) → length g < length g'
+      pub forward : (g h g' h' : List E) (e f : E) → t ≡ g ++ e ∷ h → t ≡ g' ++ f ∷ h' → acts g e → Precedes r t (segment_of r.entries g e) (segment_of r.entries g' f) → length g < length g'
       forward g h g' h' e f s s' act p = forward_to g h g' (f ∷ h') e (segment_of r.entries g' f) p.0 s act s' (omega arith) p.1

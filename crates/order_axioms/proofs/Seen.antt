@@ -2,7 +2,7 @@
 use Rattle.std.proofs.Common.{◌≡◌, ◌≤◌, ◌↔◌, Bool, true, false, nat_eq, ◌&&◌, cond, List, [], ◌∷◌, ◌++◌, inl, inr, refl, ap, sym, ◌∙◌, subst, arith, append_assoc}
 use Rattle.std.proofs.lemmas.List.{append-nil}
 use Rattle.std.proofs.lemmas.Bool.{eq-eqb, eqb-true, and_parts, or_cases, or_left, or_right}
-use Rattle.order_axioms.specs.Order.{Entries, Rules, Within, done, Sound}
+use Rattle.order_axioms.specs.Order.{Entries, EdgeRules, Within, done, Sound}
 use Rattle.order_axioms.specs.Races.{Cell, same_cell, touches_cell, Accesses, Stands}
 use Rattle.order_axioms.specs.Marks.{Mark, Keeps, Marked, mark_of, seen_from, seen}
 use Rattle.order_axioms.proofs.Splits.{done_append, begun_more}
@@ -87,7 +87,7 @@ module _ (E V : Type 0) (k : Entries E) (a : Accesses E V) where
       let f = ap (done k (k.image_of x.at.event)) x.at.split in
       subst (λ z. z.segment.number ≤ done k z.segment.image t) (sym x.is) (omega arith)
 
-module _ (E : Type 0) (r : Rules E) (sound : Sound r) where
+module _ (E : Type 0) (r : EdgeRules E) (sound : Sound r) where
   -- what suffices goes on to suffice while the trace grows
   pub keeps_up : (t u : List E) (seen kept : List Mark) → Keeps r t seen kept → Keeps r (t ++ u) seen kept
   keeps_up t u seen kept h = record {

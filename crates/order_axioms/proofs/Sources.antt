@@ -1,12 +1,13 @@
 -- Where waiting segments come from; the edges are sound, and quiet where images pause.
 use Rattle.std.proofs.Common.{◌≡◌, ℕ, ◌-◌, ◌≤◌, Bool, true, false, cond, List, [], ◌∷◌, ◌++◌, length, ◌⊎◌, inl, inr, refl, ap, sym, ◌∙◌, subst, arith, append_assoc, length-append}
 use Rattle.std.proofs.lemmas.List.{append-nil}
-use Rattle.order_axioms.specs.Order.{Segment, Within, done, segment_of, Begun, Sound, QuietAt}
+use Rattle.order_axioms.specs.Order.{Segment, Within, done, segment_of, Begun, Sound}
 use Rattle.order_axioms.specs.Races.{within_coarray}
-use Rattle.order_axioms.specs.Acts.{Act, arrives, leaves, pairs, unpairs, gets, unlocks, enters, exits, posts, waits, finishes, creates, deletes, goes_on, completing, pausing, Key, round, pair, lock, construct, event, Turn, adds, clears, drops, leaves_all, turn, turned, View, entries, waiting_from, waiting, last_named_from, corresponding, released, others, rules}
+use Rattle.order_axioms.specs.Acts.{Act, arrives, leaves, pairs, unpairs, gets, unlocks, enters, exits, posts, waits, finishes, creates, deletes, goes_on, completing, pausing, Key, round, pair, lock, construct, event, Turn, adds, clears, drops, leaves_all, turn, turned, View, entries, waiting_from, waiting, last_named_from, corresponding, released, others, edge_rules}
 use Rattle.order_axioms.specs.Facts.{Pauses}
 use Rattle.order_axioms.proofs.Withins.{within_append, within_drop, within_take, within_flat}
 use Rattle.order_axioms.proofs.Splits.{done_append, no_later}
+use Rattle.order_axioms.proofs.Paths.{QuietAt}
 use Rattle.order_axioms.proofs.Others.{others_begun, others_quiet}
 
 -- neither of two turns that add nothing adds
@@ -125,14 +126,14 @@ module _ (E : Type 0) (v : View E) where
       subst (λ z. Begun (entries v) g z) (sym h.at) (omega arith)
 
   -- each source has begun
-  known : (g : List E) (e : E) (a : Segment) → Within a ((rules v).sources g e) → Begun (entries v) g a
+  known : (g : List E) (e : E) (a : Segment) → Within a ((edge_rules v).sources g e) → Begun (entries v) g a
   known g e a (inl same) = subst (λ z. Begun (entries v) g z) (sym same) (omega arith)
   known g e a (inr w) = elim (within_append Segment a (released v g (v.image e) (v.act e)) (others v g e) w) [
     | inl r ↦ (let z = released_waits g (v.image e) (v.act e) a r in added_begun z.0 g a (added z.0 g a z.1))
     | inr o ↦ others_begun E v g e a o
   ]
 
-  pub sound : Sound (rules v)
+  pub sound : Sound (edge_rules v)
   sound = record { known = known; own = λ g e. inl refl }
 
   -- Quiet: an image that pauses acts no more in that segment, and one that is spoken of acts no more.
@@ -147,7 +148,7 @@ module _ (E : Type 0) (v : View E) where
           | inr p ↦ (let l = paused.pauses a.before (a.rest ++ x ∷ h) g' h' a.event f split s' p act (sym a.at) in omega arith)
         ]
 
-    pub quiet : QuietAt (rules v) acts t
+    pub quiet : QuietAt (edge_rules v) acts t
     quiet g h g' h' x f s c s' act (inl same) = no_later E (entries v) t g h g' h' x f s s' c (sym same)
     quiet g h g' h' x f s c s' act (inr w) = elim (within_append Segment (segment_of (entries v) g' f) (released v g (v.image x) (v.act x)) (others v g x) w) [
       | inl r ↦ (

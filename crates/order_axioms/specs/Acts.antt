@@ -1,23 +1,24 @@
 -- The edges of segment order: what an entry does to it, where segments wait to be released, and the sources of an entry.
 use Rattle.std.specs.Prelude.{ℕ, ◌-◌, ◌&&◌, ◌||◌, Bool, true, false, nat_eq, cond, List, [], ◌∷◌, ◌++◌, length, map, take, drop}
 use Rattle.std.specs.List.{flat_map}
-use Rattle.order_axioms.specs.Order.{Segment, Entries, Rules, done, segment_of}
+use Rattle.order_axioms.specs.Order.{Segment, Entries, EdgeRules, done, segment_of}
 use Rattle.order_axioms.specs.Races.{Cell, same_cell, within_coarray}
 
 -- What an entry is to segment order. A round is one use of a statement that all images of a team take part in
--- (ISO/IEC 1539-1:2018, 11.6.3, 11.6.6, 11.6.9). 'In order' tells that no image that it was to meet had stopped.
+-- (ISO/IEC 1539-1:2018, 11.1.5, 11.6.3, 11.6.6, 11.6.9, and 9.7.1 and 9.7.3 for coarrays). 'Whole' says that no image that it
+-- involves had stopped; where one had, the statement completes a segment, and that alone, as SYNC MEMORY does (11.6.11).
 pub data Act : Type 0 where
   arrives : ℕ → ℕ → Act  -- at a team's round of this number
-  leaves : ℕ → ℕ → Bool → Act  -- a team's round of this number, in order or not
+  leaves : ℕ → ℕ → Bool → Act  -- a team's round of this number, whole or not
   pairs : List ℕ → Act  -- begins SYNC IMAGES with these images (11.6.4)
-  unpairs : Bool → Act  -- ends it, in order or not
+  unpairs : Bool → Act  -- ends it, whole or not
   gets : Cell → Act  -- acquires a lock (11.6.10)
   unlocks : Cell → Act  -- releases a lock
   enters : ℕ → Act  -- begins a CRITICAL construct of this number (11.1.6)
   exits : ℕ → Act  -- ends it
   posts : Cell → Act  -- an event (11.6.7)
   waits : Cell → ℕ → Act  -- takes so many posts of an event (11.6.8)
-  finishes : Act  -- completes a segment, and that alone
+  finishes : Act  -- completes a segment, and that alone: SYNC MEMORY (11.6.5), STOP, END PROGRAM, a LOCK that acquires nothing
   creates : ℕ → ℕ → Act  -- allocates this owner's coarray of this number (9.7.1)
   deletes : ℕ → ℕ → Act  -- deallocates it (9.7.3)
   goes_on : Act  -- nothing
@@ -51,7 +52,7 @@ pub data Key : Type 0 where
   pair : ℕ → ℕ → Key  -- of the first image, those that began SYNC IMAGES with the second
   lock : Cell → Key  -- those that unlocked it
   construct : ℕ → Key  -- those that left a CRITICAL construct
-  event : Cell → Key  -- those that posted it, in order
+  event : Cell → Key  -- those that posted it, the first post first
 
 -- what an entry does to the segments that wait at a key
 pub data Turn : Type 0 where
@@ -65,7 +66,9 @@ abbrev pub names : ℕ → List ℕ → Bool
 names i [] = false
 names i (j ∷ js) = nat_eq j i || names i js
 
--- The table of keys: what an act of image i does at a key.
+-- The table of keys: what an act of image i does at a key. A deallocation leaves what waits at a lock: no image acquires the lock
+-- before the allocation that makes its coarray anew, and that allocation clears the key. An event is cleared by both, of which
+-- the allocation would do.
 abbrev pub turn : Key → ℕ → Act → Turn
 turn (round t k) i (arrives u l) = cond (nat_eq t u && nat_eq k l) adds leaves_all
 turn (pair j h) i (pairs js) = cond (nat_eq i j && names h js) adds leaves_all
@@ -93,7 +96,7 @@ named_after i js j (pairs ks) = cond (nat_eq i j) ks js
 named_after i js j a = js
 
 -- What segment order sees of an entry: whose it is, its act, and the failed images of which its status speaks after the
--- entries before it (11.6.11, 16.10.2.26, 16.10.2.30).
+-- entries before it (11.6.11, 16.10.2.26, 16.10.2.31).
 pub record View (E : Type 0) : Type 0 where
   pub image : E → ℕ
   pub act : E → Act
@@ -144,5 +147,5 @@ module _ {E : Type 0} (v : View E) where
   others g e = spoken g e
 
   -- all sources of an entry: its own segment first
-  abbrev pub rules : Rules E
-  rules = record { entries = entries; sources = λ g e. segment_of entries g e ∷ released g (v.image e) (v.act e) ++ others g e }
+  abbrev pub edge_rules : EdgeRules E
+  edge_rules = record { entries = entries; sources = λ g e. segment_of entries g e ∷ released g (v.image e) (v.act e) ++ others g e }

@@ -1,7 +1,7 @@
 -- What a recorder keeps of one cell: a few marks of the entries so far that touched it.
 use Rattle.std.specs.Prelude.{ℕ, ◌≤◌, ◌≡◌, ◌&&◌, ◌||◌, not, Bool, true, false, nat_eq, nat_lt, cond, List, [], ◌∷◌, ◌++◌}
 use Rattle.std.specs.List.{filter}
-use Rattle.order_axioms.specs.Order.{Segment, Entries, Rules, Within, Reaches, Begun, Before, segment_of}
+use Rattle.order_axioms.specs.Order.{Segment, Entries, EdgeRules, Within, Reaches, Begun, Precedes, segment_of}
 use Rattle.order_axioms.specs.Races.{Cell, touches_cell, Accesses, Stands, Class, reads, writes, looks, changes, makes, signals, meets}
 
 -- An entry that touched the cell: its segment and its class.
@@ -44,28 +44,28 @@ stays q k = not (outranks q.class k.class && (same_image k q || meets k.class q.
 abbrev pub noted : Mark → List Mark → List Mark
 noted q ks = filter (stays q) ks ++ q ∷ []
 
--- m's segment is k's or comes before it, and k meets each class that m meets
-abbrev pub Under : {E : Type 0} → Rules E → List E → Mark → Mark → Type 0
+-- m's segment is k's or precedes it, and k meets each class that m meets
+abbrev pub Under : {E : Type 0} → EdgeRules E → List E → Mark → Mark → Type 0
 Under r t m k = Reaches r t m.segment k.segment × ((x : Class) → meets m.class x ≡ true → meets k.class x ≡ true)
 
 -- The marks that are kept tell as much as all that were seen.
-pub record Keeps {E : Type 0} (r : Rules E) (t : List E) (seen kept : List Mark) : Type 0 where
+pub record Keeps {E : Type 0} (r : EdgeRules E) (t : List E) (seen kept : List Mark) : Type 0 where
   pub were_seen : (k : Mark) → Within k kept → Within k seen
   pub enough : (m : Mark) → Within m seen → (k : Mark) × Within k kept × Under r t m k
   pub begun : (m : Mark) → Within m seen → Begun r.entries t m.segment
 
 -- What is known where q is to be noted: q's segment has begun, the kept marks suffice, and those of q's image that were seen
 -- are of its segment or of earlier ones.
-pub record Noting {E : Type 0} (r : Rules E) (t : List E) (q : Mark) (seen kept : List Mark) : Type 0 where
+pub record Noting {E : Type 0} (r : EdgeRules E) (t : List E) (q : Mark) (seen kept : List Mark) : Type 0 where
   pub here : Begun r.entries t q.segment
   pub keeps : Keeps r t seen kept
   pub own : (m : Mark) → Within m seen → m.segment.image ≡ q.segment.image → m.segment.number ≤ q.segment.number
 
--- some mark so far meets q, is of another image, and its segment doesn't come before q's
-abbrev pub Unordered : {E : Type 0} → Rules E → List E → List Mark → Mark → Type 0
+-- some mark so far meets q, is of another image, and its segment doesn't precede q's
+abbrev pub Unordered : {E : Type 0} → EdgeRules E → List E → List Mark → Mark → Type 0
 Unordered r t seen q =
     (m : Mark) × Within m seen × (meets m.class q.class ≡ true) × (m.segment.image ≡ q.segment.image → ⊥)
-    × (Before r t m.segment q.segment → ⊥)
+    × (Precedes r t m.segment q.segment → ⊥)
 
 module _ {E V : Type 0} (k : Entries E) (a : Accesses E V) where
   -- the mark of an entry

@@ -1,5 +1,5 @@
--- Segments, and which of them come before which, told by a trace: the list of all entries of a run, of any type.
-use Rattle.std.specs.Prelude.{ℕ, suc, ◌+◌, ◌≤◌, ◌≡◌, ◌⊎◌, ◌&&◌, Bool, true, nat_eq, cond, List, [], ◌∷◌, ◌++◌, length}
+-- Segments, and which of them precedes which, told by a trace: the list of all entries of a run, of any type.
+use Rattle.std.specs.Prelude.{ℕ, suc, ◌+◌, ◌≤◌, ◌≡◌, ◌⊎◌, ◌&&◌, Bool, true, nat_eq, cond, List, [], ◌∷◌, ◌++◌}
 
 -- What one image executes between two of its completing entries (ISO/IEC 1539-1:2018, 11.6.2); numbers count from 0.
 pub record Segment : Type 0 where
@@ -13,7 +13,7 @@ pub record Entries (E : Type 0) : Type 0 where
 
 -- `sources g e`: the segments that the segment after e comes directly after, where g are the entries before e and e
 -- completes a segment.
-pub record Rules (E : Type 0) : Type 0 where
+pub record EdgeRules (E : Type 0) : Type 0 where
   pub entries : Entries E
   pub sources : List E → E → List Segment
 
@@ -40,7 +40,7 @@ abbrev pub Begun : {E : Type 0} → Entries E → List E → Segment → Type 0
 Begun r g a = a.number ≤ done r a.image g
 
 -- An edge from a to b in the trace t: b begins after an entry of t that has a among its sources.
-pub record Edge {E : Type 0} (r : Rules E) (t : List E) (a b : Segment) : Type 0 where
+pub record Edge {E : Type 0} (r : EdgeRules E) (t : List E) (a b : Segment) : Type 0 where
   pub before : List E
   pub event : E
   pub rest : List E
@@ -54,21 +54,15 @@ abbrev pub Linked : (Segment → Segment → Type 0) → Segment → List Segmen
 Linked edge a [] b = edge a b
 Linked edge a (m ∷ ms) b = edge a m × Linked edge m ms b
 
--- a comes before b in segment order: some edges lead from a to b
-abbrev pub Before : {E : Type 0} → Rules E → List E → Segment → Segment → Type 0
-Before r t a b = (ms : List Segment) × Linked (Edge r t) a ms b
+-- segment a precedes segment b (11.6.2): some edges lead from a to b
+abbrev pub Precedes : {E : Type 0} → EdgeRules E → List E → Segment → Segment → Type 0
+Precedes r t a b = (ms : List Segment) × Linked (Edge r t) a ms b
 
--- a is b or comes before it
-abbrev pub Reaches : {E : Type 0} → Rules E → List E → Segment → Segment → Type 0
-Reaches r t a b = (a ≡ b) ⊎ Before r t a b
+-- a is b or precedes it
+abbrev pub Reaches : {E : Type 0} → EdgeRules E → List E → Segment → Segment → Type 0
+Reaches r t a b = (a ≡ b) ⊎ Precedes r t a b
 
 -- What is asked of rules. Each source of an entry has begun before it, and the entry's own segment is a source.
-pub record Sound {E : Type 0} (r : Rules E) : Type 0 where
+pub record Sound {E : Type 0} (r : EdgeRules E) : Type 0 where
   pub known : (g : List E) (e : E) (a : Segment) → Within a (r.sources g e) → Begun r.entries g a
   pub own : (g : List E) (e : E) → Within (segment_of r.entries g e) (r.sources g e)
-
--- no entry of t that acts stands after an entry that its segment is a source of
-abbrev pub QuietAt : {E : Type 0} → Rules E → (List E → E → Type 0) → List E → Type 0
-QuietAt {E} r acts t =
-    (g h g' h' : List E) (x f : E) → t ≡ g ++ x ∷ h → r.entries.completes x ≡ true → t ≡ g' ++ f ∷ h' → acts g' f
-    → Within (segment_of r.entries g' f) (r.sources g x) → length g' ≤ length g

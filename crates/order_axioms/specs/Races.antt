@@ -1,6 +1,6 @@
 -- Cells and what is done to them; conflicts, races and justified reads of a trace (ISO/IEC 1539-1:2018, 11.6.2).
 use Rattle.std.specs.Prelude.{ℕ, ◌<◌, ◌≤◌, ◌≡◌, ◌⊎◌, ◌&&◌, ◌||◌, not, Bool, true, false, nat_eq, cond, List, [], ◌∷◌, ◌++◌, length}
-use Rattle.order_axioms.specs.Order.{Segment, Rules, Within, segment_of, Before}
+use Rattle.order_axioms.specs.Order.{Segment, EdgeRules, Within, segment_of, Precedes}
 
 -- One cell of a coarray: its owner's image index, the coarray's number, and the place in array element order from 0.
 pub record Cell : Type 0 where
@@ -53,7 +53,8 @@ abbrev pub is_making : Class → Bool
 is_making makes = true
 is_making c = false
 
--- two accesses of which one defines and which aren't both atomic, or an action on a lock or event and an (de)allocation
+-- two accesses of which one defines and which aren't both atomic, or an action on a lock or event and an allocation or
+-- deallocation
 abbrev pub meets : Class → Class → Bool
 meets k m =
     cond (is_access k && is_access m) ((defines k || defines m) && not (is_atomic k && is_atomic m)) (is_making k || is_making m)
@@ -78,7 +79,7 @@ pub record Stands {E : Type 0} (t : List E) : Type 0 where
 abbrev pub place : {E : Type 0} {t : List E} → Stands t → ℕ
 place x = length x.before
 
-module _ {E V : Type 0} (r : Rules E) (a : Accesses E V) (t : List E) where
+module _ {E V : Type 0} (r : EdgeRules E) (a : Accesses E V) (t : List E) where
   -- the segment in which it stands
   abbrev pub segment : Stands t → Segment
   segment x = segment_of r.entries x.before x.event
@@ -98,43 +99,44 @@ module _ {E V : Type 0} (r : Rules E) (a : Accesses E V) (t : List E) where
     pub shared : SharedCell x y cell
     pub met : meets (a.class_of x.event) (a.class_of y.event) ≡ true
 
-  -- A race is a conflict of two entries whose segments are unordered.
+  -- A race is a conflict of two entries whose segments are unordered. The standard has no such word: a race is a use of cells
+  -- that 11.6.2 forbids.
   pub record Race (x y : Stands t) : Type 0 where
     pub conflict : Conflict x y
-    pub not_before : Before r t (segment x) (segment y) → ⊥
-    pub not_after : Before r t (segment y) (segment x) → ⊥
+    pub not_before : Precedes r t (segment x) (segment y) → ⊥
+    pub not_after : Precedes r t (segment y) (segment x) → ⊥
 
   -- no two of the first m entries are a race
   abbrev pub NoRace : ℕ → Type 0
   NoRace m = (x y : Stands t) → place x < place y → place y < m → Race x y → ⊥
 
-  -- earlier in one image's list, or in a segment that comes before
-  abbrev pub Earlier : Stands t → Stands t → Type 0
-  Earlier x y = ((r.entries.image_of x.event ≡ r.entries.image_of y.event) × (place x < place y)) ⊎ Before r t (segment x) (segment y)
+  -- x is ordered before y: earlier on the same image, or in a segment that precedes y's (11.6.2)
+  abbrev pub OrderedBefore : Stands t → Stands t → Type 0
+  OrderedBefore x y = ((r.entries.image_of x.event ≡ r.entries.image_of y.event) × (place x < place y)) ⊎ Precedes r t (segment x) (segment y)
 
-  -- no entry before y stands in a segment that comes after y's
+  -- no entry before y stands in a segment that y's precedes
   abbrev pub Ahead : Stands t → Type 0
-  Ahead y = (x : Stands t) → place x < place y → Before r t (segment y) (segment x) → ⊥
+  Ahead y = (x : Stands t) → place x < place y → Precedes r t (segment y) (segment x) → ⊥
 
   -- it defines the cell
   abbrev pub Writes : Stands t → Cell → Type 0
   Writes x c = Touches x c × (defines (a.class_of x.event) ≡ true)
 
-  -- The read x gives the value of the write w, which is earlier; each other earlier write is earlier than w, or is atomic as
-  -- w is and was made before it.
+  -- The read x gives the value of the write w, which is ordered before x; each other write that is ordered before x is ordered
+  -- before w, or is atomic as w is and was made before it.
   pub record IsLatest (x w : Stands t) (c : Cell) : Type 0 where
     pub wrote : Writes w c
-    pub earlier : Earlier w x
+    pub ordered : OrderedBefore w x
     pub value : a.gives x.event c ≡ a.leaves w.before w.event c
     pub latest :
-        (v : Stands t) → Writes v c → Earlier v x → (place v ≡ place w → ⊥)
-        → Earlier v w ⊎ ((is_atomic (a.class_of v.event) ≡ true) × (is_atomic (a.class_of w.event) ≡ true) × (place v < place w))
+        (v : Stands t) → Writes v c → OrderedBefore v x → (place v ≡ place w → ⊥)
+        → OrderedBefore v w ⊎ ((is_atomic (a.class_of v.event) ≡ true) × (is_atomic (a.class_of w.event) ≡ true) × (place v < place w))
 
-  -- at each cell the read gives the value of its latest earlier write, or the first value where none is earlier
+  -- at each cell the read gives the value of the latest write that is ordered before it, or the first value where none is
   abbrev pub Justified : Stands t → Type 0
   Justified x =
       (c : Cell) → Touches x c
-      → ((w : Stands t) × IsLatest x w c) ⊎ (((w : Stands t) → Writes w c → Earlier w x → ⊥) × (a.gives x.event c ≡ a.first_value c))
+      → ((w : Stands t) × IsLatest x w c) ⊎ (((w : Stands t) → Writes w c → OrderedBefore w x → ⊥) × (a.gives x.event c ≡ a.first_value c))
 
   -- The read x gives the value of the write w, which is the last one of the cell that stands before x in the trace.
   pub record IsLast (x w : Stands t) (c : Cell) : Type 0 where
@@ -149,8 +151,8 @@ module _ {E V : Type 0} (r : Rules E) (a : Accesses E V) (t : List E) where
       (x : Stands t) (c : Cell) → a.class_of x.event ≡ reads → Touches x c
       → ((w : Stands t) × IsLast x w c) ⊎ (((w : Stands t) → Writes w c → place w < place x → ⊥) × (a.gives x.event c ≡ a.first_value c))
 
-  -- of two accesses, the one in the segment that comes before stands before the other
+  -- an access in a segment that precedes another access's stands before it
   abbrev pub Forward : Type 0
   Forward =
       (x y : Stands t) (c d : Cell) → is_access (a.class_of x.event) ≡ true → is_access (a.class_of y.event) ≡ true → Touches x c → Touches y d
-      → Before r t (segment x) (segment y) → place x < place y
+      → Precedes r t (segment x) (segment y) → place x < place y

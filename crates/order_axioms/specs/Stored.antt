@@ -1,6 +1,6 @@
 -- What a recorder keeps of images and keys while a trace grows.
 use Rattle.std.specs.Prelude.{ℕ, max, ◌≡◌, List, [], ◌∷◌, ◌++◌, drop}
-use Rattle.order_axioms.specs.Order.{Segment, Rules, done, segment_of}
+use Rattle.order_axioms.specs.Order.{Segment, EdgeRules, done, segment_of}
 use Rattle.order_axioms.specs.Clocks.{Covers}
 use Rattle.order_axioms.specs.Acts.{Key, Turn, adds, clears, drops, leaves_all, turn_of, View, entries}
 
@@ -12,7 +12,7 @@ turned_clock (drops k) own c i = c i
 turned_clock leaves_all own c i = c i
 
 -- a clock for each of these segments
-abbrev pub EachCovered : {E : Type 0} → Rules E → List E → List Segment → List (ℕ → ℕ) → Type 0
+abbrev pub EachCovered : {E : Type 0} → EdgeRules E → List E → List Segment → List (ℕ → ℕ) → Type 0
 EachCovered r g [] [] = Unit {0}
 EachCovered r g [] (c ∷ cs) = ⊥
 EachCovered r g (s ∷ q) [] = ⊥

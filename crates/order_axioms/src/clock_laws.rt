@@ -1,4 +1,4 @@
-//! Clocks over any edges: joined along the trace they cover exactly what comes before.
+//! Clocks over any edges: joined along the trace they cover exactly what precedes.
 
 ghost use Rattle.std.specs.Prelude.{◌≡◌, ℕ, true, max, List, [], ◌∷◌, ◌++◌};
 ghost use Rattle.order_axioms.specs.Order.{Segment, Within, Begun, segment_after};

@@ -1,6 +1,6 @@
 //! What the laws speak of: a trace's entries with any edges, and with the edges of the table.
 
-ghost use Rattle.order_axioms.specs.Order.{Rules, Sound};
+ghost use Rattle.order_axioms.specs.Order.{EdgeRules, Sound};
 ghost use Rattle.order_axioms.specs.Races.{Accesses};
 ghost use Rattle.order_axioms.specs.Acts.{View};
 
@@ -10,7 +10,7 @@ pub trait Ruled {
 
     ghost Value: { Type 0 };
 
-    ghost rules: { Rules Entry };
+    ghost rules: { EdgeRules Entry };
 
     ghost sound: { Sound rules };
 

@@ -1,21 +1,21 @@
-//! What comes before what, and what reads give.
+//! Which segment precedes which, and what reads give.
 
 ghost use Rattle.std.specs.Prelude.{◌≡◌, ℕ, List, ◌++◌, ◌<◌, ◌↔◌};
-ghost use Rattle.order_axioms.specs.Order.{Segment, Before, Begun};
+ghost use Rattle.order_axioms.specs.Order.{Segment, Precedes, Begun};
 ghost use Rattle.order_axioms.specs.Races.{reads, Stands, place, Forward, ReadsLast, NoRace, Justified};
-ghost use Rattle.order_axioms.specs.Acts.{entries, rules};
+ghost use Rattle.order_axioms.specs.Acts.{entries, edge_rules};
 ghost use Rattle.order_axioms.specs.Facts.{AccessesCell, Pauses};
 
 use crate::entries::{Ruled, Traced};
 
-/// Which segments come before a segment depends only on the entries up to its beginning.
+/// Which segments precede a segment depends only on the entries up to its beginning.
 pub fn law_prefixes<T: Traced>()
-    ensures { (t u : List T.Entry) (a b : Segment) → Begun (entries T.view) t b → Before (rules T.view) (t ++ u) a b ↔ Before (rules T.view) t a b }
+    ensures { (t u : List T.Entry) (a b : Segment) → Begun (entries T.view) t b → Precedes (edge_rules T.view) (t ++ u) a b ↔ Precedes (edge_rules T.view) t a b }
 {}
 
-/// Of two accesses the one in the segment that comes before stands before the other in the trace.
+/// An access in a segment that precedes another access's stands before it in the trace.
 pub fn law_forward<T: Traced>()
-    ensures { (t : List T.Entry) → Pauses T.view (AccessesCell T.accesses) t → Forward (rules T.view) T.accesses t }
+    ensures { (t : List T.Entry) → Pauses T.view (AccessesCell T.accesses) t → Forward (edge_rules T.view) T.accesses t }
 {}
 
 /// Whatever the edges are: where accesses go forward, reads give the last write and the first m entries have no race, each read
@@ -27,7 +27,7 @@ pub fn law_reads_by_any_edges<R: Ruled>()
 
 /// Each read among the first m entries is justified, where these have no race.
 pub fn law_reads<T: Traced>()
-    ensures { (t : List T.Entry) → Pauses T.view (AccessesCell T.accesses) t → ReadsLast (rules T.view) T.accesses t
-        → (m : ℕ) → NoRace (rules T.view) T.accesses t m → (x : Stands t) → T.accesses.class_of x.event ≡ reads → place x < m
-        → Justified (rules T.view) T.accesses t x }
+    ensures { (t : List T.Entry) → Pauses T.view (AccessesCell T.accesses) t → ReadsLast (edge_rules T.view) T.accesses t
+        → (m : ℕ) → NoRace (edge_rules T.view) T.accesses t m → (x : Stands t) → T.accesses.class_of x.event ≡ reads → place x < m
+        → Justified (edge_rules T.view) T.accesses t x }
 {}

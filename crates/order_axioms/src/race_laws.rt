@@ -1,7 +1,7 @@
 //! Marks and races, over any edges.
 
 ghost use Rattle.std.specs.Prelude.{◌≡◌, List, [], ◌∷◌, ◌++◌, cond, ◌<◌, ◌↔◌};
-ghost use Rattle.order_axioms.specs.Order.{Within, Before};
+ghost use Rattle.order_axioms.specs.Order.{Within, Precedes};
 ghost use Rattle.order_axioms.specs.Races.{Cell, touches_cell, Stands, place, segment, Touches, Conflict, Race, Ahead};
 ghost use Rattle.order_axioms.specs.Marks.{Mark, Marked, Unordered, mark_of, seen};
 
@@ -22,11 +22,11 @@ pub fn law_seen_where<R: Ruled>()
 pub fn law_race_told<R: Ruled>()
     ensures { (t : List R.Entry) (x y : Stands t) → place x < place y → Race R.rules R.accesses t x y
         ↔ (Conflict R.rules R.accesses t x y
-        × (Before R.rules y.before (segment R.rules R.accesses t x) (segment R.rules R.accesses t y) → ⊥)
-        × (Before R.rules y.before (segment R.rules R.accesses t y) (segment R.rules R.accesses t x) → ⊥)) }
+        × (Precedes R.rules y.before (segment R.rules R.accesses t x) (segment R.rules R.accesses t y) → ⊥)
+        × (Precedes R.rules y.before (segment R.rules R.accesses t y) (segment R.rules R.accesses t x) → ⊥)) }
 {}
 
-/// Where no earlier entry stands in a segment that comes after y's, y has a partner in a race exactly where one of its cells has an
+/// Where no earlier entry stands in a segment that y's precedes, y has a partner in a race exactly where one of its cells has an
 /// unordered mark.
 pub fn law_partner_where<R: Ruled>()
     ensures { (t : List R.Entry) (y : Stands t) → Ahead R.rules R.accesses t y

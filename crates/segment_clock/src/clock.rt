@@ -32,7 +32,7 @@ impl Clock {
         })
     }
 
-    /// Takes the greater count of each image. It takes no memory.
+    /// Takes the greater count of each image, from a clock with as many counts. It takes no memory.
     #[tactic(auto, using(crate::proofs::Joins::joined_step, crate::proofs::Joins::joined_none))]
     pub fn join(&mut self, other: &Clock)
         requires { length other.now ≡ length self.old }
@@ -43,7 +43,7 @@ impl Clock {
         }
     }
 
-    /// Whether the segment with this number, from 0, is below the image's count.
+    /// Whether the segment with this number, from 0, is below the count of the image, which is one from 1 to the number of counts.
     pub fn covers(&self, image: ImageNo, segment: u64) -> bool
         requires first { 0 < image.0 }
         requires last { image.0 ≤ length self.now }
@@ -52,7 +52,7 @@ impl Clock {
         segment < self.counts[(image.0 - 1) as usize]
     }
 
-    /// Adds one to the image's count. It takes no memory.
+    /// Adds one to the count, which is below 2^64 - 1, of an image from 1 to the number of counts. It takes no memory.
     pub fn tick(&mut self, image: ImageNo)
         requires first { 0 < image.0 }
         requires last { image.0 ≤ length self.old }
@@ -62,7 +62,7 @@ impl Clock {
         self.counts[(image.0 - 1) as usize] += 1;
     }
 
-    /// Sets the image's count. It takes no memory.
+    /// Sets the count of an image from 1 to the number of counts. It takes no memory.
     pub fn set(&mut self, image: ImageNo, count: u64)
         requires first { 0 < image.0 }
         requires last { image.0 ≤ length self.old }

@@ -1,6 +1,6 @@
-//! Clocks of segments: for each image how many of its segments come before.
+//! Clocks of segments: for each image how many of its segments precede.
 //! It stands on `caf_base` alone.
-//! The recorder of segment order stands on it, and a table of what each image was told.
+//! Nothing stands on it yet: it is for the recorder of segment order (docs/ORDER.md).
 //! Its main contract: `Clock::join` takes the greater count of each image, and `Clock::covers` is true exactly
 //! where a segment's number is below its image's count (segments: ISO/IEC 1539-1:2018, 11.6.2).
 #![tactic(auto)]

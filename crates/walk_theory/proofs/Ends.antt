@@ -5,8 +5,8 @@ use Rattle.trace_theory.specs.Machines.{Move, ComesToRest, Falls}
 use Rattle.trace_theory.proofs.Ending.{ends_by_falling}
 use Rattle.walk_theory.specs.Language.{Effect, goes_to, faults, asking, ends_with, stuck, Tested, no_value, holds, fails, Language, acted, counted, by_test}
 use Rattle.walk_theory.specs.Syntax.{end_parts, value, act, enter, either, otherwise, branch, Steps, stop, also}
-use Rattle.walk_theory.specs.Walks.{Task, run, eval, tally, decide, pick, again, turn, back, backs, Config, to, step, step_task}
-use Rattle.walk_theory.specs.Weights.{weight}
+use Rattle.walk_theory.specs.Walks.{Task, run, eval, tally, decide, pick, again, iterate, back, backs, Config, to, step, step_task}
+use Rattle.walk_theory.proofs.Weights.{weight}
 
 module _ {A C Q R : Type 0} (L : Language A C Q R) (procedures : ℕ → Steps A) (limit : ℕ) where
   -- after this move from b less is left to do, or one more is counted
@@ -44,7 +44,7 @@ module _ {A C Q R : Type 0} (L : Language A C Q R) (procedures : ℕ → Steps A
   falls (decide (branch l p a rest)) ts c n = (tt, inl (refl, omega arith))
   falls (pick l a rest) ts c n = test_falls (to (pick l a rest ∷ ts) c n) (L.test c) (run a ∷ ts) (decide rest ∷ ts) (omega arith) (omega arith)
   falls (again m) ts c n = (tt, inl (refl, omega arith))
-  falls (turn m) ts c n = test_falls (to (turn m ∷ ts) c n) (L.test c) (tally m.line ∷ run m.body ∷ again m ∷ ts) ts (omega arith) (omega arith)
+  falls (iterate m) ts c n = test_falls (to (iterate m ∷ ts) c n) (L.test c) (tally m.line ∷ run m.body ∷ again m ∷ ts) ts (omega arith) (omega arith)
   falls back ts c n = (tt, inl (refl, omega arith))
 
   list_falls : (ts : List (Task A)) (c : C) (n : ℕ) → Less (to ts c n) (step L procedures limit (to ts c n))

@@ -6,12 +6,13 @@ use Rattle.trace_theory.specs.Machines.{over, Rests}
 use Rattle.trace_theory.specs.Simulations.{SameRest, RestsNear}
 use Rattle.walk_theory.specs.Language.{Effect, goes_to, faults, asking, ends_with, stuck, Tested, no_value, holds, fails, Language, acted, counted, by_test}
 use Rattle.walk_theory.specs.Syntax.{end_parts, value, act, enter, either, otherwise, branch, Steps, stop, also}
-use Rattle.walk_theory.specs.Walks.{Task, run, eval, tally, decide, pick, again, turn, back, Config, to, backs, step, step_task}
+use Rattle.walk_theory.specs.Walks.{Task, run, eval, tally, decide, pick, again, iterate, back, Config, to, backs, step, step_task}
 use Rattle.walk_theory.specs.Code.{Line, on, count_one, does_act, jump_if, State, at_place, returned, code_step}
 use Rattle.walk_theory.specs.Made.{Places, parts_size, steps_size}
-use Rattle.walk_theory.specs.Alike.{Does, Alike, SameCore}
+use Rattle.walk_theory.specs.Programs.{SameCore}
+use Rattle.walk_theory.proofs.Alike.{Does, Alike}
 use Rattle.walk_theory.proofs.Leaving.{same_depth}
-use Rattle.walk_theory.proofs.Places.{turns_cut}
+use Rattle.walk_theory.proofs.Places.{iterations_cut}
 
 module _ {A C Q R : Type 0} (L : Language A C Q R) (procedures : ℕ → Steps A) (limit : ℕ) (code : List (Line A)) (starts : ℕ → ℕ) where
   count_stops : (l p : ℕ) (rs : List ℕ) (c : C) (n : ℕ) (d e : Config A C) → slice_get code p ≡ Some (on l count_one) → Rests (counted L limit l n d e) → SameRest (counted L limit l n d e) (code_step L code limit (at_place p rs c n))
@@ -48,8 +49,8 @@ module _ {A C Q R : Type 0} (L : Language A C Q R) (procedures : ℕ → Steps A
   task_stops (decide (branch l q a rest)) ts xs p rs c n h s = absurd s
   task_stops (pick l a rest) ts xs p rs c n h s = test_stops (L.test c) (at_place p rs c n) (λ d. at_place (p + 1) rs d n) (λ d. at_place (p + 1 + steps_size a + 1) rs d n) _ _ (rw h.0.0 refl) s
   task_stops (again m) ts xs p rs c n h s = absurd s
-  task_stops (turn m) ts xs p rs c n h s =
-      let g = turns_cut code starts xs h.0 m.line m.body m.next m.test h.2 in
+  task_stops (iterate m) ts xs p rs c n h s =
+      let g = iterations_cut code starts xs h.0 m.line m.body m.next m.test h.2 in
       let at = subst (λ k. slice_get code k ≡ Some (on m.line (jump_if h.0))) (sym h.1) g.last in
       test_stops (L.test c) (at_place p rs c n) (λ d. at_place h.0 rs d n) (λ d. at_place (p + 1) rs d n) _ _ (rw at refl) s
   task_stops back ts xs p rs c n h s = absurd s

@@ -1,10 +1,10 @@
 -- EXIT, CYCLE and RETURN: what the code leads to is what the walk goes on with.
 use Rattle.std.proofs.Common.{◌≡◌, ℕ, zero, suc, List, [], ◌∷◌, length, refl, ap, sym, subst, inl, inr}
 use Rattle.std.specs.Prelude.{Some, slice_get}
-use Rattle.walk_theory.specs.Walks.{Task, run, eval, tally, decide, pick, again, turn, back, after_loop, from_loop, from_back, backs}
+use Rattle.walk_theory.specs.Walks.{Task, run, eval, tally, decide, pick, again, iterate, back, after_loop, from_loop, from_back, backs}
 use Rattle.walk_theory.specs.Code.{Line, on, jump, go_back}
 use Rattle.walk_theory.specs.Made.{Places, exit_instr, cycle_instr}
-use Rattle.walk_theory.specs.Alike.{Does, Leads}
+use Rattle.walk_theory.proofs.Alike.{Does, Leads}
 
 module _ {A : Type 0} (code : List (Line A)) (starts : ℕ → ℕ) where
   -- the place leads to one where the code does these tasks
@@ -23,7 +23,7 @@ module _ {A : Type 0} (code : List (Line A)) (starts : ℕ → ℕ) where
   reach_back (pick m a b ∷ ts) xs p q l rs h at = reach_back ts xs _ q l rs h.1 at
   reach_back (again m ∷ ts) [] p q l rs h at = absurd h
   reach_back (again m ∷ ts) (x ∷ xs) p q l rs h at = reach_back ts xs _ q l rs h.4 at
-  reach_back (turn m ∷ ts) xs p q l rs h at = reach_back ts xs _ q l rs h.3 at
+  reach_back (iterate m ∷ ts) xs p q l rs h at = reach_back ts xs _ q l rs h.3 at
   reach_back (back ∷ ts) xs p q l [] h at = absurd h
   reach_back (back ∷ ts) xs p q l (r ∷ rs) h at = (refl, l, at, h.3, h.4)
 
@@ -39,7 +39,7 @@ module _ {A : Type 0} (code : List (Line A)) (starts : ℕ → ℕ) where
   leave_loop zero (again m ∷ ts) (x ∷ xs) p q l rs h at =
       record { to = x.exit; loops = xs; leads = inr (l, jump x.exit, at, refl); does = subst (λ k. Does code starts xs k rs ts) (sym (ap (λ (y : Places). y.exit) h.1)) h.4 }
   leave_loop (suc n) (again m ∷ ts) (x ∷ xs) p q l rs h at = leave_loop n ts xs _ q l rs h.4 at
-  leave_loop n (turn m ∷ ts) xs p q l rs h at = leave_loop n ts xs _ q l rs h.3 at
+  leave_loop n (iterate m ∷ ts) xs p q l rs h at = leave_loop n ts xs _ q l rs h.3 at
   leave_loop n (back ∷ ts) xs p q l [] h at = absurd h
   leave_loop n (back ∷ ts) xs p q l (r ∷ rs) h at =
       record { to = q; loops = []; leads = inl refl; does = (refl, l, subst (λ ys. slice_get code q ≡ Some (on l (exit_instr ys n))) h.0 at, h.3, h.4) }
@@ -56,7 +56,7 @@ module _ {A : Type 0} (code : List (Line A)) (starts : ℕ → ℕ) where
   cycle_loop zero (again m ∷ ts) (x ∷ xs) p q l rs h at =
       record { to = x.next; loops = x ∷ xs; leads = inr (l, jump x.next, at, refl); does = (h.0, h.1, ap (λ (y : Places). y.next) h.1, h.3, h.4) }
   cycle_loop (suc n) (again m ∷ ts) (x ∷ xs) p q l rs h at = cycle_loop n ts xs _ q l rs h.4 at
-  cycle_loop n (turn m ∷ ts) xs p q l rs h at = cycle_loop n ts xs _ q l rs h.3 at
+  cycle_loop n (iterate m ∷ ts) xs p q l rs h at = cycle_loop n ts xs _ q l rs h.3 at
   cycle_loop n (back ∷ ts) xs p q l [] h at = absurd h
   cycle_loop n (back ∷ ts) xs p q l (r ∷ rs) h at =
       record { to = q; loops = []; leads = inl refl; does = (refl, l, subst (λ ys. slice_get code q ≡ Some (on l (cycle_instr ys n))) h.0 at, h.3, h.4) }
@@ -71,6 +71,6 @@ module _ {A : Type 0} (code : List (Line A)) (starts : ℕ → ℕ) where
   same_depth (pick m a b ∷ ts) xs p rs h = same_depth ts xs _ rs h.1
   same_depth (again m ∷ ts) [] p rs h = absurd h
   same_depth (again m ∷ ts) (x ∷ xs) p rs h = same_depth ts xs _ rs h.4
-  same_depth (turn m ∷ ts) xs p rs h = same_depth ts xs _ rs h.3
+  same_depth (iterate m ∷ ts) xs p rs h = same_depth ts xs _ rs h.3
   same_depth (back ∷ ts) xs p [] h = absurd h
   same_depth (back ∷ ts) xs p (r ∷ rs) h = ap suc (same_depth ts h.3 r rs h.4)

@@ -1,3 +1,5 @@
+pub mod Alike
+pub mod Weights
 pub mod Places
 pub mod Leaving
 pub mod Simulation
@@ -7,7 +9,7 @@ pub mod Programs
 pub mod Wide
 pub mod Evaluation
 pub mod Terms
-pub mod Turns
+pub mod Iterations
 pub mod Nesting
 pub mod Numbers
 pub mod Good

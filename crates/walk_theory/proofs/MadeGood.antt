@@ -3,10 +3,20 @@ use Rattle.std.proofs.Common.{◌≡◌, ℕ, zero, suc, ◌+◌, ◌≤◌, inl
 use Rattle.std.specs.Prelude.{Some, slice_get, true}
 use Rattle.walk_theory.specs.Syntax.{Parts, end_parts, value, act, enter, either, Form, simple, choose, loop, around, exit, cycle, return, Branches, otherwise, branch, Steps, stop, also}
 use Rattle.walk_theory.specs.Code.{Instr, Line, on, jump, jump_if, count_one, go_back, Stands}
-use Rattle.walk_theory.specs.Made.{parts_size, steps_size, form_size, branches_size, Places, places, exit_instr, cycle_instr, parts_code, turns_code, pick_code, steps_code, form_code, branches_code, start_of, bodies_code, program_code}
-use Rattle.walk_theory.specs.Good.{counts, Fine, IsGood, FineFrom, Beyond}
+use Rattle.walk_theory.specs.Made.{parts_size, steps_size, form_size, branches_size, Places, places, exit_instr, cycle_instr, parts_code, iterations_code, pick_code, steps_code, form_code, branches_code, start_of, bodies_code, program_code}
+use Rattle.walk_theory.specs.Good.{counts, Fine, IsGood}
 use Rattle.walk_theory.proofs.Places.{cut, parts_long, steps_long, form_long}
 use Rattle.walk_theory.proofs.Programs.{all_stand}
+
+-- each of these steps, the first one at p, may stand there
+abbrev FineFrom : {A : Type 0} → List (Line A) → ℕ → List (Line A) → Type 0
+FineFrom code p [] = Unit {0}
+FineFrom code p (i ∷ is) = Fine code p i.instr × FineFrom code (p + 1) is
+
+-- the loops around go on behind this place
+abbrev Beyond : ℕ → List Places → Type 0
+Beyond p [] = Unit {0}
+Beyond p (x ∷ xs) = (p ≤ x.next) × (p ≤ x.exit) × Beyond p xs
 
 module _ {A : Type 0} (code : List (Line A)) (starts : ℕ → ℕ) where
   -- one list of fine steps behind another
@@ -61,8 +71,8 @@ module _ {A : Type 0} (code : List (Line A)) (starts : ℕ → ℕ) where
         let first = p + parts_size s + 1 in
         let ys = places first a n t ∷ xs in
         let body = steps_code starts ys (first + 1) a in
-        let turns = turns_code starts first l body n t in
-        let g = cut code p (parts_size s) (parts_code starts l s) (on l (jump (p + parts_size s + 1 + 1 + steps_size a + parts_size n)) ∷ turns) (parts_long starts l s) h in
+        let iterations = iterations_code starts first l body n t in
+        let g = cut code p (parts_size s) (parts_code starts l s) (on l (jump (p + parts_size s + 1 + 1 + steps_size a + parts_size n)) ∷ iterations) (parts_long starts l s) h in
         let k = cut code (first + 1) (steps_size a) body (parts_code starts l n ++ (parts_code starts l t ++ on l (jump_if first) ∷ [])) (steps_long starts ys (first + 1) a) g.1.1.1 in
         let here : counts (slice_get code first) ≡ true = ap counts g.1.1.0 in
         fine_join p (parts_size s) (parts_code starts l s) _ (parts_long starts l s) (parts_fine l p s) (

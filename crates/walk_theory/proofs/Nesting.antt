@@ -4,7 +4,7 @@ use Rattle.std.proofs.lemmas.Bool.{lt-ltb}
 use Rattle.trace_theory.specs.Machines.{goes, asks, Said, Walk, go}
 use Rattle.walk_theory.specs.Language.{faults, Language}
 use Rattle.walk_theory.specs.Syntax.{Parts, act, Steps, also, exit, cycle, return}
-use Rattle.walk_theory.specs.Walks.{Loop, Task, run, eval, tally, decide, pick, again, turn, back, after_loop, from_loop, from_back, backs, Config, to, step}
+use Rattle.walk_theory.specs.Walks.{Loop, Task, run, eval, tally, decide, pick, again, iterate, back, after_loop, from_loop, from_back, backs, Config, to, step}
 use Rattle.walk_theory.specs.Nesting.{loops}
 
 module _ {A : Type 0} where
@@ -16,7 +16,7 @@ module _ {A : Type 0} where
   exit_from (decide b ∷ us) ts m h = exit_from us ts m h
   exit_from (pick l a b ∷ us) ts m h = exit_from us ts m h
   exit_from (again l ∷ us) ts m h = exit_from us ts m h
-  exit_from (turn l ∷ us) ts m h = exit_from us ts m h
+  exit_from (iterate l ∷ us) ts m h = exit_from us ts m h
   exit_from (back ∷ us) ts m h = absurd (cc)
 
   cycle_from : (inner ts : List (Task A)) (m : Loop A) → backs inner ≡ 0 → from_loop (loops inner) (inner ++ again m ∷ ts) ≡ again m ∷ ts
@@ -27,7 +27,7 @@ module _ {A : Type 0} where
   cycle_from (decide b ∷ us) ts m h = cycle_from us ts m h
   cycle_from (pick l a b ∷ us) ts m h = cycle_from us ts m h
   cycle_from (again l ∷ us) ts m h = cycle_from us ts m h
-  cycle_from (turn l ∷ us) ts m h = cycle_from us ts m h
+  cycle_from (iterate l ∷ us) ts m h = cycle_from us ts m h
   cycle_from (back ∷ us) ts m h = absurd (cc)
 
   return_from : (inner ts : List (Task A)) → backs inner ≡ 0 → from_back (inner ++ back ∷ ts) ≡ back ∷ ts
@@ -38,7 +38,7 @@ module _ {A : Type 0} where
   return_from (decide b ∷ us) ts h = return_from us ts h
   return_from (pick l a b ∷ us) ts h = return_from us ts h
   return_from (again l ∷ us) ts h = return_from us ts h
-  return_from (turn l ∷ us) ts h = return_from us ts h
+  return_from (iterate l ∷ us) ts h = return_from us ts h
   return_from (back ∷ us) ts h = absurd (cc)
 
 module _ {A C Q R : Type 0} (L : Language A C Q R) (procedures : ℕ → Steps A) (limit : ℕ) where
@@ -46,7 +46,7 @@ module _ {A C Q R : Type 0} (L : Language A C Q R) (procedures : ℕ → Steps A
   pub exit_leaves : (inner ts : List (Task A)) (m : Loop A) (l n : ℕ) (rest : Steps A) (c : C) → backs inner ≡ 0 → n < limit → step L procedures limit (to (run (also l (exit (loops inner)) rest) ∷ (inner ++ again m ∷ ts)) c n) ≡ goes (to ts c (n + 1))
   exit_leaves inner ts m l n rest c h b = rw (lt-ltb n limit b, exit_from inner ts m h) refl
 
-  -- CYCLE goes on at the end of that loop's turn
+  -- CYCLE goes on at the end of that loop's iteration
   pub cycle_leaves : (inner ts : List (Task A)) (m : Loop A) (l n : ℕ) (rest : Steps A) (c : C) → backs inner ≡ 0 → n < limit → step L procedures limit (to (run (also l (cycle (loops inner)) rest) ∷ (inner ++ again m ∷ ts)) c n) ≡ goes (to (again m ∷ ts) c (n + 1))
   cycle_leaves inner ts m l n rest c h b = rw (lt-ltb n limit b, cycle_from inner ts m h) refl
 

@@ -3,7 +3,7 @@ use Rattle.std.proofs.Common.{◌≡◌, ℕ, suc, ◌+◌, List, [], ◌∷◌,
 use Rattle.std.specs.Prelude.{Some, slice_get}
 use Rattle.walk_theory.specs.Syntax.{Parts, end_parts, value, act, enter, either, Form, simple, choose, loop, around, exit, cycle, return, Branches, otherwise, branch, Steps, stop, also}
 use Rattle.walk_theory.specs.Code.{Line, on, count_one, jump, jump_if, skip, Stands}
-use Rattle.walk_theory.specs.Made.{parts_size, steps_size, form_size, branches_size, Places, places, parts_code, turns_code, pick_code, steps_code, form_code, branches_code}
+use Rattle.walk_theory.specs.Made.{parts_size, steps_size, form_size, branches_size, Places, places, parts_code, iterations_code, pick_code, steps_code, form_code, branches_code}
 
 pub stands_append : {A : Type 0} (code : List (Line A)) (p : ℕ) (xs ys : List (Line A)) → Stands code p (xs ++ ys) → Stands code p xs × Stands code (p + length xs) ys
 stands_append code p [] ys h = (tt, let e : p ≡ p + 0 = omega arith in subst (λ k. Stands code k ys) e h)
@@ -57,7 +57,7 @@ module _ {A : Type 0} (starts : ℕ → ℕ) where
         let c1 = length-append (parts_code starts l t) (on l (jump_if f) ∷ []) in
         let c2 = length-append (parts_code starts l n) tail in
         let c3 = length-append body (parts_code starts l n ++ tail) in
-        let c4 = length-append (parts_code starts l s) (on l (jump (p + parts_size s + 1 + 1 + steps_size b + parts_size n)) ∷ turns_code starts f l body n t) in
+        let c4 = length-append (parts_code starts l s) (on l (jump (p + parts_size s + 1 + 1 + steps_size b + parts_size n)) ∷ iterations_code starts f l body n t) in
         omega arith
     form_long xs p l (around q b m r) =
         let h1 = parts_long l q in
@@ -84,17 +84,17 @@ module _ {A : Type 0} (starts : ℕ → ℕ) where
         omega arith
 
 module _ {A : Type 0} (code : List (Line A)) (starts : ℕ → ℕ) where
-  -- the parts of a loop's turns
-  pub record Turns (xs : List Places) (p l : ℕ) (b : Steps A) (n t : Parts A) : Type 0 where
+  -- the parts of a loop's iterations
+  pub record Iterations (xs : List Places) (p l : ℕ) (b : Steps A) (n t : Parts A) : Type 0 where
     pub count : slice_get code p ≡ Some (on l count_one)
     pub body : Stands code (p + 1) (steps_code starts (places p b n t ∷ xs) (p + 1) b)
     pub next : Stands code (p + 1 + steps_size b) (parts_code starts l n)
     pub test : Stands code (p + 1 + steps_size b + parts_size n) (parts_code starts l t)
     pub last : slice_get code (p + 1 + steps_size b + parts_size n + parts_size t) ≡ Some (on l (jump_if p))
 
-  -- they stand where the code of the turns stands
-  pub turns_cut : (xs : List Places) (p l : ℕ) (b : Steps A) (n t : Parts A) → Stands code p (turns_code starts p l (steps_code starts (places p b n t ∷ xs) (p + 1) b) n t) → Turns xs p l b n t
-  turns_cut xs p l b n t h =
+  -- they stand where the code of the iterations stands
+  pub iterations_cut : (xs : List Places) (p l : ℕ) (b : Steps A) (n t : Parts A) → Stands code p (iterations_code starts p l (steps_code starts (places p b n t ∷ xs) (p + 1) b) n t) → Iterations xs p l b n t
+  iterations_cut xs p l b n t h =
       let ys = places p b n t ∷ xs in
       let f = cut code (p + 1) (steps_size b) (steps_code starts ys (p + 1) b) (parts_code starts l n ++ (parts_code starts l t ++ on l (jump_if p) ∷ [])) (steps_long starts ys (p + 1) b) h.1 in
       let g = cut code (p + 1 + steps_size b) (parts_size n) (parts_code starts l n) (parts_code starts l t ++ on l (jump_if p) ∷ []) (parts_long starts l n) f.1 in

@@ -11,8 +11,8 @@ use Rattle.walk_theory.specs.Syntax.{Steps, body_of}
 use Rattle.walk_theory.specs.Walks.{Config, step, start}
 use Rattle.walk_theory.specs.Code.{Line, on, go_back, State, code_step, at_place, Stands}
 use Rattle.walk_theory.specs.Made.{steps_size, steps_code, start_of, bodies_code, program_code}
-use Rattle.walk_theory.specs.Alike.{Alike, Proceed, SameCore}
-use Rattle.walk_theory.specs.Programs.{HasWalksOf}
+use Rattle.walk_theory.specs.Programs.{SameCore, HasWalksOf}
+use Rattle.walk_theory.proofs.Alike.{Alike, Proceed}
 use Rattle.walk_theory.proofs.Places.{cut, steps_long}
 use Rattle.walk_theory.proofs.Simulation.{simulates}
 use Rattle.walk_theory.proofs.Halts.{stops_near}

@@ -6,11 +6,11 @@ use Rattle.trace_theory.specs.Machines.{Move, goes, over, goes_on, go}
 use Rattle.trace_theory.specs.Simulations.{Matches, Simulates}
 use Rattle.walk_theory.specs.Language.{Effect, goes_to, faults, asking, ends_with, stuck, Tested, no_value, holds, fails, Language, acted, counted, by_test}
 use Rattle.walk_theory.specs.Syntax.{end_parts, value, act, enter, either, Form, simple, choose, loop, around, exit, cycle, return, otherwise, branch, Steps, stop, also}
-use Rattle.walk_theory.specs.Walks.{Task, run, eval, tally, decide, pick, again, turn, back, Config, to, form_tasks, backs, step, step_task}
+use Rattle.walk_theory.specs.Walks.{Task, run, eval, tally, decide, pick, again, iterate, back, Config, to, form_tasks, backs, step, step_task}
 use Rattle.walk_theory.specs.Code.{Instr, Line, on, State, at_place, does_act, count_one, jump, jump_if, jump_unless, skip, skip_unless, call, go_back, returned, does, code_step, Stands}
-use Rattle.walk_theory.specs.Made.{parts_size, steps_size, form_size, branches_size, Places, places, parts_code, turns_code, pick_code, steps_code, form_code, branches_code}
-use Rattle.walk_theory.specs.Alike.{Hops, Leads, Does, Alike, Proceed}
-use Rattle.walk_theory.proofs.Places.{turns_cut, cut, parts_long, steps_long, form_long}
+use Rattle.walk_theory.specs.Made.{parts_size, steps_size, form_size, branches_size, Places, places, parts_code, iterations_code, pick_code, steps_code, form_code, branches_code}
+use Rattle.walk_theory.proofs.Alike.{Hops, Leads, Does, Alike, Proceed}
+use Rattle.walk_theory.proofs.Places.{iterations_cut, cut, parts_long, steps_long, form_long}
 use Rattle.walk_theory.proofs.Leaving.{Reaches, same_depth, reach_back, leave_loop, cycle_loop}
 
 module _ {A C Q R : Type 0} (L : Language A C Q R) (answers : Q → R → Type 0) (procedures : ℕ → Steps A) (limit : ℕ) (code : List (Line A)) (starts : ℕ → ℕ) (proceed : Proceed code starts procedures) (past : slice_get code (length code) ≡ None) where
@@ -96,8 +96,8 @@ module _ {A C Q R : Type 0} (L : Language A C Q R) (answers : Q → R → Type 0
   form_reach (loop s n t b) l p xs rs ts h k =
       let first = p + parts_size s + 1 in
       let body = steps_code starts (places first b n t ∷ xs) (first + 1) b in
-      let f = cut code p (parts_size s) (parts_code starts l s) (on l (jump (p + parts_size s + 1 + 1 + steps_size b + parts_size n)) ∷ turns_code starts first l body n t) (parts_long starts l s) h in
-      let g = turns_cut code starts xs first l b n t f.1.1 in
+      let f = cut code p (parts_size s) (parts_code starts l s) (on l (jump (p + parts_size s + 1 + 1 + steps_size b + parts_size n)) ∷ iterations_code starts first l body n t) (parts_long starts l s) h in
+      let g = iterations_cut code starts xs first l b n t f.1.1 in
       let z : p + parts_size s ≡ p + parts_size s + 0 = omega arith in
       let e : p + (parts_size s + 1 + (1 + steps_size b + parts_size n + parts_size t + 1)) ≡ p + parts_size s + 1 + 1 + steps_size b + parts_size n + parts_size t + 1 = omega arith in
       record { to = p; loops = xs; leads = inl refl; does = (f.0, (tt, p + parts_size s + 1 + 1 + steps_size b + parts_size n, inr (l, jump (p + parts_size s + 1 + 1 + steps_size b + parts_size n), subst (λ m. slice_get code m ≡ Some (on l (jump (p + parts_size s + 1 + 1 + steps_size b + parts_size n)))) z f.1.0, refl), (g.test, (first, refl, f.1.1, subst (λ n. D xs n rs ts) e k)))) }
@@ -163,11 +163,11 @@ module _ {A C Q R : Type 0} (L : Language A C Q R) (answers : Q → R → Type 0
       (λ vs. at_once (decide rest ∷ ts) xs (p + 1 + steps_size a + 1) rs vs m' (f.1.1, h.1))
   step_alike (again m) ts [] p rs c m' h = absurd h
   step_alike (again m) ts (x ∷ xs) p rs c m' h =
-      let g = turns_cut code starts xs h.0 m.line m.body m.next m.test h.3 in
-      at_once (eval m.line m.next ∷ eval m.line m.test ∷ turn m ∷ ts) xs p rs c m'
-      (subst (λ k. D xs k rs (eval m.line m.next ∷ eval m.line m.test ∷ turn m ∷ ts)) (sym h.2) (g.next, (g.test, (h.0, refl, h.3, h.4))))
-  step_alike (turn m) ts xs p rs c m' h =
-      let g = turns_cut code starts xs h.0 m.line m.body m.next m.test h.2 in
+      let g = iterations_cut code starts xs h.0 m.line m.body m.next m.test h.3 in
+      at_once (eval m.line m.next ∷ eval m.line m.test ∷ iterate m ∷ ts) xs p rs c m'
+      (subst (λ k. D xs k rs (eval m.line m.next ∷ eval m.line m.test ∷ iterate m ∷ ts)) (sym h.2) (g.next, (g.test, (h.0, refl, h.3, h.4))))
+  step_alike (iterate m) ts xs p rs c m' h =
+      let g = iterations_cut code starts xs h.0 m.line m.body m.next m.test h.2 in
       let at : slice_get code p ≡ Some (on m.line (jump_if h.0)) = subst (λ k. slice_get code k ≡ Some (on m.line (jump_if h.0))) (sym h.1) g.last in
       let e : p + 1 ≡ h.0 + 1 + steps_size m.body + parts_size m.next + parts_size m.test + 1 = ap (λ k. k + 1) h.1 in
       test_alike (L.test c) (at_place p rs c m') (λ vs. at_place h.0 rs vs m') (λ vs. at_place (p + 1) rs vs m') _ _ (rw at refl)

@@ -12,7 +12,7 @@ use Rattle.walk_theory.specs.Syntax.{Steps, body_of}
 use Rattle.walk_theory.specs.Walks.{Config, step, start}
 use Rattle.walk_theory.specs.Code.{Line, State, at_place, code_step}
 use Rattle.walk_theory.specs.Made.{program_code}
-use Rattle.walk_theory.specs.Alike.{SameCore}
+use Rattle.walk_theory.specs.Programs.{SameCore}
 use Rattle.walk_theory.specs.Wide.{Wides, Placed, wide_fetched, wide_step, Covered, Covers, ComesOf, Unfolds, SameKept, HasWideWalksOf}
 use Rattle.walk_theory.proofs.Programs.{has_walks, code_lasts}
 

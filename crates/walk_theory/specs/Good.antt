@@ -1,7 +1,6 @@
 -- Code, also code that no program was made into, that can't go on for ever between two counts.
 use Rattle.std.specs.Prelude.{ℕ, zero, suc, ◌+◌, ◌-◌, ◌*◌, ◌<◌, ◌≤◌, ◌≡◌, ◌⊎◌, Bool, true, false, cond, List, [], ◌∷◌, length, Option, Some, None, slice_get}
 use Rattle.walk_theory.specs.Code.{Instr, does_act, count_one, jump, jump_if, jump_unless, skip, skip_unless, call, go_back, Line, on, State}
-use Rattle.walk_theory.specs.Made.{Places}
 
 -- a step that counts
 abbrev pub is_count : {A : Type 0} → Instr A → Bool
@@ -61,13 +60,3 @@ rest code deepest d = cond (counts (slice_get code d.at)) 0 (ways (length code) 
 -- no more bodies are being run
 abbrev pub IsShallow : {C : Type 0} → (deepest : ℕ) → State C → Type 0
 IsShallow deepest d = length d.returns ≤ deepest
-
--- each of these steps, the first one at p, may stand there
-abbrev pub FineFrom : {A : Type 0} → List (Line A) → ℕ → List (Line A) → Type 0
-FineFrom code p [] = Unit {0}
-FineFrom code p (i ∷ is) = Fine code p i.instr × FineFrom code (p + 1) is
-
--- the loops around go on behind this place
-abbrev pub Beyond : ℕ → List Places → Type 0
-Beyond p [] = Unit {0}
-Beyond p (x ∷ xs) = (p ≤ x.next) × (p ≤ x.exit) × Beyond p xs

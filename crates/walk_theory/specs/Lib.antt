@@ -3,12 +3,10 @@ pub mod Syntax
 pub mod Walks
 pub mod Code
 pub mod Made
-pub mod Alike
-pub mod Weights
 pub mod Programs
 pub mod Wide
 pub mod Evaluation
 pub mod Terms
-pub mod Turns
+pub mod Iterations
 pub mod Nesting
 pub mod Good

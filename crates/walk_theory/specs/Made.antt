@@ -30,24 +30,24 @@ abbrev mutual
   branches_size (otherwise b) = steps_size b
   branches_size (branch l p a rest) = parts_size p + 1 + steps_size a + 1 + branches_size rest
 
--- where a loop around goes on: with the next turn, and after the loop
+-- where a loop around goes on: with the next iteration, and after the loop
 pub record Places : Type 0 where
   pub next : ℕ
   pub exit : ℕ
 
--- EXIT of a loop that is n loops out; where there is none, the body ends
+-- EXIT (ISO/IEC 1539-1:2018, 11.1.12) of a loop that is n loops out; where there is none, the body ends
 abbrev pub exit_instr : {A : Type 0} → List Places → ℕ → Instr A
 exit_instr [] n = go_back
 exit_instr (x ∷ xs) zero = jump x.exit
 exit_instr (x ∷ xs) (suc n) = exit_instr xs n
 
--- CYCLE of that loop
+-- CYCLE (11.1.7.4.4) of that loop
 abbrev pub cycle_instr : {A : Type 0} → List Places → ℕ → Instr A
 cycle_instr [] n = go_back
 cycle_instr (x ∷ xs) zero = jump x.next
 cycle_instr (x ∷ xs) (suc n) = cycle_instr xs n
 
--- the places of a loop whose turns begin at this place
+-- the places of a loop whose iterations begin at this place
 abbrev pub places : {A : Type 0} → ℕ → (body : Steps A) (next test : Parts A) → Places
 places p b n t = record { next = p + 1 + steps_size b; exit = p + 1 + steps_size b + parts_size n + parts_size t + 1 }
 
@@ -60,9 +60,9 @@ module _ {A : Type 0} (starts : ℕ → ℕ) where
   parts_code l (enter k q) = on l (call (starts k)) ∷ parts_code l q
   parts_code l (either a b q) = on l (skip_unless (parts_size a + 1)) ∷ (parts_code l a ++ (on l (skip (parts_size b)) ∷ (parts_code l b ++ parts_code l q)))
 
-  -- the code of a loop from the count of a turn at p on
-  abbrev pub turns_code : ℕ → ℕ → List (Line A) → Parts A → Parts A → List (Line A)
-  turns_code p l body n t = on l count_one ∷ (body ++ (parts_code l n ++ (parts_code l t ++ on l (jump_if p) ∷ [])))
+  -- the code of a loop from the count of an iteration at p on
+  abbrev pub iterations_code : ℕ → ℕ → List (Line A) → Parts A → Parts A → List (Line A)
+  iterations_code p l body n t = on l count_one ∷ (body ++ (parts_code l n ++ (parts_code l t ++ on l (jump_if p) ∷ [])))
 
   -- the code of a choice behind its test: a block, and what else there is at q; it ends at e
   abbrev pub pick_code : ℕ → ℕ → ℕ → List (Line A) → List (Line A) → List (Line A)
@@ -78,7 +78,7 @@ module _ {A : Type 0} (starts : ℕ → ℕ) where
     form_code xs p l (simple q) = parts_code l q
     form_code xs p l (choose q bs) = parts_code l q ++ branches_code xs (p + parts_size q) bs
     form_code xs p l (loop s n t b) =
-        parts_code l s ++ (on l (jump (p + parts_size s + 1 + 1 + steps_size b + parts_size n)) ∷ turns_code (p + parts_size s + 1) l (steps_code (places (p + parts_size s + 1) b n t ∷ xs) (p + parts_size s + 1 + 1) b) n t)
+        parts_code l s ++ (on l (jump (p + parts_size s + 1 + 1 + steps_size b + parts_size n)) ∷ iterations_code (p + parts_size s + 1) l (steps_code (places (p + parts_size s + 1) b n t ∷ xs) (p + parts_size s + 1 + 1) b) n t)
     form_code xs p l (around q b m r) = parts_code l q ++ (steps_code xs (p + parts_size q) b ++ (on m count_one ∷ parts_code m r))
     form_code xs p l (exit n) = on l (exit_instr xs n) ∷ []
     form_code xs p l (cycle n) = on l (cycle_instr xs n) ∷ []

@@ -1,6 +1,6 @@
 -- What stands between a statement and the loops around it.
 use Rattle.std.specs.Prelude.{ℕ, suc, List, [], ◌∷◌}
-use Rattle.walk_theory.specs.Walks.{Task, run, eval, tally, decide, pick, again, turn, back}
+use Rattle.walk_theory.specs.Walks.{Task, run, eval, tally, decide, pick, again, iterate, back}
 
 -- how many loops are under way
 abbrev pub loops : {A : Type 0} → List (Task A) → ℕ
@@ -12,4 +12,4 @@ loops (eval l p ∷ ts) = loops ts
 loops (tally l ∷ ts) = loops ts
 loops (decide b ∷ ts) = loops ts
 loops (pick l a b ∷ ts) = loops ts
-loops (turn l ∷ ts) = loops ts
+loops (iterate l ∷ ts) = loops ts

@@ -18,7 +18,7 @@ mutual
     loop : (start next test : Parts A) (body : Steps A) → Form A
     around : (before : Parts A) (body : Steps A) (line : ℕ) (after : Parts A) → Form A
     exit : ℕ → Form A  -- leaves the loop that is so many loops out
-    cycle : ℕ → Form A  -- ends the turn of that loop
+    cycle : ℕ → Form A  -- ends the iteration of that loop
     return : Form A
 
   -- the blocks of a choice, each with the line and the parts of its test

@@ -18,8 +18,8 @@ pub data Task (A : Type 0) : Type 0 where
   tally : ℕ → Task A  -- counts one, at this line
   decide : Branches A → Task A  -- finds the block whose test gives true
   pick : ℕ → Steps A → Branches A → Task A  -- this block where the test gave true, else one of the others
-  again : Loop A → Task A  -- the end of a loop's turn
-  turn : Loop A → Task A  -- one more turn where the test gave true
+  again : Loop A → Task A  -- the end of an iteration of a loop
+  iterate : Loop A → Task A  -- one more iteration where the test gave true
   back : Task A  -- the end of a procedure's body
 
 -- what is left to do, the core, and how many statements were counted
@@ -42,13 +42,13 @@ at_parts l p ts c n = to (eval l p ∷ ts) c n
 
 -- where the test of a loop is next
 abbrev pub at_test : {A C : Type 0} → Loop A → List (Task A) → C → ℕ → Config A C
-at_test m ts c n = to (eval m.line m.test ∷ turn m ∷ ts) c n
+at_test m ts c n = to (eval m.line m.test ∷ iterate m ∷ ts) c n
 
 -- where the body of a loop is next
 abbrev pub at_body : {A C : Type 0} → Loop A → List (Task A) → C → ℕ → Config A C
 at_body m ts c n = to (run m.body ∷ again m ∷ ts) c n
 
--- EXIT of a loop that is n loops out: what follows that loop. Where there is none, the body ends.
+-- EXIT (ISO/IEC 1539-1:2018, 11.1.12) of a loop that is n loops out: what follows that loop. Where there is none, the body ends.
 abbrev pub after_loop : {A : Type 0} → ℕ → List (Task A) → List (Task A)
 after_loop n [] = []
 after_loop n (back ∷ ts) = back ∷ ts
@@ -58,9 +58,9 @@ after_loop n (eval l p ∷ ts) = after_loop n ts
 after_loop n (tally l ∷ ts) = after_loop n ts
 after_loop n (decide b ∷ ts) = after_loop n ts
 after_loop n (pick l a b ∷ ts) = after_loop n ts
-after_loop n (turn l ∷ ts) = after_loop n ts
+after_loop n (iterate l ∷ ts) = after_loop n ts
 
--- CYCLE: the end of that loop's turn
+-- CYCLE (11.1.7.4.4): the end of that loop's iteration
 abbrev pub from_loop : {A : Type 0} → ℕ → List (Task A) → List (Task A)
 from_loop n [] = []
 from_loop n (back ∷ ts) = back ∷ ts
@@ -70,9 +70,9 @@ from_loop n (eval l p ∷ ts) = from_loop n ts
 from_loop n (tally l ∷ ts) = from_loop n ts
 from_loop n (decide b ∷ ts) = from_loop n ts
 from_loop n (pick l a b ∷ ts) = from_loop n ts
-from_loop n (turn l ∷ ts) = from_loop n ts
+from_loop n (iterate l ∷ ts) = from_loop n ts
 
--- RETURN: the end of the procedure's body
+-- RETURN (15.6.2.7): the end of the procedure's body
 abbrev pub from_back : {A : Type 0} → List (Task A) → List (Task A)
 from_back [] = []
 from_back (back ∷ ts) = back ∷ ts
@@ -82,9 +82,9 @@ from_back (eval l p ∷ ts) = from_back ts
 from_back (tally l ∷ ts) = from_back ts
 from_back (decide b ∷ ts) = from_back ts
 from_back (pick l a b ∷ ts) = from_back ts
-from_back (turn l ∷ ts) = from_back ts
+from_back (iterate l ∷ ts) = from_back ts
 
--- how many procedures' bodies are being run
+-- how many bodies are being executed: the main program's, and one for each instance of a procedure (15.6.2.4)
 abbrev pub backs : {A : Type 0} → List (Task A) → ℕ
 backs [] = 0
 backs (back ∷ ts) = suc (backs ts)
@@ -94,13 +94,13 @@ backs (eval l p ∷ ts) = backs ts
 backs (tally l ∷ ts) = backs ts
 backs (decide b ∷ ts) = backs ts
 backs (pick l a b ∷ ts) = backs ts
-backs (turn l ∷ ts) = backs ts
+backs (iterate l ∷ ts) = backs ts
 
 -- what a form of statement leaves to do before what is behind it
 abbrev pub form_tasks : {A : Type 0} → ℕ → Form A → List (Task A) → List (Task A)
 form_tasks l (simple p) ts = eval l p ∷ ts
 form_tasks l (choose p bs) ts = eval l p ∷ decide bs ∷ ts
-form_tasks l (loop s n t b) ts = eval l s ∷ run stop ∷ eval l t ∷ turn (record { line = l; next = n; test = t; body = b }) ∷ ts
+form_tasks l (loop s n t b) ts = eval l s ∷ run stop ∷ eval l t ∷ iterate (record { line = l; next = n; test = t; body = b }) ∷ ts
 form_tasks l (around p b m q) ts = eval l p ∷ run b ∷ tally m ∷ eval m q ∷ ts
 form_tasks l (exit n) ts = after_loop n ts
 form_tasks l (cycle n) ts = from_loop n ts
@@ -120,8 +120,8 @@ module _ {A C Q R : Type 0} (L : Language A C Q R) (procedures : ℕ → Steps A
   step_task (decide (otherwise b)) ts c n = goes (to (run b ∷ ts) c n)
   step_task (decide (branch l p a rest)) ts c n = goes (to (eval l p ∷ pick l a rest ∷ ts) c n)
   step_task (pick l a rest) ts c n = by_test (L.test c) (λ d. to (run a ∷ ts) d n) (λ d. to (decide rest ∷ ts) d n)
-  step_task (again p) ts c n = goes (to (eval p.line p.next ∷ eval p.line p.test ∷ turn p ∷ ts) c n)
-  step_task (turn p) ts c n = by_test (L.test c) (λ d. to (tally p.line ∷ run p.body ∷ again p ∷ ts) d n) (λ d. to ts d n)
+  step_task (again p) ts c n = goes (to (eval p.line p.next ∷ eval p.line p.test ∷ iterate p ∷ ts) c n)
+  step_task (iterate p) ts c n = by_test (L.test c) (λ d. to (tally p.line ∷ run p.body ∷ again p ∷ ts) d n) (λ d. to ts d n)
   step_task back ts c n = goes (to ts c n)
 
   -- one step of the walk

@@ -6,7 +6,7 @@ use Rattle.walk_theory.specs.Language.{Language}
 use Rattle.walk_theory.specs.Syntax.{Steps, body_of}
 use Rattle.walk_theory.specs.Walks.{Config, step, start}
 use Rattle.walk_theory.specs.Code.{Instr, Line, on, State, at_place, code_step, Stands}
-use Rattle.walk_theory.specs.Alike.{SameCore}
+use Rattle.walk_theory.specs.Programs.{SameCore}
 
 -- a kind of wide steps: the steps that one stands for, and what it does at a line, where `behind` is the place behind the code
 pub record Wides (A C Q R W : Type 0) : Type 0 where

@@ -45,19 +45,21 @@ pub fn law_nothing_after<S: Spoken>()
         → Walk (step S.language S.procedures S.limit) (to [] c n) es d → (es ≡ []) × (d ≡ to [] c n) }
 {}
 
-/// EXIT leaves the loop that it names and all that is inside it: the walk goes on behind that loop, with the same core.
+/// EXIT (ISO/IEC 1539-1:2018, 11.1.12) leaves the loop that it names and all that is inside it: the walk goes on behind that loop,
+/// with the same core.
 pub fn law_exit_leaves<S: Spoken>()
     ensures { (inner ts : List (Task S.Act)) (m : Loop S.Act) (l n : ℕ) (rest : Steps S.Act) (c : S.Core) → backs inner ≡ 0 → n < S.limit
         → step S.language S.procedures S.limit (at_statement l (exit (loops inner)) rest (inner ++ again m ∷ ts) c n) ≡ goes (to ts c (n + 1)) }
 {}
 
-/// CYCLE leaves all that is inside the loop that it names: the walk goes on at the end of that loop's turn, with the same core.
+/// CYCLE (11.1.7.4.4) leaves all that is inside the loop that it names: the walk goes on at the end of that loop's iteration, with the
+/// same core.
 pub fn law_cycle_leaves<S: Spoken>()
     ensures { (inner ts : List (Task S.Act)) (m : Loop S.Act) (l n : ℕ) (rest : Steps S.Act) (c : S.Core) → backs inner ≡ 0 → n < S.limit
         → step S.language S.procedures S.limit (at_statement l (cycle (loops inner)) rest (inner ++ again m ∷ ts) c n) ≡ goes (to (again m ∷ ts) c (n + 1)) }
 {}
 
-/// RETURN leaves all that is inside the procedure's body: the walk goes on at the end of that body, with the same core.
+/// RETURN (15.6.2.7) leaves all that is inside the procedure's body: the walk goes on at the end of that body, with the same core.
 pub fn law_return_leaves<S: Spoken>()
     ensures { (inner ts : List (Task S.Act)) (l n : ℕ) (rest : Steps S.Act) (c : S.Core) → backs inner ≡ 0 → n < S.limit
         → step S.language S.procedures S.limit (at_statement l «return» rest (inner ++ back ∷ ts) c n) ≡ goes (to (back ∷ ts) c (n + 1)) }

@@ -1,7 +1,7 @@
 -- What is left to do before the next count or ask: a number that falls with each step.
 use Rattle.std.specs.Prelude.{ℕ, ◌+◌, List, [], ◌∷◌}
 use Rattle.walk_theory.specs.Syntax.{Parts, end_parts, value, act, enter, either, Branches, otherwise, branch}
-use Rattle.walk_theory.specs.Walks.{Task, run, eval, tally, decide, pick, again, turn, back}
+use Rattle.walk_theory.specs.Walks.{Task, run, eval, tally, decide, pick, again, iterate, back}
 
 -- of parts
 abbrev pub parts_weight : {A : Type 0} → Parts A → ℕ
@@ -24,7 +24,7 @@ task_weight (tally l) w = 1
 task_weight (decide b) w = branches_weight b + w
 task_weight (pick l a b) w = branches_weight b + 2 + w
 task_weight (again l) w = parts_weight l.next + parts_weight l.test + 3 + w
-task_weight (turn l) w = 2 + w
+task_weight (iterate l) w = 2 + w
 task_weight back w = 1 + w
 
 -- of all that is left to do
