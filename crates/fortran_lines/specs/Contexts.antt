@@ -1,10 +1,11 @@
--- Character contexts: where a byte stands within a literal (ISO/IEC 1539-1:2018, 6.3.2.1 and 7.4.4).
+-- Character contexts (ISO/IEC 1539-1:2018, 3.21): where a byte stands within a character literal (7.4.4), as comments and continuations ask (6.3.2.3, 6.3.2.4).
 use Rattle.std.specs.Prelude.{Bool, true, false, cond, nat_eq, List, fold}
 use Rattle.fortran_lines.specs.declared.mark.Mark.{Mark}
 use Rattle.fortran_lines.specs.declared.context.Context.{Context}
 use Rattle.fortran_lines.specs.declared.context.Context.TheVariants.{Outside, Inside, Closed}
 use Rattle.fortran_lines.specs.Marks.{is_quote}
 
+-- a literal is open
 abbrev pub is_inside : Context → Bool
 is_inside Outside = false
 is_inside (Inside q) = true

@@ -18,6 +18,7 @@ too_long (Some m) = LineTooLong m.at ∷ []
 abbrev pub not_ascii : List Mark → List LineFault
 not_ascii code = map (λ m. NotAscii m.at) (filter (λ m. nat_lt 127 m.code) code)
 
+-- a literal left open, at its opening quote
 abbrev pub open_literal : Option Mark → List LineFault
 open_literal None = []
 open_literal (Some q) = OpenLiteral q.at ∷ []
@@ -42,12 +43,14 @@ faults_from (line ∷ lines) before =
 abbrev pub faults_of : List ℕ → List LineFault
 faults_of bytes = faults_from (physical_lines bytes) Start
 
+-- where a fault is
 abbrev pub place_of : LineFault → Pos
 place_of (NotAscii at) = at
 place_of (LineTooLong at) = at
 place_of (DanglingContinuation at) = at
 place_of (OpenLiteral at) = at
 
+-- which of the faults at one place comes first
 abbrev pub rank_of : LineFault → ℕ
 rank_of (NotAscii at) = 1
 rank_of (LineTooLong at) = 2

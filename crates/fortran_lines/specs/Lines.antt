@@ -1,4 +1,4 @@
--- How the physical lines of a file join to statements (ISO/IEC 1539-1:2018, 6.3.2).
+-- How the physical lines of a file join to statements (ISO/IEC 1539-1:2018, 6.3.2, with the limits and the leave of docs/LANGUAGE.md).
 use Rattle.std.specs.Prelude.{ℕ, Bool, true, cond, not, ◌&&◌, nat_eq, List, [], ◌∷◌, ◌++◌, Option, Some, None, filter}
 use Rattle.std.specs.List.{flat_map, onto_first}
 use Rattle.fortran_lines.specs.declared.mark.Mark.{Mark}
@@ -19,6 +19,7 @@ abbrev pub code_part : Context → List Mark → List Mark
 code_part k [] = []
 code_part k (m ∷ line) = cond (nat_eq m.code 33 && not (is_inside k)) [] (m ∷ code_part (behind k m) line)
 
+-- a byte more in front of the text
 abbrev pub put_before : Mark → Option (List Mark × Mark) → Option (List Mark × Mark)
 put_before m None = None
 put_before m (Some r) = Some (m ∷ r.0, r.1)
@@ -75,10 +76,12 @@ continued amp (Closed q) line None = spaced amp (part_from Outside line)
 -- a literal goes on behind a leading `&` alone
 continued amp (Inside q) line None = record { code = code_part (Inside q) line; text = []; next = Start; left_open = Some q }
 
+-- what a line is to a statement, behind what stands before it
 abbrev pub part_of : Before → List Mark → Part
 part_of Start line = part_from Outside line
 part_of (Continued amp k) line = continued amp k line (behind_amp line)
 
+-- the text ends here, or goes on in the lines that are left
 abbrev pub by_next : (Before → List Mark → List (List Mark)) → List Mark → Before → List (List Mark)
 by_next rest text Start = text ∷ rest Start []
 by_next rest text (Continued amp k) = rest (Continued amp k) text

@@ -22,9 +22,11 @@ physical_lines bytes = numbered 1 (lines bytes)
 abbrev pub is_blank : Mark → Bool
 is_blank m = nat_eq m.code 32 || nat_eq m.code 9
 
+-- a delimiter of a character literal (7.4.4)
 abbrev pub is_quote : Mark → Bool
 is_quote m = nat_eq m.code 39 || nat_eq m.code 34
 
+-- blanks alone
 abbrev pub all_blank : List Mark → Bool
 all_blank l = list_all is_blank l
 

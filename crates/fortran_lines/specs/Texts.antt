@@ -8,6 +8,7 @@ use Rattle.fortran_lines.specs.Marks.{all_blank}
 use Rattle.fortran_lines.specs.Contexts.{context_behind}
 use Rattle.fortran_lines.specs.Lines.{is_nothing, code_part, part_of, statements_of}
 
+-- the bytes without their places
 abbrev pub codes_of : List (List Mark) → List (List ℕ)
 codes_of texts = map (λ text. map (λ m. m.code) text) texts
 
@@ -25,7 +26,7 @@ abbrev pub before_next : List (List Mark) → Before → Before
 before_next [] b = b
 before_next (l ∷ ls) b = cond (is_nothing l) (before_next ls b) (before_next ls (part_of b l).next)
 
--- a line that may be parted by a continuation: none stands before it, no comment begins in its first part, and its second part has more than blanks before a comment
+-- a line that a continuation may part in two: no continuation stands before it, no comment begins in its first part, and the second has something else than blanks and a comment
 pub record CanBeParted (front : List (List ℕ)) (one two : List ℕ) : Type 0 where
   pub begins : before_next (map plain front) Start ≡ Start
   pub clear : code_part Outside (plain one) ≡ plain one

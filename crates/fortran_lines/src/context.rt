@@ -1,4 +1,4 @@
-//! What a place of a statement is: within a character literal or outside (ISO/IEC 1539-1:2018, 3.21 and 6.3.2.1).
+//! Character contexts: whether a place of a statement lies within a character literal (ISO/IEC 1539-1:2018, 3.21, 6.3.2.3 and 6.3.2.4).
 
 ghost use Rattle.std.specs.Prelude.{◌≡◌};
 ghost use Rattle.fortran_lines.specs.Contexts as spec;

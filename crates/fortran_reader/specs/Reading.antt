@@ -33,7 +33,7 @@ abbrev pub rows_from : ℕ → List (List ℕ) → Option (List Row)
 rows_from n [] = Some []
 rows_from n (l ∷ ls) = option_and_then (λ ts. option_map (with_row n ts) (rows_from (suc n) ls)) (tokens_of l)
 
--- a number for each mark
+-- a number for each mark, so that two can be compared
 abbrev pub rank : Mark → ℕ
 rank mark.Integer = 0
 rank mark.Sync = 1

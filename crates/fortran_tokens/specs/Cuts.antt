@@ -25,7 +25,7 @@ NoForm text = (j : TokenKind) (m : ℕ) → m ≤ length text → HasForm j (tak
 abbrev pub value_of : List ℕ → ℕ
 value_of digits = fold (λ v d. v * 10 + (d - 48)) 0 digits
 
--- The limits: a name has 63 characters, also as a kind; a number is below 2 to the 63rd; a literal has printing characters. What breaks one, and where.
+-- The limits: a name has at most 63 characters (6.2.2), also as a kind; an integer is at most 2^63 - 1; a literal has printing characters and tabs. None where the token keeps them, else which byte or number breaks one.
 abbrev pub excess_of : TokenKind → List ℕ → Option Excess
 excess_of Name w = cond (nat_lt 63 (length w)) (Some (excess.Character 63)) None
 excess_of Number w =
