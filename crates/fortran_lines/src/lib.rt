@@ -10,7 +10,7 @@ pub mod fault;
 pub mod join;
 pub mod law;
 pub mod line;
-pub mod mark;
+pub mod placed_byte;
 pub mod reading;
 pub mod stmt;
 
