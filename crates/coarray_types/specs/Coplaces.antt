@@ -12,20 +12,20 @@ HasCobounds (l ∷ ls) [] = FitsSigned w32 l × (ls ≡ [])
 HasCobounds (l ∷ ls) (e ∷ es) = FitsSigned w32 l × (pos 1 ≤ℤ e) × FitsSigned w32 ((l +ℤ e) -ℤ pos 1) × HasCobounds ls es
 
 -- as many cosubscripts as codimensions, each within its cobounds, and the last not below its lower one
-abbrev pub CoWithin : List ℤ → List ℤ → List ℤ → Type 0
-CoWithin [] es cs = ⊥
-CoWithin (l ∷ ls) es [] = ⊥
-CoWithin (l ∷ ls) [] (c ∷ cs) = (l ≤ℤ c) × (ls ≡ []) × (cs ≡ [])
-CoWithin (l ∷ ls) (e ∷ es) (c ∷ cs) = (l ≤ℤ c) × (distance l c < unsigned_abs e) × CoWithin ls es cs
+abbrev pub AllWithinCobounds : List ℤ → List ℤ → List ℤ → Type 0
+AllWithinCobounds [] es cs = ⊥
+AllWithinCobounds (l ∷ ls) es [] = ⊥
+AllWithinCobounds (l ∷ ls) [] (c ∷ cs) = (l ≤ℤ c) × (ls ≡ []) × (cs ≡ [])
+AllWithinCobounds (l ∷ ls) (e ∷ es) (c ∷ cs) = (l ≤ℤ c) × (distance l c < unsigned_abs e) × AllWithinCobounds ls es cs
 
--- the place of cosubscripts, from 0: the first one runs fastest
-abbrev pub co_place : List ℤ → List ℤ → List ℤ → ℕ
-co_place [] es cs = 0
-co_place (l ∷ ls) es [] = 0
-co_place (l ∷ ls) [] (c ∷ cs) = distance l c
-co_place (l ∷ ls) (e ∷ es) (c ∷ cs) = distance l c + unsigned_abs e * co_place ls es cs
+-- the subscript order value over cobounds less 1: the first cosubscript runs fastest; one more is the image index (9.6)
+abbrev pub image_order : List ℤ → List ℤ → List ℤ → ℕ
+image_order [] es cs = 0
+image_order (l ∷ ls) es [] = 0
+image_order (l ∷ ls) [] (c ∷ cs) = distance l c
+image_order (l ∷ ls) (e ∷ es) (c ∷ cs) = distance l c + unsigned_abs e * image_order ls es cs
 
 -- the cosubscripts name the image with this index, from 1
 pub record Names (lowers extents subs : List ℤ) (image : ℕ) : Type 0 where
-  pub within : CoWithin lowers extents subs
-  pub index : image ≡ co_place lowers extents subs + 1
+  pub within : AllWithinCobounds lowers extents subs
+  pub index : image ≡ image_order lowers extents subs + 1

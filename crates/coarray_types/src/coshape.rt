@@ -1,13 +1,15 @@
-//! Coshapes, and the images that cosubscripts name.
+//! The cobounds of coarrays, and the images that cosubscripts name.
 
 ghost use Rattle.std.specs.Prelude.{◌≡◌, ◌≤◌, ◌<◌, ◌+◌, ◌-◌, ◌∷◌, ℕ, length, take, drop, replicate, IfSome, IsNone, pos};
-ghost use Rattle.coarray_types.specs.Coplaces.{HasCobounds, CoWithin, co_place, Names};
+ghost use Rattle.coarray_types.specs.Coplaces.{HasCobounds, AllWithinCobounds, image_order, Names};
 
 use crate::digits::{above, apart, coextent, joined};
 use caf_base::short::Short;
 
 /// The cobounds of a coarray: of each codimension the lower cobound, and of each but the last the coextent. The
-/// last coextent has no limit (ISO/IEC 1539-1:2018, 8.5.6.3).
+/// coextents are its coshape, as extents are a shape (ISO/IEC 1539-1:2018, 5.4.6, and COSHAPE in 16.9); the last one has
+/// no limit (8.5.6.3). The calls here want one codimension or more, cobounds of kind 4 and no coextent below 1
+/// (`HasCobounds`). Up to 3 codimensions lie in place; the 3 is this project's, the standard has up to 15.
 #[derive(Drop, PartialEq, Debug)]
 pub struct CoShape {
     pub lower: Short<i64, 3>,
@@ -50,8 +52,8 @@ pub fn cosubscripts_of(co: &CoShape, index: u32) -> [i64; 3]
 fn place_below(lowers: &[i64], extents: &[i64], subs: &[i64], n: u32) -> Option<u32>
     requires cobounds { HasCobounds lowers.now extents.now }
     requires corank { length subs.now ≡ length lowers.now }
-    ensures some { IfSome result (λ p. CoWithin lowers.now extents.now subs.now × (p ≡ co_place lowers.now extents.now subs.now) × (p < n)) }
-    ensures none { IsNone result → CoWithin lowers.now extents.now subs.now → n ≤ co_place lowers.now extents.now subs.now }
+    ensures some { IfSome result (λ p. AllWithinCobounds lowers.now extents.now subs.now × (p ≡ image_order lowers.now extents.now subs.now) × (p < n)) }
+    ensures none { IsNone result → AllWithinCobounds lowers.now extents.now subs.now → n ≤ image_order lowers.now extents.now subs.now }
 {
     let ([lower, lowers @ ..], [sub, subs @ ..]) = (lowers, subs) else {
         return None;
@@ -87,8 +89,8 @@ fn below(place: u64, n: u32) -> Option<u32>
 fn put_cosubscripts(lowers: &[i64], extents: &[i64], place: u32, subs: &mut [i64])
     requires cobounds { HasCobounds lowers.now extents.now }
     requires corank { length lowers.now ≤ length subs.old }
-    ensures within { CoWithin lowers.now extents.now (take (length lowers.now) subs.new) }
-    ensures place { co_place lowers.now extents.now (take (length lowers.now) subs.new) ≡ place }
+    ensures within { AllWithinCobounds lowers.now extents.now (take (length lowers.now) subs.new) }
+    ensures place { image_order lowers.now extents.now (take (length lowers.now) subs.new) ≡ place }
     ensures past { drop (length lowers.now) subs.new ≡ drop (length lowers.now) subs.old }
 {
     let [lower, lowers @ ..] = lowers else {

@@ -1,14 +1,14 @@
-//! Laws of places: a subscript list and its offset, and a cosubscript list and its image, belong to each other.
+//! Laws of array element order: a subscript list and its offset, and a cosubscript list and its image, belong to each other.
 
 ghost use Rattle.std.specs.Prelude.{◌≡◌, ◌≤◌, ◌<◌, ℕ, ℤ, List};
-ghost use Rattle.coarray_types.specs.Places.{cells_of, AllWithin, place_of};
+ghost use Rattle.coarray_types.specs.Places.{size_of, AllWithin, subscript_order};
 ghost use Rattle.coarray_types.specs.Coplaces.{HasCobounds, Names};
 
-/// Each element of a shape has a place below the size, no two have the same, and each place below the size is one's.
+/// Each element of an array has a place below the size, no two have the same, and each place below the size is one's.
 pub fn law_places()
-    ensures below { (dims : List (ℤ × ℤ)) (subs : List ℤ) → AllWithin dims subs → place_of dims subs < cells_of dims }
-    ensures once { (dims : List (ℤ × ℤ)) (these those : List ℤ) → AllWithin dims these → AllWithin dims those → place_of dims these ≡ place_of dims those → these ≡ those }
-    ensures each { (dims : List (ℤ × ℤ)) (n : ℕ) → n < cells_of dims → (subs : List ℤ) × AllWithin dims subs × (place_of dims subs ≡ n) }
+    ensures below { (dims : List (ℤ × ℤ)) (subs : List ℤ) → AllWithin dims subs → subscript_order dims subs < size_of dims }
+    ensures once { (dims : List (ℤ × ℤ)) (these those : List ℤ) → AllWithin dims these → AllWithin dims those → subscript_order dims these ≡ subscript_order dims those → these ≡ those }
+    ensures each { (dims : List (ℤ × ℤ)) (n : ℕ) → n < size_of dims → (subs : List ℤ) × AllWithin dims subs × (subscript_order dims subs ≡ n) }
 {}
 
 /// Cosubscripts name one image, each image from 1 on has cosubscripts that name it, and no two lists name the same.

@@ -1,6 +1,6 @@
-//! Shapes, coshapes and sections: where a subscript list, a cosubscript list and a section's cells lie.
+//! Bounds, cobounds and sections: where a subscript list, a cosubscript list and a section's cells lie.
 //! It stands on `caf_base` alone.
-//! The tables of names, the machine of an image and the memory of an owner stand on it.
+//! Nothing stands on it yet: names, memories and machines of the whole language will.
 //! Its main contract: offsets and image indices are places in array element order (ISO/IEC 1539-1:2018, 9.5.3.2),
 //! each list of subscripts within its bounds has a place of its own, and each place below the size has such a list.
 #![tactic(auto)]

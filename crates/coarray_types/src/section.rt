@@ -8,7 +8,7 @@ use caf_base::refusal::NoMemory;
 use caf_base::span::Span;
 use std::alloc::Global;
 
-/// The offsets of a section's cells, in array element order (ISO/IEC 1539-1:2018, 9.5.3.3).
+/// The offsets of a section's cells, in array element order (ISO/IEC 1539-1:2018, 9.5.3.2 and 9.5.3.3).
 pub fn section_cells(alloc: Global, span: &Span) -> Result<Vec<u32>, NoMemory>
     requires { IsSpan span.now }
     ensures { IfOk result (λ cells. map pos cells.items ≡ offsets_of span.now) }

@@ -1,37 +1,38 @@
-//! Shapes, and the offsets of their elements.
+//! The bounds of arrays, and the offsets of elements.
 
 ghost use Rattle.std.specs.Prelude.{◌≡◌, ◌≤◌, ◌<◌, length, IsNone, IfSome, ◌↔◌, List, ℤ, ℕ};
-ghost use Rattle.coarray_types.specs.Places.{cells_of, AllWithin, place_of};
+ghost use Rattle.coarray_types.specs.Places.{size_of, AllWithin, subscript_order};
 
 use crate::digits::{apart, joined};
 use caf_base::short::Short;
 
-/// The bounds of an array: of each dimension the lower and the upper one. A dimension whose upper bound is below the
-/// lower one has no element. A scalar has no dimension.
+/// The bounds of an array: of each dimension the lower and the upper one. Their extents are its shape (ISO/IEC
+/// 1539-1:2018, 5.4.6). A dimension whose upper bound is below the lower one has no element. A scalar has no dimension.
+/// Up to 3 dimensions lie in place; the 3 is this project's, the standard has up to 15.
 #[derive(Drop, PartialEq, Debug)]
 pub struct Shape {
     pub dims: Short<(i64, i64), 3>,
 }
 
-/// The offset of an element from the first one, in array element order, of a shape of at most 65,536 cells; None
+/// The offset of an element from the first one, in array element order, of an array of at most 65,536 cells; None
 /// exactly where a subscript is out of bounds (ISO/IEC 1539-1:2018, 9.5.3.2).
 pub fn offset_of(shape: &Shape, subs: &[i64]) -> Option<u32>
-    requires cells { cells_of shape.now.dims ≤ 65536 }
+    requires cells { size_of shape.now.dims ≤ 65536 }
     requires rank { length subs.now ≡ length shape.now.dims }
     ensures out { IsNone result → AllWithin shape.now.dims subs.now → ⊥ }
-    ensures offset { IfSome result (λ n. AllWithin shape.now.dims subs.now × (n ≡ place_of shape.now.dims subs.now)) }
-    ensures below { IfSome result (λ n. n < cells_of shape.now.dims) }
+    ensures offset { IfSome result (λ n. AllWithin shape.now.dims subs.now × (n ≡ subscript_order shape.now.dims subs.now)) }
+    ensures below { IfSome result (λ n. n < size_of shape.now.dims) }
 {
     offset_in(shape.dims.as_slice(), subs)
 }
 
 // The same, of the dimensions. 64 bits suffice: within the bounds no sum or product here passes the 65,536 cells.
 fn offset_in(dims: &[(i64, i64)], subs: &[i64]) -> Option<u32>
-    requires cells { cells_of dims.now ≤ 65536 }
+    requires cells { size_of dims.now ≤ 65536 }
     requires rank { length subs.now ≡ length dims.now }
     ensures out { IsNone result → AllWithin dims.now subs.now → ⊥ }
-    ensures offset { IfSome result (λ n. AllWithin dims.now subs.now × (n ≡ place_of dims.now subs.now)) }
-    ensures below { IfSome result (λ n. n < cells_of dims.now) }
+    ensures offset { IfSome result (λ n. AllWithin dims.now subs.now × (n ≡ subscript_order dims.now subs.now)) }
+    ensures below { IfSome result (λ n. n < size_of dims.now) }
 {
     let [(lower, upper), dims @ ..] = dims else {
         return Some(0);

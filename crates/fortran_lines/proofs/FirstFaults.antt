@@ -5,7 +5,7 @@ use Rattle.std.specs.List.{AllByRecursion}
 use Rattle.std.proofs.lemmas.Bool.Decides.{nat_tests}
 use Rattle.std.proofs.lemmas.List.Elements.{Contains-append_left, Contains-append_right, Contains-push, All-from_recursion}
 use Rattle.fortran_lines.specs.declared.fault.LineFault.{LineFault}
-use Rattle.fortran_lines.specs.Faults.{is_before, first_of_all, IsFirst, place_of, rank_of}
+use Rattle.fortran_lines.specs.Faults.{is_before, first_of_all, IsFirst, fault_place, rank_of}
 
 -- by three numbers in turn
 abbrev before : ℕ → ℕ → ℕ → ℕ → ℕ → ℕ → Bool
@@ -31,18 +31,18 @@ itself a b c = inr (refl, inr (refl, omega arith))
 
 not_before_chain : (f g h : LineFault) → is_before f g ≡ false → is_before g h ≡ false → is_before f h ≡ false
 not_before_chain f g h p q =
-    before_no (place_of f).line (place_of f).col (rank_of f) (place_of h).line (place_of h).col (rank_of h)
-    (chain (place_of f).line (place_of f).col (rank_of f) (place_of g).line (place_of g).col (rank_of g) (place_of h).line (place_of h).col (rank_of h)
-    (not_before (place_of f).line (place_of f).col (rank_of f) (place_of g).line (place_of g).col (rank_of g) p)
-    (not_before (place_of g).line (place_of g).col (rank_of g) (place_of h).line (place_of h).col (rank_of h) q))
+    before_no (fault_place f).line (fault_place f).col (rank_of f) (fault_place h).line (fault_place h).col (rank_of h)
+    (chain (fault_place f).line (fault_place f).col (rank_of f) (fault_place g).line (fault_place g).col (rank_of g) (fault_place h).line (fault_place h).col (rank_of h)
+    (not_before (fault_place f).line (fault_place f).col (rank_of f) (fault_place g).line (fault_place g).col (rank_of g) p)
+    (not_before (fault_place g).line (fault_place g).col (rank_of g) (fault_place h).line (fault_place h).col (rank_of h) q))
 
 not_before_turned : (f g : LineFault) → is_before f g ≡ true → is_before g f ≡ false
 not_before_turned f g p =
-    before_no (place_of g).line (place_of g).col (rank_of g) (place_of f).line (place_of f).col (rank_of f)
-    (turned (place_of f).line (place_of f).col (rank_of f) (place_of g).line (place_of g).col (rank_of g) p)
+    before_no (fault_place g).line (fault_place g).col (rank_of g) (fault_place f).line (fault_place f).col (rank_of f)
+    (turned (fault_place f).line (fault_place f).col (rank_of f) (fault_place g).line (fault_place g).col (rank_of g) p)
 
 not_before_itself : (f : LineFault) → is_before f f ≡ false
-not_before_itself f = before_no (place_of f).line (place_of f).col (rank_of f) (place_of f).line (place_of f).col (rank_of f) (itself (place_of f).line (place_of f).col (rank_of f))
+not_before_itself f = before_no (fault_place f).line (fault_place f).col (rank_of f) (fault_place f).line (fault_place f).col (rank_of f) (itself (fault_place f).line (fault_place f).col (rank_of f))
 
 -- f is g or one of these faults, and none of them is before it
 Best : LineFault → List LineFault → LineFault → Type 0

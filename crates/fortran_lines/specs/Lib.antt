@@ -1,4 +1,5 @@
-pub mod Marks
+pub mod Characters
+pub mod PlacedBytes
 pub mod Contexts
 pub mod Lines
 pub mod Faults

@@ -1,9 +1,9 @@
-//! What a place of a statement is: within a character literal or outside (ISO/IEC 1539-1:2018, 3.21 and 6.3.2.1).
+//! Character contexts: whether a place of a statement lies within a character literal (ISO/IEC 1539-1:2018, 3.21, 6.3.2.3 and 6.3.2.4).
 
 ghost use Rattle.std.specs.Prelude.{◌≡◌};
 ghost use Rattle.fortran_lines.specs.Contexts as spec;
 
-use crate::mark::{Mark, is_quote};
+use crate::placed_byte::{PlacedByte, is_quote};
 
 /// The context behind some text of a statement.
 #[derive(Clone, Copy, PartialEq, Eq, Debug)]
@@ -11,9 +11,9 @@ pub enum Context {
     /// No literal is open.
     Outside,
     /// A literal is open, which began at this quote.
-    Inside(Mark),
+    Inside(PlacedByte),
     /// The literal that began at this quote has just been closed: the same quote at once takes it up again, since a doubled quote stands for one.
-    Closed(Mark),
+    Closed(PlacedByte),
 }
 
 /// What stands before a line.
@@ -22,7 +22,7 @@ pub enum Before {
     /// No continuation.
     Start,
     /// The `&` of a continuation, and the context of the text in front of it.
-    Continued(Mark, Context),
+    Continued(PlacedByte, Context),
 }
 
 /// Whether a literal is open.
@@ -33,7 +33,7 @@ pub fn is_inside(context: Context) -> bool
 }
 
 /// The context behind a byte where no literal is open before it.
-fn opened(mark: Mark) -> Context
+fn opened(mark: PlacedByte) -> Context
     ensures { result ≡ spec.opened mark }
 {
     if is_quote(mark) {
@@ -44,7 +44,7 @@ fn opened(mark: Mark) -> Context
 }
 
 /// The context behind one more byte.
-pub fn behind(context: Context, mark: Mark) -> Context
+pub fn behind(context: Context, mark: PlacedByte) -> Context
     ensures { result ≡ spec.behind context mark }
 {
     match context {
@@ -57,7 +57,7 @@ pub fn behind(context: Context, mark: Mark) -> Context
 }
 
 /// The context behind some more bytes.
-pub fn context_behind(context: Context, text: &[Mark]) -> Context
+pub fn context_behind(context: Context, text: &[PlacedByte]) -> Context
     ensures { result ≡ spec.context_behind context text.now }
 {
     let mut now = context;

@@ -24,8 +24,8 @@ pub enum LineFault {
 }
 
 /// Where the fault is.
-pub fn place_of(fault: LineFault) -> Pos
-    ensures { result ≡ spec.place_of fault }
+pub fn fault_place(fault: LineFault) -> Pos
+    ensures { result ≡ spec.fault_place fault }
 {
     match fault {
         LineFault::NotAscii { at }
@@ -51,7 +51,7 @@ pub fn rank_of(fault: LineFault) -> u32
 pub fn is_before(one: LineFault, other: LineFault) -> bool
     ensures { result ≡ spec.is_before one other }
 {
-    let (here, there) = (place_of(one), place_of(other));
+    let (here, there) = (fault_place(one), fault_place(other));
     if here.line != there.line {
         here.line < there.line
     } else if here.col != there.col {

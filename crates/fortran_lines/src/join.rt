@@ -3,14 +3,14 @@
 ghost use Rattle.std.specs.Prelude.{◌≡◌, ◌<◌, ◌+◌, ◌≤◌, ◌∷◌, [], length, map, IfOk, OnOk, IfErr, ◌==◌};
 ghost use Rattle.std.specs.List.{position_or_len};
 ghost use Rattle.std.specs.Str.Lines.{lines, strip_carriage_return};
-ghost use Rattle.fortran_lines.specs.Marks.{marks_from};
+ghost use Rattle.fortran_lines.specs.PlacedBytes.{placed_from};
 ghost use Rattle.fortran_lines.specs.Lines.{statements_of};
 ghost use Rattle.fortran_lines.specs.Faults.{faults_of, IsFirst};
 ghost use Rattle.fortran_lines.specs.Causes.{IfCause};
-ghost use Rattle.fortran_lines.specs.Statements.{stmt_marks};
+ghost use Rattle.fortran_lines.specs.Statements.{placed_bytes};
 
 use crate::fault::LineFault;
-use crate::mark::Mark;
+use crate::placed_byte::PlacedByte;
 use crate::reading::{Reading, first_at_end};
 use crate::stmt::Stmt;
 use caf_base::place::Pos;
@@ -55,9 +55,9 @@ fn first_line(bytes: &[u8]) -> (&[u8], &[u8])
 }
 
 /// The bytes of a line with their places.
-fn marks_of(alloc: Global, line: u32, bytes: &[u8]) -> Result<Vec<Mark>, NoMemory>
+fn marks_of(alloc: Global, line: u32, bytes: &[u8]) -> Result<Vec<PlacedByte>, NoMemory>
     requires { length bytes.now < 4294967295 }
-    ensures { IfOk result (λ marks. marks.items ≡ marks_from line 1 bytes.now) }
+    ensures { IfOk result (λ marks. marks.items ≡ placed_from line 1 bytes.now) }
 {
     let mut marks = Vec::with_capacity(alloc, bytes.len())?;
     for (i, code) in bytes.iter().enumerate() {
@@ -65,7 +65,7 @@ fn marks_of(alloc: Global, line: u32, bytes: &[u8]) -> Result<Vec<Mark>, NoMemor
             line,
             col: i as u32 + 1,
         };
-        marks.push(Mark { code: *code, at })?;
+        marks.push(PlacedByte { code: *code, at })?;
     }
     Ok(marks)
 }
@@ -73,7 +73,7 @@ fn marks_of(alloc: Global, line: u32, bytes: &[u8]) -> Result<Vec<Mark>, NoMemor
 /// The statements of a file in free source form, in order. A refusal is what is broken first in the file, judged to its end; want of memory may come at any time.
 pub fn join_lines(alloc: Global, bytes: &[u8]) -> Result<Vec<Stmt>, Refusal<LineFault>>
     requires { length bytes.now < 4294967295 }
-    ensures statements { IfOk result (λ stmts. map stmt_marks stmts.items ≡ statements_of bytes.now) }
+    ensures statements { IfOk result (λ stmts. map placed_bytes stmts.items ≡ statements_of bytes.now) }
     ensures unbroken { OnOk result (faults_of bytes.now ≡ []) }
     ensures refused { IfErr result (λ refusal. IfCause refusal (λ fault. IsFirst (faults_of bytes.now) fault)) }
 {

@@ -2,14 +2,14 @@
 
 ghost use Rattle.std.specs.Prelude.{ℕ, ◌≡◌, List, [], ◌∷◌, ◌++◌, true};
 ghost use Rattle.std.specs.Str.Lines.{lines};
-ghost use Rattle.fortran_lines.specs.Marks.{marks_from};
+ghost use Rattle.fortran_lines.specs.PlacedBytes.{placed_from};
 ghost use Rattle.fortran_lines.specs.Lines.{is_nothing};
 ghost use Rattle.fortran_lines.specs.Texts.{texts_of, CanBeParted};
 
 /// A file into which a blank line or a comment line is put, wherever it stands, has the same statements.
 pub fn nothing_put_in()
     ensures { (bytes bytes' : List ℕ) (front back : List (List ℕ)) (line : List ℕ) → lines bytes ≡ front ++ back → lines bytes' ≡ front ++ line ∷ back
-        → is_nothing (marks_from 1 1 line) ≡ true → texts_of bytes' ≡ texts_of bytes }
+        → is_nothing (placed_from 1 1 line) ≡ true → texts_of bytes' ≡ texts_of bytes }
 {}
 
 /// A file in which a line is parted in two by a continuation, `&` at the end of the one and `&` at the beginning of the other, has the same statements; the cut may lie in a literal.

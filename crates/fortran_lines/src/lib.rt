@@ -1,5 +1,5 @@
-//! Free source form (ISO/IEC 1539-1:2018, 6.3.2): the bytes of a file, joined into statements.
-//! It stands on `caf_base` and `thiserror`; `fortran_tokens` and the readers stand on it.
+//! Free source form (ISO/IEC 1539-1:2018, 6.3.2, with the limits and the leave of docs/LANGUAGE.md): the bytes of a file, joined into statements.
+//! It stands on `caf_base` and `thiserror`; `fortran_tokens` stands on it. `caf run` doesn't use it yet.
 //! Its main contract is that of `join_lines`: the statements are exactly those that the lines of the file join to,
 //! each byte with its place, and a refusal is the break of a rule before which no rule is broken in the file.
 //! The definitions are in specs/Lines (lines and how they join) and specs/Faults (what is broken, and where first).
@@ -10,7 +10,7 @@ pub mod fault;
 pub mod join;
 pub mod law;
 pub mod line;
-pub mod mark;
+pub mod placed_byte;
 pub mod reading;
 pub mod stmt;
 

@@ -6,25 +6,25 @@ ghost use Rattle.fortran_lines.specs.Lines as spec;
 ghost use Rattle.fortran_lines.specs.Parts.{part_seen};
 
 use crate::context::{Before, Context, behind, context_behind, is_inside};
-use crate::mark::{Mark, all_blank, blank_at, is_blank};
+use crate::placed_byte::{PlacedByte, all_blank, blank_at, is_blank};
 
 /// What a line is to a statement.
 #[derive(Clone, Copy, Debug)]
 pub struct Part<'a> {
     /// The line without its comment, and without the `&` with which it begins where it continues one.
-    pub code: &'a [Mark],
+    pub code: &'a [PlacedByte],
     /// The blank that a continuation puts in.
-    pub blank: Option<Mark>,
+    pub blank: Option<PlacedByte>,
     /// What it adds to the statement behind that.
-    pub text: &'a [Mark],
+    pub text: &'a [PlacedByte],
     /// What stands before the next line.
     pub next: Before,
     /// The quote of a literal that is left open.
-    pub left_open: Option<Mark>,
+    pub left_open: Option<PlacedByte>,
 }
 
 /// Whether it is a blank line or a comment line.
-pub fn is_nothing(line: &[Mark]) -> bool
+pub fn is_nothing(line: &[PlacedByte]) -> bool
     ensures { result ≡ spec.is_nothing line.now }
 {
     for mark in line {
@@ -36,7 +36,7 @@ pub fn is_nothing(line: &[Mark]) -> bool
 }
 
 /// A line without its comment, where its text begins in this context.
-pub fn code_part(context: Context, line: &[Mark]) -> &[Mark]
+pub fn code_part(context: Context, line: &[PlacedByte]) -> &[PlacedByte]
     ensures { result.now ≡ spec.code_part context line.now }
 {
     let mut now = context;
@@ -50,7 +50,7 @@ pub fn code_part(context: Context, line: &[Mark]) -> &[Mark]
 }
 
 /// The text in front of an `&` that is the last byte but blanks, and that `&`.
-pub fn before_amp(code: &[Mark]) -> Option<(&[Mark], Mark)>
+pub fn before_amp(code: &[PlacedByte]) -> Option<(&[PlacedByte], PlacedByte)>
     ensures { option_map (λ r. (r.0.now, r.1)) result ≡ spec.before_amp code.now }
 {
     let mut rest = code;
@@ -67,7 +67,7 @@ pub fn before_amp(code: &[Mark]) -> Option<(&[Mark], Mark)>
 }
 
 /// The rest behind an `&` that is the first byte but blanks, and that `&`.
-pub fn behind_amp(line: &[Mark]) -> Option<(&[Mark], Mark)>
+pub fn behind_amp(line: &[PlacedByte]) -> Option<(&[PlacedByte], PlacedByte)>
     ensures { option_map (λ r. (r.0.now, r.1)) result ≡ spec.behind_amp line.now }
 {
     for (i, mark) in line.iter().enumerate() {
@@ -82,7 +82,7 @@ pub fn behind_amp(line: &[Mark]) -> Option<(&[Mark], Mark)>
 }
 
 /// A line whose text begins in this context.
-fn part_from(context: Context, line: &[Mark]) -> Part<'_>
+fn part_from(context: Context, line: &[PlacedByte]) -> Part<'_>
     ensures part { part_seen result ≡ spec.part_from context line.now }
     ensures at_once { result.blank ≡ None }
 {
@@ -106,7 +106,7 @@ fn part_from(context: Context, line: &[Mark]) -> Part<'_>
 }
 
 /// The quote of the literal that is open.
-fn open_quote(context: Context) -> Option<Mark>
+fn open_quote(context: Context) -> Option<PlacedByte>
     ensures { result ≡ spec.open_quote context }
 {
     match context {
@@ -116,7 +116,7 @@ fn open_quote(context: Context) -> Option<Mark>
 }
 
 /// A line behind a continuation, where it has a leading `&` and this rest.
-fn resumed(context: Context, amp: Mark, rest: &[Mark]) -> Part<'_>
+fn resumed(context: Context, amp: PlacedByte, rest: &[PlacedByte]) -> Part<'_>
     ensures { part_seen result ≡ spec.resumed context amp (spec.part_from context rest.now) }
 {
     let part = part_from(context, rest);
@@ -134,7 +134,7 @@ fn resumed(context: Context, amp: Mark, rest: &[Mark]) -> Part<'_>
 }
 
 /// A line behind a continuation.
-fn continued<'a>(amp: Mark, context: Context, line: &'a [Mark]) -> Part<'a>
+fn continued<'a>(amp: PlacedByte, context: Context, line: &'a [PlacedByte]) -> Part<'a>
     ensures { part_seen result ≡ spec.part_of (Before.Continued amp context) line.now }
 {
     if let Some((rest, lead)) = behind_amp(line) {
@@ -156,7 +156,7 @@ fn continued<'a>(amp: Mark, context: Context, line: &'a [Mark]) -> Part<'a>
 }
 
 /// What a line is to a statement, behind what stands before it.
-pub fn part_of(before: Before, line: &[Mark]) -> Part<'_>
+pub fn part_of(before: Before, line: &[PlacedByte]) -> Part<'_>
     ensures { part_seen result ≡ spec.part_of before line.now }
 {
     match before {

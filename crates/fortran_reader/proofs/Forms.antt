@@ -14,7 +14,7 @@ use Rattle.caf_base.specs.declared.thin.ThinAddend.{ThinAddend}
 use Rattle.caf_base.specs.declared.thin.ThinTerm.{ThinTerm}
 use Rattle.caf_base.specs.declared.thin.ThinTerm.TheVariants as terms
 use Rattle.fortran_reader.specs.Cutting.{when, chosen, several}
-use Rattle.fortran_reader.specs.Reading.{rank, behind, behind_all, is_empty, ends_there, is_all, name_of, number_of, place_of, image_part, variable_of, term_of, sign_of, addend_of, addends_of, sum_of, declared_as, declaration_of, act_of, image_of, form_of}
+use Rattle.fortran_reader.specs.Reading.{rank, behind, behind_all, is_empty, ends_there, is_all, name_of, number_of, declared_index, number_before, variable_of, term_of, sign_of, addend_of, addends_of, sum_of, declared_as, declaration_of, act_of, form_of}
 use Rattle.fortran_reader.specs.Reads.{AreOnce}
 use Rattle.fortran_reader.specs.Statements.{name_at, term_tokens, addend_tokens, sum_tokens, act_tokens, form_tokens, declaration_tokens}
 use Rattle.fortran_reader.specs.declared.token.Mark.{Mark}
@@ -113,7 +113,7 @@ place_from_sound (v ∷ vars) name from i h = elim (cond_some (bytes_eq v.name n
   first : (from i : ℕ) → Some from ≡ Some i → i ≡ from + 0
   first from i h = grind arith
 
-pub place_sound : (vars : List ThinVariable) (name : List ℕ) (i : ℕ) → place_of vars name ≡ Some i → (i < length vars) × (name_at vars i ≡ name)
+pub place_sound : (vars : List ThinVariable) (name : List ℕ) (i : ℕ) → declared_index vars name ≡ Some i → (i < length vars) × (name_at vars i ≡ name)
 place_sound vars name i h = let at = place_from_sound vars name 0 i h in let same : at.0 ≡ i = omega arith in (omega arith, ap (name_at vars) (sym same) ∙ at.3)
 
 place_from_given : (vars : List ThinVariable) (name : List ℕ) (from k : ℕ) → k < length vars → name_at vars k ≡ name → ((j : ℕ) → j < k → name_at vars j ≡ name → ⊥) → position_from (λ v. bytes_eq v.name name) from vars ≡ Some (from + k)
@@ -137,7 +137,7 @@ place_from_given (v ∷ vars) name from (suc k) low at before =
       other true h = absurd (h refl)
       other false h = refl
 
-pub place_given : (vars : List ThinVariable) (i : ℕ) → AreOnce vars → i < length vars → place_of vars (name_at vars i) ≡ Some i
+pub place_given : (vars : List ThinVariable) (i : ℕ) → AreOnce vars → i < length vars → declared_index vars (name_at vars i) ≡ Some i
 place_given vars i once low = place_from_given vars (name_at vars i) 0 i low refl (λ j below same. not_below j i below (once j i (lower j i below low) low same)) ∙ ap Some (zero_plus i) where
   zero_plus : (n : ℕ) → 0 + n ≡ n
   zero_plus n = omega arith
@@ -157,7 +157,7 @@ variable_sound : (vars : List ThinVariable) (i : ℕ) (ts : List Token) (q : Thi
 unfolding marks
 variable_sound vars i ts q low h =
     elim (chosen_some (behind_all (mark.OpenBracket ∷ []) ts) _ _ q h) [
-      | inl a ↦ (let one = then_some (λ r. when (is_coarray_at vars i) (terms.Coindexed i r.0, r.1)) (image_part a.0) q a.2 in
+      | inl a ↦ (let one = then_some (λ r. when (is_coarray_at vars i) (terms.Coindexed i r.0, r.1)) (number_before mark.CloseBracket a.0) q a.2 in
           let two = then_some (λ r. option_map (λ behind. (r.0, behind)) (behind_all (mark.CloseBracket ∷ []) r.1)) (number_of a.0) one.0 one.1 in
           let three = mapped_some (λ behind. (two.0.0, behind)) (behind_all (mark.CloseBracket ∷ []) two.0.1) one.0 two.2 in
           let four = when_some (is_coarray_at vars i) (terms.Coindexed i one.0.0, one.0.1) q one.2 in
@@ -178,7 +178,7 @@ term_sound vars ts q h =
     elim (chosen_some (number_of ts) _ _ q h) [
       | inl a ↦ subst (λ q. IsTerm vars ts q) (some_same _ _ a.2) (record { is = number_sound ts a.0 a.1; used = tt })
       | inr a ↦ elim (chosen_some (name_of ts) _ _ q a.1) [
-        | inl b ↦ (let one = then_some (λ i. variable_of vars i b.0.1) (place_of vars b.0.0) q b.2 in
+        | inl b ↦ (let one = then_some (λ i. variable_of vars i b.0.1) (declared_index vars b.0.0) q b.2 in
             let place = place_sound vars b.0.0 one.0 one.1 in
             let named : Name (name_at vars one.0) ∷ b.0.1 ≡ ts = ap (λ n. Name n ∷ b.0.1) place.1 ∙ sym (name_sound ts b.0 b.1) in
             subst (λ ts. IsTerm vars ts q) named (variable_sound vars one.0 b.0.1 q place.0 one.2))
@@ -230,8 +230,8 @@ act_sound vars ts a h =
       | inl p ↦ (let m = mapped_some acts.Print (sum_of vars p.0) a p.2 in
           let sum = sum_sound vars p.0 m.0 m.1 in
           subst (λ a. (ts ≡ act_tokens vars a) × IsActDeclared vars a) m.2 (behind_all_sound (mark.Print ∷ mark.Star ∷ mark.Comma ∷ []) ts p.0 p.1 ∙ ap (λ r. Fixed mark.Print ∷ Fixed mark.Star ∷ Fixed mark.Comma ∷ r) sum.0, sum.1))
-      | inr p ↦ (let one = then_some (λ r. option_and_then (λ i. option_and_then (λ rest. option_map (acts.Assign i) (sum_of vars rest)) (behind_all (mark.Equals ∷ []) r.1)) (place_of vars r.0)) (name_of ts) a p.1 in
-          let two = then_some (λ i. option_and_then (λ rest. option_map (acts.Assign i) (sum_of vars rest)) (behind_all (mark.Equals ∷ []) one.0.1)) (place_of vars one.0.0) a one.2 in
+      | inr p ↦ (let one = then_some (λ r. option_and_then (λ i. option_and_then (λ rest. option_map (acts.Assign i) (sum_of vars rest)) (behind_all (mark.Equals ∷ []) r.1)) (declared_index vars r.0)) (name_of ts) a p.1 in
+          let two = then_some (λ i. option_and_then (λ rest. option_map (acts.Assign i) (sum_of vars rest)) (behind_all (mark.Equals ∷ []) one.0.1)) (declared_index vars one.0.0) a one.2 in
           let three = then_some (λ rest. option_map (acts.Assign two.0) (sum_of vars rest)) (behind_all (mark.Equals ∷ []) one.0.1) a two.2 in
           let m = mapped_some (acts.Assign two.0) (sum_of vars three.0) a three.2 in
           let sum = sum_sound vars three.0 m.0 m.1 in
@@ -248,7 +248,7 @@ form_sound vars ts f h =
       | inl p ↦ (let r = is_all_sound (mark.Sync ∷ mark.All ∷ []) ts p.0 in
           subst (λ f. (ts ≡ form_tokens vars f) × IsFormDeclared vars f) (some_same _ _ p.1) (behind_all_sound (mark.Sync ∷ mark.All ∷ []) ts r.0 r.1 ∙ ap (λ r. Fixed mark.Sync ∷ Fixed mark.All ∷ r) r.2, tt))
       | inr p ↦ elim (chosen_some (behind_all (mark.If ∷ mark.Open ∷ mark.ThisImage ∷ mark.Open ∷ mark.Close ∷ mark.Same ∷ []) ts) _ _ f p.1) [
-        | inl q ↦ (let one = then_some (λ r. option_map (forms.IfImage r.0) (act_of vars r.1)) (image_of q.0) f q.2 in
+        | inl q ↦ (let one = then_some (λ r. option_map (forms.IfImage r.0) (act_of vars r.1)) (number_before mark.Close q.0) f q.2 in
             let two = then_some (λ r. option_map (λ behind. (r.0, behind)) (behind_all (mark.Close ∷ []) r.1)) (number_of q.0) one.0 one.1 in
             let three = mapped_some (λ behind. (two.0.0, behind)) (behind_all (mark.Close ∷ []) two.0.1) one.0 two.2 in
             let m = mapped_some (forms.IfImage one.0.0) (act_of vars one.0.1) f one.2 in
@@ -301,7 +301,7 @@ term_given : (vars : List ThinVariable) (t : ThinTerm) (rest : List Token) → A
 term_given vars (terms.Number n) rest once used no_bracket = refl
 term_given vars (terms.Variable i) rest once used no_bracket =
     ap (λ o. option_and_then (λ i. variable_of vars i rest) o) (place_given vars i once used)
-    ∙ ap (λ o. chosen (option_and_then (behind_all []) o) (λ inner. option_and_then (λ r. when (is_coarray_at vars i) (terms.Coindexed i r.0, r.1)) (image_part inner)) (Some (terms.Variable i, rest))) no_bracket
+    ∙ ap (λ o. chosen (option_and_then (behind_all []) o) (λ inner. option_and_then (λ r. when (is_coarray_at vars i) (terms.Coindexed i r.0, r.1)) (number_before mark.CloseBracket inner)) (Some (terms.Variable i, rest))) no_bracket
 term_given vars (terms.Coindexed i image) rest once used no_bracket =
     ap (λ o. option_and_then (λ i. variable_of vars i (Fixed mark.OpenBracket ∷ Number image ∷ Fixed mark.CloseBracket ∷ rest)) o) (place_given vars i once used.0)
     ∙ ap (λ b. when b (terms.Coindexed i image, rest)) used.1

@@ -14,7 +14,7 @@ use Rattle.caf_base.specs.declared.thin.ThinVariable.{ThinVariable}
 use Rattle.fortran_reader.specs.Bytes.{is_digit}
 use Rattle.caf_base.specs.declared.thin.ThinTerm.TheVariants as terms
 use Rattle.fortran_reader.specs.Cutting.{when, chosen, several, tokens_of}
-use Rattle.fortran_reader.specs.Reading.{last_cut, with_row, rows_from, place_of, behind_all, number_of, named_of, variable_of, image_part}
+use Rattle.fortran_reader.specs.Reading.{last_cut, with_row, rows_from, declared_index, behind_all, number_of, named_of, variable_of, number_before}
 use Rattle.fortran_reader.specs.declared.token.Mark.TheVariants as mark
 use Rattle.fortran_reader.specs.declared.line.Row.{Row}
 use Rattle.fortran_reader.specs.declared.token.Token.{Token}
@@ -170,11 +170,11 @@ lines_only bytes some none =
       one_part (b ∷ bytes) some = ap (λ t. cond t [] ((b ∷ bytes) ∷ [])) (suc_not_zero (length bytes))
 
 -- the term of a name with a bracket
-pub named_coindexed : (vars : List ThinVariable) (name : List ℕ) (ts inner behind rest : List Token) (i image : ℕ) (b : Bool) → place_of vars name ≡ Some i → behind_all (mark.OpenBracket ∷ []) ts ≡ Some inner
+pub named_coindexed : (vars : List ThinVariable) (name : List ℕ) (ts inner behind rest : List Token) (i image : ℕ) (b : Bool) → declared_index vars name ≡ Some i → behind_all (mark.OpenBracket ∷ []) ts ≡ Some inner
     → number_of inner ≡ Some (image, behind) → behind_all (mark.CloseBracket ∷ []) behind ≡ Some rest → is_coarray_at vars i ≡ b → named_of vars name ts ≡ when b (terms.Coindexed i image, rest)
 named_coindexed vars name ts inner behind rest i image b place opened number closed coarray =
     ap (λ o. option_and_then (λ i. variable_of vars i ts) o) place
-    ∙ (ap (λ o. chosen o (λ (inner : List Token). option_and_then (λ r. when (is_coarray_at vars i) (terms.Coindexed i r.0, r.1)) (image_part inner)) (Some (terms.Variable i, ts))) opened
+    ∙ (ap (λ o. chosen o (λ (inner : List Token). option_and_then (λ r. when (is_coarray_at vars i) (terms.Coindexed i r.0, r.1)) (number_before mark.CloseBracket inner)) (Some (terms.Variable i, ts))) opened
     ∙ (ap (λ o. option_and_then (λ (r : ℕ × List Token). when (is_coarray_at vars i) (terms.Coindexed i r.0, r.1)) (option_and_then (λ (r : ℕ × List Token). option_map (λ behind. (r.0, behind)) (behind_all (mark.CloseBracket ∷ []) r.1)) o)) number
     ∙ (ap (λ o. option_and_then (λ (r : ℕ × List Token). when (is_coarray_at vars i) (terms.Coindexed i r.0, r.1)) (option_map (λ behind. (image, behind)) o)) closed
     ∙ ap (λ b. when b (terms.Coindexed i image, rest)) coarray)))

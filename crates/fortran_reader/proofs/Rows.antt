@@ -8,7 +8,7 @@ use Rattle.caf_base.specs.declared.thin.ThinVariable.{ThinVariable}
 use Rattle.caf_base.specs.declared.thin.ThinStatement.{ThinStatement}
 use Rattle.fortran_reader.specs.Tokens.{Lies}
 use Rattle.fortran_reader.specs.Cutting.{tokens_of}
-use Rattle.fortran_reader.specs.Reading.{with_row, rows_from, declaration_of, declarations_before, declarations_of, place_of, is_at, are_once, form_of, statements_of, last_cut, is_all, body_of, program_of, tree_of}
+use Rattle.fortran_reader.specs.Reading.{with_row, rows_from, declaration_of, declarations_before, declarations_of, declared_index, is_at, are_once, form_of, statements_of, last_cut, is_all, body_of, program_of, tree_of}
 use Rattle.fortran_reader.specs.Reads.{Lay, Declare, statement_rows, end_row, AreOnce, Reads, OneReading}
 use Rattle.fortran_reader.specs.Statements.{name_at, form_tokens}
 use Rattle.fortran_reader.specs.declared.line.Row.{Row}
@@ -80,25 +80,25 @@ declarations_given (v ∷ vars) (row ∷ heads) rest declare none =
     ∙ ap (λ (r : List ThinVariable × List Row). (v ∷ r.0, r.1)) (declarations_given vars heads rest declare.1 none)
 
 -- names that are found at their places
-once_from : (all vars : List ThinVariable) (i : ℕ) → are_once all vars i ≡ true → (j : ℕ) → j < length vars → place_of all (name_at vars j) ≡ Some (i + j)
+once_from : (all vars : List ThinVariable) (i : ℕ) → are_once all vars i ≡ true → (j : ℕ) → j < length vars → declared_index all (name_at vars j) ≡ Some (i + j)
 once_from all [] i h j low = absurd (omega arith)
-once_from all (v ∷ vars) i h zero low = at (place_of all v.name) i (both_true (is_at (place_of all v.name) i) (are_once all vars (i + 1)) h).0 where
+once_from all (v ∷ vars) i h zero low = at (declared_index all v.name) i (both_true (is_at (declared_index all v.name) i) (are_once all vars (i + 1)) h).0 where
   same : (k i : ℕ) → (k == i) ≡ true → k ≡ i + 0
   same k i h = grind (arith, nat_tests)
 
   at : (o : Option ℕ) (i : ℕ) → is_at o i ≡ true → o ≡ Some (i + 0)
   at None i h = (cc)
   at (Some k) i h = ap Some (same k i h)
-once_from all (v ∷ vars) i h (suc j) low = once_from all vars (i + 1) (both_true (is_at (place_of all v.name) i) (are_once all vars (i + 1)) h).1 j (omega arith) ∙ ap Some (shift i j) where
+once_from all (v ∷ vars) i h (suc j) low = once_from all vars (i + 1) (both_true (is_at (declared_index all v.name) i) (are_once all vars (i + 1)) h).1 j (omega arith) ∙ ap Some (shift i j) where
   shift : (i j : ℕ) → i + 1 + j ≡ i + suc j
   shift i j = omega arith
 
 once_sound : (vars : List ThinVariable) → are_once vars vars 0 ≡ true → AreOnce vars
-once_sound vars h i j low_i low_j same = places i j (sym (once_from vars vars 0 h i low_i) ∙ (ap (place_of vars) same ∙ once_from vars vars 0 h j low_j)) where
+once_sound vars h i j low_i low_j same = places i j (sym (once_from vars vars 0 h i low_i) ∙ (ap (declared_index vars) same ∙ once_from vars vars 0 h j low_j)) where
   places : (i j : ℕ) → Some (0 + i) ≡ Some (0 + j) → i ≡ j
   places i j h = let same : 0 + i ≡ 0 + j = cc in omega arith
 
-once_upto : (all vars : List ThinVariable) (i : ℕ) → ((j : ℕ) → j < length vars → place_of all (name_at vars j) ≡ Some (i + j)) → are_once all vars i ≡ true
+once_upto : (all vars : List ThinVariable) (i : ℕ) → ((j : ℕ) → j < length vars → declared_index all (name_at vars j) ≡ Some (i + j)) → are_once all vars i ≡ true
 once_upto all [] i h = refl
 once_upto all (v ∷ vars) i h =
     ap (λ o. is_at o i && are_once all vars (i + 1)) (h 0 (some (length vars)))

@@ -33,7 +33,7 @@ abbrev pub rows_from : ℕ → List (List ℕ) → Option (List Row)
 rows_from n [] = Some []
 rows_from n (l ∷ ls) = option_and_then (λ ts. option_map (with_row n ts) (rows_from (suc n) ls)) (tokens_of l)
 
--- a number for each mark
+-- a number for each mark, so that two can be compared
 abbrev pub rank : Mark → ℕ
 rank mark.Integer = 0
 rank mark.Sync = 1
@@ -66,15 +66,17 @@ abbrev pub behind_all : List Mark → List Token → Option (List Token)
 behind_all [] ts = Some ts
 behind_all (m ∷ ms) ts = option_and_then (behind_all ms) (behind m ts)
 
--- whether the tokens are these marks
+-- no token is left
 abbrev pub is_empty : List Token → Bool
 is_empty [] = true
 is_empty (t ∷ ts) = false
 
+-- there are tokens to go on from, and none is left
 abbrev pub ends_there : Option (List Token) → Bool
 ends_there None = false
 ends_there (Some ts) = is_empty ts
 
+-- the tokens are these marks
 abbrev pub is_all : List Mark → List Token → Bool
 is_all ms ts = ends_there (behind_all ms ts)
 
@@ -92,23 +94,23 @@ number_of (Fixed m ∷ rest) = None
 number_of (Name name ∷ rest) = None
 number_of (Number n ∷ rest) = Some (n, rest)
 
--- the place of a name
-abbrev pub place_of : List ThinVariable → List ℕ → Option ℕ
-place_of vars name = position_from (λ v. bytes_eq v.name name) 0 vars
+-- the index of a declared name, from 0
+abbrev pub declared_index : List ThinVariable → List ℕ → Option ℕ
+declared_index vars name = position_from (λ v. bytes_eq v.name name) 0 vars
 
--- a number in brackets
-abbrev pub image_part : List Token → Option (ℕ × List Token)
-image_part ts = option_and_then (λ r. option_map (λ behind. (r.0, behind)) (behind_all (mark.CloseBracket ∷ []) r.1)) (number_of ts)
+-- the number in front with this mark behind it, and what stands behind the mark
+abbrev pub number_before : Mark → List Token → Option (ℕ × List Token)
+number_before m ts = option_and_then (λ r. option_map (λ behind. (r.0, behind)) (behind_all (m ∷ []) r.1)) (number_of ts)
 
 -- the term of a variable, and what stands behind it
 abbrev pub variable_of : List ThinVariable → ℕ → List Token → Option (ThinTerm × List Token)
 variable_of vars i ts = chosen (behind_all (mark.OpenBracket ∷ []) ts)
-    (λ inner. option_and_then (λ r. when (is_coarray_at vars i) (terms.Coindexed i r.0, r.1)) (image_part inner))
+    (λ inner. option_and_then (λ r. when (is_coarray_at vars i) (terms.Coindexed i r.0, r.1)) (number_before mark.CloseBracket inner))
     (Some (terms.Variable i, ts))
 
 -- the term of a name, and what stands behind it
 abbrev pub named_of : List ThinVariable → List ℕ → List Token → Option (ThinTerm × List Token)
-named_of vars name ts = option_and_then (λ i. variable_of vars i ts) (place_of vars name)
+named_of vars name ts = option_and_then (λ i. variable_of vars i ts) (declared_index vars name)
 
 -- the term in front, and what stands behind it
 abbrev pub term_of : List ThinVariable → List Token → Option (ThinTerm × List Token)
@@ -143,21 +145,17 @@ declaration_of ts = option_and_then (λ rest. option_and_then (λ r. declared_as
 
 -- the assignment
 abbrev pub assignment_of : List ThinVariable → List Token → Option ThinAct
-assignment_of vars ts = option_and_then (λ r. option_and_then (λ i. option_and_then (λ rest. option_map (acts.Assign i) (sum_of vars rest)) (behind_all (mark.Equals ∷ []) r.1)) (place_of vars r.0)) (name_of ts)
+assignment_of vars ts = option_and_then (λ r. option_and_then (λ i. option_and_then (λ rest. option_map (acts.Assign i) (sum_of vars rest)) (behind_all (mark.Equals ∷ []) r.1)) (declared_index vars r.0)) (name_of ts)
 
 -- the action
 abbrev pub act_of : List ThinVariable → List Token → Option ThinAct
 act_of vars ts = chosen (behind_all (mark.Print ∷ mark.Star ∷ mark.Comma ∷ []) ts) (λ rest. option_map acts.Print (sum_of vars rest)) (assignment_of vars ts)
 
--- the image, and what stands behind the bracket that closes the condition
-abbrev pub image_of : List Token → Option (ℕ × List Token)
-image_of ts = option_and_then (λ r. option_map (λ behind. (r.0, behind)) (behind_all (mark.Close ∷ []) r.1)) (number_of ts)
-
 -- the statement
 abbrev pub form_of : List ThinVariable → List Token → Option ThinForm
 form_of vars ts = cond (is_all (mark.Sync ∷ mark.All ∷ []) ts) (Some forms.SyncAll)
     (chosen (behind_all (mark.If ∷ mark.Open ∷ mark.ThisImage ∷ mark.Open ∷ mark.Close ∷ mark.Same ∷ []) ts)
-    (λ rest. option_and_then (λ r. option_map (forms.IfImage r.0) (act_of vars r.1)) (image_of rest))
+    (λ rest. option_and_then (λ r. option_map (forms.IfImage r.0) (act_of vars r.1)) (number_before mark.Close rest))
     (option_map forms.Act (act_of vars ts)))
 
 -- the variables before these declarations
@@ -178,7 +176,7 @@ is_at (Some j) i = j == i
 -- whether the names from a place on are found at their places
 abbrev pub are_once : List ThinVariable → List ThinVariable → ℕ → Bool
 are_once vars [] i = true
-are_once vars (v ∷ vs) i = is_at (place_of vars v.name) i && are_once vars vs (i + 1)
+are_once vars (v ∷ vs) i = is_at (declared_index vars v.name) i && are_once vars vs (i + 1)
 
 -- the statements
 abbrev pub statements_of : List ThinVariable → List Row → Option (List ThinStatement)

@@ -1,4 +1,4 @@
--- What bytes a program of the thin form stands for (ISO/IEC 1539-1:2018, 6.3.2 for lines).
+-- Which program of the thin form bytes stand for (ISO/IEC 1539-1:2018, 6.3.2 for lines).
 use Rattle.std.specs.Prelude.{◌≡◌, ℕ, suc, ◌<◌, List, [], ◌∷◌, ◌++◌, length, IsTrue, ◌⊎◌}
 use Rattle.std.specs.List.{list_all}
 use Rattle.std.specs.Str.Lines.{lines}

@@ -35,12 +35,12 @@ addend_tokens vars (a ∷ more) = Fixed (cond a.is_minus mark.Minus mark.Plus) �
 abbrev pub sum_tokens : List ThinVariable → ThinSum → List Token
 sum_tokens vars s = term_tokens vars s.first ++ addend_tokens vars s.rest
 
--- act = NAME "=" sum | "print" "*" "," sum
+-- action = NAME "=" sum | "print" "*" "," sum
 abbrev pub act_tokens : List ThinVariable → ThinAct → List Token
 act_tokens vars (acts.Assign i s) = Name (name_at vars i) ∷ Fixed mark.Equals ∷ sum_tokens vars s
 act_tokens vars (acts.Print s) = Fixed mark.Print ∷ Fixed mark.Star ∷ Fixed mark.Comma ∷ sum_tokens vars s
 
--- stmt = "sync" "all" | act | "if" "(" "this_image" "(" ")" "==" NUMBER ")" act
+-- statement = "sync" "all" | action | "if" "(" "this_image" "(" ")" "==" NUMBER ")" action
 abbrev pub form_tokens : List ThinVariable → ThinForm → List Token
 form_tokens vars forms.SyncAll = Fixed mark.Sync ∷ Fixed mark.All ∷ []
 form_tokens vars (forms.Act a) = act_tokens vars a

@@ -84,7 +84,7 @@ fn act(
 
 /// The image of `this_image() == IMAGE` and of the bracket behind it, and what stands behind.
 fn image(tokens: &[Token]) -> Option<(u32, &[Token])>
-    ensures { option_map (λ r. (r.0, r.1.now)) result ≡ reading.image_of tokens.now }
+    ensures { option_map (λ r. (r.0, r.1.now)) result ≡ reading.number_before Mark.Close tokens.now }
 {
     let (image, rest) = number(tokens)?;
     Some((image, behind_all(rest, &[Mark::Close])?))

@@ -54,7 +54,7 @@ pub fn number(tokens: &[Token]) -> Option<(u32, &[Token])>
 /// The place of the variable of a name, in declared order from 0.
 pub fn place(declared: &[ThinVariable], name: &[u8]) -> Option<u32>
     requires { length declared.now < 2 ^ 32 }
-    ensures place { result ≡ reading.place_of declared.now name.now }
+    ensures place { result ≡ reading.declared_index declared.now name.now }
     ensures within { IfSome result (λ i. i < length declared.now) }
 {
     for (i, variable) in declared.iter().enumerate() {

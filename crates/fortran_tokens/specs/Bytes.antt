@@ -1,20 +1,8 @@
 -- The sorts of bytes that tokens are made of (ISO/IEC 1539-1:2018, 6.1).
 use Rattle.std.specs.Prelude.{ℕ, Bool, cond, ◌&&◌, ◌||◌, nat_eq, nat_lt, nat_le}
+pub use Rattle.fortran_lines.specs.Characters.{is_blank, is_letter, is_digit, is_quote}
 use Rattle.fortran_tokens.specs.declared.byte.Sort.{Sort}
 use Rattle.fortran_tokens.specs.declared.byte.Sort.TheVariants.{Letter, Digit, Quote, Other}
-
--- a blank or a tab
-abbrev pub is_blank : ℕ → Bool
-is_blank b = nat_eq b 32 || nat_eq b 9
-
-abbrev pub is_letter : ℕ → Bool
-is_letter b = (nat_le 65 b && nat_le b 90) || (nat_le 97 b && nat_le b 122)
-
-abbrev pub is_digit : ℕ → Bool
-is_digit b = nat_le 48 b && nat_le b 57
-
-abbrev pub is_quote : ℕ → Bool
-is_quote b = nat_eq b 39 || nat_eq b 34
 
 -- what may follow in a name: letters, digits and underscores
 abbrev pub is_name_byte : ℕ → Bool

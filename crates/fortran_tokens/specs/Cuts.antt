@@ -1,7 +1,8 @@
 -- A text is cut into its longest tokens.
-use Rattle.std.specs.Prelude.{ℕ, ◌≡◌, ◌+◌, ◌-◌, ◌*◌, ◌<◌, ◌≤◌, Bool, true, false, cond, not, nat_lt, List, [], ◌∷◌, length, take, drop, fold, position, slice_index, Option, Some, None, ◌⊎◌}
+use Rattle.std.specs.Prelude.{ℕ, ◌≡◌, ◌+◌, ◌<◌, ◌≤◌, Bool, true, false, cond, not, nat_lt, List, [], ◌∷◌, length, take, drop, position, slice_index, Option, Some, None, ◌⊎◌}
 use Rattle.std.specs.List.{take_while}
 use Rattle.std.specs.Option.{option_map}
+use Rattle.std.specs.Str.Parse.{digits_value}
 use Rattle.fortran_tokens.specs.declared.token.TokenKind.{TokenKind}
 use Rattle.fortran_tokens.specs.declared.token.TokenKind.TheVariants.{Name, Number, Literal, Fixed}
 use Rattle.fortran_tokens.specs.declared.fault.Excess.{Excess}
@@ -21,11 +22,11 @@ pub record IsLongest (text : List ℕ) (k : TokenKind) (n : ℕ) : Type 0 where
 abbrev pub NoForm : List ℕ → Type 0
 NoForm text = (j : TokenKind) (m : ℕ) → m ≤ length text → HasForm j (take m text) → ⊥
 
--- the value of some digits
+-- the value of a digit-string (R711)
 abbrev pub value_of : List ℕ → ℕ
-value_of digits = fold (λ v d. v * 10 + (d - 48)) 0 digits
+value_of digits = digits_value 10 digits
 
--- The limits: a name has 63 characters, also as a kind; a number is below 2 to the 63rd; a literal has printing characters. What breaks one, and where.
+-- The limits: a name has at most 63 characters (6.2.2), also as a kind; an integer is at most 2^63 - 1; a literal has printing characters and tabs. None where the token keeps them, else which byte or number breaks one.
 abbrev pub excess_of : TokenKind → List ℕ → Option Excess
 excess_of Name w = cond (nat_lt 63 (length w)) (Some (excess.Character 63)) None
 excess_of Number w =

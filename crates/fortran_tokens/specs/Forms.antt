@@ -13,6 +13,7 @@ abbrev pub is_name : List ℕ → Bool
 is_name [] = false
 is_name (b ∷ w) = is_letter b && list_all is_name_byte w
 
+-- no byte is left
 abbrev pub is_empty : List ℕ → Bool
 is_empty [] = true
 is_empty (b ∷ w) = false

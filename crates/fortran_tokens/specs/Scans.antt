@@ -11,11 +11,12 @@ use Rattle.fortran_tokens.specs.declared.token.TokenKind.TheVariants.{Name, Numb
 use Rattle.fortran_tokens.specs.Bytes.{is_letter, is_digit, is_name_byte, sort_of}
 use Rattle.fortran_tokens.specs.Forms.{spellings}
 
--- the length of an underscore and a kind behind it, or 0
+-- the length of an underscore and the kind that this text behind it begins with, or 0
 abbrev pub kind_behind : List ℕ → ℕ
 kind_behind [] = 0
 kind_behind (b ∷ t) = cond (is_letter b) (2 + prefix_len is_name_byte t) (cond (nat_eq b 52 || nat_eq b 56) 2 0)
 
+-- the length of an underscore and a kind at the front, or 0
 abbrev pub kind_len : List ℕ → ℕ
 kind_len [] = 0
 kind_len (u ∷ t) = cond (nat_eq u 95) (kind_behind t) 0
@@ -43,6 +44,7 @@ begins [] text = true
 begins (x ∷ xs) [] = false
 begins (x ∷ xs) (b ∷ text) = nat_eq (to_ascii_lowercase b) x && begins xs text
 
+-- n is longer than the best so far
 abbrev pub is_longer : Option (Sign × ℕ) → ℕ → Bool
 is_longer None n = true
 is_longer (Some r) n = nat_lt r.1 n
@@ -51,6 +53,7 @@ is_longer (Some r) n = nat_lt r.1 n
 abbrev pub better : Option (Sign × ℕ) → List ℕ × Sign → List ℕ → Option (Sign × ℕ)
 better best row text = cond (begins row.0 text && is_longer best (length row.0)) (Some (row.1, length row.0)) best
 
+-- the longest of the best so far and of the rows that begin the text
 abbrev pub best_of : Option (Sign × ℕ) → List (List ℕ × Sign) → List ℕ → Option (Sign × ℕ)
 best_of best [] text = best
 best_of best (row ∷ rows) text = best_of (better best row text) rows text
@@ -66,6 +69,7 @@ found_by Digit b t = Some (Number, 1 + number_rest_len t)
 found_by Quote b t = option_map (λ n. (Literal, 1 + n)) (closes b true t)
 found_by Other b t = option_map (λ r. (Fixed r.0, r.1)) (sign_found (b ∷ t))
 
+-- the form at the front of a text, by its first byte
 abbrev pub form_found : List ℕ → Option (TokenKind × ℕ)
 form_found [] = None
 form_found (b ∷ t) = found_by (sort_of b) b t

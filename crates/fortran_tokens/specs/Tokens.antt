@@ -25,14 +25,17 @@ depth_behind_sign d sign.CloseSquare = d - 1
 depth_behind_sign d sign.CloseArray = d - 1
 depth_behind_sign d s = d
 
+-- how many brackets are open behind a token
 abbrev pub depth_behind : ℕ → TokenKind → ℕ
 depth_behind d (Fixed s) = depth_behind_sign d s
 depth_behind d k = d
 
+-- the sign is `::`
 abbrev pub is_colons_sign : Sign → Bool
 is_colons_sign sign.Colons = true
 is_colons_sign s = false
 
+-- the token is `::`
 abbrev pub is_colons : TokenKind → Bool
 is_colons (Fixed s) = is_colons_sign s
 is_colons k = false

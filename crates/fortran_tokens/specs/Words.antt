@@ -7,6 +7,7 @@ use Rattle.fortran_tokens.specs.declared.cut.Piece.{Piece}
 abbrev pub word_of : List ℕ → Piece → TokenKind × List ℕ
 word_of text p = (p.kind, take (p.to - p.from) (drop p.from text))
 
+-- the kinds and texts of tokens
 abbrev pub words_of : List ℕ → List Piece → List (TokenKind × List ℕ)
 words_of text ps = map (word_of text) ps
 

@@ -14,7 +14,7 @@ pub enum TokenFault {
     NumberTooWide { at: Pos },
 }
 
-/// Why a token of a statement's text is none.
+/// Why no token stands at a place of a statement's text: a byte may not stand there, or an integer is too great.
 #[derive(Clone, Copy, PartialEq, Eq, Debug)]
 pub enum Excess {
     /// The byte that stands so far behind the first one may not stand there.

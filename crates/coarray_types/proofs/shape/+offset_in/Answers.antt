@@ -1,6 +1,6 @@
 use Rattle.std.proofs.Common.{◌<◌, ◌+◌, ◌*◌, ◌∙◌, ◌≤ℤ◌, arith, pos, get_or, ap₂, sym, subst}
 use Rattle.std.proofs.lemmas.Int.{ints}
-use Rattle.coarray_types.specs.Places.{cells_of}
+use Rattle.coarray_types.specs.Places.{size_of}
 use Rattle.coarray_types.proofs.PlaceLemmas.{offset_step}
 use Rattle.coarray_types.proofs.shape.+offset_in.Goals as goal
 
@@ -18,7 +18,7 @@ overflow_cast-result t c =
     let high : get_or c.args.subs.now 0 (pos 0) ≤ℤ (get_or c.args.dims.now 0 (pos 0, pos 0)).1 = grind (arith, ints) in
     let step = offset_step c.args.dims.now c.args.subs.now c.in_ok-rest.rest (omega arith) (omega arith) low high c.in_ok-rest.ensures.offset.0 c.in_ok-rest.ensures.offset.1 c.requires.cells in
     let is = c.joined.ensures ∙ ap₂ (λ a b. a + (b + 1) * c.in_ok-rest.rest) c.apart.ensures c.apart-extent.ensures in
-    let below : c.joined.result < cells_of c.args.dims.now = subst (λ n. n < cells_of c.args.dims.now) (sym is) step.below in
+    let below : c.joined.result < size_of c.args.dims.now = subst (λ n. n < size_of c.args.dims.now) (sym is) step.below in
     let few = c.requires.cells in
     omega (arith, below, few)
 
@@ -28,4 +28,4 @@ returns-clause-below t c =
     let high : get_or c.args.subs.now 0 (pos 0) ≤ℤ (get_or c.args.dims.now 0 (pos 0, pos 0)).1 = grind (arith, ints) in
     let step = offset_step c.args.dims.now c.args.subs.now c.in_ok-rest.rest (omega arith) (omega arith) low high c.in_ok-rest.ensures.offset.0 c.in_ok-rest.ensures.offset.1 c.requires.cells in
     let is = c.joined.ensures ∙ ap₂ (λ a b. a + (b + 1) * c.in_ok-rest.rest) c.apart.ensures c.apart-extent.ensures in
-    subst (λ n. n < cells_of c.args.dims.now) (sym is) step.below
+    subst (λ n. n < size_of c.args.dims.now) (sym is) step.below

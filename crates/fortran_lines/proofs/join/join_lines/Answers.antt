@@ -2,7 +2,7 @@ use Rattle.std.proofs.Common.{◌≡◌, ℕ, suc, true, nat_eq, List, [], ◌�
 use Rattle.std.specs.Str.Lines.{lines}
 use Rattle.std.proofs.lemmas.Bool.{eqb-true}
 use Rattle.fortran_lines.specs.declared.reading.Reading.{Reading}
-use Rattle.fortran_lines.specs.Marks.{numbered}
+use Rattle.fortran_lines.specs.PlacedBytes.{numbered}
 use Rattle.fortran_lines.specs.Faults.{faults_of, first_of_all, dangling}
 use Rattle.fortran_lines.specs.Readings.{first_fault}
 use Rattle.fortran_lines.proofs.FirstFaults.{is_first, none_first}

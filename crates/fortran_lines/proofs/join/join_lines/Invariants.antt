@@ -1,6 +1,6 @@
 use Rattle.std.proofs.Common.{◌≡◌, ◌+◌, ◌≤◌, length}
 use Rattle.std.specs.Str.Lines.{lines}
-use Rattle.fortran_lines.specs.Marks.{numbered}
+use Rattle.fortran_lines.specs.PlacedBytes.{numbered}
 use Rattle.fortran_lines.specs.Lines.{statements_of}
 use Rattle.fortran_lines.specs.Faults.{first_of_all, faults_of}
 use Rattle.fortran_lines.specs.Readings.{all_statements, first_fault}

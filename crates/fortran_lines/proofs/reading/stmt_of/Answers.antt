@@ -1,10 +1,10 @@
 use Rattle.std.proofs.Common.{◌≡◌, List, [], ◌∷◌, map, refl, ap, ◌∙◌}
-use Rattle.fortran_lines.specs.declared.mark.Mark.{Mark}
+use Rattle.fortran_lines.specs.declared.placed_byte.PlacedByte.{PlacedByte}
 use Rattle.fortran_lines.specs.Statements.{with_places}
 use Rattle.fortran_lines.proofs.reading.stmt_of.Goals as goal
 
 -- bytes and places that are taken apart are put together again
-together : (piece : List Mark) → with_places (map (λ mark. mark.code) piece) (map (λ mark. mark.at) piece) ≡ piece
+together : (piece : List PlacedByte) → with_places (map (λ mark. mark.code) piece) (map (λ mark. mark.at) piece) ≡ piece
 together [] = refl
 together (m ∷ piece) = ap (λ ms. m ∷ ms) (together piece)
 

@@ -8,4 +8,4 @@ returns-then-value c = wide_next c.loop-digit.value c.args.digits.now c.loop-dig
 pub returns-then-value-gt-GREATEST : goal.returns-then-value-gt-GREATEST
 returns-then-value-gt-GREATEST c =
     let digit = c.from.ensures in
-    wide_digit c.loop-digit.value c.args.digits.now c.loop-digit.digit-index (omega arith) (omega arith) ∙ ap (nat_lt 9223372036854775807) c.loop-digit.invariant.same
+    wide_digit c.loop-digit.value c.args.digits.now c.loop-digit.digit-index (omega arith) (c.requires c.loop-digit.digit-index (omega arith)) (omega arith) ∙ ap (nat_lt 9223372036854775807) c.loop-digit.invariant.same
