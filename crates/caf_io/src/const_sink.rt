@@ -1,6 +1,6 @@
 //! A sink that takes no memory, for the tests of what happens without any.
 
-ghost use Rattle.std.specs.Prelude.{◌≡◌, ◌≤◌, ◌-◌, [], Some, not, is_ok, min, length, IfOk, OnErr};
+ghost use Rattle.std.specs.Prelude.{◌≡◌, ◌≤◌, ◌-◌, [], Some, not, is_ok, min, length, IfOk, OnOk, OnErr};
 ghost use Rattle.std.specs.Io.KnownBytes.{WriteAppends};
 ghost use Rattle.caf_base.specs.Outside.{Rose};
 
@@ -59,6 +59,7 @@ impl<const N: usize> Sink for ConstSink<N> {
         ensures takes { IfOk result (λ n. n ≡ 0 → bytes.now ≡ []) }
         ensures appends { WriteAppends (Some self.old.written) (Some self.new.written) result bytes.now }
         ensures later { self.old.faults ≤ self.new.faults }
+        ensures still { OnOk result (self.new.faults ≡ self.old.faults) }
         ensures cause { OnErr result (Rose self.old.faults self.new.faults) }
 
         // What a call does, exactly.

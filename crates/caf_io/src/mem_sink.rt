@@ -1,6 +1,6 @@
 //! A sink in memory, for tests.
 
-ghost use Rattle.std.specs.Prelude.{◌≡◌, ◌≤◌, [], Some, not, is_ok, length, take, IfOk, OnErr};
+ghost use Rattle.std.specs.Prelude.{◌≡◌, ◌≤◌, [], Some, not, is_ok, length, take, IfOk, OnOk, OnErr};
 ghost use Rattle.std.specs.Io.KnownBytes.{WriteAppends};
 ghost use Rattle.caf_base.specs.Outside.{Rose};
 
@@ -76,6 +76,7 @@ impl Sink for MemSink {
         ensures takes { IfOk result (λ n. n ≡ 0 → bytes.now ≡ []) }
         ensures appends { WriteAppends (Some self.old.written) (Some self.new.written) result bytes.now }
         ensures later { self.old.calls.faults ≤ self.new.calls.faults }
+        ensures still { OnOk result (self.new.calls.faults ≡ self.old.calls.faults) }
         ensures cause { OnErr result (Rose self.old.calls.faults self.new.calls.faults) }
 
         // What a call does, exactly.

@@ -107,6 +107,7 @@ impl Source for MemSource {
         ensures begins { OnOk result (Begins (Some self.old.files) name.now (Some self.new.left)) }
         ensures failed_keeps { OnErr result (Keeps (Some self.old.left) (Some self.new.left)) }
         ensures later { self.old.calls.faults ≤ self.new.calls.faults }
+        ensures still { OnOk result (self.new.calls.faults ≡ self.old.calls.faults) }
         ensures cause { OnErr result (MayNotBegin (Some self.old.files) name.now self.old.calls.faults self.new.calls.faults) }
 
         // What a call does, exactly.
@@ -130,6 +131,7 @@ impl Source for MemSource {
         ensures bound { IfOk result (λ n. n ≤ length buf.new) }
         ensures moves { ReadConsumes (Some self.old.left) (Some self.new.left) result buf.new }
         ensures later { self.old.calls.faults ≤ self.new.calls.faults }
+        ensures still { OnOk result (self.new.calls.faults ≡ self.old.calls.faults) }
         ensures cause { OnErr result (Rose self.old.calls.faults self.new.calls.faults) }
 
         // What a call does, exactly.
