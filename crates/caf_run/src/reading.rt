@@ -43,6 +43,11 @@ impl From<AllocError> for ReadEnd {
 const PIECE_BYTES: usize = 4_096;
 
 /// The bytes of the first file of a name, at most `limit` of them.
+///
+/// # Errors
+///
+/// `Fault` where a call to the source failed, `TooLong` where the file has more bytes than `limit`, which is below 2^32, and
+/// `NoMemory`.
 pub fn read_file<S: Source>(
     alloc: Global,
     source: &mut S,
