@@ -2,6 +2,7 @@
 use Rattle.std.proofs.Common.{◌≡◌, ℕ, suc, Bool, true, false, not, ◌&&◌, ◌||◌, nat_eq, nat_lt, List, [], ◌∷◌, ◌++◌, length, get_or, inl, inr, refl, ap, sym, ◌∙◌, subst, arith, append_assoc, length-append, append-nil}
 use Rattle.std.proofs.lemmas.Bool.{and_parts, and_from, or_cases, eqb-true, eq-eqb, not-true, ltb-true, lt-ltb, false≢true}
 use Rattle.std.proofs.Math.Bool.{or-true}
+use Rattle.std.proofs.lemmas.Slice.Eq.{bytes_eq-Decides}
 use Rattle.caf_base.specs.declared.place.Pos.{Pos}
 use Rattle.reader_theory.specs.Words.{Mark, bare, Shallow}
 use Rattle.reader_theory.specs.Levels.{mark}
@@ -15,7 +16,7 @@ use Rattle.fortran_grammar.specs.Tokens.{Tok, Token}
 use Rattle.fortran_grammar.specs.Phrases as p
 use Rattle.fortran_grammar.specs.Phrases.{Phrase, ◌▸◌, ◌∪◌, Words, FirstAt}
 use Rattle.fortran_grammar.specs.Laws.{TestIsExact}
-use Rattle.fortran_grammar.specs.Acceptance.{same_text, same_kind, sign_number, same_tok, same_place, after, next, shorter, accepts, at_end}
+use Rattle.fortran_grammar.specs.Acceptance.{same_kind, sign_number, same_tok, same_place, after, next, shorter, accepts, at_end}
 
 after_parts : (b : Bool) (behind : List Token → Bool) (rest : List Token) → after b behind rest ≡ true → (b ≡ true) × (behind rest ≡ true)
 after_parts true behind rest e = (refl, e)
@@ -25,32 +26,18 @@ after_from : (b : Bool) (behind : List Token → Bool) (rest : List Token) → b
 after_from true behind rest e h = h
 after_from false behind rest e h = e
 
-text_true : (x y : List ℕ) → same_text x y ≡ true → x ≡ y
-text_true [] [] e = refl
-text_true [] (y ∷ ys) e = cc
-text_true (x ∷ xs) [] e = cc
-text_true (x ∷ xs) (y ∷ ys) e =
-    let h = and_parts (nat_eq x y) (same_text xs ys) e in
-    let j = eqb-true x y h.0 in
-    let k = text_true xs ys h.1 in
-    cc
-
-text_refl : (x : List ℕ) → same_text x x ≡ true
-text_refl [] = refl
-text_refl (x ∷ xs) = and_from (nat_eq x x) (same_text xs xs) (eq-eqb x x refl) (text_refl xs)
-
 kind_true : (j k : NumberKind) → same_kind j k ≡ true → j ≡ k
 kind_true kinds.Unstated kinds.Unstated e = refl
 kind_true kinds.Four kinds.Four e = refl
 kind_true kinds.Eight kinds.Eight e = refl
-kind_true (kinds.Named x) (kinds.Named y) e = ap kinds.Named (text_true x y e)
+kind_true (kinds.Named x) (kinds.Named y) e = ap kinds.Named ((bytes_eq-Decides x y).0 e)
 kind_true j k e = absurd (false≢true e)
 
 kind_refl : (k : NumberKind) → same_kind k k ≡ true
 kind_refl kinds.Unstated = refl
 kind_refl kinds.Four = refl
 kind_refl kinds.Eight = refl
-kind_refl (kinds.Named x) = text_refl x
+kind_refl (kinds.Named x) = (bytes_eq-Decides x x).1 refl
 
 signs : List Sign
 signs = s.Plus ∷ s.Minus ∷ s.Star ∷ s.Slash ∷ s.Power ∷ s.Equal ∷ s.NotEqual ∷ s.Less ∷ s.LessEqual ∷ s.Greater ∷ s.GreaterEqual ∷ s.And ∷ s.Or ∷ s.Not ∷ s.Eqv ∷ s.Neqv ∷ s.True ∷ s.False ∷ s.Assign ∷ s.Comma ∷ s.Colon ∷ s.Colons ∷ s.OpenRound ∷ s.CloseRound ∷ s.OpenSquare ∷ s.CloseSquare ∷ s.OpenArray ∷ s.CloseArray ∷ []
@@ -90,21 +77,21 @@ sign_true : (x y : Sign) → nat_eq (sign_number x) (sign_number y) ≡ true →
 sign_true x y e = sym (sign_back x) ∙ ap (λ n. get_or signs n s.Plus) (eqb-true (sign_number x) (sign_number y) e) ∙ sign_back y
 
 tok_true : (x y : Tok) → same_tok x y ≡ true → x ≡ y
-tok_true (t.word x) (t.word y) e = ap t.word (text_true x y e)
+tok_true (t.word x) (t.word y) e = ap t.word ((bytes_eq-Decides x y).0 e)
 tok_true (t.integer m j) (t.integer n k) e =
     let h = and_parts (nat_eq m n) (same_kind j k) e in
     let a = eqb-true m n h.0 in
     let b = kind_true j k h.1 in
     cc
-tok_true (t.literal x) (t.literal y) e = ap t.literal (text_true x y e)
+tok_true (t.literal x) (t.literal y) e = ap t.literal ((bytes_eq-Decides x y).0 e)
 tok_true (t.sign x) (t.sign y) e = ap t.sign (sign_true x y e)
 tok_true t.over t.over e = refl
 tok_true x y e = absurd (false≢true e)
 
 tok_refl : (x : Tok) → same_tok x x ≡ true
-tok_refl (t.word x) = text_refl x
+tok_refl (t.word x) = (bytes_eq-Decides x x).1 refl
 tok_refl (t.integer m j) = and_from (nat_eq m m) (same_kind j j) (eq-eqb m m refl) (kind_refl j)
-tok_refl (t.literal x) = text_refl x
+tok_refl (t.literal x) = (bytes_eq-Decides x x).1 refl
 tok_refl (t.sign x) = eq-eqb (sign_number x) (sign_number x) refl
 tok_refl t.over = refl
 

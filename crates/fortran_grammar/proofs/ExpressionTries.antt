@@ -5,7 +5,7 @@ use Rattle.fortran_tree.specs.declared.expr.NumberKind.TheVariants as kinds
 use Rattle.fortran_tree.specs.declared.expr.Operator.TheVariants as o
 use Rattle.fortran_tree.specs.declared.expr.PrefixOperator.TheVariants as b
 use Rattle.fortran_tree.specs.Expressions as s
-use Rattle.fortran_tree.specs.Expressions.{Term}
+use Rattle.fortran_tree.specs.Expressions.{Expression}
 use Rattle.fortran_grammar.specs.Tokens as t
 use Rattle.fortran_grammar.specs.Tokens.{Token}
 use Rattle.fortran_grammar.specs.ExpressionGrammar.{expr}
@@ -38,7 +38,7 @@ sum_first : spelled (expr (s.binary o.Multiply (s.binary o.Add (v (codes "a") 1)
 sum_first = refl
 
 -- but in brackets
-grouped : spelled (expr (s.binary o.Divide (s.group (s.binary o.Add (v (codes "a") 3) (v (codes "b") 7) (here 3)) (here 1)) (v (codes "c") 13) (here 1))) 64 (cut (codes "( a + b ) / c")) ≡ true
+grouped : spelled (expr (s.binary o.Divide (s.parenthesized (s.binary o.Add (v (codes "a") 3) (v (codes "b") 7) (here 3)) (here 1)) (v (codes "c") 13) (here 1))) 64 (cut (codes "( a + b ) / c")) ≡ true
 grouped = refl
 
 -- a sign stands before a term
@@ -98,55 +98,55 @@ truths : spelled (expr (s.binary o.Eqv (s.logical true (here 1)) (s.logical fals
 truths = refl
 
 -- a function with empty brackets
-function_of_nothing : spelled (expr (s.function (n (codes "f") 1) s.no_arguments)) 64 (cut (codes "f ( )")) ≡ true
+function_of_nothing : spelled (expr (s.function_reference (n (codes "f") 1) s.no_arguments)) 64 (cut (codes "f ( )")) ≡ true
 function_of_nothing = refl
 
 -- a keyword makes it a function
-function_by_keyword : spelled (expr (s.function (n (codes "f") 1) (s.more_arguments None (v (codes "a") 5) (s.more_arguments (Some (n (codes "k") 9)) (v (codes "b") 13) s.no_arguments)))) 64 (cut (codes "f ( a , k = b )")) ≡ true
+function_by_keyword : spelled (expr (s.function_reference (n (codes "f") 1) (s.more_arguments None (v (codes "a") 5) (s.more_arguments (Some (n (codes "k") 9)) (v (codes "b") 13) s.no_arguments)))) 64 (cut (codes "f ( a , k = b )")) ≡ true
 function_by_keyword = refl
 
 -- a plain argument behind a keyword is read
-plain_behind_keyword : spelled (expr (s.function (n (codes "f") 1) (s.more_arguments (Some (n (codes "k") 5)) (v (codes "a") 9) (s.more_arguments None (v (codes "b") 13) s.no_arguments)))) 64 (cut (codes "f ( k = a , b )")) ≡ true
+plain_behind_keyword : spelled (expr (s.function_reference (n (codes "f") 1) (s.more_arguments (Some (n (codes "k") 5)) (v (codes "a") 9) (s.more_arguments None (v (codes "b") 13) s.no_arguments)))) 64 (cut (codes "f ( k = a , b )")) ≡ true
 plain_behind_keyword = refl
 
 -- plain expressions in brackets are no arguments
-plain_function : spelled (expr (s.function (n (codes "f") 1) (s.more_arguments None (v (codes "a") 5) s.no_arguments))) 64 (cut (codes "f ( a )")) ≡ false
+plain_function : spelled (expr (s.function_reference (n (codes "f") 1) (s.more_arguments None (v (codes "a") 5) s.no_arguments))) 64 (cut (codes "f ( a )")) ≡ false
 plain_function = refl
 
 -- but subscripts
-plain_element : spelled (expr (s.design (s.designator (n (codes "f") 1) (s.more_subscripts (s.element (v (codes "a") 5)) s.no_subscripts) s.no_selector))) 64 (cut (codes "f ( a )")) ≡ true
+plain_element : spelled (expr (s.designator (s.part_ref (n (codes "f") 1) (s.more_section_subscripts (s.subscript (v (codes "a") 5)) s.no_section_subscripts) s.no_image_selector))) 64 (cut (codes "f ( a )")) ≡ true
 plain_element = refl
 
 -- each part of a triplet may be missing
-triplets : spelled (expr (s.design (s.designator (n (codes "x") 1) (s.more_subscripts (s.triplet s.missing s.missing s.missing (here 5)) (s.more_subscripts (s.triplet (s.given (i 1 9)) s.missing (s.given (i 2 15)) (here 9)) (s.more_subscripts (s.triplet s.missing (s.given (i 3 21)) s.missing (here 19)) s.no_subscripts))) s.no_selector))) 64 (cut (codes "x ( : , 1 : : 2 , : 3 )")) ≡ true
+triplets : spelled (expr (s.designator (s.part_ref (n (codes "x") 1) (s.more_section_subscripts (s.triplet s.missing s.missing s.missing (here 5)) (s.more_section_subscripts (s.triplet (s.given (i 1 9)) s.missing (s.given (i 2 15)) (here 9)) (s.more_section_subscripts (s.triplet s.missing (s.given (i 3 21)) s.missing (here 19)) s.no_section_subscripts))) s.no_image_selector))) 64 (cut (codes "x ( : , 1 : : 2 , : 3 )")) ≡ true
 triplets = refl
 
 -- an image selector with a specifier
-selected : spelled (expr (s.design (s.designator (n (codes "x") 1) (s.more_subscripts (s.element (i 1 5)) s.no_subscripts) (s.selector (s.more_terms (i 2 11) (s.more_terms (i 3 15) s.no_terms)) (s.more_specifiers (n (codes "stat") 19) (v (codes "e") 26) s.no_specifiers))))) 64 (cut (codes "x ( 1 ) [ 2 , 3 , stat = e ]")) ≡ true
+selected : spelled (expr (s.designator (s.part_ref (n (codes "x") 1) (s.more_section_subscripts (s.subscript (i 1 5)) s.no_section_subscripts) (s.image_selector (s.more_expressions (i 2 11) (s.more_expressions (i 3 15) s.no_expressions)) (s.more_specifiers (n (codes "stat") 19) (v (codes "e") 26) s.no_specifiers))))) 64 (cut (codes "x ( 1 ) [ 2 , 3 , stat = e ]")) ≡ true
 selected = refl
 
 -- (/ and /) stand for square brackets
-selected_by_pairs : spelled (expr (s.design (s.designator (n (codes "x") 1) s.no_subscripts (s.selector (s.more_terms (i 2 6) s.no_terms) s.no_specifiers)))) 64 (cut (codes "x (/ 2 /)")) ≡ true
+selected_by_pairs : spelled (expr (s.designator (s.part_ref (n (codes "x") 1) s.no_section_subscripts (s.image_selector (s.more_expressions (i 2 6) s.no_expressions) s.no_specifiers)))) 64 (cut (codes "x (/ 2 /)")) ≡ true
 selected_by_pairs = refl
 
 -- but only both
-mixed_pair : spelled (expr (s.design (s.designator (n (codes "x") 1) s.no_subscripts (s.selector (s.more_terms (i 2 6) s.no_terms) s.no_specifiers)))) 64 (cut (codes "x (/ 2 ]")) ≡ false
+mixed_pair : spelled (expr (s.designator (s.part_ref (n (codes "x") 1) s.no_section_subscripts (s.image_selector (s.more_expressions (i 2 6) s.no_expressions) s.no_specifiers)))) 64 (cut (codes "x (/ 2 ]")) ≡ false
 mixed_pair = refl
 
 -- a selector has a cosubscript
-no_cosubscript : spelled (expr (s.design (s.designator (n (codes "x") 1) s.no_subscripts (s.selector s.no_terms s.no_specifiers)))) 64 (cut (codes "x [ ]")) ≡ false
+no_cosubscript : spelled (expr (s.designator (s.part_ref (n (codes "x") 1) s.no_section_subscripts (s.image_selector s.no_expressions s.no_specifiers)))) 64 (cut (codes "x [ ]")) ≡ false
 no_cosubscript = refl
 
 -- an array constructor
-constructor : spelled (expr (s.array (s.more_terms (i 1 3) (s.more_terms (i 2 7) s.no_terms)) (here 1))) 64 (cut (codes "[ 1 , 2 ]")) ≡ true
+constructor : spelled (expr (s.array_constructor (s.more_expressions (i 1 3) (s.more_expressions (i 2 7) s.no_expressions)) (here 1))) 64 (cut (codes "[ 1 , 2 ]")) ≡ true
 constructor = refl
 
 -- in its other spelling
-constructor_by_pairs : spelled (expr (s.array (s.more_terms (s.group (i 1 6) (here 4)) s.no_terms) (here 1))) 64 (cut (codes "(/ ( 1 ) /)")) ≡ true
+constructor_by_pairs : spelled (expr (s.array_constructor (s.more_expressions (s.parenthesized (i 1 6) (here 4)) s.no_expressions) (here 1))) 64 (cut (codes "(/ ( 1 ) /)")) ≡ true
 constructor_by_pairs = refl
 
 -- isn't empty
-empty_constructor : spelled (expr (s.array s.no_terms (here 1))) 64 (cut (codes "[ ]")) ≡ false
+empty_constructor : spelled (expr (s.array_constructor s.no_expressions (here 1))) 64 (cut (codes "[ ]")) ≡ false
 empty_constructor = refl
 
 -- places are those of the tokens
@@ -158,11 +158,11 @@ other_first_place : spelled (expr (s.binary o.Add (v (codes "a") 1) (v (codes "b
 other_first_place = refl
 
 -- two brackets at a limit of two
-two_levels : spelled (expr (s.group (s.group (v (codes "a") 5) (here 3)) (here 1))) 2 (cut (codes "( ( a ) )")) ≡ true
+two_levels : spelled (expr (s.parenthesized (s.parenthesized (v (codes "a") 5) (here 3)) (here 1))) 2 (cut (codes "( ( a ) )")) ≡ true
 two_levels = refl
 
 -- and of one
-two_levels_of_one : spelled (expr (s.group (s.group (v (codes "a") 5) (here 3)) (here 1))) 1 (cut (codes "( ( a ) )")) ≡ false
+two_levels_of_one : spelled (expr (s.parenthesized (s.parenthesized (v (codes "a") 5) (here 3)) (here 1))) 1 (cut (codes "( ( a ) )")) ≡ false
 two_levels_of_one = refl
 
 -- the operand of a sign is a level
@@ -182,7 +182,7 @@ sum_is_no_level : spelled (expr (s.binary o.Add (v (codes "a") 1) (v (codes "b")
 sum_is_no_level = refl
 
 -- an open bracket is one, even where nothing stands in it
-empty_brackets_level : spelled (expr (s.function (n (codes "f") 1) s.no_arguments)) 0 (cut (codes "f ( )")) ≡ false
+empty_brackets_level : spelled (expr (s.function_reference (n (codes "f") 1) s.no_arguments)) 0 (cut (codes "f ( )")) ≡ false
 empty_brackets_level = refl
 
 -- the kind of a number
@@ -196,9 +196,9 @@ kind_by_name : spelled (expr (s.number 7 (kinds.Named (codes "k")) (here 1))) 64
 kind_by_name = refl
 
 -- `a` in so many brackets, the outermost at a column
-bracketed : ℕ → ℕ → Term
+bracketed : ℕ → ℕ → Expression
 bracketed zero c = v (codes "a") c
-bracketed (suc k) c = s.group (bracketed k (c + 1)) (here c)
+bracketed (suc k) c = s.parenthesized (bracketed k (c + 1)) (here c)
 
 bracket_tokens : ℕ → ℕ → List Token
 bracket_tokens zero c = record { tok = t.word (codes "a"); at = here c } ∷ []

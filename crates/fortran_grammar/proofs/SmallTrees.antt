@@ -5,7 +5,7 @@ use Rattle.fortran_tree.specs.declared.name.Name.{Name}
 use Rattle.fortran_tree.specs.declared.name.Literal.{Literal}
 use Rattle.fortran_tree.specs.declared.expr.NumberKind.TheVariants.{Unstated}
 use Rattle.fortran_tree.specs.Expressions as s
-use Rattle.fortran_tree.specs.Expressions.{Term, Design}
+use Rattle.fortran_tree.specs.Expressions.{Expression, Designator}
 
 -- a column of line 1
 abbrev pub here : ℕ → Pos
@@ -15,13 +15,13 @@ here c = record { line = 1; col = c }
 abbrev pub n : List ℕ → ℕ → Name
 n x c = record { text = x; at = here c }
 
-abbrev pub d : List ℕ → ℕ → Design
-d x c = s.designator (n x c) s.no_subscripts s.no_selector
+abbrev pub d : List ℕ → ℕ → Designator
+d x c = s.part_ref (n x c) s.no_section_subscripts s.no_image_selector
 
-abbrev pub v : List ℕ → ℕ → Term
-v x c = s.design (d x c)
+abbrev pub v : List ℕ → ℕ → Expression
+v x c = s.designator (d x c)
 
-abbrev pub i : ℕ → ℕ → Term
+abbrev pub i : ℕ → ℕ → Expression
 i k c = s.number k Unstated (here c)
 
 -- a character literal at a column

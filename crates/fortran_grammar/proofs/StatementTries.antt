@@ -9,11 +9,11 @@ use Rattle.fortran_grammar.proofs.SmallTrees.{here, n, d, l, v, i}
 use Rattle.fortran_grammar.proofs.Trying.{cut}
 
 -- an assignment
-assignment : spelled (action (s.assignment (e.designator (n (codes "x") 1) (e.more_subscripts (e.element (i 2 5)) e.no_subscripts) (e.selector (e.more_terms (i 3 11) e.no_terms) e.no_specifiers)) (i 4 17)) (here 1)) 64 (cut (codes "x ( 2 ) [ 3 ] = 4")) ≡ true
+assignment : spelled (action (s.assignment (e.part_ref (n (codes "x") 1) (e.more_section_subscripts (e.subscript (i 2 5)) e.no_section_subscripts) (e.image_selector (e.more_expressions (i 3 11) e.no_expressions) e.no_specifiers)) (i 4 17)) (here 1)) 64 (cut (codes "x ( 2 ) [ 3 ] = 4")) ≡ true
 assignment = refl
 
 -- keywords are names too
-keyword_as_name : spelled (action (s.assignment (e.designator (n (codes "if") 1) (e.more_subscripts (e.element (i 1 6)) e.no_subscripts) e.no_selector) (i 5 12)) (here 1)) 64 (cut (codes "if ( 1 ) = 5")) ≡ true
+keyword_as_name : spelled (action (s.assignment (e.part_ref (n (codes "if") 1) (e.more_section_subscripts (e.subscript (i 1 6)) e.no_section_subscripts) e.no_image_selector) (i 5 12)) (here 1)) 64 (cut (codes "if ( 1 ) = 5")) ≡ true
 keyword_as_name = refl
 
 -- a call without brackets
@@ -137,7 +137,7 @@ form_team : spelled (action (s.form_team (i 1 13) (n (codes "t") 17) (e.more_spe
 form_team = refl
 
 -- LOCK
-lock : spelled (action (s.lock (e.designator (n (codes "l") 8) e.no_subscripts (e.selector (e.more_terms (i 1 12) e.no_terms) e.no_specifiers)) (e.more_specifiers (n (codes "stat") 18) (v (codes "e") 25) e.no_specifiers)) (here 1)) 64 (cut (codes "lock ( l [ 1 ] , stat = e )")) ≡ true
+lock : spelled (action (s.lock (e.part_ref (n (codes "l") 8) e.no_section_subscripts (e.image_selector (e.more_expressions (i 1 12) e.no_expressions) e.no_specifiers)) (e.more_specifiers (n (codes "stat") 18) (v (codes "e") 25) e.no_specifiers)) (here 1)) 64 (cut (codes "lock ( l [ 1 ] , stat = e )")) ≡ true
 lock = refl
 
 -- UNLOCK
@@ -153,101 +153,101 @@ event_wait : spelled (action (s.event_wait (d (codes "e") 14) (e.more_specifiers
 event_wait = refl
 
 -- one-line IFs nest
-one_line_ifs : spelled (action (s.guarded (v (codes "a") 6) (s.guarded (v (codes "b") 15) (s.assignment (d (codes "x") 19) (i 1 23)) (here 19)) (here 10)) (here 1)) 64 (cut (codes "if ( a ) if ( b ) x = 1")) ≡ true
+one_line_ifs : spelled (action (s.if_statement (v (codes "a") 6) (s.if_statement (v (codes "b") 15) (s.assignment (d (codes "x") 19) (i 1 23)) (here 19)) (here 10)) (here 1)) 64 (cut (codes "if ( a ) if ( b ) x = 1")) ≡ true
 one_line_ifs = refl
 
 -- each is a level, its bracket one more
-one_line_if_levels : spelled (action (s.guarded (v (codes "a") 6) s.return (here 10)) (here 1)) 2 (cut (codes "if ( a ) return")) ≡ true
+one_line_if_levels : spelled (action (s.if_statement (v (codes "a") 6) s.return (here 10)) (here 1)) 2 (cut (codes "if ( a ) return")) ≡ true
 one_line_if_levels = refl
 
 -- which one isn't enough for
-one_line_if_too_deep : spelled (action (s.guarded (v (codes "a") 6) s.return (here 10)) (here 1)) 1 (cut (codes "if ( a ) return")) ≡ false
+one_line_if_too_deep : spelled (action (s.if_statement (v (codes "a") 6) s.return (here 10)) (here 1)) 1 (cut (codes "if ( a ) return")) ≡ false
 one_line_if_too_deep = refl
 
 -- the action's place is that of its own first token
-action_elsewhere : spelled (action (s.guarded (v (codes "a") 6) s.return (here 1)) (here 1)) 64 (cut (codes "if ( a ) return")) ≡ false
+action_elsewhere : spelled (action (s.if_statement (v (codes "a") 6) s.return (here 1)) (here 1)) 64 (cut (codes "if ( a ) return")) ≡ false
 action_elsewhere = refl
 
 -- an IF block
-if_block : spelled (statement (s.choice (v (codes "a") 6) (s.more_statements (s.action s.return (here 17)) s.no_statements) s.no_else_ifs s.no_otherwise (here 1) (here 26))) 64 (cut (codes "if ( a ) then ; return ; end if ;")) ≡ true
+if_block : spelled (statement (s.if_construct (v (codes "a") 6) (s.more_statements (s.action s.return (here 17)) s.no_statements) s.no_else_ifs s.no_else_block (here 1) (here 26))) 64 (cut (codes "if ( a ) then ; return ; end if ;")) ≡ true
 if_block = refl
 
 -- its END in one word
-if_in_one_word : spelled (statement (s.choice (v (codes "a") 6) s.no_statements s.no_else_ifs s.no_otherwise (here 1) (here 17))) 64 (cut (codes "if ( a ) then ; endif ;")) ≡ true
+if_in_one_word : spelled (statement (s.if_construct (v (codes "a") 6) s.no_statements s.no_else_ifs s.no_else_block (here 1) (here 17))) 64 (cut (codes "if ( a ) then ; endif ;")) ≡ true
 if_in_one_word = refl
 
 -- ELSE IF and ELSE
-else_if : spelled (statement (s.choice (v (codes "a") 6) s.no_statements (s.more_else_ifs (v (codes "b") 27) (s.more_statements (s.action s.return (here 38)) s.no_statements) (here 17) s.no_else_ifs) (s.otherwise (s.more_statements (s.action s.return (here 54)) s.no_statements) (here 47)) (here 1) (here 63))) 64 (cut (codes "if ( a ) then ; else if ( b ) then ; return ; else ; return ; end if ;")) ≡ true
+else_if : spelled (statement (s.if_construct (v (codes "a") 6) s.no_statements (s.more_else_ifs (v (codes "b") 27) (s.more_statements (s.action s.return (here 38)) s.no_statements) (here 17) s.no_else_ifs) (s.else_block (s.more_statements (s.action s.return (here 54)) s.no_statements) (here 47)) (here 1) (here 63))) 64 (cut (codes "if ( a ) then ; else if ( b ) then ; return ; else ; return ; end if ;")) ≡ true
 else_if = refl
 
 -- in one word
-else_if_in_one : spelled (statement (s.choice (v (codes "a") 6) s.no_statements (s.more_else_ifs (v (codes "b") 26) s.no_statements (here 17) s.no_else_ifs) s.no_otherwise (here 1) (here 37))) 64 (cut (codes "if ( a ) then ; elseif ( b ) then ; end if ;")) ≡ true
+else_if_in_one : spelled (statement (s.if_construct (v (codes "a") 6) s.no_statements (s.more_else_ifs (v (codes "b") 26) s.no_statements (here 17) s.no_else_ifs) s.no_else_block (here 1) (here 37))) 64 (cut (codes "if ( a ) then ; elseif ( b ) then ; end if ;")) ≡ true
 else_if_in_one = refl
 
 -- ELSE IF is no IF in an ELSE
-else_if_isnt_else : spelled (statement (s.choice (v (codes "a") 6) s.no_statements s.no_else_ifs (s.otherwise (s.more_statements (s.choice (v (codes "b") 27) s.no_statements s.no_else_ifs s.no_otherwise (here 22) (here 38)) s.no_statements) (here 17)) (here 1) (here 38))) 64 (cut (codes "if ( a ) then ; else if ( b ) then ; end if ;")) ≡ false
+else_if_isnt_else : spelled (statement (s.if_construct (v (codes "a") 6) s.no_statements s.no_else_ifs (s.else_block (s.more_statements (s.if_construct (v (codes "b") 27) s.no_statements s.no_else_ifs s.no_else_block (here 22) (here 38)) s.no_statements) (here 17)) (here 1) (here 38))) 64 (cut (codes "if ( a ) then ; else if ( b ) then ; end if ;")) ≡ false
 else_if_isnt_else = refl
 
 -- DO without control
-loops : spelled (statement (s.loop None s.unlimited (s.more_statements (s.action s.return (here 6)) s.no_statements) (here 1) (record { name = None; at = (here 15) }))) 64 (cut (codes "do ; return ; end do ;")) ≡ true
+loops : spelled (statement (s.do_construct None s.unlimited (s.more_statements (s.action s.return (here 6)) s.no_statements) (here 1) (record { name = None; at = (here 15) }))) 64 (cut (codes "do ; return ; end do ;")) ≡ true
 loops = refl
 
 -- DO with a count and a name
-counted : spelled (statement (s.loop (Some (n (codes "l") 1)) (s.counted (n (codes "i") 8) (i 1 12) (i 9 16) (Some (i 2 20))) s.no_statements (here 1) (record { name = Some (n (codes "l") 31); at = (here 24) }))) 64 (cut (codes "l : do i = 1 , 9 , 2 ; end do l ;")) ≡ true
+counted : spelled (statement (s.do_construct (Some (n (codes "l") 1)) (s.counted (n (codes "i") 8) (i 1 12) (i 9 16) (Some (i 2 20))) s.no_statements (here 1) (record { name = Some (n (codes "l") 31); at = (here 24) }))) 64 (cut (codes "l : do i = 1 , 9 , 2 ; end do l ;")) ≡ true
 counted = refl
 
 -- DO WHILE
-while_loop : spelled (statement (s.loop None (s.while (v (codes "a") 12)) s.no_statements (here 1) (record { name = Some (n (codes "l") 24); at = (here 18) }))) 64 (cut (codes "do while ( a ) ; enddo l ;")) ≡ true
+while_loop : spelled (statement (s.do_construct None (s.while (v (codes "a") 12)) s.no_statements (here 1) (record { name = Some (n (codes "l") 24); at = (here 18) }))) 64 (cut (codes "do while ( a ) ; enddo l ;")) ≡ true
 while_loop = refl
 
 -- a name behind END isn't lost
-name_lost : spelled (statement (s.loop None s.unlimited s.no_statements (here 1) (record { name = None; at = (here 6) }))) 64 (cut (codes "do ; end do l ;")) ≡ false
+name_lost : spelled (statement (s.do_construct None s.unlimited s.no_statements (here 1) (record { name = None; at = (here 6) }))) 64 (cut (codes "do ; end do l ;")) ≡ false
 name_lost = refl
 
 -- SELECT CASE
-selects : spelled (statement (s.select (v (codes "a") 15) (s.more_case_blocks (s.ranges (s.single (i 1 28) ∷ s.at_least (i 2 32) ∷ s.at_most (i 3 40) (here 38) ∷ s.between (i 4 44) (i 5 48) ∷ [])) (s.more_statements (s.action s.return (here 54)) s.no_statements) (here 21) (s.more_case_blocks s.default s.no_statements (here 63) s.no_case_blocks)) (here 1) (here 78))) 64 (cut (codes "select case ( a ) ; case ( 1 , 2 : , : 3 , 4 : 5 ) ; return ; case default ; end select ;")) ≡ true
+selects : spelled (statement (s.case_construct (v (codes "a") 15) (s.more_case_blocks (s.ranges (s.single (i 1 28) ∷ s.at_least (i 2 32) ∷ s.at_most (i 3 40) (here 38) ∷ s.between (i 4 44) (i 5 48) ∷ [])) (s.more_statements (s.action s.return (here 54)) s.no_statements) (here 21) (s.more_case_blocks s.default s.no_statements (here 63) s.no_case_blocks)) (here 1) (here 78))) 64 (cut (codes "select case ( a ) ; case ( 1 , 2 : , : 3 , 4 : 5 ) ; return ; case default ; end select ;")) ≡ true
 selects = refl
 
 -- in one word
-selects_in_one : spelled (statement (s.select (v (codes "a") 14) s.no_case_blocks (here 1) (here 20))) 64 (cut (codes "selectcase ( a ) ; endselect ;")) ≡ true
+selects_in_one : spelled (statement (s.case_construct (v (codes "a") 14) s.no_case_blocks (here 1) (here 20))) 64 (cut (codes "selectcase ( a ) ; endselect ;")) ≡ true
 selects_in_one = refl
 
 -- a CASE selects something
-case_needs_range : spelled (statement (s.select (v (codes "a") 15) (s.more_case_blocks (s.ranges []) s.no_statements (here 21) s.no_case_blocks) (here 1) (here 32))) 64 (cut (codes "select case ( a ) ; case ( ) ; end select ;")) ≡ false
+case_needs_range : spelled (statement (s.case_construct (v (codes "a") 15) (s.more_case_blocks (s.ranges []) s.no_statements (here 21) s.no_case_blocks) (here 1) (here 32))) 64 (cut (codes "select case ( a ) ; case ( ) ; end select ;")) ≡ false
 case_needs_range = refl
 
 -- CRITICAL
-critical_bare : spelled (statement (s.critical s.absent (s.more_statements (s.action s.return (here 12)) s.no_statements) (here 1) (here 21))) 64 (cut (codes "critical ; return ; end critical ;")) ≡ true
+critical_bare : spelled (statement (s.critical_construct s.absent (s.more_statements (s.action s.return (here 12)) s.no_statements) (here 1) (here 21))) 64 (cut (codes "critical ; return ; end critical ;")) ≡ true
 critical_bare = refl
 
 -- with empty brackets
-critical_empty : spelled (statement (s.critical s.empty s.no_statements (here 1) (here 16))) 64 (cut (codes "critical ( ) ; endcritical ;")) ≡ true
+critical_empty : spelled (statement (s.critical_construct s.empty s.no_statements (here 1) (here 16))) 64 (cut (codes "critical ( ) ; endcritical ;")) ≡ true
 critical_empty = refl
 
 -- with a specifier
-critical_stat : spelled (statement (s.critical (s.present (n (codes "stat") 12) (v (codes "e") 19)) s.no_statements (here 1) (here 25))) 64 (cut (codes "critical ( stat = e ) ; end critical ;")) ≡ true
+critical_stat : spelled (statement (s.critical_construct (s.present (n (codes "stat") 12) (v (codes "e") 19)) s.no_statements (here 1) (here 25))) 64 (cut (codes "critical ( stat = e ) ; end critical ;")) ≡ true
 critical_stat = refl
 
 -- CHANGE TEAM
-changes_team : spelled (statement (s.change_team (v (codes "t") 15) (e.more_specifiers (n (codes "stat") 19) (v (codes "e") 26) e.no_specifiers) (s.more_statements (s.action s.return (here 32)) s.no_statements) (s.present (n (codes "stat") 52) (v (codes "e") 59)) (here 1) (here 41))) 64 (cut (codes "change team ( t , stat = e ) ; return ; end team ( stat = e ) ;")) ≡ true
+changes_team : spelled (statement (s.change_team_construct (v (codes "t") 15) (e.more_specifiers (n (codes "stat") 19) (v (codes "e") 26) e.no_specifiers) (s.more_statements (s.action s.return (here 32)) s.no_statements) (s.present (n (codes "stat") 52) (v (codes "e") 59)) (here 1) (here 41))) 64 (cut (codes "change team ( t , stat = e ) ; return ; end team ( stat = e ) ;")) ≡ true
 changes_team = refl
 
 -- its END in one word
-changes_team_in_one : spelled (statement (s.change_team (v (codes "t") 15) e.no_specifiers s.no_statements s.absent (here 1) (here 21))) 64 (cut (codes "change team ( t ) ; endteam ;")) ≡ true
+changes_team_in_one : spelled (statement (s.change_team_construct (v (codes "t") 15) e.no_specifiers s.no_statements s.absent (here 1) (here 21))) 64 (cut (codes "change team ( t ) ; endteam ;")) ≡ true
 changes_team_in_one = refl
 
 -- a block is a level, and its bracket one more
-block_levels : spelled (statement (s.choice (v (codes "a") 6) s.no_statements s.no_else_ifs s.no_otherwise (here 1) (here 17))) 2 (cut (codes "if ( a ) then ; end if ;")) ≡ true
+block_levels : spelled (statement (s.if_construct (v (codes "a") 6) s.no_statements s.no_else_ifs s.no_else_block (here 1) (here 17))) 2 (cut (codes "if ( a ) then ; end if ;")) ≡ true
 block_levels = refl
 
 -- which one isn't enough for
-block_too_deep : spelled (statement (s.choice (v (codes "a") 6) s.no_statements s.no_else_ifs s.no_otherwise (here 1) (here 17))) 1 (cut (codes "if ( a ) then ; end if ;")) ≡ false
+block_too_deep : spelled (statement (s.if_construct (v (codes "a") 6) s.no_statements s.no_else_ifs s.no_else_block (here 1) (here 17))) 1 (cut (codes "if ( a ) then ; end if ;")) ≡ false
 block_too_deep = refl
 
 -- a block in a block
-blocks_nest : spelled (statement (s.loop None s.unlimited (s.more_statements (s.loop None s.unlimited (s.more_statements (s.action s.return (here 11)) s.no_statements) (here 6) (record { name = None; at = (here 20) })) s.no_statements) (here 1) (record { name = None; at = (here 29) }))) 2 (cut (codes "do ; do ; return ; end do ; end do ;")) ≡ true
+blocks_nest : spelled (statement (s.do_construct None s.unlimited (s.more_statements (s.do_construct None s.unlimited (s.more_statements (s.action s.return (here 11)) s.no_statements) (here 6) (record { name = None; at = (here 20) })) s.no_statements) (here 1) (record { name = None; at = (here 29) }))) 2 (cut (codes "do ; do ; return ; end do ; end do ;")) ≡ true
 blocks_nest = refl
 
 -- is one more level
-blocks_too_deep : spelled (statement (s.loop None s.unlimited (s.more_statements (s.loop None s.unlimited (s.more_statements (s.action s.return (here 11)) s.no_statements) (here 6) (record { name = None; at = (here 20) })) s.no_statements) (here 1) (record { name = None; at = (here 29) }))) 1 (cut (codes "do ; do ; return ; end do ; end do ;")) ≡ false
+blocks_too_deep : spelled (statement (s.do_construct None s.unlimited (s.more_statements (s.do_construct None s.unlimited (s.more_statements (s.action s.return (here 11)) s.no_statements) (here 6) (record { name = None; at = (here 20) })) s.no_statements) (here 1) (record { name = None; at = (here 29) }))) 1 (cut (codes "do ; do ; return ; end do ; end do ;")) ≡ false
 blocks_too_deep = refl

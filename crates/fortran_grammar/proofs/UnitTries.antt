@@ -5,62 +5,62 @@ use Rattle.fortran_tree.specs.declared.unit.ModuleNature.TheVariants as u
 use Rattle.fortran_tree.specs.declared.unit.Recursion.TheVariants as r
 use Rattle.fortran_tree.specs.Statements as s
 use Rattle.fortran_tree.specs.Units as unit
-use Rattle.fortran_grammar.specs.ActionGrammar.{decl}
+use Rattle.fortran_grammar.specs.ActionGrammar.{declaration}
 use Rattle.fortran_grammar.specs.ProgramGrammar.{program}
 use Rattle.fortran_grammar.specs.Acceptance.{spelled}
 use Rattle.fortran_grammar.proofs.SmallTrees.{here, n, d, i}
 use Rattle.fortran_grammar.proofs.Trying.{cut}
 
 -- a declaration
-declares : spelled (decl (record { type_spec = s.integer None; attributes = []; entities = record { name = (n (codes "x") 12); dimensions = []; coshape = None; initial = None } ∷ record { name = (n (codes "y") 16); dimensions = []; coshape = None; initial = None } ∷ []; at = (here 1) })) 64 (cut (codes "integer :: x , y ;")) ≡ true
+declares : spelled (declaration (record { type_spec = s.integer None; attributes = []; entities = record { name = (n (codes "x") 12); dimensions = []; coshape = None; initial = None } ∷ record { name = (n (codes "y") 16); dimensions = []; coshape = None; initial = None } ∷ []; at = (here 1) })) 64 (cut (codes "integer :: x , y ;")) ≡ true
 declares = refl
 
 -- whose colons may be left out
-colons_left_out : spelled (decl (record { type_spec = s.integer None; attributes = []; entities = record { name = (n (codes "x") 9); dimensions = []; coshape = None; initial = None } ∷ []; at = (here 1) })) 64 (cut (codes "integer x ;")) ≡ true
+colons_left_out : spelled (declaration (record { type_spec = s.integer None; attributes = []; entities = record { name = (n (codes "x") 9); dimensions = []; coshape = None; initial = None } ∷ []; at = (here 1) })) 64 (cut (codes "integer x ;")) ≡ true
 colons_left_out = refl
 
 -- but not before an initial value
-colons_before_value : spelled (decl (record { type_spec = s.integer None; attributes = []; entities = record { name = (n (codes "x") 9); dimensions = []; coshape = None; initial = Some (i 1 13) } ∷ []; at = (here 1) })) 64 (cut (codes "integer x = 1 ;")) ≡ false
+colons_before_value : spelled (declaration (record { type_spec = s.integer None; attributes = []; entities = record { name = (n (codes "x") 9); dimensions = []; coshape = None; initial = Some (i 1 13) } ∷ []; at = (here 1) })) 64 (cut (codes "integer x = 1 ;")) ≡ false
 colons_before_value = refl
 
 -- an initial value
-initial_value : spelled (decl (record { type_spec = s.integer None; attributes = []; entities = record { name = (n (codes "x") 12); dimensions = []; coshape = None; initial = Some (i 1 16) } ∷ []; at = (here 1) })) 64 (cut (codes "integer :: x = 1 ;")) ≡ true
+initial_value : spelled (declaration (record { type_spec = s.integer None; attributes = []; entities = record { name = (n (codes "x") 12); dimensions = []; coshape = None; initial = Some (i 1 16) } ∷ []; at = (here 1) })) 64 (cut (codes "integer :: x = 1 ;")) ≡ true
 initial_value = refl
 
 -- nor behind an attribute
-colons_behind_attribute : spelled (decl (record { type_spec = s.integer None; attributes = s.save ∷ []; entities = record { name = (n (codes "x") 16); dimensions = []; coshape = None; initial = None } ∷ []; at = (here 1) })) 64 (cut (codes "integer , save x ;")) ≡ false
+colons_behind_attribute : spelled (declaration (record { type_spec = s.integer None; attributes = s.save ∷ []; entities = record { name = (n (codes "x") 16); dimensions = []; coshape = None; initial = None } ∷ []; at = (here 1) })) 64 (cut (codes "integer , save x ;")) ≡ false
 colons_behind_attribute = refl
 
 -- KIND= may be left out
-kind_word : spelled (decl (record { type_spec = s.integer (Some (i 8 18)); attributes = []; entities = record { name = (n (codes "x") 25); dimensions = []; coshape = None; initial = None } ∷ []; at = (here 1) })) 64 (cut (codes "integer ( kind = 8 ) :: x ;")) ≡ true
+kind_word : spelled (declaration (record { type_spec = s.integer (Some (i 8 18)); attributes = []; entities = record { name = (n (codes "x") 25); dimensions = []; coshape = None; initial = None } ∷ []; at = (here 1) })) 64 (cut (codes "integer ( kind = 8 ) :: x ;")) ≡ true
 kind_word = refl
 
 -- and is left out here
-kind_alone : spelled (decl (record { type_spec = s.logical (Some (i 4 11)); attributes = []; entities = record { name = (n (codes "x") 15); dimensions = []; coshape = None; initial = None } ∷ []; at = (here 1) })) 64 (cut (codes "logical ( 4 ) x ;")) ≡ true
+kind_alone : spelled (declaration (record { type_spec = s.logical (Some (i 4 11)); attributes = []; entities = record { name = (n (codes "x") 15); dimensions = []; coshape = None; initial = None } ∷ []; at = (here 1) })) 64 (cut (codes "logical ( 4 ) x ;")) ≡ true
 kind_alone = refl
 
 -- a derived type
-derived : spelled (decl (record { type_spec = s.derived (n (codes "team_type") 8); attributes = []; entities = record { name = (n (codes "t") 23); dimensions = []; coshape = None; initial = None } ∷ []; at = (here 1) })) 64 (cut (codes "type ( team_type ) :: t ;")) ≡ true
+derived : spelled (declaration (record { type_spec = s.derived (n (codes "team_type") 8); attributes = []; entities = record { name = (n (codes "t") 23); dimensions = []; coshape = None; initial = None } ∷ []; at = (here 1) })) 64 (cut (codes "type ( team_type ) :: t ;")) ≡ true
 derived = refl
 
 -- attributes
-attributes : spelled (decl (record { type_spec = s.integer None; attributes = s.parameter ∷ s.allocatable ∷ s.dimension (s.deferred (here 49) ∷ []) ∷ s.codimension (s.deferred_coshape 2) ∷ []; entities = record { name = (n (codes "x") 80); dimensions = []; coshape = None; initial = None } ∷ []; at = (here 1) })) 64 (cut (codes "integer , parameter , allocatable , dimension ( : ) , codimension [ : , : ] :: x ;")) ≡ true
+attributes : spelled (declaration (record { type_spec = s.integer None; attributes = s.parameter ∷ s.allocatable ∷ s.dimension (s.deferred (here 49) ∷ []) ∷ s.codimension (s.deferred_coshape 2) ∷ []; entities = record { name = (n (codes "x") 80); dimensions = []; coshape = None; initial = None } ∷ []; at = (here 1) })) 64 (cut (codes "integer , parameter , allocatable , dimension ( : ) , codimension [ : , : ] :: x ;")) ≡ true
 attributes = refl
 
 -- INTENT
-intents : spelled (decl (record { type_spec = s.integer None; attributes = s.intent t.InOut ∷ s.intent t.In ∷ s.intent t.Out ∷ []; entities = record { name = (n (codes "x") 65); dimensions = []; coshape = None; initial = None } ∷ []; at = (here 1) })) 64 (cut (codes "integer , intent ( in out ) , intent ( in ) , intent ( out ) :: x ;")) ≡ true
+intents : spelled (declaration (record { type_spec = s.integer None; attributes = s.intent t.InOut ∷ s.intent t.In ∷ s.intent t.Out ∷ []; entities = record { name = (n (codes "x") 65); dimensions = []; coshape = None; initial = None } ∷ []; at = (here 1) })) 64 (cut (codes "integer , intent ( in out ) , intent ( in ) , intent ( out ) :: x ;")) ≡ true
 intents = refl
 
 -- IN OUT in one word
-intent_in_one : spelled (decl (record { type_spec = s.integer None; attributes = s.intent t.InOut ∷ []; entities = record { name = (n (codes "x") 31); dimensions = []; coshape = None; initial = None } ∷ []; at = (here 1) })) 64 (cut (codes "integer , intent ( inout ) :: x ;")) ≡ true
+intent_in_one : spelled (declaration (record { type_spec = s.integer None; attributes = s.intent t.InOut ∷ []; entities = record { name = (n (codes "x") 31); dimensions = []; coshape = None; initial = None } ∷ []; at = (here 1) })) 64 (cut (codes "integer , intent ( inout ) :: x ;")) ≡ true
 intent_in_one = refl
 
 -- bounds and cobounds
-bounds : spelled (decl (record { type_spec = s.integer None; attributes = []; entities = record { name = (n (codes "x") 12); dimensions = s.explicit (record { lower = Some (i 2 16); upper = (i 3 20) }) ∷ s.explicit (record { lower = None; upper = (i 4 24) }) ∷ []; coshape = Some (s.explicit_coshape (record { lower = None; upper = (i 5 30) } ∷ []) (Some (i 0 34))); initial = None } ∷ []; at = (here 1) })) 64 (cut (codes "integer :: x ( 2 : 3 , 4 ) [ 5 , 0 : * ] ;")) ≡ true
+bounds : spelled (declaration (record { type_spec = s.integer None; attributes = []; entities = record { name = (n (codes "x") 12); dimensions = s.explicit (record { lower = Some (i 2 16); upper = (i 3 20) }) ∷ s.explicit (record { lower = None; upper = (i 4 24) }) ∷ []; coshape = Some (s.explicit_coshape (record { lower = None; upper = (i 5 30) } ∷ []) (Some (i 0 34))); initial = None } ∷ []; at = (here 1) })) 64 (cut (codes "integer :: x ( 2 : 3 , 4 ) [ 5 , 0 : * ] ;")) ≡ true
 bounds = refl
 
 -- explicit cobounds end with an asterisk
-no_asterisk : spelled (decl (record { type_spec = s.integer None; attributes = []; entities = record { name = (n (codes "x") 12); dimensions = []; coshape = Some (s.explicit_coshape [] None); initial = None } ∷ []; at = (here 1) })) 64 (cut (codes "integer :: x [ ] ;")) ≡ false
+no_asterisk : spelled (declaration (record { type_spec = s.integer None; attributes = []; entities = record { name = (n (codes "x") 12); dimensions = []; coshape = Some (s.explicit_coshape [] None); initial = None } ∷ []; at = (here 1) })) 64 (cut (codes "integer :: x [ ] ;")) ≡ false
 no_asterisk = refl
 
 -- the shortest program

@@ -1,5 +1,5 @@
 -- Whether a phrase has a word of these tokens, as a test that can be computed.
-use Rattle.std.specs.Prelude.{ℕ, suc, Bool, true, false, not, ◌&&◌, ◌||◌, nat_eq, nat_lt, List, [], ◌∷◌, length}
+use Rattle.std.specs.Prelude.{ℕ, suc, Bool, true, false, not, ◌&&◌, ◌||◌, nat_eq, nat_lt, List, [], ◌∷◌, length, bytes_eq}
 use Rattle.caf_base.specs.declared.place.Pos.{Pos}
 use Rattle.fortran_tokens.specs.declared.token.Sign.{Sign}
 use Rattle.fortran_tokens.specs.declared.token.Sign.TheVariants as s
@@ -10,20 +10,15 @@ use Rattle.fortran_grammar.specs.Tokens.{Tok, Token}
 use Rattle.fortran_grammar.specs.Phrases as p
 use Rattle.fortran_grammar.specs.Phrases.{Phrase, ◌▸◌, ◌∪◌}
 
-abbrev pub same_text : List ℕ → List ℕ → Bool
-same_text [] [] = true
-same_text [] (y ∷ ys) = false
-same_text (x ∷ xs) [] = false
-same_text (x ∷ xs) (y ∷ ys) = nat_eq x y && same_text xs ys
-
+-- the same kind
 abbrev pub same_kind : NumberKind → NumberKind → Bool
 same_kind kinds.Unstated kinds.Unstated = true
 same_kind kinds.Four kinds.Four = true
 same_kind kinds.Eight kinds.Eight = true
-same_kind (kinds.Named x) (kinds.Named y) = same_text x y
+same_kind (kinds.Named x) (kinds.Named y) = bytes_eq x y
 same_kind j k = false
 
--- the signs in some order
+-- a number for each sign, so that two can be compared
 abbrev pub sign_number : Sign → ℕ
 sign_number s.Plus = 0
 sign_number s.Minus = 1
@@ -54,14 +49,16 @@ sign_number s.CloseSquare = 25
 sign_number s.OpenArray = 26
 sign_number s.CloseArray = 27
 
+-- the same token, wherever it stands
 abbrev pub same_tok : Tok → Tok → Bool
-same_tok (t.word x) (t.word y) = same_text x y
+same_tok (t.word x) (t.word y) = bytes_eq x y
 same_tok (t.integer m j) (t.integer n k) = nat_eq m n && same_kind j k
-same_tok (t.literal x) (t.literal y) = same_text x y
+same_tok (t.literal x) (t.literal y) = bytes_eq x y
 same_tok (t.sign x) (t.sign y) = nat_eq (sign_number x) (sign_number y)
 same_tok t.over t.over = true
 same_tok x y = false
 
+-- the same place
 abbrev pub same_place : Pos → Pos → Bool
 same_place p q = nat_eq p.line q.line && nat_eq p.col q.col
 

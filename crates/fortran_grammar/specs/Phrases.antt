@@ -58,18 +58,23 @@ canonical (from p P) = canonical P
 
 -- What grammars are put together from.
 
+-- no word
 abbrev pub never : Phrase
 never = only false nothing
 
+-- a name at its place
 abbrev pub name : Name → Phrase
 name n = token_at n.at (t.word n.text)
 
+-- a character literal at its place
 abbrev pub literal : Literal → Phrase
 literal x = token_at x.at (t.literal x.text)
 
+-- a keyword (keywords are words as any name)
 abbrev pub key : List ℕ → Phrase
 key k = token (t.word k)
 
+-- an operator, a logical literal or a delimiter
 abbrev pub sign : Sign → Phrase
 sign s = token (t.sign s)
 
@@ -81,10 +86,11 @@ over = token t.over
 abbrev pub joined : List ℕ → List ℕ → Phrase
 joined j k = key j ▸ key k ∪ key (j ++ k)
 
--- in round brackets, and in square ones or in those that stand for them
+-- in round brackets
 abbrev pub round : Phrase → Phrase
 round P = deeper (sign OpenRound ▸ P ▸ sign CloseRound)
 
+-- in square brackets, or in `(/` and `/)`, which the standard has for array constructors alone (R769): elsewhere they are an extension
 abbrev pub square : Phrase → Phrase
 square P = deeper (sign OpenSquare ▸ P ▸ sign CloseSquare ∪ sign OpenArray ▸ P ▸ sign CloseArray)
 

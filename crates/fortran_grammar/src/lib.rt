@@ -1,7 +1,9 @@
-//! The grammar: which tokens a tree may stand for, each token marked with whether a 65th level is open at it, one case a form.
-//! It stands on `reader_theory`, `fortran_tokens` (signs), `fortran_tree` and `caf_base`; the readers and `fortran_print` stand on it.
+//! The grammar: which tokens a tree may stand for, each token marked with whether a level too deep is open at it, one case a form.
+//! It stands on `reader_theory`, `fortran_tokens` (signs), `fortran_tree` and `caf_base`; `fortran_layout` and `fortran_print` stand on
+//! it; the readers of the whole language will.
 //! It has no code to run. specs/Phrases has the words of phrases, specs/ExpressionGrammar, ActionGrammar, StatementGrammar and
-//! ProgramGrammar the grammar; a file is one language over its tokens, with an end token behind each statement.
+//! ProgramGrammar the grammar; a file is one language over its tokens (`Sources`, with 64 levels), with an end token behind each statement.
+//! The step from the tokens of `fortran_tokens` to those of this grammar comes with the readers.
 //! Main contract: `canonical_is_allowed`: the canonical tokens of a tree are among those that the grammar allows for it.
 #![tactic(auto)]
 

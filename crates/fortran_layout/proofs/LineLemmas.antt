@@ -7,9 +7,9 @@ use Rattle.std.proofs.lemmas.List.Folds.{list_all-append}
 use Rattle.fortran_grammar.specs.Tokens.{Tok, word, integer, literal, sign, over}
 use Rattle.fortran_tokens.specs.declared.token.Sign.{Sign}
 use Rattle.fortran_tokens.specs.declared.token.Sign.TheVariants as s
-use Rattle.fortran_layout.specs.Spelling.{sign_text, number_text, cell, cells, literal_text}
+use Rattle.fortran_layout.specs.Spelling.{sign_text, number_text, rep_char, uncut_parts, literal_text}
 use Rattle.fortran_layout.specs.Layout.{Sheet, blank, put, fresh, Pour, poured, pour, put_literal, end_line, laid, laid_text}
-use Rattle.fortran_layout.specs.Lines.{no_feed, has_room, LinesFit}
+use Rattle.fortran_layout.specs.Lines.{no_feed, has_room, LaidLinesFit}
 use Rattle.fortran_layout.proofs.TextLines.{last_line, ended, fit, Fits, more, feed}
 
 record Good (x : Sheet) : Type 0 where
@@ -64,27 +64,27 @@ poured_good p (c ∷ cs) g h =
     let j = and_parts (no_feed c) (nat_le (length c) 2) k.0 in
     poured_good (poured p c) cs (poured_by p c (nat_le (p.used + length c) 990) refl g j.0 (leb-true (length c) 2 j.1)) k.1
 
-cell_by : (b : ℕ) (a : Bool) → not (nat_eq b 10) ≡ true → is_part (cond a (codes "''") (b ∷ [])) ≡ true
+rep_char_by : (b : ℕ) (a : Bool) → not (nat_eq b 10) ≡ true → is_part (cond a (codes "''") (b ∷ [])) ≡ true
 unfolding is_part
-cell_by b true h = refl
-cell_by b false h = ap (λ z. (z && true) && true) h
+rep_char_by b true h = refl
+rep_char_by b false h = ap (λ z. (z && true) && true) h
 
-cells_part : (x : List ℕ) → no_feed x ≡ true → list_all is_part (map cell x ++ codes "'" ∷ []) ≡ true
+rep_chars_part : (x : List ℕ) → no_feed x ≡ true → list_all is_part (map rep_char x ++ codes "'" ∷ []) ≡ true
 unfolding is_part
-cells_part [] h = refl
-cells_part (b ∷ x) h =
+rep_chars_part [] h = refl
+rep_chars_part (b ∷ x) h =
     let k = and_parts (not (nat_eq b 10)) (no_feed x) h in
-    and_from (is_part (cell b)) (list_all is_part (map cell x ++ codes "'" ∷ [])) (cell_by b (nat_eq b 39) k.0) (cells_part x k.1)
+    and_from (is_part (rep_char b)) (list_all is_part (map rep_char x ++ codes "'" ∷ [])) (rep_char_by b (nat_eq b 39) k.0) (rep_chars_part x k.1)
 
 part_plain : (c x : List ℕ) → is_part c ≡ true → no_feed x ≡ true → no_feed (c ++ x) ≡ true
 unfolding is_part
 part_plain c x h k = list_all-append (λ b. not (nat_eq b 10)) c x ∙ and_from (no_feed c) (no_feed x) (and_parts (no_feed c) (nat_le (length c) 2) h).0 k
 
-cells_plain : (x : List ℕ) → no_feed x ≡ true → no_feed (flat_map cell x ++ codes "'") ≡ true
-cells_plain [] h = refl
-cells_plain (b ∷ x) h =
+rep_chars_plain : (x : List ℕ) → no_feed x ≡ true → no_feed (flat_map rep_char x ++ codes "'") ≡ true
+rep_chars_plain [] h = refl
+rep_chars_plain (b ∷ x) h =
     let k = and_parts (not (nat_eq b 10)) (no_feed x) h in
-    subst (λ z. no_feed z ≡ true) (sym (append_assoc (cell b) (flat_map cell x) (codes "'"))) (part_plain (cell b) (flat_map cell x ++ codes "'") (cell_by b (nat_eq b 39) k.0) (cells_plain x k.1))
+    subst (λ z. no_feed z ≡ true) (sym (append_assoc (rep_char b) (flat_map rep_char x) (codes "'"))) (part_plain (rep_char b) (flat_map rep_char x ++ codes "'") (rep_char_by b (nat_eq b 39) k.0) (rep_chars_plain x k.1))
 
 fresh_by : (x : Sheet) (a : Bool) → nat_eq x.column 0 ≡ a → Good x → Fits (cond a x.text (x.text ++ codes " &\n")) 1
 fresh_by x true e g = let z = eqb-true x.column 0 e in let f = g.text in record { ends = f.ends; size = let s = f.size in omega arith }
@@ -93,9 +93,9 @@ fresh_by x false e g = continued x.text [] x.column 1 g.text g.room refl (omega 
 literal_by : (x : Sheet) (t : List ℕ) (a : Bool) → nat_le (length (literal_text t)) 990 ≡ a → Good x → no_feed t ≡ true
     → Good (cond a (put x (literal_text t)) (record { text = (pour x t).text; column = 1 + (pour x t).used }))
 unfolding literal_text is_part
-literal_by x t true e g h = put_good x (literal_text t) g (cells_plain t h) (let z = leb-true (length (literal_text t)) 990 e in omega arith)
+literal_by x t true e g h = put_good x (literal_text t) g (rep_chars_plain t h) (let z = leb-true (length (literal_text t)) 990 e in omega arith)
 literal_by x t false e g h =
-    let p = poured_good (record { text = fresh x; used = 0 }) (cells t) (record { text = fresh_by x (nat_eq x.column 0) refl g; room = omega arith }) (cells_part t h) in
+    let p = poured_good (record { text = fresh x; used = 0 }) (uncut_parts t) (record { text = fresh_by x (nat_eq x.column 0) refl g; room = omega arith }) (rep_chars_part t h) in
     let f = p.text in
     let r = p.room in
     record { text = record { ends = f.ends; size = let s = f.size in omega arith }; room = omega arith }
@@ -155,8 +155,8 @@ all_good x (t ∷ ts) g h =
     let k = and_parts (has_room t) (list_all has_room ts) h in
     all_good (laid x t) ts (laid_good x t g k.0) k.1
 
-pub lines_fit_all : LinesFit
-lines_fit_all ts h =
+pub laid_lines_fit : LaidLinesFit
+laid_lines_fit ts h =
     let g = all_good blank ts (record { text = record { ends = refl; size = omega arith }; room = omega arith }) h in
     let f = g.text in
     let r = g.room in

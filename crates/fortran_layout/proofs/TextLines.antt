@@ -1,7 +1,7 @@
 -- Texts whose lines have 1,000 bytes at most.
 use Rattle.std.proofs.Common.{◌≡◌, ℕ, ◌+◌, ◌≤◌, Bool, true, false, cond, not, ◌&&◌, nat_eq, nat_le, List, [], ◌∷◌, ◌++◌, length, refl, ap, ◌∙◌, arith}
 use Rattle.std.proofs.lemmas.Bool.{and_parts, and_from, le-leb, false≢true}
-use Rattle.fortran_layout.specs.Lines.{lines_fit, no_feed}
+use Rattle.fortran_layout.specs.Lines.{has_short_lines, no_feed}
 
 -- how many bytes the last line has, where so many stand before the text
 abbrev pub last_line : ℕ → List ℕ → ℕ
@@ -17,15 +17,15 @@ and_grouped : (x y z : Bool) → (x && (y && z)) ≡ ((x && y) && z)
 and_grouped true y z = refl
 and_grouped false y z = refl
 
--- lines_fit by the two
+-- has_short_lines by the two
 fit_by : (e : Bool) (c m n : ℕ) (x y : Bool) (f g : Bool) → f ≡ (x && nat_le m 1000) → g ≡ (y && nat_le n 1000)
     → cond e (nat_le c 1000 && f) g ≡ (cond e (nat_le c 1000 && x) y && nat_le (cond e m n) 1000)
 fit_by true c m n x y f g h k = ap (λ z. nat_le c 1000 && z) h ∙ and_grouped (nat_le c 1000) x (nat_le m 1000)
 fit_by false c m n x y f g h k = k
 
-pub fit : (c : ℕ) (t : List ℕ) → lines_fit c t ≡ (ended c t && nat_le (last_line c t) 1000)
+pub fit : (c : ℕ) (t : List ℕ) → has_short_lines c t ≡ (ended c t && nat_le (last_line c t) 1000)
 fit c [] = refl
-fit c (b ∷ t) = fit_by (nat_eq b 10) c (last_line 0 t) (last_line (c + 1) t) (ended 0 t) (ended (c + 1) t) (lines_fit 0 t) (lines_fit (c + 1) t) (fit 0 t) (fit (c + 1) t)
+fit c (b ∷ t) = fit_by (nat_eq b 10) c (last_line 0 t) (last_line (c + 1) t) (ended 0 t) (ended (c + 1) t) (has_short_lines 0 t) (has_short_lines (c + 1) t) (fit 0 t) (fit (c + 1) t)
 
 last_by : (e : Bool) (p q m n : ℕ) (y : List ℕ) → p ≡ last_line m y → q ≡ last_line n y → cond e p q ≡ last_line (cond e m n) y
 last_by true p q m n y h k = h

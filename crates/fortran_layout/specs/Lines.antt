@@ -6,9 +6,9 @@ use Rattle.fortran_layout.specs.Spelling.{number_text}
 use Rattle.fortran_layout.specs.Layout.{laid_text}
 
 -- each line of the text has 1,000 bytes at most, where so many bytes of its first line stand before it
-abbrev pub lines_fit : ℕ → List ℕ → Bool
-lines_fit c [] = nat_le c 1000
-lines_fit c (b ∷ t) = cond (nat_eq b 10) (nat_le c 1000 && lines_fit 0 t) (lines_fit (c + 1) t)
+abbrev pub has_short_lines : ℕ → List ℕ → Bool
+has_short_lines c [] = nat_le c 1000
+has_short_lines c (b ∷ t) = cond (nat_eq b 10) (nat_le c 1000 && has_short_lines 0 t) (has_short_lines (c + 1) t)
 
 -- no line feed
 abbrev pub no_feed : List ℕ → Bool
@@ -21,6 +21,6 @@ has_room (integer n k) = no_feed (number_text n k) && nat_le (length (number_tex
 has_room (literal x) = no_feed x
 has_room t = true
 
--- then the lines of such tokens fit
-abbrev pub LinesFit : Type 0
-LinesFit = (ts : List Tok) → list_all has_room ts ≡ true → lines_fit 0 (laid_text ts) ≡ true
+-- where each token has room, no line of their text has more than 1,000 bytes
+abbrev pub LaidLinesFit : Type 0
+LaidLinesFit = (ts : List Tok) → list_all has_room ts ≡ true → has_short_lines 0 (laid_text ts) ≡ true

@@ -2,10 +2,12 @@
 use Rattle.std.specs.Prelude.{ℕ, cond, nat_eq, List, [], ◌∷◌, ◌++◌, codes, decimal, flat_map, map}
 use Rattle.fortran_tokens.specs.declared.token.Sign.{Sign}
 use Rattle.fortran_tokens.specs.declared.token.Sign.TheVariants as s
+use Rattle.fortran_tokens.specs.declared.token.TokenKind.TheVariants.{Fixed}
+use Rattle.fortran_tokens.specs.Forms.{HasForm}
 use Rattle.fortran_tree.specs.declared.expr.NumberKind.{NumberKind}
 use Rattle.fortran_tree.specs.declared.expr.NumberKind.TheVariants as kinds
 
--- operators as signs
+-- The spelling in which a sign is laid: one of those in the table of forms (fortran_tokens/specs/Forms), of a relation the one without letters.
 unfoldable pub sign_text : Sign → List ℕ
 sign_text s.Plus = codes "+"
 sign_text s.Minus = codes "-"
@@ -36,6 +38,10 @@ sign_text s.CloseSquare = codes "]"
 sign_text s.OpenArray = codes "(/"
 sign_text s.CloseArray = codes "/)"
 
+-- each sign is written in a spelling that the table of forms has for it
+abbrev pub SignsAreSpelled : Type 0
+SignsAreSpelled = (s : Sign) → HasForm (Fixed s) (sign_text s)
+
 -- the kind behind a number
 abbrev pub suffix : NumberKind → List ℕ
 suffix kinds.Unstated = []
@@ -47,13 +53,14 @@ suffix (kinds.Named x) = codes "_" ++ x
 abbrev pub number_text : ℕ → NumberKind → List ℕ
 number_text n k = decimal n ++ suffix k
 
--- what of a literal isn't cut: a character, or a doubled quote
-abbrev pub cell : ℕ → List ℕ
-cell c = cond (nat_eq c 39) (codes "''") (c ∷ [])
+-- a character of a literal (rep-char, R724), which is never cut: itself, or a doubled apostrophe
+abbrev pub rep_char : ℕ → List ℕ
+rep_char c = cond (nat_eq c 39) (codes "''") (c ∷ [])
 
--- a literal, in its parts that aren't cut, and as a whole
-abbrev pub cells : List ℕ → List (List ℕ)
-cells x = codes "'" ∷ map cell x ++ codes "'" ∷ []
+-- the parts of a literal that are never cut: its delimiters and its characters
+abbrev pub uncut_parts : List ℕ → List (List ℕ)
+uncut_parts x = codes "'" ∷ map rep_char x ++ codes "'" ∷ []
 
+-- a literal as a whole
 unfoldable pub literal_text : List ℕ → List ℕ
-literal_text x = codes "'" ++ (flat_map cell x ++ codes "'")
+literal_text x = codes "'" ++ (flat_map rep_char x ++ codes "'")

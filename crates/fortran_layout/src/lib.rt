@@ -2,7 +2,7 @@
 //! It stands on `fortran_grammar`, whose tokens it lays, and on `fortran_tokens` and `fortran_tree` for signs and kinds; `fortran_print` stands on it.
 //! A page is seen as its text and how many bytes its last line has (`Sheet`).
 //! Its main contracts: `Page::put`, `sign`, `number`, `literal` and `over` do exactly what specs/Layout says of their token, or answer
-//! `NoMemory`; `lines_fit` says that the lines are never too long.
+//! `NoMemory`; `laid_lines_fit` says that the lines are never too long, `signs_are_spelled` that signs are spelled as `fortran_tokens` cuts them.
 #![tactic(auto)]
 
 pub mod law;

@@ -65,9 +65,9 @@ fn sign_text(sign: Sign) -> &'static [u8]
     }
 }
 
-/// Adds what of a literal isn't cut: a character, or a doubled quote.
-fn push_cell(out: &mut Vec<u8>, character: u8) -> Result<(), NoMemory>
-    ensures { OnOk result (out.new.items ≡ out.old.items ++ spelling.cell character) }
+/// Adds a character of a literal, which is never cut: itself, or a doubled apostrophe.
+fn push_rep_char(out: &mut Vec<u8>, character: u8) -> Result<(), NoMemory>
+    ensures { OnOk result (out.new.items ≡ out.old.items ++ spelling.rep_char character) }
 {
     if character == b'\'' {
         out.extend_from_slice(b"''")?;
@@ -84,7 +84,7 @@ fn literal_text(alloc: Global, characters: &[u8]) -> Result<Vec<u8>, NoMemory>
 {
     let mut out = Vec::from_slice(alloc, b"'")?;
     for character in characters {
-        push_cell(&mut out, *character)?;
+        push_rep_char(&mut out, *character)?;
     }
     out.extend_from_slice(b"'")?;
     Ok(out)
@@ -163,19 +163,19 @@ impl Page {
     }
 
     /// Adds a part of a long literal that isn't cut, behind so many bytes of it in this line; says how many it makes.
-    fn pour(&mut self, used: usize, cell: &[u8]) -> Result<usize, NoMemory>
+    fn pour(&mut self, used: usize, part: &[u8]) -> Result<usize, NoMemory>
         requires used { used ≤ 990 }
-        requires short { length cell.now ≤ 2 }
-        ensures poured { IfOk result (λ n. spec.poured (record { text = self.old.text; used = used }) cell.now ≡ record { text = self.new.text; used = n }) }
+        requires short { length part.now ≤ 2 }
+        ensures poured { IfOk result (λ n. spec.poured (record { text = self.old.text; used = used }) part.now ≡ record { text = self.new.text; used = n }) }
         ensures used { IfOk result (λ n. n ≤ 990) }
     {
-        if used + cell.len() <= LITERAL_BYTES {
-            self.text.extend_from_slice(cell)?;
-            Ok(used + cell.len())
+        if used + part.len() <= LITERAL_BYTES {
+            self.text.extend_from_slice(part)?;
+            Ok(used + part.len())
         } else {
             self.text.extend_from_slice(b"&\n&")?;
-            self.text.extend_from_slice(cell)?;
-            Ok(cell.len())
+            self.text.extend_from_slice(part)?;
+            Ok(part.len())
         }
     }
 

@@ -1,4 +1,4 @@
-//! Expressions, and what stands in them.
+//! Lays expressions (ISO/IEC 1539-1:2018, 10.1), and what stands in them.
 
 ghost use Rattle.std.specs.Prelude.{◌≡◌, OnOk};
 ghost use Rattle.fortran_grammar.specs.ExpressionGrammar as grammar;
@@ -73,12 +73,12 @@ fn truth_sign(value: bool) -> Sign
 #[cycle(expression)]
 #[tactic(auto, using(crate::proofs::Forms::laws))]
 pub fn lay_expr(page: &mut Page, expr: &Expr) -> Result<(), NoMemory>
-    ensures { OnOk result (page.new ≡ write (grammar.expr (view.term expr.now)) page.old) }
+    ensures { OnOk result (page.new ≡ write (grammar.expr (view.expression expr.now)) page.old) }
 {
     match expr {
         Expr::Number { value, kind, .. } => page.number(*value, kind),
         Expr::Logical { value, .. } => page.sign(truth_sign(*value)),
-        Expr::Designator(designator) => lay_design(page, designator),
+        Expr::Designator(designator) => lay_designator(page, designator),
         Expr::FunctionReference {
             function,
             arguments,
@@ -123,7 +123,7 @@ pub fn lay_expr(page: &mut Page, expr: &Expr) -> Result<(), NoMemory>
 #[cycle(expression)]
 #[tactic(auto, using(crate::proofs::Forms::laws))]
 fn lay_exprs(page: &mut Page, exprs: &[Expr]) -> Result<(), NoMemory>
-    ensures { OnOk result (page.new ≡ write (grammar.exprs (view.terms exprs.now)) page.old) }
+    ensures { OnOk result (page.new ≡ write (grammar.exprs (view.expressions exprs.now)) page.old) }
 {
     if let [first, rest @ ..] = exprs {
         lay_expr(page, first)?;
@@ -138,8 +138,8 @@ fn lay_exprs(page: &mut Page, exprs: &[Expr]) -> Result<(), NoMemory>
 /// Lays a designator.
 #[cycle(expression)]
 #[tactic(auto, using(crate::proofs::Forms::laws))]
-pub fn lay_design(page: &mut Page, designator: &Designator) -> Result<(), NoMemory>
-    ensures { OnOk result (page.new ≡ write (grammar.design (view.design designator.now)) page.old) }
+pub fn lay_designator(page: &mut Page, designator: &Designator) -> Result<(), NoMemory>
+    ensures { OnOk result (page.new ≡ write (grammar.designator (view.designator designator.now)) page.old) }
 {
     lay_name(page, &designator.name)?;
     lay_subscripts(page, &designator.subscripts)?;
@@ -153,7 +153,7 @@ pub fn lay_design(page: &mut Page, designator: &Designator) -> Result<(), NoMemo
 #[cycle(expression)]
 #[tactic(auto, using(crate::proofs::Forms::laws))]
 fn lay_subscripts(page: &mut Page, subscripts: &[Subscript]) -> Result<(), NoMemory>
-    ensures { OnOk result (page.new ≡ write (grammar.subscripts (view.subscripts subscripts.now)) page.old) }
+    ensures { OnOk result (page.new ≡ write (grammar.section_subscripts (view.section_subscripts subscripts.now)) page.old) }
 {
     if let [first, rest @ ..] = subscripts {
         page.sign(Sign::OpenRound)?;
@@ -171,7 +171,7 @@ fn lay_subscripts(page: &mut Page, subscripts: &[Subscript]) -> Result<(), NoMem
 #[cycle(expression)]
 #[tactic(auto, using(crate::proofs::Forms::laws))]
 fn lay_subscript(page: &mut Page, subscript: &Subscript) -> Result<(), NoMemory>
-    ensures { OnOk result (page.new ≡ write (grammar.subscript (view.subscript subscript.now)) page.old) }
+    ensures { OnOk result (page.new ≡ write (grammar.section_subscript (view.section_subscript subscript.now)) page.old) }
 {
     match subscript {
         Subscript::Element(expr) => lay_expr(page, expr),
@@ -201,7 +201,7 @@ fn lay_subscript(page: &mut Page, subscript: &Subscript) -> Result<(), NoMemory>
 #[cycle(expression)]
 #[tactic(auto, using(crate::proofs::Forms::laws))]
 fn lay_selector(page: &mut Page, selector: &Selector) -> Result<(), NoMemory>
-    ensures { OnOk result (page.new ≡ write (grammar.selector (view.selector selector.now)) page.old) }
+    ensures { OnOk result (page.new ≡ write (grammar.image_selector (view.image_selector selector.now)) page.old) }
 {
     page.sign(Sign::OpenSquare)?;
     lay_exprs(page, &selector.cosubscripts)?;
@@ -213,7 +213,7 @@ fn lay_selector(page: &mut Page, selector: &Selector) -> Result<(), NoMemory>
 #[cycle(expression)]
 #[tactic(auto, using(crate::proofs::Forms::laws))]
 pub fn lay_specifier(page: &mut Page, specifier: &Specifier) -> Result<(), NoMemory>
-    ensures { OnOk result (page.new ≡ write (grammar.spec specifier.now.name (view.term specifier.now.value)) page.old) }
+    ensures { OnOk result (page.new ≡ write (grammar.specifier specifier.now.name (view.expression specifier.now.value)) page.old) }
 {
     lay_name(page, &specifier.name)?;
     page.sign(Sign::Assign)?;
@@ -224,7 +224,7 @@ pub fn lay_specifier(page: &mut Page, specifier: &Specifier) -> Result<(), NoMem
 #[cycle(expression)]
 #[tactic(auto, using(crate::proofs::Forms::laws))]
 pub fn lay_specifiers(page: &mut Page, specifiers: &[Specifier]) -> Result<(), NoMemory>
-    ensures { OnOk result (page.new ≡ write (grammar.more_specs (view.specifiers specifiers.now)) page.old) }
+    ensures { OnOk result (page.new ≡ write (grammar.more_specifiers (view.specifiers specifiers.now)) page.old) }
 {
     for specifier in specifiers {
         page.sign(Sign::Comma)?;
@@ -237,7 +237,7 @@ pub fn lay_specifiers(page: &mut Page, specifiers: &[Specifier]) -> Result<(), N
 #[cycle(expression)]
 #[tactic(auto, using(crate::proofs::Forms::laws))]
 fn lay_argument(page: &mut Page, argument: &Argument) -> Result<(), NoMemory>
-    ensures { OnOk result (page.new ≡ write (grammar.expr (view.term argument.now.value)) (write (grammar.keyword argument.now.keyword) page.old)) }
+    ensures { OnOk result (page.new ≡ write (grammar.expr (view.expression argument.now.value)) (write (grammar.keyword argument.now.keyword) page.old)) }
 {
     if let Some(keyword) = &argument.keyword {
         lay_name(page, keyword)?;

@@ -41,7 +41,7 @@ pub enum Operator {
     Neqv,
 }
 
-/// An expression.
+/// An expression (R1022).
 #[cycle(expression)]
 #[derive(Drop)]
 pub enum Expr {
@@ -56,16 +56,17 @@ pub enum Expr {
     },
     /// A variable or a part of one; also a function with a list of plain arguments, which nothing tells from an array element.
     Designator(Designator),
-    /// A function with empty brackets, or with a keyword among its arguments (15.5.1).
+    /// A function with empty brackets, or with a keyword among its arguments (15.5.1, R1520).
     FunctionReference {
         function: Name,
         arguments: Vec<Argument>,
     },
+    /// An expression in brackets, as a primary (R1001).
     Parenthesized {
         inner: Box<Expr>,
         at: Pos,
     },
-    /// At least one value (7.8).
+    /// At least one value (7.8, R769).
     ArrayConstructor {
         values: Vec<Expr>,
         at: Pos,
@@ -83,7 +84,7 @@ pub enum Expr {
     },
 }
 
-/// A variable, or a part of one (9.2): no subscripts where there are no brackets.
+/// A designator (9.1, R901): no subscripts where there are no brackets.
 #[cycle(expression)]
 #[derive(Drop)]
 pub struct Designator {
@@ -92,7 +93,7 @@ pub struct Designator {
     pub selector: Option<Selector>,
 }
 
-/// What stands for one dimension (9.5.3).
+/// A section-subscript (R920): a subscript, or a subscript-triplet (R921).
 #[cycle(expression)]
 #[derive(Drop)]
 pub enum Subscript {
@@ -106,7 +107,7 @@ pub enum Subscript {
     },
 }
 
-/// An image selector (9.6): at least one cosubscript.
+/// An image selector (9.6, R924): at least one cosubscript.
 #[cycle(expression)]
 #[derive(Drop)]
 pub struct Selector {
@@ -114,7 +115,7 @@ pub struct Selector {
     pub specifiers: Vec<Specifier>,
 }
 
-/// `NAME = value`, as STAT= in an image selector or an image control statement.
+/// `NAME = value`: an image-selector-spec (R926), sync-stat (R1165), lock-stat (R1180), event-wait-spec (R1173), form-team-spec (R1178) or alloc-opt (R928).
 #[cycle(expression)]
 #[derive(Drop)]
 pub struct Specifier {

@@ -5,7 +5,7 @@ use Rattle.reader_theory.specs.Refusals.{Answers}
 use Rattle.reader_theory.specs.Levels.{mark, Behind, Between}
 use Rattle.reader_theory.specs.Readers.{ended, sunk, behind}
 use Rattle.reader_theory.specs.Exactness.{Stops, never, Exact}
-use Rattle.reader_theory.specs.Languages.{Both}
+use Rattle.reader_theory.proofs.Independent.{Both}
 use Rattle.reader_theory.proofs.Marks.{never_stops}
 use Rattle.reader_theory.proofs.Sequence.{exact_both}
 use Rattle.reader_theory.proofs.Single.{relabel}

@@ -7,7 +7,8 @@ use Rattle.reader_theory.specs.Words.{Mark, bare}
 use Rattle.reader_theory.specs.Levels.{mark, One}
 use Rattle.reader_theory.specs.Readers.{token, both, many, pair}
 use Rattle.reader_theory.specs.Exactness.{Stops, never, Heads, Exact}
-use Rattle.reader_theory.specs.Languages.{Both, Items}
+use Rattle.reader_theory.specs.Languages.{Items}
+use Rattle.reader_theory.proofs.Independent.{Both}
 use Rattle.reader_theory.proofs.Marks.{never_stops}
 use Rattle.reader_theory.proofs.Sequence.{exact_both}
 use Rattle.reader_theory.proofs.Single.{relabel}

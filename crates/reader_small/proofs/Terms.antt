@@ -5,7 +5,8 @@ use Rattle.reader_theory.specs.Words.{Mark, bare, found}
 use Rattle.reader_theory.specs.Levels.{mark, word, One, Behind, Between}
 use Rattle.reader_theory.specs.Readers.{token, many, mapped, pick, sunk, behind, between}
 use Rattle.reader_theory.specs.Exactness.{Stops, never, Heads, Sunken, Exact}
-use Rattle.reader_theory.specs.Languages.{Both, Items, Nothing, Or}
+use Rattle.reader_theory.specs.Languages.{Items, Nothing, Or}
+use Rattle.reader_theory.proofs.Independent.{Both}
 use Rattle.reader_theory.proofs.Marks.{never_stops}
 use Rattle.reader_theory.proofs.Sequence.{exact_both}
 use Rattle.reader_theory.proofs.Single.{exact_mapped, exact_nothing, relabel}

@@ -4,7 +4,8 @@ use Rattle.std.proofs.lemmas.Bool.{le-ltb, lt-ltb}
 use Rattle.reader_theory.specs.Words.{Mark, bare, Shallow, ◌⟫◌, Verdict}
 use Rattle.reader_theory.specs.Readers.{token, both, first, second, behind, between, sunk}
 use Rattle.reader_theory.specs.Exactness.{Stops, never, Sunken, Exact}
-use Rattle.reader_theory.specs.Languages.{Single, Both}
+use Rattle.reader_theory.specs.Languages.{Single}
+use Rattle.reader_theory.proofs.Independent.{Both}
 use Rattle.reader_theory.specs.Levels.{mark, word, One, Behind, Between, ShallowFor}
 use Rattle.reader_theory.proofs.Marks.{never_stops}
 use Rattle.reader_theory.proofs.Single.{exact_token, relabel}

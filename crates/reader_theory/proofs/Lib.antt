@@ -5,6 +5,7 @@ pub mod Choice
 pub mod Deep
 pub mod Fronts
 pub mod Fuel
+pub mod Independent
 pub mod Levels
 pub mod Limits
 pub mod Many

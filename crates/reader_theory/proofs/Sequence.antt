@@ -3,7 +3,8 @@ use Rattle.std.proofs.Common.{◌≡◌, Bool, true, false, cond, List, [], ◌�
 use Rattle.reader_theory.specs.Words.{Mark, bare, Cause, expected, too_deep, Verdict, found, fault}
 use Rattle.reader_theory.specs.Readers.{joined, then_by, both_by, both}
 use Rattle.reader_theory.specs.Exactness.{judge, Stops, Local, Finds, Tells, Exact}
-use Rattle.reader_theory.specs.Languages.{By, Both}
+use Rattle.reader_theory.specs.Languages.{By}
+use Rattle.reader_theory.proofs.Independent.{Both}
 use Rattle.reader_theory.proofs.Marks.{shallow_append, regroup}
 
 -- a part that stops further on stops there whatever comes behind

@@ -1,7 +1,7 @@
 -- When a reader is exact: what it finds is a word, each word is found, and a fault stands at the first token with which no
 -- word goes on. It says nothing of the negative side: that no word goes on follows for a whole text, once, from these equations.
 use Rattle.std.specs.Prelude.{◌≡◌, Bool, true, false, cond, List, [], ◌∷◌, ◌++◌}
-use Rattle.reader_theory.specs.Words.{Mark, bare, Shallow, expected, too_deep, Verdict, found, fault}
+use Rattle.reader_theory.specs.Words.{Mark, Language, bare, Shallow, expected, too_deep, Verdict, found, fault}
 use Rattle.reader_theory.specs.Readers.{rest_of}
 
 -- what is to be answered where the word of a tree stands and rest behind it
@@ -26,7 +26,7 @@ Local p front (fault c []) = Unit {0}
 Local {T} p front (fault c (y ∷ u)) = (v : List T) → p (front ++ y ∷ v) ≡ fault c (y ∷ v)
 
 -- what is found is a word
-pub record Finds {T A : Type 0} (L : A → List (Mark T) → Type 0) (p : List T → Verdict T A) (ts : List T) (a : A) (rest : List T) : Type 0 where
+pub record Finds {T A : Type 0} (L : Language T A) (p : List T → Verdict T A) (ts : List T) (a : A) (rest : List T) : Type 0 where
   pub word : List (Mark T)
   pub is_word : L a word
   pub shallow : Shallow word
@@ -34,7 +34,7 @@ pub record Finds {T A : Type 0} (L : A → List (Mark T) → Type 0) (p : List T
   pub alone : Local p (bare word) (found a rest)
 
 -- up to a fault the text is the front of a word
-pub record Misses {T A : Type 0} (L : A → List (Mark T) → Type 0) (p : List T → Verdict T A) (ts : List T) (rest : List T) : Type 0 where
+pub record Misses {T A : Type 0} (L : Language T A) (p : List T → Verdict T A) (ts : List T) (rest : List T) : Type 0 where
   pub tree : A
   pub front : List (Mark T)
   pub back : List (Mark T)
@@ -43,8 +43,8 @@ pub record Misses {T A : Type 0} (L : A → List (Mark T) → Type 0) (p : List 
   pub split : ts ≡ bare front ++ rest
   pub alone : Local p (bare front) (fault expected rest)
 
--- and where a level too deep begins, of a word that goes on with that token
-pub record Sinks {T A : Type 0} (L : A → List (Mark T) → Type 0) (p : List T → Verdict T A) (ts : List T) (rest : List T) : Type 0 where
+-- up to where a level too deep begins, the text is the front of a word that goes on with that token
+pub record Sinks {T A : Type 0} (L : Language T A) (p : List T → Verdict T A) (ts : List T) (rest : List T) : Type 0 where
   pub tree : A
   pub front : List (Mark T)
   pub at : Mark T
@@ -57,13 +57,14 @@ pub record Sinks {T A : Type 0} (L : A → List (Mark T) → Type 0) (p : List T
   pub split : ts ≡ bare front ++ rest
   pub alone : Local p (bare front) (fault too_deep rest)
 
-abbrev pub Tells : {T A : Type 0} → (A → List (Mark T) → Type 0) → (List T → Verdict T A) → List T → Verdict T A → Type 0
+-- what the reader answers is so
+abbrev pub Tells : {T A : Type 0} → Language T A → (List T → Verdict T A) → List T → Verdict T A → Type 0
 Tells L p ts (found a rest) = Finds L p ts a rest
 Tells L p ts (fault expected rest) = Misses L p ts rest
 Tells L p ts (fault too_deep rest) = Sinks L p ts rest
 
 -- the reader is exact for the language, whose words end where no token follows that may go on
-pub record Exact {T A : Type 0} (L : A → List (Mark T) → Type 0) (more : T → Bool) (p : List T → Verdict T A) : Type 0 where
+pub record Exact {T A : Type 0} (L : Language T A) (more : T → Bool) (p : List T → Verdict T A) : Type 0 where
   pub tells : (ts : List T) → Tells L p ts (p ts)
   pub given : (a : A) (w : List (Mark T)) (rest : List T) → L a w → Stops more rest → p (bare w ++ rest) ≡ judge w a rest
   -- there is a word
@@ -76,7 +77,7 @@ abbrev pub Heads : {T : Type 0} → (T → Bool) → List (Mark T) → Type 0
 Heads test [] = ⊥
 Heads test (m ∷ w) = test m.token ≡ true
 
--- and at which a level too deep begins
+-- the word's first token passes the test and begins a level too deep
 abbrev pub Sunken : {T : Type 0} → (T → Bool) → List (Mark T) → Type 0
 Sunken test [] = ⊥
 Sunken test (m ∷ w) = (test m.token ≡ true) × (m.deep ≡ true)

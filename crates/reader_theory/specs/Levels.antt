@@ -1,6 +1,6 @@
 -- Tokens marked by the number of levels that are open at them.
 use Rattle.std.specs.Prelude.{ℕ, zero, suc, ◌≡◌, Bool, true, false, List, [], ◌∷◌, nat_lt}
-use Rattle.reader_theory.specs.Words.{Mark, bare, ◌⟫◌}
+use Rattle.reader_theory.specs.Words.{Mark, Language, bare, ◌⟫◌}
 
 -- a token at which so many levels are open, where no more than limit may be
 abbrev pub mark : {T : Type 0} → ℕ → ℕ → T → Mark T
@@ -15,11 +15,11 @@ abbrev pub One : {T : Type 0} → (T → Bool) → ℕ → ℕ → T → List (M
 One test limit level x w = (test x ≡ true) × word limit level x w
 
 -- exactly this token, and behind it a word of the language
-abbrev pub Behind : {T A : Type 0} → ℕ → ℕ → T → (A → List (Mark T) → Type 0) → A → List (Mark T) → Type 0
+abbrev pub Behind : {T A : Type 0} → ℕ → ℕ → T → Language T A → A → List (Mark T) → Type 0
 Behind limit level x L a = word limit level x ⟫ L a
 
 -- a word of the language between these two
-abbrev pub Between : {T A : Type 0} → ℕ → ℕ → T → T → (A → List (Mark T) → Type 0) → A → List (Mark T) → Type 0
+abbrev pub Between : {T A : Type 0} → ℕ → ℕ → T → T → Language T A → A → List (Mark T) → Type 0
 Between limit level x y L a = word limit level x ⟫ (L a ⟫ word limit level y)
 
 -- the first so many tokens aren't too deep

@@ -1,16 +1,16 @@
 -- A text of parts, each of one of the forms that its place allows; the part that is read makes the next place of this one.
 use Rattle.std.specs.Prelude.{ℕ, zero, suc, ◌≡◌, Bool, true, cond, List, [], ◌∷◌, ◌⊎◌, Option, None}
 use Rattle.reader_theory.specs.Limits.{place_by, nearer}
-use Rattle.reader_theory.specs.Words.{Mark, ◌⟫◌, expected, Verdict, found, fault}
+use Rattle.reader_theory.specs.Words.{Mark, Language, ◌⟫◌, expected, Verdict, found, fault}
 use Rattle.reader_theory.specs.Readers.{then_by, more_of, ended, best}
 
 -- the part has one of these forms
-abbrev pub AnyOf : {T A I : Type 0} → (I → A → List (Mark T) → Type 0) → List I → A → List (Mark T) → Type 0
+abbrev pub AnyOf : {T A I : Type 0} → (I → Language T A) → List I → A → List (Mark T) → Type 0
 AnyOf L [] a w = ⊥
 AnyOf L (i ∷ is) a w = L i a w ⊎ AnyOf L is a w
 
 -- the words of the rest of a text, from this place on, up to a place where it may end
-abbrev pub Rest : {T A S I : Type 0} → (I → A → List (Mark T) → Type 0) → (S → List I) → (S → A → S) → (S → Bool) → List A → S → List (Mark T) → Type 0
+abbrev pub Rest : {T A S I : Type 0} → (I → Language T A) → (S → List I) → (S → A → S) → (S → Bool) → List A → S → List (Mark T) → Type 0
 Rest L forms next final [] s w = (final s ≡ true) × (w ≡ [])
 Rest L forms next final (a ∷ es) s w = (AnyOf L (forms s) a ⟫ Rest L forms next final es (next s a)) w
 
@@ -24,7 +24,7 @@ tries p next rest s [] ts = fault expected ts
 tries p next rest s (i ∷ []) ts = one_form p next rest s i ts
 tries p next rest s (i ∷ j ∷ is) ts = best (one_form p next rest s i ts) (tries p next rest s (j ∷ is) ts)
 
--- and where the text may end here
+-- the best answer of several forms, where the text may also end here
 abbrev pub tries_or_end : {T A S I : Type 0} → (I → List T → Verdict T A) → (S → A → S) → (S → List T → Verdict T (List A)) → S → List I → List T → Verdict T (List A)
 tries_or_end p next rest s [] ts = ended (found []) ts
 tries_or_end p next rest s (i ∷ is) ts = best (one_form p next rest s i ts) (tries_or_end p next rest s is ts)

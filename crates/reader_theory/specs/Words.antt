@@ -6,7 +6,9 @@ pub record Mark (T : Type 0) : Type 0 where
   pub token : T
   pub deep : Bool
 
--- A language is a relation `A → List (Mark T) → Type 0`: which words, so marked, spell which tree.
+-- a language: which words, so marked, spell which tree
+abbrev pub Language : Type 0 → Type 0 → Type 1
+Language T A = A → List (Mark T) → Type 0
 
 -- the tokens of a word
 abbrev pub bare : {T : Type 0} → List (Mark T) → List T

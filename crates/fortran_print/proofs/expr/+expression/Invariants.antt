@@ -12,12 +12,12 @@ invariant-lay_arguments-loop-argument l =
 
 abbrev pub invariant-lay_exprs-loop-expr : goal.invariant-lay_exprs-loop-expr
 invariant-lay_exprs-loop-expr l =
-    write (grammar.more_exprs (view.terms (drop l.expr-index l.rest))) l.page ≡ write (grammar.more_exprs (view.terms l.rest)) l.initial.page
+    write (grammar.more_exprs (view.expressions (drop l.expr-index l.rest))) l.page ≡ write (grammar.more_exprs (view.expressions l.rest)) l.initial.page
 
 abbrev pub invariant-lay_specifiers-loop-specifier : goal.invariant-lay_specifiers-loop-specifier
 invariant-lay_specifiers-loop-specifier l =
-    write (grammar.more_specs (view.specifiers (drop l.specifier-index l.specifiers))) l.page ≡ write (grammar.more_specs (view.specifiers l.specifiers)) l.initial.page
+    write (grammar.more_specifiers (view.specifiers (drop l.specifier-index l.specifiers))) l.page ≡ write (grammar.more_specifiers (view.specifiers l.specifiers)) l.initial.page
 
 abbrev pub invariant-lay_subscripts-loop-subscript : goal.invariant-lay_subscripts-loop-subscript
 invariant-lay_subscripts-loop-subscript l =
-    write (grammar.more_subscripts (view.subscripts (drop l.subscript-index l.rest))) l.page ≡ write (grammar.more_subscripts (view.subscripts l.rest)) l.initial.page
+    write (grammar.more_section_subscripts (view.section_subscripts (drop l.subscript-index l.rest))) l.page ≡ write (grammar.more_section_subscripts (view.section_subscripts l.rest)) l.initial.page
