@@ -25,6 +25,13 @@ pub enum ReadFault {
     NotBuilt { at: Pos },
 }
 
+/// The refusal of a source that is no program of the thin form, at its start.
+fn not_built() -> Refusal<ReadFault>
+    ensures { result ≡ Refusal.Cause (ReadFault.NotBuilt (record { line = 1; col = 1 })) }
+{
+    Refusal::Cause(ReadFault::NotBuilt { at: START })
+}
+
 /// The program that the bytes stand for, where there is one.
 fn tree(alloc: Global, bytes: &[u8]) -> Result<Option<ThinProgram>, NoMemory>
     requires { length bytes.now < 2 ^ 32 - 1 }
@@ -55,7 +62,7 @@ pub fn read(alloc: Global, bytes: &[u8]) -> Result<ThinProgram, Refusal<ReadFaul
 {
     match tree(alloc, bytes)? {
         Some(program) => Ok(program),
-        None => Err(Refusal::Cause(ReadFault::NotBuilt { at: START })),
+        None => Err(not_built()),
     }
 }
 
