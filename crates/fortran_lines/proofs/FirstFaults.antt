@@ -11,10 +11,10 @@ use Rattle.fortran_lines.specs.Faults.{is_before, first_of_all, IsFirst, fault_p
 abbrev before : ℕ → ℕ → ℕ → ℕ → ℕ → ℕ → Bool
 before a b c x y z = cond (nat_eq a x) (cond (nat_eq b y) (nat_lt c z) (nat_lt b y)) (nat_lt a x)
 
-abbrev NotBefore : ℕ → ℕ → ℕ → ℕ → ℕ → ℕ → Type 0
+abbrev pub NotBefore : ℕ → ℕ → ℕ → ℕ → ℕ → ℕ → Type 0
 NotBefore a b c x y z = (x < a) ⊎ ((x ≡ a) × ((y < b) ⊎ ((y ≡ b) × (z ≤ c))))
 
-not_before : (a b c x y z : ℕ) → before a b c x y z ≡ false → NotBefore a b c x y z
+pub not_before : (a b c x y z : ℕ) → before a b c x y z ≡ false → NotBefore a b c x y z
 not_before a b c x y z h = grind (arith, nat_tests)
 
 before_no : (a b c x y z : ℕ) → NotBefore a b c x y z → before a b c x y z ≡ false

@@ -5,3 +5,5 @@ pub mod FirstFaults
 pub mod Places
 pub mod Nothing
 pub mod Parting
+pub mod Keeping
+pub mod OneFirst

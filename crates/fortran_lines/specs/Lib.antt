@@ -8,3 +8,4 @@ pub mod Causes
 pub mod Texts
 pub mod Readings
 pub mod Parts
+pub mod Taken

@@ -11,3 +11,4 @@ pub mod Cutting
 pub mod Wrongs
 pub mod Same
 pub mod Again
+pub mod OneAnswer

@@ -110,17 +110,17 @@ one_kind k j (suc m) [] h f = absurd (form_some k h)
 one_kind k j (suc m) (b ∷ t) h f = kinds_by k j (suc m) b t h f (sym (form_begins k (suc m) b t h) ∙ form_begins j (suc m) b t f)
 
 -- two longest forms of one text are one
-same_length : (text : List ℕ) (k j : TokenKind) (m n : ℕ) → IsLongest text k m → IsLongest text j n → m ≡ n
+pub same_length : (text : List ℕ) (k j : TokenKind) (m n : ℕ) → IsLongest text k m → IsLongest text j n → m ≡ n
 same_length text k j m n h l =
     let a = h.most j n l.within l.form in
     let b = l.most k m h.within h.form in
     omega arith
 
-same_kind : (text : List ℕ) (k j : TokenKind) (m n : ℕ) → IsLongest text k m → IsLongest text j n → k ≡ j
+pub same_kind : (text : List ℕ) (k j : TokenKind) (m n : ℕ) → IsLongest text k m → IsLongest text j n → k ≡ j
 same_kind text k j m n h l = one_kind k j m text h.form (subst (λ i. HasForm j (take i text)) (sym (same_length text k j m n h l)) l.form)
 
 -- a token of a text that is cut begins within the text
-begins_within : (text : List ℕ) (from : ℕ) (p : Piece) (n : ℕ) → IsToken (drop p.from text) p.kind n → (1 ≤ n) × (p.from + n ≤ length text)
+pub begins_within : (text : List ℕ) (from : ℕ) (p : Piece) (n : ℕ) → IsToken (drop p.from text) p.kind n → (1 ≤ n) × (p.from + n ≤ length text)
 begins_within text from p n t =
     let some = longest_some (drop p.from text) p.kind n t.longest in
     let fits = t.longest.within in
@@ -128,7 +128,7 @@ begins_within text from p n t =
     (omega arith, omega arith)
 
 -- where a token begins, blanks end
-not_later : (text : List ℕ) (from i j : ℕ) (k : TokenKind) (n : ℕ) → from ≤ i → i < length text → IsLongest (drop i text) k n → AreBlanks text from j → j ≤ i
+pub not_later : (text : List ℕ) (from i j : ℕ) (k : TokenKind) (n : ℕ) → from ≤ i → i < length text → IsLongest (drop i text) k n → AreBlanks text from j → j ≤ i
 not_later text from i j k n h w l b = elim (cases_order i j) [
   | inl e ↦ omega arith
   | inr c ↦ elim c [
@@ -137,7 +137,7 @@ not_later text from i j k n h w l b = elim (cases_order i j) [
   ]
 ]
 
-same_start : (text : List ℕ) (from : ℕ) (p q : Piece) (m n : ℕ) → AreBlanks text from p.from → AreBlanks text from q.from → IsToken (drop p.from text) p.kind m → IsToken (drop q.from text) q.kind n → p.from ≡ q.from
+pub same_start : (text : List ℕ) (from : ℕ) (p q : Piece) (m n : ℕ) → AreBlanks text from p.from → AreBlanks text from q.from → IsToken (drop p.from text) p.kind m → IsToken (drop q.from text) q.kind n → p.from ≡ q.from
 same_start text from p q m n b c t u =
     let pw = begins_within text from p m t in
     let qw = begins_within text from q n u in
@@ -153,7 +153,7 @@ same_piece p q a b c =
     ∙ (ap (λ i. let r : Piece = record { kind = q.kind; from = i; to = p.to } in r) b ∙ ap (λ i. let r : Piece = record { kind = q.kind; from = q.from; to = i } in r) c)
 
 -- a rest of blanks has no token
-blanks_alone : (text : List ℕ) (from to : ℕ) (q : Piece) (qs : List Piece) → AreBlanks text from (length text) → IsCut text from (q ∷ qs) to → ⊥
+pub blanks_alone : (text : List ℕ) (from to : ℕ) (q : Piece) (qs : List Piece) → AreBlanks text from (length text) → IsCut text from (q ∷ qs) to → ⊥
 blanks_alone text from to q qs b (c, n, s, t, rest) =
     let w = begins_within text from q n t in
     let co = c.ordered in
