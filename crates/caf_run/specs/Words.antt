@@ -3,7 +3,6 @@ use Rattle.std.specs.Prelude.{ℕ, ◌≡◌, ◌≢◌, ◌≤◌, ◌<◌, ◌
 use Rattle.std.specs.Fmt.{decimal}
 use Rattle.std.specs.declared.alloc.Global.{Global}
 use Rattle.std.specs.declared.string.String.{String}
-use Rattle.caf_base.specs.declared.limits.TheConstants.{IMAGES}
 use Rattle.caf_base.specs.declared.refusal.Refusal.{Refusal}
 use Rattle.caf_base.specs.declared.refusal.Refusal.TheVariants.{NoMemory, Cause}
 use Rattle.caf_run.specs.declared.words.Usage.{Usage}
@@ -28,7 +27,7 @@ IsFileName (c ∷ cs) = c ≢ 45
 -- the words are `run -n N --order SEED FILE`, the numbers in decimal: without a sign, and without a leading zero other than `0` itself
 pub record IsRun (words : List Word) (n seed : ℕ) (file : Word) : Type 0 where
   pub form : words ≡ codes "run" ∷ codes "-n" ∷ decimal n ∷ codes "--order" ∷ decimal seed ∷ file ∷ []
-  pub images : (1 ≤ n) × (n ≤ IMAGES)
+  pub images : (1 ≤ n) × (n ≤ 64)
   pub order : seed ≤ 2147483647
   pub name : IsFileName file
 
