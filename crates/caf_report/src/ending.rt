@@ -7,7 +7,7 @@ ghost use Rattle.caf_report.specs.ReportText.{place_text, against_text, ending_l
 
 use super::line::{push_count, push_place, push_text};
 use super::report::{End, Waiting};
-use super::words::{fault_word, ask_word};
+use super::words::{ask_word, fault_word};
 use caf_base::refusal::NoMemory;
 use caf_events::ask::Ask;
 use caf_events::event::{Entry, Trace};
