@@ -1,6 +1,6 @@
 //! The ordered run: steps one after the other, each by the image that is chosen among the candidates, until none can be made.
 
-ghost use Rattle.std.specs.Prelude.{◌≡◌, ◌<◌, ◌≤◌, ◌^◌, ◌↔◌, List, [], ◌∷◌, ◌++◌, length, IfOk, OnOk, OnErr, IfSome, IsTrue, true, slice_index_or};
+ghost use Rattle.std.specs.Prelude.{◌≡◌, ◌<◌, ◌≤◌, ◌^◌, ◌↔◌, List, [], ◌∷◌, ◌++◌, length, IfOk, OnOk, OnErr, IfSome, IsTrue, true, false, slice_index_or};
 ghost use Rattle.caf_events.specs.Events.{EndsRun};
 ghost use Rattle.caf_events.specs.declared.event.Event.{Event};
 ghost use Rattle.core_runs.specs.Moments.{can_step, rules, Steps};
@@ -68,10 +68,11 @@ impl<M: Walker, O: Object, B: Object> PartsOf<M, O, B> {
         true
     }
 
-    // Whether the last event of the image at a place ends the run.
+    // Whether the last event of the image at a place ends the run; where there is none, it doesn't.
     fn ended_run(&self, k: usize) -> bool
         requires { k < length self.now.images.items }
-        ensures { (es : List Event) (e : Event) → slice_index_or (event_lists self.now.images.items) k [] ≡ es ++ e ∷ [] → (IsTrue result ↔ EndsRun e) }
+        ensures last { (es : List Event) (e : Event) → slice_index_or (event_lists self.now.images.items) k [] ≡ es ++ e ∷ [] → (IsTrue result ↔ EndsRun e) }
+        ensures none { slice_index_or (event_lists self.now.images.items) k [] ≡ [] → result ≡ false }
     {
         match self.images[k].events.last() {
             Some(event) => event.ends_run(),
