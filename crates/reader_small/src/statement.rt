@@ -1,6 +1,6 @@
 //! Reads statements: the assignment or the `if` that the tokens are; else the refusal of the alternative that goes further.
 
-ghost use Rattle.std.specs.Prelude.{◌≡◌, IfOk, []};
+ghost use Rattle.std.specs.Prelude.{◌≡◌, ◌<◌, IfOk, IfErr, [], length};
 ghost use Rattle.reader_theory.specs.Words.{Verdict};
 ghost use Rattle.reader_theory.specs.Readers.{token, mapped, ended, best};
 ghost use Rattle.reader_small.specs.declared.token.Token.{Token};
@@ -107,10 +107,20 @@ fn assignment(alloc: Global, tokens: &[Token], left: usize) -> Result<Statement,
     let (list, rest) = subscripts(alloc, rest, left)?;
     let (_, rest) = equals(rest)?;
     let (value, rest) = sum(alloc, rest, left)?;
-    if !rest.is_empty() {
-        return Err(expected(rest.len()));
-    }
+    nothing_left(rest)?;
     Ok(Statement::Assign(name, list, value))
+}
+
+/// That no token is left.
+fn nothing_left(tokens: &[Token]) -> Result<(), ReadError>
+    ensures none { IfOk result (λ _. length tokens.now ≡ 0) }
+    ensures some { IfErr result (λ e. (e ≡ ReadError.Refused (record { cause = Cause.Expected; left = length tokens.now })) × (0 < length tokens.now)) }
+{
+    if tokens.is_empty() {
+        Ok(())
+    } else {
+        Err(expected(tokens.len()))
+    }
 }
 
 /// A name.
