@@ -1,5 +1,5 @@
 -- Counting calls, and those that fail.
-use Rattle.std.specs.Prelude.{ℕ, ◌+◌, ◌-◌, ◌^◌, ◌==◌, min, cond, Bool, List}
+use Rattle.std.specs.Prelude.{ℕ, ◌+◌, ◌-◌, ◌^◌, ◌==◌, min, Bool, List}
 use Rattle.std.specs.List.{list_any}
 
 -- the numbers of the calls that fail, how many calls were made, and how many faults there were
@@ -23,7 +23,3 @@ called c = record c { made = one_more c.made }
 -- one fault more
 abbrev pub faulted : CallCount → CallCount
 faulted c = record c { faults = one_more c.faults }
-
--- the count of faults after a call of a source or sink outside: one more exactly where the call was not carried out
-abbrev pub faults_after : Bool → ℕ → ℕ
-faults_after is_done faults = cond is_done faults (one_more faults)

@@ -63,7 +63,3 @@ after_read s room =
 abbrev pub buffer_after : SourceState → List ℕ → List ℕ
 buffer_after s buf =
     cond (fails_next s.calls) buf (take (moved s (length buf)) s.left ++ drop (moved s (length buf)) buf)
-
--- the files of a source that tells none
-abbrev pub no_files : Option Files
-no_files = None

@@ -1,8 +1,6 @@
 //! The source over real files.
 
-ghost use Rattle.std.specs.Prelude.{◌≡◌, ◌≤◌, None, is_ok, is_some, IsTrue, length, IfOk, OnOk, OnErr};
-ghost use Rattle.std.specs.Io.KnownBytes.{ReadConsumes, Keeps};
-ghost use Rattle.caf_base.specs.Outside.{Begins, MayNotBegin, Rose};
+ghost use Rattle.std.specs.Prelude.{◌≡◌, None};
 
 use caf_base::outside::{Failed, Source};
 use std::fs;
@@ -32,27 +30,13 @@ impl<'a, R: Files> FileSource<'a, R> {
 }
 
 impl<'a, R: Files> Source for FileSource<'a, R> {
-    ghost use Rattle.caf_io.specs.Calls.{faults_after};
-    ghost use Rattle.caf_io.specs.Sources.{no_files};
-
     ghost files = { λ _. None };
 
     ghost left = { λ _. None };
 
     ghost faults = { λ s. s.faults };
 
-    fn begin(&mut self, name: &str) -> Result<(), Failed>
-        ensures files { no_files ≡ no_files }
-        ensures begins { OnOk result (Begins None name.now None) }
-        ensures failed_keeps { OnErr result (Keeps None None) }
-        ensures later { self.old.faults ≤ self.new.faults }
-        ensures cause { OnErr result (MayNotBegin None name.now self.old.faults self.new.faults) }
-
-        // A file is begun or the one that was stays, and the count rises exactly at a call that fails.
-        ensures begun { OnOk result (IsTrue (is_some self.new.file)) }
-        ensures kept { OnErr result (self.new.file ≡ self.old.file) }
-        ensures counted { self.new.faults ≡ faults_after (is_ok result) self.old.faults }
-    {
+    fn begin(&mut self, name: &str) -> Result<(), Failed> {
         match fs::open(self.rt, name) {
             Ok(file) => {
                 self.file = Some(file);
@@ -65,16 +49,7 @@ impl<'a, R: Files> Source for FileSource<'a, R> {
         }
     }
 
-    fn read(&mut self, buf: &mut [u8]) -> Result<usize, Failed>
-        ensures files { no_files ≡ no_files }
-        ensures bound { IfOk result (λ n. n ≤ length buf.new) }
-        ensures moves { ReadConsumes None None result buf.new }
-        ensures later { self.old.faults ≤ self.new.faults }
-        ensures cause { OnErr result (Rose self.old.faults self.new.faults) }
-
-        // The count rises exactly at a call that fails.
-        ensures counted { self.new.faults ≡ faults_after (is_ok result) self.old.faults }
-    {
+    fn read(&mut self, buf: &mut [u8]) -> Result<usize, Failed> {
         let Some(file) = &mut self.file else {
             return Ok(0);
         };

@@ -1,8 +1,6 @@
 //! The sink over standard output.
 
-ghost use Rattle.std.specs.Prelude.{◌≡◌, ◌≤◌, [], None, is_ok, length, IfOk, OnErr};
-ghost use Rattle.std.specs.Io.KnownBytes.{WriteAppends};
-ghost use Rattle.caf_base.specs.Outside.{Rose};
+ghost use Rattle.std.specs.Prelude.{◌≡◌, None};
 
 use caf_base::outside::{Failed, Sink};
 use std::io;
@@ -25,22 +23,11 @@ impl<'a, R: Print> StdSink<'a, R> {
 }
 
 impl<'a, R: Print> Sink for StdSink<'a, R> {
-    ghost use Rattle.caf_io.specs.Calls.{faults_after};
-
     ghost written = { λ _. None };
 
     ghost faults = { λ s. s.faults };
 
-    fn write(&mut self, bytes: &[u8]) -> Result<usize, Failed>
-        ensures bound { IfOk result (λ n. n ≤ length bytes.now) }
-        ensures takes { IfOk result (λ n. n ≡ 0 → bytes.now ≡ []) }
-        ensures appends { WriteAppends None None result bytes.now }
-        ensures later { self.old.faults ≤ self.new.faults }
-        ensures cause { OnErr result (Rose self.old.faults self.new.faults) }
-
-        // The count rises exactly at a call that fails.
-        ensures counted { self.new.faults ≡ faults_after (is_ok result) self.old.faults }
-    {
+    fn write(&mut self, bytes: &[u8]) -> Result<usize, Failed> {
         match io::writer(self.rt).write(bytes) {
             Ok(n) if n > 0 || bytes.is_empty() => Ok(n),
             _ => {
