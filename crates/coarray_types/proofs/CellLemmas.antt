@@ -7,25 +7,25 @@ use Rattle.caf_base.specs.Spans.{row_of, rows_of, offsets_from}
 use Rattle.coarray_types.specs.Cells.{IsCell, AreCells}
 use Rattle.coarray_types.proofs.Parts.{tail_of, tail_of-cons}
 
-module _ (P : ℤ → Type 0) where
+module _ {X : Type 0} (P : X → Type 0) where
   -- what holds of all of two lists holds of the first
-  pub All-front : (xs ys : List ℤ) → All P (xs ++ ys) → All P xs
+  pub All-front : (xs ys : List X) → All P (xs ++ ys) → All P xs
   All-front [] ys h = All-nil P
   All-front (x ∷ xs) ys h = All-cons P x xs (All-head P x (xs ++ ys) h) (All-front xs ys (All-tail P x (xs ++ ys) h))
 
   -- and of the second
-  pub All-back : (xs ys : List ℤ) → All P (xs ++ ys) → All P ys
+  pub All-back : (xs ys : List X) → All P (xs ++ ys) → All P ys
   All-back [] ys h = h
   All-back (x ∷ xs) ys h = All-back xs ys (All-tail P x (xs ++ ys) h)
 
-  -- what holds of each cell of rows holds of their first cells
-  pub All-firsts : (n : ℕ) (step : ℤ) (os : List ℤ) → 2 ≤ n → All P (rows_of n step os) → All P os
-  All-firsts zero step os two h = absurd (omega arith)
-  All-firsts (suc n) step [] two h = All-nil P
-  All-firsts (suc n) step (o ∷ os) two h =
-      All-cons P o os
-      (All-head P o (row_of n step (o +ℤ step)) (All-front (row_of (suc n) step o) (rows_of (suc n) step os) h))
-      (All-firsts (suc n) step os two (All-back (row_of (suc n) step o) (rows_of (suc n) step os) h))
+-- what holds of each cell of rows holds of their first cells
+pub All-firsts : (P : ℤ → Type 0) (n : ℕ) (step : ℤ) (os : List ℤ) → 2 ≤ n → All P (rows_of n step os) → All P os
+All-firsts P zero step os two h = absurd (omega arith)
+All-firsts P (suc n) step [] two h = All-nil P
+All-firsts P (suc n) step (o ∷ os) two h =
+    All-cons P o os
+    (All-head P o (row_of n step (o +ℤ step)) (All-front P (row_of (suc n) step o) (rows_of (suc n) step os) h))
+    (All-firsts P (suc n) step os two (All-back P (row_of (suc n) step o) (rows_of (suc n) step os) h))
 
 -- the rows from an index on are the row of that cell, and the rows from the next one on
 pub rows_of-drop : (n : ℕ) (step : ℤ) (os : List ℕ) (i x : ℕ) → i < length os → x ≡ get_or os i x → rows_of n step (map pos (drop i os)) ≡ row_of n step (pos x) ++ rows_of n step (map pos (drop (i + 1) os))

@@ -4,3 +4,4 @@ pub mod DigitLemmas
 pub mod DistanceLemmas
 pub mod Parts
 pub mod PlaceLemmas
+pub mod SectionLemmas
