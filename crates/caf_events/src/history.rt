@@ -41,11 +41,6 @@ impl History {
         }
     }
 
-    /// Where it takes its memory.
-    pub fn allocator(&self) -> Global {
-        *self.entries.allocator()
-    }
-
     /// The stamp of the last entry, 0 where there is none.
     pub fn last_stamp(&self) -> u64
         ensures { result ≡ last_stamp_of self.now.entries }

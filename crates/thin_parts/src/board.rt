@@ -150,7 +150,7 @@ impl Object for ThinBoard {
     }
 
     fn reserve(&mut self, image: ImageNo, ask: &Ask) -> Result<Spare, NoMemory> {
-        let alloc = self.history.allocator();
+        let alloc = *self.joined.allocator();
         self.history.reserve()?;
         let one = reply_of(alloc, &self.joined, image, ask);
         let two = reply_of(alloc, &self.joined, image, ask);

@@ -155,7 +155,7 @@ impl Object for ThinMemory {
     }
 
     fn reserve(&mut self, _image: ImageNo, ask: &Ask) -> Result<Spare, NoMemory> {
-        let alloc = self.history.allocator();
+        let alloc = *self.cells.allocator();
         self.history.reserve()?;
         Ok(Spare {
             ask: ask.copy()?,
