@@ -1,5 +1,5 @@
 -- A source in memory, and what each of its calls does.
-use Rattle.std.specs.Prelude.{ℕ, ◌-◌, ◌<◌, ◌≤◌, min, cond, List, [], ◌∷◌, ◌++◌, length, take, drop, slice_get, Option, None, Some, Vec, ⊤}
+use Rattle.std.specs.Prelude.{ℕ, ◌-◌, ◌<◌, ◌≤◌, min, cond, Bool, List, [], ◌∷◌, ◌++◌, length, take, drop, slice_get, Option, None, Some, Vec, ⊤}
 use Rattle.std.specs.declared.alloc.Global.{Global}
 use Rattle.caf_base.specs.Outside.{Files, file_of}
 use Rattle.caf_io.specs.Calls.{CallCount, fails_next, called, faulted}
@@ -63,3 +63,19 @@ after_read s room =
 abbrev pub buffer_after : SourceState → List ℕ → List ℕ
 buffer_after s buf =
     cond (fails_next s.calls) buf (take (moved s (length buf)) s.left ++ drop (moved s (length buf)) buf)
+
+-- of a source over a runtime's files: whether a file is begun, the bytes still to come, where the file tells them, and
+-- the faults
+pub record FileState : Type 0 where
+  pub is_begun : Bool
+  pub left : Option (List ℕ)
+  pub faults : ℕ
+
+-- the bytes still to come of a file, as files tell them; none are where no file is begun
+abbrev pub left_of_file : {F : Type 0} → (F → Option (List ℕ)) → Option F → Option (List ℕ)
+left_of_file remaining None = Some []
+left_of_file remaining (Some file) = remaining file
+
+-- files of which nothing is told
+abbrev pub untold : Option Files
+untold = None

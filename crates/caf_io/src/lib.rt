@@ -2,7 +2,8 @@
 //! It stands on `caf_base` alone, whose traits `Source` and `Sink` it implements.
 //! The tests of every crate that reads or writes stand on it, and so does the program.
 //! Its main contract: each call of a source or sink in memory answers and does exactly what its state says, and the
-//! count of faults rises exactly at the calls listed and at a full sink. `FileSource` and `StdSink` are trusted edges.
+//! count of faults rises exactly at the calls listed and at a full sink. `FileSource` and `StdSink` pass on what the
+//! runtime's file and writer tell of their bytes; the real ones tell nothing, and are trusted.
 #![tactic(auto)]
 
 mod calls;
@@ -86,6 +87,10 @@ mod tests {
         assert_eq!(rt; source.begin("/dev/zero"), Ok(()));
         assert_eq!(rt; source.read(&mut buf), Ok(3));
         assert_eq!(rt; buf[..], [0; 3][..]);
+        assert_eq!(rt; source.begin("/no/such/file"), Err(Failed));
+        assert_eq!(rt; source.read(&mut buf), Ok(3));
+        assert_eq!(rt; source.begin("/dev/null"), Ok(()));
+        assert_eq!(rt; source.read(&mut buf), Ok(0));
         let mut sink = StdSink::new(&rt);
         assert_eq!(rt; sink.write(b""), Ok(0));
         assert_eq!(rt; sink.write(b"written\n"), Ok(8));
