@@ -9,9 +9,6 @@ use std::alloc::{AllocError, Global};
 use std::fmt::Write;
 use std::test::Fail;
 
-// Gives up a value, in a function that knows no variants.
-fn give_up<T: Drop>(_value: T) {}
-
 // A word of a printed value: a number or a variant's name, but no field's name and no name of a type around a number.
 fn is_kept(word: &str) -> bool {
     let is_wrapper = word == "ImageNo" || word == "TeamNo" || word == "Span" || word == "Int";
@@ -72,7 +69,7 @@ fn done_of(alloc: Global, words: &[&str], file: &[u8]) -> Result<Done, Fail> {
 fn trace_of(alloc: Global, n: &str, file: &[u8]) -> Result<String, Fail> {
     let done = done_of(alloc, &["run", "-n", n, "--order", "0", "a.f90"], file)?;
     let text = trace_text(alloc, &done);
-    give_up(done);
+    drop(done);
     Ok(text?)
 }
 
@@ -80,7 +77,7 @@ fn trace_of(alloc: Global, n: &str, file: &[u8]) -> Result<String, Fail> {
 fn images_of(alloc: Global, words: &[&str], file: &[u8]) -> Result<String, Fail> {
     let done = done_of(alloc, words, file)?;
     let text = image_text(alloc, &done);
-    give_up(done);
+    drop(done);
     Ok(text?)
 }
 

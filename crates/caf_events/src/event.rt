@@ -154,9 +154,6 @@ mod tests {
     use caf_base::value::Value;
     use std::test::Fail;
 
-    // Gives up a value, in a function that knows no variants.
-    fn give_up<T: Drop>(_value: T) {}
-
     fn is_copied<T: TryCopy + PartialEq + Drop>(value: T) -> Result<bool, NoMemory> {
         let copy = value.copy()?;
         Ok(copy == value)
@@ -178,13 +175,13 @@ mod tests {
         requires { recorded_words event < 2 ^ 64 }
     {
         let words = event.words();
-        give_up(event);
+        drop(event);
         words
     }
 
     fn ends(event: Event) -> bool {
         let ends = event.ends_run();
-        give_up(event);
+        drop(event);
         ends
     }
 

@@ -225,13 +225,10 @@ pub(crate) fn end() -> End {
     End { name: None, at: AT }
 }
 
-/// Gives up a value, in a function that knows no variants.
-fn give_up<T: Drop>(_value: T) {}
-
 /// Asserts that the program is printed so.
 pub(crate) fn program_prints<R: Abort + Copy>(make: Maker<R>, program: Program, wanted: &str) {
     let text = print(make.alloc, &program);
-    give_up(program);
+    drop(program);
     let text = text.expect(&make.rt, "memory");
     assert_eq!(make.rt; text.as_slice(), wanted.as_bytes(), "{wanted}");
 }

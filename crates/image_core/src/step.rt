@@ -20,8 +20,6 @@ use caf_events::reply::Reply;
 use caf_events::walker::Walker;
 use std::mem;
 
-fn give_up(_ask: Ask) {}
-
 // The image's next ask, with room for its event.
 pub(crate) fn next_ask<M: Walker>(run: &mut ImageRun<M>) -> Result<Ask, NoMemory>
     requires at { IsAtAsk (move_of M.Walker run.old) }
@@ -36,6 +34,9 @@ pub(crate) fn next_ask<M: Walker>(run: &mut ImageRun<M>) -> Result<Ask, NoMemory
     run.machine.ask()
 }
 
+// The old value is given to the generic `drop`, here and below, which is one goal of the proof; dropped where the new one is written, or
+// at the end of a block, it would be one goal for each kind of ask and reply.
+
 // Sets an ask aside that the image makes by itself.
 pub(crate) fn prepare_alone<M: Walker>(run: &mut ImageRun<M>, ask: Ask)
     requires asked { AsksNext (move_of M.Walker run.old) ask }
@@ -46,7 +47,7 @@ pub(crate) fn prepare_alone<M: Walker>(run: &mut ImageRun<M>, ask: Ask)
     ensures last { run.new.last ≡ run.old.last }
     ensures prepared { IsOwnNext (move_of M.Walker run.old) run.new.prepared }
 {
-    run.prepared = Prepared::Own { ask };
+    drop(mem::replace(&mut run.prepared, Prepared::Own { ask }));
 }
 
 // Sets the image's next ask aside, with the reply of its object, where the object is ready.
@@ -67,16 +68,16 @@ pub(crate) fn prepare_at<M: Walker, O: Object>(
 {
     let image = run.image;
     if !object.ready(image, &ask) {
-        give_up(ask);
+        drop(ask);
         return Ok(false);
     }
     match object.reserve(image, &ask) {
         Ok(spare) => {
-            run.prepared = Prepared::Served { ask, spare };
+            drop(mem::replace(&mut run.prepared, Prepared::Served { ask, spare }));
             Ok(true)
         }
         Err(e) => {
-            give_up(ask);
+            drop(ask);
             Err(e)
         }
     }

@@ -77,9 +77,6 @@ fn group(alloc: Global, e: Expr) -> Result<Expr, AllocError>
     Ok(Expr::Group(Box::new(alloc, e)?))
 }
 
-/// Lets a tree go, so that no goal behind it splits into its variants.
-fn give_up(_e: Expr) {}
-
 /// A sum, where `left` levels are left.
 #[cycle(expr)]
 #[tactic(auto, using(crate::specs::TreeOf::forms, crate::proofs::Loops::level_laws))]
@@ -113,7 +110,7 @@ fn sums(
         let (next, more) = match product(alloc, after, left) {
             Ok(read) => read,
             Err(e) => {
-                give_up(all);
+                drop(all);
                 return Err(e);
             }
         };
@@ -156,7 +153,7 @@ fn products(
         let (next, more) = match primary(alloc, after, left) {
             Ok(read) => read,
             Err(e) => {
-                give_up(all);
+                drop(all);
                 return Err(e);
             }
         };

@@ -18,16 +18,13 @@ use std::alloc::Global;
 use std::process::Abort;
 use std::test::Fail;
 
-// Gives up a value, in a function that knows no variants.
-fn give_up<T: Drop>(_value: T) {}
-
 fn is_equal<T: PartialEq + Drop>(left: T, right: T) -> bool {
     left == right
 }
 
 fn is_ready<O: Object>(object: &O, image: ImageNo, ask: Ask) -> bool {
     let is_ready = object.ready(image, &ask);
-    give_up(ask);
+    drop(ask);
     is_ready
 }
 
@@ -45,7 +42,7 @@ fn step<O: Object>(
     let spare = match object.reserve(image, &ask) {
         Ok(spare) => spare,
         Err(error) => {
-            give_up(ask);
+            drop(ask);
             return Err(error);
         }
     };
@@ -55,7 +52,7 @@ fn step<O: Object>(
         stamp,
         ..
     } = object.apply(image, ask, spare, 3, after);
-    give_up(ask);
+    drop(ask);
     Ok((reply, stamp))
 }
 
