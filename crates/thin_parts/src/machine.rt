@@ -86,18 +86,14 @@ impl Walker for ThinMachine {
 #[cfg(test)]
 mod tests {
     use super::*;
+    use crate::tests_of_objects::variable;
     use caf_base::listing::Listing;
     use caf_base::place::INITIAL_TEAM;
     use caf_base::span::{Dims, Span};
-    use caf_base::thin::{ThinAct, ThinForm, ThinStatement, ThinSum, ThinTerm, ThinVariable};
+    use caf_base::thin::{ThinAct, ThinForm, ThinStatement, ThinSum, ThinTerm};
     use caf_base::value::Value;
     use caf_events::round::Arriving;
     use std::test::Fail;
-
-    fn variable(alloc: Global, name: &[u8], is_coarray: bool) -> Result<ThinVariable, NoMemory> {
-        let name = Listing::from_slice(alloc, name)?;
-        Ok(ThinVariable { name, is_coarray })
-    }
 
     fn sum(alloc: Global, first: ThinTerm) -> ThinSum {
         ThinSum {

@@ -56,17 +56,21 @@ fn step<O: Object>(
     Ok((reply, stamp))
 }
 
+/// A declared variable of this name.
+pub(crate) fn variable(
+    alloc: Global,
+    name: &[u8],
+    is_coarray: bool,
+) -> Result<ThinVariable, NoMemory> {
+    let name = Listing::from_slice(alloc, name)?;
+    Ok(ThinVariable { name, is_coarray })
+}
+
 // `integer :: x`, `integer :: a[*]`
 fn program(alloc: Global) -> Result<ThinProgram, NoMemory> {
-    let mut declared = Listing::new(alloc);
-    declared.push(ThinVariable {
-        name: Listing::from_slice(alloc, b"x")?,
-        is_coarray: false,
-    })?;
-    declared.push(ThinVariable {
-        name: Listing::from_slice(alloc, b"a")?,
-        is_coarray: true,
-    })?;
+    let x = variable(alloc, b"x", false)?;
+    let mut declared = Listing::of_one(alloc, x)?;
+    declared.push(variable(alloc, b"a", true)?)?;
     Ok(ThinProgram {
         declared,
         statements: Listing::new(alloc),
