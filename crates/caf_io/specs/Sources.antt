@@ -1,5 +1,5 @@
 -- A source in memory, and what each of its calls does.
-use Rattle.std.specs.Prelude.{ℕ, ◌-◌, ◌<◌, ◌≤◌, min, cond, Bool, List, [], ◌∷◌, ◌++◌, length, take, drop, slice_get, Option, None, Some, Vec, ⊤}
+use Rattle.std.specs.Prelude.{ℕ, ◌-◌, ◌<◌, ◌≤◌, min, cond, List, [], ◌∷◌, ◌++◌, length, take, drop, slice_get, Option, None, Some, Vec, ⊤}
 use Rattle.std.specs.declared.alloc.Global.{Global}
 use Rattle.caf_base.specs.Outside.{Files, file_of}
 use Rattle.caf_io.specs.Calls.{CallCount, fails_next, called, faulted}
@@ -64,10 +64,11 @@ abbrev pub buffer_after : SourceState → List ℕ → List ℕ
 buffer_after s buf =
     cond (fails_next s.calls) buf (take (moved s (length buf)) s.left ++ drop (moved s (length buf)) buf)
 
--- of a source over a runtime's files: whether a file is begun, the bytes still to come, where the file tells them, and
--- the faults
-pub record FileState : Type 0 where
-  pub is_begun : Bool
+-- of a source over the files of an opener: the opener, the file that is begun, if there is one, the bytes still to
+-- come, where the file tells them, and the faults
+pub record FileState (O F : Type 0) : Type 0 where
+  pub opener : O
+  pub file : Option F
   pub left : Option (List ℕ)
   pub faults : ℕ
 

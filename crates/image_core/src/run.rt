@@ -58,6 +58,7 @@ impl<M: Walker> ImageRun<M> {
         ensures machine { M.config self.new.machine ≡ M.config self.old.machine }
         ensures events { self.new.events.items ≡ self.old.events.items }
         ensures last { self.new.last ≡ self.old.last }
+        ensures prepared { self.new.prepared ≡ self.old.prepared }
         ensures room { OnOk result (vec_len self.new.events < vec_capacity self.new.events) }
     {
         self.events.reserve(1)?;

@@ -27,6 +27,7 @@ pub(crate) fn next_ask<M: Walker>(run: &mut ImageRun<M>) -> Result<Ask, NoMemory
     ensures machine { M.config run.new.machine ≡ M.config run.old.machine }
     ensures events { run.new.events.items ≡ run.old.events.items }
     ensures last { run.new.last ≡ run.old.last }
+    ensures prepared { run.new.prepared ≡ run.old.prepared }
     ensures room { OnOk result (vec_len run.new.events < vec_capacity run.new.events) }
     ensures asked { IfOk result (AsksNext (move_of M.Walker run.old)) }
 {
