@@ -1,6 +1,6 @@
 //! The bounds of arrays, and the offsets of elements.
 
-ghost use Rattle.std.specs.Prelude.{◌≡◌, ◌≤◌, ◌<◌, length, IsNone, IfSome, ◌↔◌, List, ℤ, ℕ};
+ghost use Rattle.std.specs.Prelude.{◌≡◌, ◌≤◌, ◌<◌, ◌≤ℤ◌, length, IsNone, IfSome, IsTrue, ◌↔◌, List, ℤ, ℕ};
 ghost use Rattle.coarray_types.specs.Places.{size_of, AllWithin, subscript_order};
 
 use crate::digits::{apart, joined};
@@ -40,10 +40,17 @@ fn offset_in(dims: &[(i64, i64)], subs: &[i64]) -> Option<u32>
     let [sub, subs @ ..] = subs else {
         return None;
     };
-    if sub < lower || upper < sub {
+    if !is_within(lower, upper, sub) {
         return None;
     }
     let rest = offset_in(dims, subs)?;
     let extent = apart(lower, upper) + 1;
     Some(joined(apart(lower, sub), extent, rest) as u32)
+}
+
+// Whether a subscript lies within its bounds.
+fn is_within(lower: &i64, upper: &i64, sub: &i64) -> bool
+    ensures { IsTrue result ↔ ((lower.now ≤ℤ sub.now) × (sub.now ≤ℤ upper.now)) }
+{
+    lower <= sub && sub <= upper
 }
