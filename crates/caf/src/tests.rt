@@ -1,225 +1,315 @@
-//! The worked rows of the first path, through the top call over a source and a sink in memory.
+//! The worked rows of the first path, through the top call over a source and a sink in memory. A test ends where memory is wanting.
 
 ghost use Rattle.std.specs.Prelude.{◌≤◌};
 
 use caf_io::mem_sink::MemSink;
 use caf_io::mem_source::MemSource;
-use caf_run::top::caf;
-use std::alloc::{AllocError, Global};
-use std::test::Fail;
+use caf_run::top::{Done, caf};
+use std::alloc::Global;
+use std::process::Abort;
 
-/// How many bytes a read and a write move at most, and which writes fail, counted from 1.
+/// How many bytes a read and a write move at most, and which calls of the source and which writes fail, each counted from 1.
 #[derive(Clone, Copy)]
-struct Pace {
+pub(crate) struct Pace {
     read: usize,
     write: usize,
+    broken: &'static [u64],
     failing: &'static [u64],
 }
+
+/// No call fails, and each moves all that it can.
+pub(crate) const WHOLE: Pace = Pace {
+    read: 4096,
+    write: 4096,
+    broken: &[],
+    failing: &[],
+};
 
 /// Image 1 reads the number that its fourth neighbour has.
 pub(crate) const NEIGHBOUR: &[u8] =
     b"integer :: x[*]\nx = this_image()\nsync all\nif (this_image() == 1) print *, x[4]\nend\n";
 
 // The words of a call.
-pub(crate) fn words_of(alloc: Global, words: &[&str]) -> Result<Vec<String>, AllocError> {
+fn words_of<R: Abort>(rt: &R, alloc: Global, words: &[&str]) -> Vec<String> {
     let mut texts = Vec::new(alloc);
     for word in words {
-        texts.push(String::from_str(alloc, word)?)?;
+        let text = String::from_str(alloc, word).expect(rt, "memory");
+        texts.push(text).expect(rt, "memory");
     }
-    Ok(texts)
+    texts
 }
 
-// The one file `a.f90` with these bytes.
-pub(crate) fn files_of(alloc: Global, file: &[u8]) -> Result<Vec<(Vec<u8>, Vec<u8>)>, AllocError> {
-    let mut files = Vec::new(alloc);
-    files.push((
-        Vec::from_slice(alloc, b"a.f90")?,
-        Vec::from_slice(alloc, file)?,
-    ))?;
-    Ok(files)
+// A source with the one file `a.f90` of these bytes.
+fn source_of<R: Abort>(rt: &R, alloc: Global, file: &[u8], pace: Pace) -> MemSource
+    requires { 1 ≤ pace.read }
+{
+    let name = Vec::from_slice(alloc, b"a.f90").expect(rt, "memory");
+    let bytes = Vec::from_slice(alloc, file).expect(rt, "memory");
+    let files = Vec::from_array(alloc, [(name, bytes)]).expect(rt, "memory");
+    let broken = Vec::from_slice(alloc, pace.broken).expect(rt, "memory");
+    MemSource::new(files, broken, pace.read)
 }
 
-// The status of a call with these words over the file `a.f90`, and what it wrote.
-fn paced(alloc: Global, words: &[&str], file: &[u8], pace: Pace) -> Result<(u8, Vec<u8>), Fail>
+/// What a call with these words over the file `a.f90` answers, where it answers this status and writes this text.
+pub(crate) fn done_of<R: Abort>(
+    rt: &R,
+    alloc: Global,
+    words: &[&str],
+    file: &[u8],
+    pace: Pace,
+    status: u8,
+    text: &str,
+) -> Done
     requires { (1 ≤ pace.read) × (1 ≤ pace.write) }
 {
-    let texts = words_of(alloc, words)?;
-    let mut source = MemSource::new(files_of(alloc, file)?, Vec::new(alloc), pace.read);
-    let failing = Vec::from_slice(alloc, pace.failing)?;
-    let mut sink = MemSink::new(alloc, failing, pace.write, 4096)?;
+    let texts = words_of(rt, alloc, words);
+    let mut source = source_of(rt, alloc, file, pace);
+    let failing = Vec::from_slice(alloc, pace.failing).expect(rt, "memory");
+    let mut sink = MemSink::new(alloc, failing, pace.write, 4096).expect(rt, "memory");
     let done = caf(alloc, &texts, &mut source, &mut sink);
-    Ok((done.status, Vec::from_slice(alloc, sink.bytes())?))
+    assert!(rt; sink.bytes() == text.as_bytes(), "{words:?} write {text}");
+    assert!(rt; done.status == status, "{words:?} end with {status}");
+    done
 }
 
-// The same, where no call fails and each moves all that it can.
-pub(crate) fn answer(alloc: Global, words: &[&str], file: &[u8]) -> Result<(u8, Vec<u8>), Fail> {
-    let pace = Pace {
-        read: 4096,
-        write: 4096,
-        failing: &[],
-    };
-    paced(alloc, words, file, pace)
+// Whether a call answers this status and writes this text is judged, and the rest of its answer forgotten.
+fn says<R: Abort>(
+    rt: &R,
+    alloc: Global,
+    words: &[&str],
+    file: &[u8],
+    pace: Pace,
+    status: u8,
+    text: &str,
+)
+    requires { (1 ≤ pace.read) × (1 ≤ pace.write) }
+{
+    drop(done_of(rt, alloc, words, file, pace, status, text));
 }
 
 #[test]
-fn empty_program(rt: HostRuntime) -> Result<(), Fail> {
+fn empty_program(rt: HostRuntime) {
     let words = ["run", "-n", "1", "--order", "0", "a.f90"];
-    let (status, text) = answer(rt.alloc(), &words, b"end\n")?;
-    assert_eq!(rt; status, 0);
-    assert_eq!(rt; text.as_slice(), b"".as_slice());
-    Ok(())
+    says(&rt, rt.alloc(), &words, b"end\n", WHOLE, 0, "");
+}
+
+// The source is called for its begin and for each piece, and once more for the end of the file; the sink for each piece.
+// So what is listed from the fourth call of the source on, and from the third of the sink, changes nothing.
+#[test]
+fn neighbour_read(rt: HostRuntime) {
+    let words = ["run", "-n", "4", "--order", "0", "a.f90"];
+    let behind = Pace {
+        read: 4096,
+        write: 4,
+        broken: &[4, 5],
+        failing: &[3, 4],
+    };
+    says(&rt, rt.alloc(), &words, NEIGHBOUR, WHOLE, 0, "1: 4\n");
+    says(&rt, rt.alloc(), &words, NEIGHBOUR, behind, 0, "1: 4\n");
 }
 
 #[test]
-fn neighbour_read(rt: HostRuntime) -> Result<(), Fail> {
+fn neighbour_read_byte_by_byte(rt: HostRuntime) {
     let words = ["run", "-n", "4", "--order", "0", "a.f90"];
-    let (status, text) = answer(rt.alloc(), &words, NEIGHBOUR)?;
-    assert_eq!(rt; status, 0);
-    assert_eq!(rt; text.as_slice(), b"1: 4\n".as_slice());
-    Ok(())
-}
-
-#[test]
-fn neighbour_read_byte_by_byte(rt: HostRuntime) -> Result<(), Fail> {
-    let words = ["run", "-n", "4", "--order", "0", "a.f90"];
-    let pace = Pace {
+    let slow = Pace {
         read: 1,
-        write: 4096,
+        write: 1,
+        broken: &[],
         failing: &[],
     };
-    let (status, text) = paced(rt.alloc(), &words, NEIGHBOUR, pace)?;
-    assert_eq!(rt; status, 0);
-    assert_eq!(rt; text.as_slice(), b"1: 4\n".as_slice());
-    Ok(())
+    says(&rt, rt.alloc(), &words, NEIGHBOUR, slow, 0, "1: 4\n");
 }
 
 #[test]
-fn short_sink(rt: HostRuntime) -> Result<(), Fail> {
+fn short_sink(rt: HostRuntime) {
+    let words = ["run", "-n", "4", "--order", "0", "a.f90"];
+    let short = Pace {
+        read: 4096,
+        write: 4,
+        broken: &[],
+        failing: &[2],
+    };
+    says(&rt, rt.alloc(), &words, NEIGHBOUR, short, 11, "1: 4");
+}
+
+#[test]
+fn fault_at_the_end_of_the_file(rt: HostRuntime) {
     let words = ["run", "-n", "4", "--order", "0", "a.f90"];
     let broken = Pace {
         read: 4096,
-        write: 4,
+        write: 4096,
+        broken: &[3],
         failing: &[2],
     };
-    let (status, text) = paced(rt.alloc(), &words, NEIGHBOUR, broken)?;
-    assert_eq!(rt; status, 11);
-    assert_eq!(rt; text.as_slice(), b"1: 4".as_slice());
-
-    let sound = Pace {
-        read: 4096,
-        write: 4,
-        failing: &[],
-    };
-    let (status, text) = paced(rt.alloc(), &words, NEIGHBOUR, sound)?;
-    assert_eq!(rt; status, 0);
-    assert_eq!(rt; text.as_slice(), b"1: 4\n".as_slice());
-    Ok(())
+    says(
+        &rt,
+        rt.alloc(),
+        &words,
+        NEIGHBOUR,
+        broken,
+        10,
+        "read fault\n",
+    );
 }
 
 #[test]
-fn overflow_of_a_sum(rt: HostRuntime) -> Result<(), Fail> {
+fn overflow_of_a_sum(rt: HostRuntime) {
     let words = ["run", "-n", "1", "--order", "0", "a.f90"];
     let file = b"integer :: a\na = 2147483647\nprint *, a + 1\nend\n";
-    let (status, text) = answer(rt.alloc(), &words, file)?;
-    assert_eq!(rt; status, 8);
-    assert_eq!(rt;
-        text.as_slice(),
-        b"fault image 1 line 3 Overflow\n".as_slice()
+    says(
+        &rt,
+        rt.alloc(),
+        &words,
+        file,
+        WHOLE,
+        8,
+        "fault image 1 line 3 Overflow\n",
     );
-    Ok(())
 }
 
 #[test]
-fn read_of_no_image(rt: HostRuntime) -> Result<(), Fail> {
+fn read_of_no_image(rt: HostRuntime) {
     let words = ["run", "-n", "2", "--order", "0", "a.f90"];
     let file = b"integer :: x[*]\nprint *, x[3]\nend\n";
-    let (status, text) = answer(rt.alloc(), &words, file)?;
-    assert_eq!(rt; status, 8);
-    assert_eq!(rt;
-        text.as_slice(),
-        b"fault image 1 line 2 CoBounds\n".as_slice()
+    says(
+        &rt,
+        rt.alloc(),
+        &words,
+        file,
+        WHOLE,
+        8,
+        "fault image 1 line 2 CoBounds\n",
     );
-    Ok(())
 }
 
 #[test]
-fn undeclared_name(rt: HostRuntime) -> Result<(), Fail> {
+fn undeclared_name(rt: HostRuntime) {
     let words = ["run", "-n", "1", "--order", "0", "a.f90"];
-    let (status, text) = answer(rt.alloc(), &words, b"y = 1\nend\n")?;
-    assert_eq!(rt; status, 3);
-    assert_eq!(rt; text.as_slice(), b"refused 10 at 1:1\n".as_slice());
-    Ok(())
+    says(
+        &rt,
+        rt.alloc(),
+        &words,
+        b"y = 1\nend\n",
+        WHOLE,
+        3,
+        "refused 10 at 1:1\n",
+    );
 }
 
 #[test]
-fn unknown_file(rt: HostRuntime) -> Result<(), Fail> {
+fn unknown_file(rt: HostRuntime) {
     let words = ["run", "-n", "1", "--order", "0", "b.f90"];
-    let (status, text) = answer(rt.alloc(), &words, b"end\n")?;
-    assert_eq!(rt; status, 10);
-    assert_eq!(rt; text.as_slice(), b"read fault\n".as_slice());
-    Ok(())
+    says(&rt, rt.alloc(), &words, b"end\n", WHOLE, 10, "read fault\n");
 }
 
+// A file of the most bytes is read by 17 calls behind its begin, one longer by 17 too: what is listed from the nineteenth on changes nothing.
 #[test]
-fn too_long_file(rt: HostRuntime) -> Result<(), Fail> {
+fn too_long_file(rt: HostRuntime) {
     let words = ["run", "-n", "1", "--order", "0", "a.f90"];
-    let mut file = vec![in rt.alloc(); b'\n'; 65_533]?;
-    file.extend_from_slice(b"end")?;
-    let (status, text) = answer(rt.alloc(), &words, file.as_slice())?;
-    assert_eq!(rt; status, 0);
-    assert_eq!(rt; text.as_slice(), b"".as_slice());
-
-    file.push(b'\n')?;
-    let (status, text) = answer(rt.alloc(), &words, file.as_slice())?;
-    assert_eq!(rt; status, 13);
-    assert_eq!(rt; text.as_slice(), b"too long\n".as_slice());
-    Ok(())
+    let behind = Pace {
+        read: 4096,
+        write: 4096,
+        broken: &[19],
+        failing: &[2],
+    };
+    let mut file = vec![in rt.alloc(); b'\n'; 65_533].expect(&rt, "memory");
+    file.extend_from_slice(b"end").expect(&rt, "memory");
+    says(&rt, rt.alloc(), &words, file.as_slice(), behind, 0, "");
+    file.push(b'\n').expect(&rt, "memory");
+    says(
+        &rt,
+        rt.alloc(),
+        &words,
+        file.as_slice(),
+        behind,
+        13,
+        "too long\n",
+    );
 }
 
 #[test]
-fn valid_words(rt: HostRuntime) -> Result<(), Fail> {
+fn valid_words(rt: HostRuntime) {
     for n in ["1", "2", "10", "64"] {
         for seed in ["0", "1", "7", "10", "2147483646", "2147483647"] {
             let words = ["run", "-n", n, "--order", seed, "a.f90"];
-            let (status, text) = answer(rt.alloc(), &words, b"end\n")?;
-            assert_eq!(rt; status, 0, "{n} {seed}");
-            assert_eq!(rt; text.as_slice(), b"".as_slice(), "{n} {seed}");
+            says(&rt, rt.alloc(), &words, b"end\n", WHOLE, 0, "");
         }
     }
-    Ok(())
 }
 
+// No valid list begins with these words up to the one of the number. No call of the source is made.
 #[test]
-fn usage(rt: HostRuntime) -> Result<(), Fail> {
-    let table: [(u32, &[&str]); 22] = [
-        (1, &[]),
-        (1, &["check", "a.f90"]),
-        (2, &["run"]),
-        (2, &["run", "a.f90"]),
-        (3, &["run", "-n"]),
-        (3, &["run", "-n", "65", "--order", "0", "a.f90"]),
-        (3, &["run", "-n", "0", "--order", "0", "a.f90"]),
-        (3, &["run", "-n", "02", "--order", "0", "a.f90"]),
-        (3, &["run", "-n", "+2", "--order", "0", "a.f90"]),
-        (3, &["run", "-n", "", "--order", "0", "a.f90"]),
-        (4, &["run", "-n", "2", "a.f90"]),
-        (5, &["run", "-n", "2", "--order"]),
-        (5, &["run", "-n", "2", "--order", "2147483648", "a.f90"]),
-        (5, &["run", "-n", "2", "--order", "4294967296", "a.f90"]),
-        (5, &["run", "-n", "2", "--order", "00", "a.f90"]),
-        (5, &["run", "-n", "2", "--order", "07", "a.f90"]),
-        (5, &["run", "-n", "2", "--order", "+7", "a.f90"]),
-        (5, &["run", "-n", "2", "--order", "-1", "a.f90"]),
-        (6, &["run", "-n", "2", "--order", "0"]),
-        (6, &["run", "-n", "2", "--order", "0", ""]),
-        (6, &["run", "-n", "2", "--order", "0", "-a.f90"]),
-        (7, &["run", "-n", "2", "--order", "0", "a.f90", "b.f90"]),
+fn usage(rt: HostRuntime) {
+    let unread = Pace {
+        read: 4096,
+        write: 4096,
+        broken: &[1],
+        failing: &[2],
+    };
+    let table: [(&str, &[&str]); 22] = [
+        ("usage: word 1\n", &[]),
+        ("usage: word 1\n", &["check", "a.f90"]),
+        ("usage: word 2\n", &["run"]),
+        ("usage: word 2\n", &["run", "a.f90"]),
+        ("usage: word 3\n", &["run", "-n"]),
+        (
+            "usage: word 3\n",
+            &["run", "-n", "65", "--order", "0", "a.f90"],
+        ),
+        (
+            "usage: word 3\n",
+            &["run", "-n", "0", "--order", "0", "a.f90"],
+        ),
+        (
+            "usage: word 3\n",
+            &["run", "-n", "02", "--order", "0", "a.f90"],
+        ),
+        (
+            "usage: word 3\n",
+            &["run", "-n", "+2", "--order", "0", "a.f90"],
+        ),
+        (
+            "usage: word 3\n",
+            &["run", "-n", "", "--order", "0", "a.f90"],
+        ),
+        ("usage: word 4\n", &["run", "-n", "2", "a.f90"]),
+        ("usage: word 5\n", &["run", "-n", "2", "--order"]),
+        (
+            "usage: word 5\n",
+            &["run", "-n", "2", "--order", "2147483648", "a.f90"],
+        ),
+        (
+            "usage: word 5\n",
+            &["run", "-n", "2", "--order", "4294967296", "a.f90"],
+        ),
+        (
+            "usage: word 5\n",
+            &["run", "-n", "2", "--order", "00", "a.f90"],
+        ),
+        (
+            "usage: word 5\n",
+            &["run", "-n", "2", "--order", "07", "a.f90"],
+        ),
+        (
+            "usage: word 5\n",
+            &["run", "-n", "2", "--order", "+7", "a.f90"],
+        ),
+        (
+            "usage: word 5\n",
+            &["run", "-n", "2", "--order", "-1", "a.f90"],
+        ),
+        ("usage: word 6\n", &["run", "-n", "2", "--order", "0"]),
+        ("usage: word 6\n", &["run", "-n", "2", "--order", "0", ""]),
+        (
+            "usage: word 6\n",
+            &["run", "-n", "2", "--order", "0", "-a.f90"],
+        ),
+        (
+            "usage: word 7\n",
+            &["run", "-n", "2", "--order", "0", "a.f90", "b.f90"],
+        ),
     ];
-    for (word, words) in table {
-        let (status, text) = answer(rt.alloc(), words, b"end\n")?;
-        let wanted = format!(in rt.alloc(); "usage: word {word}\n")?;
-        assert_eq!(rt; status, 2, "{words:?}");
-        assert_eq!(rt; text.as_slice(), wanted.as_bytes(), "{words:?}");
+    for (wanted, words) in table {
+        says(&rt, rt.alloc(), words, b"end\n", unread, 2, wanted);
     }
-    Ok(())
 }

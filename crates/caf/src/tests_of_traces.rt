@@ -1,13 +1,12 @@
 //! Whole traces, and the orders of twenty seeds, through the top call. The expected values are worked out from the rules
 //! of the ordered run and never taken from the program.
 
-use crate::tests::{NEIGHBOUR, answer, files_of, words_of};
-use caf_io::mem_sink::MemSink;
-use caf_io::mem_source::MemSource;
-use caf_run::top::{Done, caf};
-use std::alloc::{AllocError, Global};
+use crate::tests::{NEIGHBOUR, WHOLE, done_of};
+use caf_events::event::Entry;
+use caf_run::top::Done;
+use std::alloc::Global;
 use std::fmt::Write;
-use std::test::Fail;
+use std::process::Abort;
 
 // A word of a printed value: a number or a variant's name, but no field's name and no name of a type around a number.
 fn is_kept(word: &str) -> bool {
@@ -16,69 +15,71 @@ fn is_kept(word: &str) -> bool {
 }
 
 // Appends the words of a printed value, each behind a blank.
-fn push_words(out: &mut String, printed: &str) -> Result<(), AllocError> {
+fn push_words<R: Abort>(rt: &R, out: &mut String, printed: &str) {
     for word in printed.split(|c: char| !c.is_ascii_alphanumeric() && c != '-' && c != '>') {
         if is_kept(word) {
-            out.push_str(" ")?;
-            out.push_str(word)?;
+            out.push_str(" ").expect(rt, "memory");
+            out.push_str(word).expect(rt, "memory");
         }
     }
-    Ok(())
 }
 
-// The trace, behind a line feed for each entry a line: stamp, image, line, where it is asked, what is asked, `>`, the reply. What is asked is
+// Appends an entry's line: a line feed, and then stamp, image, line, where it is asked, what is asked, `>`, the reply. What is asked is
 // `Write OWNER COARRAY OFFSET VALUE`, `Read OWNER COARRAY OFFSET`, `Arrive TEAM KIND`, `Leave TEAM ROUND`, `Print BYTES`,
 // `Fault KIND` or `Stop CODE`, with coarrays and offsets from 0.
-fn trace_text(alloc: Global, done: &Done) -> Result<String, AllocError> {
+fn push_entry<R: Abort>(rt: &R, alloc: Global, out: &mut String, entry: &Entry) {
+    let event = &entry.event;
+    let (stamp, image, line) = (event.stamp(), entry.image.0, event.line());
+    let ask = event.told().ask(alloc);
+    let reply = event.told().reply(alloc);
+    let place = ask.place();
+    let printed = format!(in alloc; "{stamp} {image} {line} {place:?} {ask:?} > {reply:?}").expect(
+        rt, "memory",
+    );
+    drop(ask);
+    drop(reply);
+    out.push_str("\n").expect(rt, "memory");
+    push_words(rt, out, printed.as_str());
+}
+
+// The trace, an entry a line.
+fn trace_text<R: Abort>(rt: &R, alloc: Global, done: &Done) -> String {
     let mut out = String::new(alloc);
     if let Some(report) = &done.report {
         for entry in report.trace.entries.as_slice() {
-            let event = &entry.event;
-            let (stamp, image, line) = (event.stamp, entry.image.0, event.line);
-            let (place, ask, reply) = (event.ask.place(), &event.ask, &event.reply);
-            let printed = format!(in alloc;
-                "{stamp} {image} {line} {place:?} {ask:?} > {reply:?}"
-            )?;
-            out.push_str("\n")?;
-            push_words(&mut out, printed.as_str())?;
+            push_entry(rt, alloc, &mut out, entry);
         }
     }
-    Ok(out)
+    out
 }
 
 // The numbers of the images of the trace's entries, in their order.
-fn image_text(alloc: Global, done: &Done) -> Result<String, AllocError> {
+fn image_text<R: Abort>(rt: &R, alloc: Global, done: &Done) -> String {
     let mut out = String::new(alloc);
     if let Some(report) = &done.report {
         for entry in report.trace.entries.as_slice() {
-            write!(out, "{}", entry.image.0)?;
+            write!(out, "{}", entry.image.0).expect(rt, "memory");
         }
     }
-    Ok(out)
+    out
 }
 
-// What a call with these words answers over the file `a.f90`.
-fn done_of(alloc: Global, words: &[&str], file: &[u8]) -> Result<Done, Fail> {
-    let words = words_of(alloc, words)?;
-    let mut source = MemSource::new(files_of(alloc, file)?, Vec::new(alloc), 4096);
-    let mut sink = MemSink::new(alloc, Vec::new(alloc), 4096, 4096)?;
-    Ok(caf(alloc, &words, &mut source, &mut sink))
-}
-
-// The trace of a run on n images in the order of seed 0.
-fn trace_of(alloc: Global, n: &str, file: &[u8]) -> Result<String, Fail> {
-    let done = done_of(alloc, &["run", "-n", n, "--order", "0", "a.f90"], file)?;
-    let text = trace_text(alloc, &done);
+// Whether a run on n images in the order of seed 0 ends with this status, this text and this trace is judged.
+fn traces<R: Abort>(rt: &R, alloc: Global, n: &str, file: &[u8], end: (u8, &str), wanted: &str) {
+    let words = ["run", "-n", n, "--order", "0", "a.f90"];
+    let done = done_of(rt, alloc, &words, file, WHOLE, end.0, end.1);
+    let trace = trace_text(rt, alloc, &done);
     drop(done);
-    Ok(text?)
+    assert_eq!(rt; trace.as_str(), wanted);
 }
 
-// The images of the trace of a run, in its order.
-fn images_of(alloc: Global, words: &[&str], file: &[u8]) -> Result<String, Fail> {
-    let done = done_of(alloc, words, file)?;
-    let text = image_text(alloc, &done);
+// Whether a run of `SUMS` on three images in the order of a seed writes this text, and has these images in its trace, is judged.
+fn goes<R: Abort>(rt: &R, alloc: Global, seed: &str, text: &str, images: &str) {
+    let words = ["run", "-n", "3", "--order", seed, "a.f90"];
+    let done = done_of(rt, alloc, &words, SUMS, WHOLE, 0, text);
+    let order = image_text(rt, alloc, &done);
     drop(done);
-    Ok(text?)
+    assert!(rt; order.as_str() == images, "{seed}");
 }
 
 // By the rotation images 1 to 4 write their own x, each as its first step and that of its memory: stamp 1. They arrive in
@@ -86,7 +87,7 @@ fn images_of(alloc: Global, words: &[&str], file: &[u8]) -> Result<String, Fail>
 // whose last stamp is 1, one after its own 6: 7. Images 2, 3 and 4 stop behind the board's 9: 10, 11, 12. Image 1 prints by
 // itself, one after 7: 8. It stops behind the board's 12: 13. Byte 52 is the digit 4.
 #[test]
-fn trace_of_the_neighbour_read(rt: HostRuntime) -> Result<(), Fail> {
+fn trace_of_the_neighbour_read(rt: HostRuntime) {
     let wanted = "
  1 1 2 Memory 1 Write 1 0 0 1 > Done
  1 2 2 Memory 2 Write 2 0 0 2 > Done
@@ -106,28 +107,26 @@ fn trace_of_the_neighbour_read(rt: HostRuntime) -> Result<(), Fail> {
  11 3 5 Board Stop 0 > Done
  12 4 5 Board Stop 0 > Done
  13 1 5 Board Stop 0 > Done";
-    let trace = trace_of(rt.alloc(), "4", NEIGHBOUR)?;
-    assert_eq!(rt; trace.as_str(), wanted);
-    Ok(())
+    traces(&rt, rt.alloc(), "4", NEIGHBOUR, (0, "1: 4\n"), wanted);
 }
 
 // The literal is the sum's first term, and the second one leaves the kind: the one step of the run is the fault. The
 // variable is local, so its assignment asks nothing.
 #[test]
-fn trace_of_an_overflow(rt: HostRuntime) -> Result<(), Fail> {
+fn trace_of_an_overflow(rt: HostRuntime) {
     let file = b"integer :: a\na = 2147483647\nprint *, a + 1\nend\n";
-    let trace = trace_of(rt.alloc(), "1", file)?;
-    assert_eq!(rt; trace.as_str(), "\n 1 1 3 Own Fault Overflow > Done");
-    Ok(())
+    let end = (8, "fault image 1 line 3 Overflow\n");
+    let wanted = "\n 1 1 3 Own Fault Overflow > Done";
+    traces(&rt, rt.alloc(), "1", file, end, wanted);
 }
 
 // Image 1 is the first of the rotation, and its fault ends the run before image 2 makes a step; no memory is asked.
 #[test]
-fn trace_of_a_read_of_no_image(rt: HostRuntime) -> Result<(), Fail> {
+fn trace_of_a_read_of_no_image(rt: HostRuntime) {
     let file = b"integer :: x[*]\nprint *, x[3]\nend\n";
-    let trace = trace_of(rt.alloc(), "2", file)?;
-    assert_eq!(rt; trace.as_str(), "\n 1 1 2 Own Fault CoBounds > Done");
-    Ok(())
+    let end = (8, "fault image 1 line 2 CoBounds\n");
+    let wanted = "\n 1 1 2 Own Fault CoBounds > Done";
+    traces(&rt, rt.alloc(), "2", file, end, wanted);
 }
 
 /// Each image adds what it reads of all, and no barrier keeps the reads from the writes: the sums tell the order. It asks
@@ -141,7 +140,7 @@ const SUMS: &[u8] =
 // 26718 leave 2, 2, 1, 0: image 3 writes (1) and reads x[1] (2), which is still 0, image 2 writes (1), and image 1 (3).
 // The first state of seed 2088216195 is 0, from which the generator goes on: image 1 twice.
 #[test]
-fn twenty_seeds(rt: HostRuntime) -> Result<(), Fail> {
+fn twenty_seeds(rt: HostRuntime) {
     let table = [
         ("0", "1: 6\n2: 6\n3: 6\n", "123112123123123123123233123123"),
         ("1", "1: 6\n2: 6\n3: 6\n", "123223111312123123123332113322"),
@@ -213,11 +212,6 @@ fn twenty_seeds(rt: HostRuntime) -> Result<(), Fail> {
         ),
     ];
     for (seed, wanted, images) in table {
-        let words = ["run", "-n", "3", "--order", seed, "a.f90"];
-        let (_, text) = answer(rt.alloc(), &words, SUMS)?;
-        assert_eq!(rt; text.as_slice(), wanted.as_bytes(), "{seed}");
-        let order = images_of(rt.alloc(), &words, SUMS)?;
-        assert_eq!(rt; order.as_str(), images, "{seed}");
+        goes(&rt, rt.alloc(), seed, wanted, images);
     }
-    Ok(())
 }

@@ -1,3 +1,5 @@
+pub mod Arithmetic
+pub mod Few
 pub mod Outside
 pub mod Spans
 pub mod Thin

@@ -6,6 +6,7 @@ ghost use Rattle.caf_events.specs.Asks.{place_of};
 use crate::fault::FaultKind;
 use crate::round::{Arriving, GatherOp};
 use caf_base::copying::TryCopy;
+use caf_base::few::Few;
 use caf_base::listing::{Listing, Text};
 use caf_base::place::{ImageNo, Place, TeamNo};
 use caf_base::refusal::NoMemory;
@@ -14,7 +15,7 @@ use caf_base::value::{AtomicOp, Kind, Value};
 
 /// An ask: an access to a memory, a control action, or a step of the image alone. Those at a memory name its owner first. Sections are
 /// those of ISO/IEC 1539-1:2018.
-#[derive(Drop, PartialEq, Debug)]
+#[derive(Drop, Debug)]
 pub enum Ask {
     /// Reference of the cells of a span.
     Read {
@@ -25,7 +26,7 @@ pub enum Ask {
     Write {
         owner: ImageNo,
         span: Span,
-        values: Listing<Value>,
+        values: Few<Value>,
     },
     /// Allocation of a coarray of so many cells (9.7.1.2).
     Create {
@@ -103,7 +104,7 @@ pub enum Ask {
         op: GatherOp,
         root: u32,
         kind: Kind,
-        values: Listing<Value>,
+        values: Few<Value>,
     },
     /// The departure from a collective subroutine.
     Take {

@@ -1,29 +1,41 @@
 //! Events, entries and traces.
 
 ghost use Rattle.std.specs.Prelude.{◌≡◌, ◌<◌, ◌^◌, length, sum_by, IfOk, IsTrue, ◌↔◌};
-ghost use Rattle.caf_events.specs.Events.{recorded_words, counts_words, ask_words, reply_words, EndsRun};
+ghost use Rattle.std.specs.Cow.{cow_value};
+ghost use Rattle.caf_events.specs.Events.{recorded_words, words_by, counts_words, ask_words, reply_words, EndsRun, EndsBy};
 
 use crate::ask::Ask;
+use crate::exchange::{Exchange, Kept};
 use crate::reply::{FormedTeam, Reply};
 use caf_base::copying::TryCopy;
 use caf_base::listing::Listing;
 use caf_base::place::ImageNo;
 use caf_base::refusal::NoMemory;
+use std::alloc::Global;
+use std::borrow::Cow;
+use std::marker::Model;
+use std::mem::size_of;
 
-/// One step of an image: what it asked, the reply, its stamp from 1, and the line of its statement.
-#[derive(Drop, PartialEq, Debug)]
+/// One step of an image: what it asked, the reply, its stamp from 1, and the line of its statement. In a contract it is these four.
+#[derive(Drop)]
 pub struct Event {
-    pub ask: Ask,
-    pub reply: Reply,
-    pub stamp: u64,
-    pub line: u32,
+    told: Exchange,
+    stamp: u64,
+    line: u32,
+}
+
+impl Model for Event {
+    ghost use Rattle.caf_events.specs.EventParts.{EventParts};
+
+    ghost Value = { EventParts };
+
+    ghost view = { λ e. record { ask = e.told.ask; reply = e.told.reply; stamp = e.stamp; line = e.line } };
 }
 
 impl TryCopy for Event {
     fn copy(&self) -> Result<Event, NoMemory> {
         Ok(Event {
-            ask: self.ask.copy()?,
-            reply: self.reply.copy()?,
+            told: self.told.copy()?,
             stamp: self.stamp,
             line: self.line,
         })
@@ -31,17 +43,47 @@ impl TryCopy for Event {
 }
 
 impl Event {
+    /// The event of this ask with its reply. It takes no memory.
+    pub fn new(told: Exchange, stamp: u64, line: u32) -> Event
+        ensures { result ≡ record { ask = told.ask; reply = told.reply; stamp = stamp; line = line } }
+    {
+        Event { told, stamp, line }
+    }
+
+    /// The ask with its reply.
+    pub fn told(&self) -> &Exchange
+        ensures { result.now ≡ record { ask = self.now.ask; reply = self.now.reply } }
+    {
+        &self.told
+    }
+
+    /// The reply. It takes no memory.
+    pub fn reply(&self, alloc: Global) -> Cow<'_, Reply>
+        ensures { cow_value result ≡ self.now.reply }
+    {
+        self.told.reply(alloc)
+    }
+
+    /// The stamp.
+    pub fn stamp(&self) -> u64
+        ensures { result ≡ self.now.stamp }
+    {
+        self.stamp
+    }
+
+    /// The line of the statement.
+    pub fn line(&self) -> u32
+        ensures { result ≡ self.now.line }
+    {
+        self.line
+    }
+
     /// Whether the event ends the run: error termination, a run fault, a limit, or an arrival that clashes.
     pub fn ends_run(&self) -> bool
         ensures { IsTrue result ↔ EndsRun self.now }
     {
-        match &self.ask {
-            Ask::ErrorStop { .. }
-            | Ask::Fault { .. }
-            | Ask::LimitStatements { .. }
-            | Ask::LimitWords { .. }
-            | Ask::LimitStamp { .. } => true,
-            Ask::Arrive { .. } | Ask::Gather { .. } => matches!(&self.reply, Reply::Clash { .. }),
+        match self.told.kept() {
+            Kept::Boxed(whole) => ends_by(&whole.ask, &whole.reply),
             _ => false,
         }
     }
@@ -52,11 +94,38 @@ impl Event {
         requires { recorded_words self.now < 2 ^ 64 }
         ensures { result ≡ recorded_words self.now }
     {
-        if is_recorded(&self.ask) {
-            4 + ask_words_of(&self.ask) + reply_words_of(&self.reply)
-        } else {
-            0
+        match self.told.kept() {
+            Kept::ReadCell { .. } | Kept::WriteCell { .. } => 5,
+            Kept::Joined { .. } | Kept::Departed { .. } => 4,
+            Kept::Boxed(whole) => words_of(&whole.ask, &whole.reply),
         }
+    }
+}
+
+// Whether a step of this ask with this reply ends the run.
+pub(crate) fn ends_by(ask: &Ask, reply: &Reply) -> bool
+    ensures { IsTrue result ↔ EndsBy ask.now reply.now }
+{
+    match ask {
+        Ask::ErrorStop { .. }
+        | Ask::Fault { .. }
+        | Ask::LimitStatements { .. }
+        | Ask::LimitWords { .. }
+        | Ask::LimitStamp { .. } => true,
+        Ask::Arrive { .. } | Ask::Gather { .. } => matches!(reply, Reply::Clash { .. }),
+        _ => false,
+    }
+}
+
+// The recorded words of a step of this ask with this reply.
+fn words_of(ask: &Ask, reply: &Reply) -> u64
+    requires { words_by ask.now reply.now < 2 ^ 64 }
+    ensures { result ≡ words_by ask.now reply.now }
+{
+    if is_recorded(ask) {
+        4 + ask_words_of(ask) + reply_words_of(reply)
+    } else {
+        0
     }
 }
 
@@ -116,11 +185,14 @@ fn members_of(teams: &[FormedTeam]) -> u64
 }
 
 /// An event, and the image that made it.
-#[derive(Drop, PartialEq, Debug)]
+#[derive(Drop)]
 pub struct Entry {
     pub image: ImageNo,
     pub event: Event,
 }
+
+// An entry is small: each step is kept in a history, in an image's events and in the trace.
+const _: () = prove!(size_of::<Entry>() <= 56);
 
 impl TryCopy for Entry {
     fn copy(&self) -> Result<Entry, NoMemory> {
@@ -132,7 +204,7 @@ impl TryCopy for Entry {
 }
 
 /// The events of a run by stamp, then image.
-#[derive(Drop, PartialEq, Debug)]
+#[derive(Drop)]
 pub struct Trace {
     pub entries: Listing<Entry>,
 }
@@ -142,100 +214,5 @@ impl TryCopy for Trace {
         Ok(Trace {
             entries: self.entries.copy_each()?,
         })
-    }
-}
-
-#[cfg(test)]
-mod tests {
-    use super::*;
-    use crate::round::{Allotted, Arriving, RoundKind};
-    use caf_base::place::{Place, TeamNo};
-    use caf_base::short::Short;
-    use caf_base::value::Value;
-    use std::test::Fail;
-
-    fn is_copied<T: TryCopy + PartialEq + Drop>(value: T) -> Result<bool, NoMemory> {
-        let copy = value.copy()?;
-        Ok(copy == value)
-    }
-
-    fn event(ask: Ask, reply: Reply) -> Event
-        ensures ask { result.ask ≡ ask }
-        ensures reply { result.reply ≡ reply }
-    {
-        Event {
-            ask,
-            reply,
-            stamp: 7,
-            line: 3,
-        }
-    }
-
-    fn words(event: Event) -> u64
-        requires { recorded_words event < 2 ^ 64 }
-    {
-        let words = event.words();
-        drop(event);
-        words
-    }
-
-    fn ends(event: Event) -> bool {
-        let ends = event.ends_run();
-        drop(event);
-        ends
-    }
-
-    #[test]
-    fn asks_and_replies_are_copied(rt: HostRuntime) -> Result<(), Fail> {
-        let alloc = rt.alloc();
-        let values = Listing::from_slice(alloc, &[Value::Int(5), Value::Bool(true)])?;
-        assert!(rt; is_copied(Reply::Values { values })?);
-        let images = Listing::from_slice(alloc, &[ImageNo(1), ImageNo(3)])?;
-        let formed = FormedTeam {
-            team: TeamNo(2),
-            number: 9,
-            members: images.copy()?,
-        };
-        assert!(rt; is_copied(Ask::Pair { images })?);
-        assert!(rt; is_copied(formed)?);
-        Ok(())
-    }
-
-    #[test]
-    fn what_a_round_brings_is_copied(rt: HostRuntime) -> Result<(), Fail> {
-        let alloc = rt.alloc();
-        let allotted = Allotted {
-            coarray: 1,
-            dims: Short::from_slice(alloc, &[(1, 4)])?,
-            codims: Short::new(alloc),
-            last: 1,
-        };
-        let list = Listing::of_one(alloc, allotted)?;
-        assert!(rt; is_copied(Arriving::Allocate { list })?);
-        let list = Listing::from_slice(alloc, &[1, 2])?;
-        assert!(rt; is_copied(RoundKind::Deallocate { list })?);
-        Ok(())
-    }
-
-    #[test]
-    fn a_trace_is_copied(rt: HostRuntime) -> Result<(), Fail> {
-        let entry = Entry {
-            image: ImageNo(1),
-            event: event(Ask::Unpair, Reply::Number { status: 0 }),
-        };
-        let entries = Listing::of_one(rt.alloc(), entry)?;
-        assert!(rt; is_copied(Trace { entries })?);
-        Ok(())
-    }
-
-    #[test]
-    fn an_event_has_words_and_may_end_the_run(rt: HostRuntime) -> Result<(), Fail> {
-        assert_eq!(rt; Ask::Unpair.place(), Place::Board);
-        let text = Listing::from_slice(rt.alloc(), b"123456789")?;
-        assert_eq!(rt; words(event(Ask::Print { text }, Reply::Done)), 6);
-        assert_eq!(rt; words(event(Ask::Gone, Reply::Done)), 0);
-        assert!(rt; ends(event(Ask::ErrorStop { code: 1 }, Reply::Done)));
-        assert!(rt; !ends(event(Ask::Fail, Reply::Done)));
-        Ok(())
     }
 }

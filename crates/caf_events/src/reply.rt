@@ -3,13 +3,14 @@
 ghost use Rattle.std.specs.Prelude.{◌≡◌, IfOk};
 
 use caf_base::copying::TryCopy;
+use caf_base::few::Few;
 use caf_base::listing::Listing;
 use caf_base::place::{ImageNo, TeamNo};
 use caf_base::refusal::NoMemory;
 use caf_base::value::Value;
 
 /// A team that a closed FORM TEAM round made: its number in the run, its team number, and its members in index order.
-#[derive(Drop, PartialEq, Debug)]
+#[derive(Drop, Debug)]
 pub struct FormedTeam {
     pub team: TeamNo,
     pub number: i64,
@@ -27,7 +28,7 @@ impl TryCopy for FormedTeam {
 }
 
 /// A reply.
-#[derive(Drop, PartialEq, Debug)]
+#[derive(Drop, Debug)]
 pub enum Reply {
     /// The step was made, and there is nothing to tell.
     Done,
@@ -41,7 +42,7 @@ pub enum Reply {
     Busy,
     /// The values of the cells of a read.
     Values {
-        values: Listing<Value>,
+        values: Few<Value>,
     },
     /// The value that an atomic action found.
     Old {
@@ -71,7 +72,7 @@ pub enum Reply {
     /// The status of a collective, and where it is 0 the values.
     Taken {
         status: i32,
-        values: Listing<Value>,
+        values: Few<Value>,
     },
     /// The status of a round, and for FORM TEAM the teams that it made.
     Left {

@@ -1,7 +1,7 @@
 //! A report: the trace of a run and its end.
 
 ghost use Rattle.std.specs.Prelude.{◌≡◌, IfOk, MatchOption};
-ghost use Rattle.caf_report.specs.Ends.{EndsAt, IsFirstEnding, HasNoEnding, ending_at, IsEndOf, HasEnd, status_of};
+ghost use Rattle.caf_report.specs.Ends.{EndsAt, IsFirstEnding, HasNoEnding, ending_at, ending_by, IsEndOf, HasEnd, status_of};
 ghost use Rattle.caf_report.specs.ReportText.{report_text};
 
 use super::ending::push_end;
@@ -14,7 +14,7 @@ use caf_events::event::Trace;
 use std::alloc::Global;
 
 /// An image that waits: the line of its statement, and the ask that it can't make.
-#[derive(Drop, Debug)]
+#[derive(Drop)]
 pub struct Waiting {
     pub image: ImageNo,
     pub line: u32,
@@ -22,7 +22,7 @@ pub struct Waiting {
 }
 
 /// How a run ended; `at` is a place in the trace, from 0.
-#[derive(Drop, Debug)]
+#[derive(Drop)]
 pub enum End {
     /// Normal termination (ISO/IEC 1539-1:2018, 5.3.7): every image has stopped or failed (5.3.6).
     Finished,
@@ -39,7 +39,7 @@ pub enum End {
 }
 
 /// A run that is over: its number of images, its trace, and its end.
-#[derive(Drop, Debug)]
+#[derive(Drop)]
 pub struct Report {
     pub images: u32,
     pub trace: Trace,
@@ -63,7 +63,17 @@ pub fn end_at(trace: &Trace, at: usize) -> End
     requires { EndsAt trace.now at }
     ensures { result ≡ ending_at trace.now at }
 {
-    match &trace.entries.as_slice()[at].event.ask {
+    match trace.entries.as_slice()[at].event.told().ending() {
+        Some(whole) => end_by(at, &whole.ask),
+        None => unreachable!(),
+    }
+}
+
+// The end that an ending ask makes at this place.
+fn end_by(at: usize, ask: &Ask) -> End
+    ensures { result ≡ ending_by at ask.now }
+{
+    match ask {
         Ask::ErrorStop { .. } => End::ErrorStop { at },
         Ask::Fault { .. } => End::RunFault { at },
         Ask::LimitStatements { .. } | Ask::LimitWords { .. } | Ask::LimitStamp { .. } => {
@@ -113,100 +123,5 @@ impl Report {
         push_prints(&mut out, self.images, &self.trace)?;
         push_end(&mut out, &self.trace, &self.end)?;
         Ok(out)
-    }
-}
-
-#[cfg(test)]
-mod tests {
-    use super::*;
-    use caf_base::place::INITIAL_TEAM;
-    use caf_events::event::{Entry, Event};
-    use caf_events::fault::FaultKind;
-    use caf_events::reply::Reply;
-    use caf_events::round::Arriving;
-    use std::test::Fail;
-
-    // An entry of an image, of line 7.
-    fn entry(image: u32, stamp: u64, ask: Ask) -> Entry {
-        Entry {
-            image: ImageNo(image),
-            event: Event {
-                ask,
-                reply: Reply::Done,
-                stamp,
-                line: 7,
-            },
-        }
-    }
-
-    // An entry that prints.
-    fn print(alloc: Global, image: u32, stamp: u64, text: &str) -> Result<Entry, NoMemory> {
-        let text = Listing::from_slice(alloc, text.as_bytes())?;
-        Ok(entry(image, stamp, Ask::Print { text }))
-    }
-
-    #[test]
-    fn images_are_grouped_and_the_fault_ends(rt: HostRuntime) -> Result<(), Fail> {
-        let alloc = rt.alloc();
-        let mut entries = Listing::new(alloc);
-        entries.push(print(alloc, 2, 1, "two")?)?;
-        entries.push(print(alloc, 1, 1, "one\n\nthree")?)?;
-        entries.push(print(alloc, 2, 2, "")?)?;
-        entries.push(entry(
-            1,
-            2,
-            Ask::Fault {
-                kind: FaultKind::CoBounds,
-            },
-        ))?;
-        entries.push(print(alloc, 1, 3, "-4")?)?;
-        let report = Report::new(2, Trace { entries }, Listing::new(alloc));
-        assert_eq!(rt; report.status(), 8);
-        let want = "1: one\n1: \n1: three\n1: -4\n2: two\n2: \nfault image 1 line 7 CoBounds\n";
-        assert_eq!(rt; report.text(alloc)?.as_slice(), want.as_bytes());
-        Ok(())
-    }
-
-    #[test]
-    fn nothing_printed_and_finished_is_no_text(rt: HostRuntime) -> Result<(), Fail> {
-        let alloc = rt.alloc();
-        let mut entries = Listing::new(alloc);
-        entries.push(entry(1, 1, Ask::Stop { code: 0 }))?;
-        let report = Report::new(1, Trace { entries }, Listing::new(alloc));
-        assert_eq!(rt; report.status(), 0);
-        assert_eq!(rt; report.text(alloc)?.as_slice(), b"".as_slice());
-        Ok(())
-    }
-
-    #[test]
-    fn an_image_that_waits_is_stuck(rt: HostRuntime) -> Result<(), Fail> {
-        let alloc = rt.alloc();
-        let mut entries = Listing::new(alloc);
-        entries.push(entry(
-            2,
-            1,
-            Ask::Arrive {
-                team: INITIAL_TEAM,
-                arriving: Arriving::Sync,
-            },
-        ))?;
-        let waits = Listing::of_one(
-            alloc,
-            Waiting {
-                image: ImageNo(2),
-                line: 12,
-                ask: Ask::Leave {
-                    team: INITIAL_TEAM,
-                    round: 1,
-                },
-            },
-        )?;
-        let report = Report::new(2, Trace { entries }, waits);
-        assert_eq!(rt; report.status(), 6);
-        assert_eq!(rt;
-            report.text(alloc)?.as_slice(),
-            b"stuck image 2 line 12 leave\n".as_slice()
-        );
-        Ok(())
     }
 }

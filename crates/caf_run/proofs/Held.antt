@@ -26,10 +26,6 @@ last_is n [] w = refl
 last_is n (v ∷ ws) w = last_is v.image.0 ws w
 
 module _ {C : Type 0} (step : C → Move C Ask Reply) (configs : List C) where
-  -- none of no images
-  pub held_none : AreHeld step configs 0 []
-  held_none = record { rises = tt; low = omega arith; each = tt; all = λ i low high. absurd (omega arith) }
-
   module _ (n : ℕ) (ws : List Waiting) (h : AreHeld step configs n ws) (c : C) (at : item_at configs (suc n) ≡ Some c) where
     -- the next image has ended
     pub held_over : IsOver (step c) → AreHeld step configs (n + 1) ws

@@ -29,18 +29,6 @@ refused_bytes bytes n seed status text report none s t r = record {
   ran = subst (RanBytes bytes n seed) (sym r) tt;
 }
 
--- they are, and the program was run
-pub run_bytes : (bytes : List ℕ) (p : ThinProgram) (n seed status : ℕ) (text : List ℕ) (report : Option Report) → Reads bytes p → (r : Report) × (report ≡ Some r) × ReportClause report status text × IsReportOf p n seed r → BytesDue bytes n seed status text report
-run_bytes bytes p n seed status text report reads (r, is, clause, of) =
-    let c = subst (λ v. ReportClause v status text) is clause in
-    record {
-      known = inl c.0;
-      refused = λ s. absurd (not_run status c.0 (inr (inl s)));
-      run = λ _. (p, reads);
-      reported = clause;
-      ran = subst (RanBytes bytes n seed) (sym is) (p, reads, of);
-    }
-
 ran_file : (files : Option Files) (file : Word) (n seed : ℕ) (bytes : List ℕ) (report : Option Report) → HasBytesIfTold files file bytes → RanBytes bytes n seed report → RanFile files file n seed report
 ran_file files file n seed bytes None whole ran = tt
 ran_file files file n seed bytes (Some r) whole (p, reads, of) = (bytes, p, whole, reads, of)
@@ -69,34 +57,6 @@ whole_file files file n seed left' faults faults' bytes status text report whole
         by_known (inr s) (inl k) = omega arith
         by_known (inr s) (inr (inl k)) = omega arith
         by_known (inr s) (inr (inr k)) = omega arith
-
--- a file that could not be read
-pub fault_file : (files : Option Files) (file : Word) (n seed : ℕ) (left' : Option (List ℕ)) (faults faults' status : ℕ) (text : List ℕ) (report : Option Report) → MayNotBegin files file faults faults' → status ≡ 10 → text ≡ codes "read fault\n" → report ≡ None → FileDue files file n seed left' faults faults' status text report
-fault_file files file n seed left' faults faults' status text report may s t r = record {
-  usage = λ k. omega arith;
-  refused = λ k. absurd (omega arith);
-  input = λ h. absurd (elim h [ inl a ↦ not_run status a (inr (inr (inl s))) | inr k ↦ omega arith ]);
-  read_fault = λ _. (may, t);
-  too_long = λ k. absurd (omega arith);
-  absent = λ _. s;
-  settled = λ told has. inr (s, fault_settles files file told faults faults' may has);
-  reported = subst (λ v. ReportClause v status text) (sym r) (inr (inr (inl s)));
-  ran = subst (RanFile files file n seed) (sym r) tt;
-}
-
--- a file that is too long
-pub long_file : (files : Option Files) (file : Word) (n seed : ℕ) (left' : Option (List ℕ)) (faults faults' status : ℕ) (text : List ℕ) (report : Option Report) → IsLonger files file 65536 → status ≡ 13 → text ≡ codes "too long\n" → report ≡ None → FileDue files file n seed left' faults faults' status text report
-long_file files file n seed left' faults faults' status text report longer s t r = record {
-  usage = λ k. omega arith;
-  refused = λ k. absurd (omega arith);
-  input = λ h. absurd (elim h [ inl a ↦ not_run status a (inr (inr (inr s))) | inr k ↦ omega arith ]);
-  read_fault = λ k. absurd (omega arith);
-  too_long = λ _. (longer, t);
-  absent = λ none. absurd (longer_has files file 65536 longer none);
-  settled = λ told has. inl (longer_settles files file told status longer has s);
-  reported = subst (λ v. ReportClause v status text) (sym r) (inr (inr (inr s)));
-  ran = subst (RanFile files file n seed) (sym r) tt;
-}
 
 ran_words : (words : List Word) (files : Option Files) (n seed : ℕ) (file : Word) (report : Option Report) → IsRun words n seed file → RanFile files file n seed report → RunClause words files report
 ran_words words files n seed file None valid ran = tt

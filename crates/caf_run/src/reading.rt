@@ -8,7 +8,7 @@ use caf_base::outside::{Failed, Source};
 use std::alloc::{AllocError, Global};
 
 /// Why a file is not read.
-#[derive(Clone, Copy, PartialEq, Eq, Debug)]
+#[derive(Clone, Copy)]
 pub enum ReadEnd {
     /// A call to the source failed.
     Fault,
@@ -76,89 +76,5 @@ pub fn read_file<S: Source>(
             return Err(ReadEnd::TooLong);
         }
         bytes.extend_from_slice(&piece[..count])?;
-    }
-}
-
-#[cfg(test)]
-mod tests {
-    use super::*;
-    use std::test::Fail;
-
-    /// A source of one file, `a.f90`, whose names and bytes it doesn't tell. It gives 1,000 bytes at a time, and its
-    /// call `fails_at` fails, counted from 1.
-    #[derive(Drop)]
-    struct Slow<'a> {
-        bytes: &'a [u8],
-        rest: &'a [u8],
-        calls: u64,
-        fails_at: u64,
-        faults: u64,
-    }
-
-    impl<'a> Slow<'a> {
-        fn new(bytes: &'a [u8], fails_at: u64) -> Slow<'a> {
-            Slow {
-                bytes,
-                rest: &[],
-                calls: 0,
-                fails_at,
-                faults: 0,
-            }
-        }
-    }
-
-    impl<'a> Source for Slow<'a> {
-        ghost use Rattle.std.specs.Prelude.{None};
-
-        ghost files = { λ _. None };
-
-        ghost left = { λ _. None };
-
-        ghost faults = { λ s. s.faults };
-
-        fn begin(&mut self, name: &str) -> Result<(), Failed> {
-            self.calls = self.calls.saturating_add(1);
-            if self.calls == self.fails_at || name != "a.f90" {
-                self.faults = self.faults.saturating_add(1);
-                return Err(Failed);
-            }
-            self.rest = self.bytes;
-            Ok(())
-        }
-
-        fn read(&mut self, buf: &mut [u8]) -> Result<usize, Failed> {
-            self.calls = self.calls.saturating_add(1);
-            if self.calls == self.fails_at {
-                self.faults = self.faults.saturating_add(1);
-                return Err(Failed);
-            }
-            let count = self.rest.len().min(buf.len()).min(1_000);
-            buf[..count].copy_from_slice(&self.rest[..count]);
-            self.rest = &self.rest[count..];
-            Ok(count)
-        }
-    }
-
-    #[test]
-    fn reads_whole_or_tells_why_not(rt: HostRuntime) -> Result<(), Fail> {
-        let bytes = vec![in rt.alloc(); 7u8; 5_500]?;
-        let mut source = Slow::new(bytes.as_slice(), 0);
-        let got = read_file(rt.alloc(), &mut source, "a.f90", 5_500);
-        assert!(rt; got == Ok(Vec::from_slice(rt.alloc(), bytes.as_slice())?));
-        let long = read_file(rt.alloc(), &mut source, "a.f90", 5_499);
-        assert!(rt; long == Err(ReadEnd::TooLong));
-        assert_eq!(rt; source.faults, 0);
-        let other = read_file(rt.alloc(), &mut source, "b.f90", 5_500);
-        assert!(rt; other == Err(ReadEnd::Fault));
-
-        let mut broken = Slow::new(bytes.as_slice(), 4);
-        let cut = read_file(rt.alloc(), &mut broken, "a.f90", 5_500);
-        assert!(rt; cut == Err(ReadEnd::Fault));
-        assert_eq!(rt; broken.faults, 1);
-
-        let mut empty = Slow::new(&[], 0);
-        let nothing = read_file(rt.alloc(), &mut empty, "a.f90", 0);
-        assert!(rt; nothing == Ok(Vec::new(rt.alloc())));
-        Ok(())
     }
 }

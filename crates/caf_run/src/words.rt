@@ -10,7 +10,7 @@ use caf_base::refusal::Refusal;
 
 /// Words that are no command: the number of the first word, from 1, with which no valid list of words begins, or the
 /// number of words plus one where they are a valid list cut short.
-#[derive(Clone, Copy, PartialEq, Eq, Debug)]
+#[derive(Clone, Copy)]
 pub struct Usage {
     pub word: u32,
 }
@@ -19,21 +19,21 @@ pub struct Usage {
 pub const GREATEST_SEED: u32 = 2_147_483_647;
 
 /// What the words ask for.
-#[derive(Debug, PartialEq, Drop)]
+#[derive(Drop)]
 pub enum Command {
     /// To run a source on `n` images, from 1 to 64.
     Run { input: Input, n: u32, way: Way },
 }
 
 /// Where the source comes from.
-#[derive(Clone, Copy, PartialEq, Eq, Debug)]
+#[derive(Clone, Copy)]
 pub enum Input {
     /// From the file whose name is this word, from 1.
     File { word: u32 },
 }
 
 /// How the images take turns.
-#[derive(Clone, Copy, PartialEq, Eq, Debug)]
+#[derive(Clone, Copy)]
 pub enum Way {
     /// In the order of this seed, from 0 to 2147483647.
     Order(u32),
@@ -167,61 +167,4 @@ fn take_end(words: &[String], place: u32) -> Result<(), Refusal<Usage>>
         return Err(wrong_at(place));
     }
     Ok(())
-}
-
-#[cfg(test)]
-mod tests {
-    use super::*;
-    use std::test::Fail;
-
-    fn answer(rt: &HostRuntime, texts: &[&str]) -> Result<Result<Command, Refusal<Usage>>, Fail> {
-        let mut words = Vec::new(rt.alloc());
-        for text in texts {
-            words.push(String::from_str(rt.alloc(), text)?)?;
-        }
-        Ok(words_of(words.as_slice()))
-    }
-
-    #[test]
-    fn valid_words_mean_a_run(rt: HostRuntime) -> Result<(), Fail> {
-        let table: [(&str, u32, &str, u32); 6] = [
-            ("1", 1, "0", 0),
-            ("2", 2, "1", 1),
-            ("10", 10, "7", 7),
-            ("64", 64, "10", 10),
-            ("4", 4, "2147483646", 2_147_483_646),
-            ("4", 4, "2147483647", 2_147_483_647),
-        ];
-        for (images, n, order, seed) in table {
-            let got = answer(&rt, &["run", "-n", images, "--order", order, "a.f90"])?;
-            let input = Input::File { word: 6 };
-            let way = Way::Order(seed);
-            assert!(rt;
-                got == Ok(Command::Run { input, n, way }),
-                "{images} {order}"
-            );
-        }
-        Ok(())
-    }
-
-    #[test]
-    fn other_words_have_a_usage_number(rt: HostRuntime) -> Result<(), Fail> {
-        let table: [(u32, &[&str]); 7] = [
-            (1, &["check", "a.f90"]),
-            (2, &["run"]),
-            (3, &["run", "-n", "65", "--order", "0", "a.f90"]),
-            (4, &["run", "-n", "2", "a.f90"]),
-            (5, &["run", "-n", "2", "--order", "07", "a.f90"]),
-            (6, &["run", "-n", "2", "--order", "0", "-a.f90"]),
-            (7, &["run", "-n", "2", "--order", "0", "a.f90", "b.f90"]),
-        ];
-        for (word, texts) in table {
-            let got = answer(&rt, texts)?;
-            assert!(rt;
-                got == Err(Refusal::Cause(Usage { word })),
-                "{word} in {texts:?}"
-            );
-        }
-        Ok(())
-    }
 }

@@ -3,10 +3,6 @@ use Rattle.std.proofs.Common.{◌≡◌, ℕ, ◌≤◌, ℤ, pos, ◌+ℤ◌, �
 use Rattle.std.proofs.lemmas.Int.{ints}
 use Rattle.coarray_types.specs.Distances.{distance}
 
--- a number that isn't below another is that one and their distance
-pub distance_up : (l z : ℤ) → l ≤ℤ z → l +ℤ pos (distance l z) ≡ z
-distance_up l z h = omega (arith, ints)
-
 -- of two numbers that aren't below a third, the greater one is farther from it
 pub distance_order : (l s u : ℤ) → l ≤ℤ s → s ≤ℤ u → distance l s ≤ distance l u
 distance_order l s u a b = omega (arith, ints)

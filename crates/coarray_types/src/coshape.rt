@@ -10,7 +10,7 @@ use caf_base::short::Short;
 /// coextents are its coshape, as extents are a shape (ISO/IEC 1539-1:2018, 5.4.6, and COSHAPE in 16.9); the last one has
 /// no limit (8.5.6.3). The calls here want one codimension or more, cobounds of kind 4 and no coextent below 1
 /// (`HasCobounds`). Up to 3 codimensions lie in place; the 3 is this project's, the standard has up to 15.
-#[derive(Drop, PartialEq, Debug)]
+#[derive(Drop, Debug)]
 pub struct CoShape {
     pub lower: Short<i64, 3>,
     pub extent: Short<i64, 2>,

@@ -10,5 +10,3 @@ mod digits;
 pub mod laws;
 pub mod section;
 pub mod shape;
-#[cfg(test)]
-mod tests;

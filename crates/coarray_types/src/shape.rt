@@ -9,7 +9,7 @@ use caf_base::short::Short;
 /// The bounds of an array: of each dimension the lower and the upper one. Their extents are its shape (ISO/IEC
 /// 1539-1:2018, 5.4.6). A dimension whose upper bound is below the lower one has no element. A scalar has no dimension.
 /// Up to 3 dimensions lie in place; the 3 is this project's, the standard has up to 15.
-#[derive(Drop, PartialEq, Debug)]
+#[derive(Drop, Debug)]
 pub struct Shape {
     pub dims: Short<(i64, i64), 3>,
 }

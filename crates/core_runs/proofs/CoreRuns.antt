@@ -16,9 +16,10 @@ use Rattle.trace_theory.specs.Machines.{Said, Walk}
 use Rattle.trace_theory.specs.Simulations.{AllAnswer}
 use Rattle.trace_theory.proofs.Filters.{of_first}
 use Rattle.trace_theory.proofs.Weaving.{trace_of}
-use Rattle.core_runs.specs.Lists.{said, entry, image_of, key_of, stamp_of, list_at, entries_of, history_of}
+use Rattle.core_runs.specs.Lists.{said, entry, image_of, key_of, stamp_of, own_stamp, list_at, entries_of, history_of}
 use Rattle.core_runs.specs.Moments.{Rules, Moment}
 use Rattle.core_runs.specs.Beginnings.{Beginning, IsImage, IsPlace}
+use Rattle.core_runs.specs.Failures.{FailsFrom}
 use Rattle.core_runs.specs.Sequences.{Joins, NothingAfterEnd}
 use Rattle.core_runs.specs.CoreRuns.{at_board, of_memory, said_by, IsDoneAlone, IsLawful, IsCoreRun}
 use Rattle.core_runs.specs.Kept.{IsLane, IsKept}
@@ -59,7 +60,7 @@ item_there (x ∷ xs) (suc k) h = item_there xs k (omega arith)
 
 module _ {C M B : Type 0} (r : Rules C M B) (b : Beginning C M B) (m : Moment C M B) (t : List Entry) (h : IsKept r b m) (trace : IsTraceOf m.events t) where
   all : HasHistories m.events m.board_history m.histories t
-  all = trace_of Entry image_of key_of stamp_of (entries_of m.events) (history_of m.board_history m.histories) h.woven t trace.ordered trace.images
+  all = trace_of Entry image_of key_of stamp_of own_stamp (entries_of m.events) (history_of m.board_history m.histories) h.woven t trace.ordered trace.images
 
   pub said_is : (i : ℕ) → said_by i t ≡ map said (list_at m.events i)
   said_is i = ap (map (λ x. said x.event)) (trace.images i) ∙ said_entries i (list_at m.events i)
@@ -90,10 +91,10 @@ module _ {C M B : Type 0} (r : Rules C M B) (b : Beginning C M B) (m : Moment C 
   ]))
 
   -- what every orderly walk has, and no event at all, each image's events have
-  each_walk : (P : List (Said Ask Reply) → Type 0) → ((i : ℕ) → IsImage b i → (es : List (Said Ask Reply)) (c : C) → AllAnswer Answers es → Walk r.step (b.first i) es c → P es) → P [] → (i : ℕ) → P (said_by i t)
-  each_walk P walk none i = subst P (sym (said_is i)) (elim (lane_or_none i) [
+  each_walk : (P : ℕ → List (Said Ask Reply) → Type 0) → ((i : ℕ) → IsImage b i → (es : List (Said Ask Reply)) (c : C) → AllAnswer Answers es → Walk r.step (b.first i) es c → P i es) → ((i : ℕ) → P i []) → (i : ℕ) → P i (said_by i t)
+  each_walk P walk none i = subst (P i) (sym (said_is i)) (elim (lane_or_none i) [
     | inl (c, in_run, lane) ↦ walk i in_run (map said (list_at m.events i)) lane.walks.0 (all_answer (list_at m.events i) lane.answered) lane.walks.1
-    | inr empty ↦ subst (λ es. P (map said es)) (sym empty) none
+    | inr empty ↦ subst (λ es. P i (map said es)) (sym empty) (none i)
   ])
 
   lawful : IsLawful r b t
@@ -105,8 +106,12 @@ module _ {C M B : Type 0} (r : Rules C M B) (b : Beginning C M B) (m : Moment C 
     memories = λ i in_run. subst (Served (r.memory_ready (b.memory i)) (r.memory_reply (b.memory i)) []) (sym (memory_is i in_run.0)) (h.memories_served i in_run);
     board = subst (Served (r.board_ready b.board) (r.board_reply b.board) []) (sym board_is) h.board_served;
     alone = each_entry IsDoneAlone (λ i c in_run lane. lane.alone);
-    joins = each_walk Joins (λ i in_run. (h.fit.orderly i in_run).joins) tt;
+    joins = each_walk (λ i. Joins) (λ i in_run. (h.fit.orderly i in_run).joins) (λ i. tt);
   }
+
+  -- an image that fails makes the steps of its failure
+  pub fails_is : (i : ℕ) → FailsFrom i (said_by i t) []
+  fails_is = each_walk (λ i es. FailsFrom i es []) (λ i in_run. h.fit.fails i in_run) (λ i. tt)
 
   -- the trace of what is kept is a core run
   pub core_run : IsCoreRun r b t
@@ -116,5 +121,5 @@ module _ {C M B : Type 0} (r : Rules C M B) (b : Beginning C M B) (m : Moment C 
       | inl (c, in_run, lane) ↦ (lane.walks.0, lane.walks.1)
       | inr empty ↦ (b.first i, subst (λ es. Walk r.step (b.first i) (map said es) (b.first i)) (sym empty) refl)
     ]);
-    nothing_after = each_walk NothingAfterEnd (λ i in_run. (h.fit.orderly i in_run).nothing_after) (λ before after e p ends. absurd (not_cons before after e p));
+    nothing_after = each_walk (λ i. NothingAfterEnd) (λ i in_run. (h.fit.orderly i in_run).nothing_after) (λ i before after e p ends. absurd (not_cons before after e p));
   }

@@ -6,20 +6,26 @@ use Rattle.std.proofs.lemmas.List.FromFn.{length-map-range_with_len}
 use Rattle.caf_base.specs.declared.place.Place.{Place}
 use Rattle.caf_base.specs.declared.place.Place.TheVariants as places
 use Rattle.caf_events.specs.declared.reply.Reply.TheVariants as replies
+use Rattle.caf_events.specs.declared.ask.Ask.{Ask}
+use Rattle.caf_events.specs.declared.reply.Reply.{Reply}
 use Rattle.caf_events.specs.declared.event.Event.{Event}
 use Rattle.caf_events.specs.Answers.{Answers}
 use Rattle.caf_events.specs.Asks.{place_of}
 use Rattle.caf_events.specs.Histories.{Served}
 use Rattle.caf_events.proofs.Serving.{served_more}
-use Rattle.trace_theory.specs.Machines.{WalkTo}
-use Rattle.trace_theory.proofs.Snocs.{each_last}
-use Rattle.core_runs.specs.Lists.{said, entry, list_at}
+use Rattle.trace_theory.specs.Entries.{Each}
+use Rattle.trace_theory.specs.Machines.{Said, WalkTo}
+use Rattle.trace_theory.proofs.Snocs.{each_at, each_last}
+use Rattle.core_runs.specs.Lists.{said, entry, list_at, stamp_alone}
 use Rattle.core_runs.specs.Moments.{Rules, Moment, item_at, with_item, ready_there, reply_there, memory_ready_at, memory_reply_at, histories_with, board_with, Steps}
 use Rattle.core_runs.specs.Beginnings.{Beginning, IsImage, IsPlace}
 use Rattle.core_runs.specs.Kept.{IsLane, IsKept}
+use Rattle.core_runs.specs.Sequences.{IsStampLimit}
 use Rattle.core_runs.proofs.Numbered.{item_within, index_same, get_same, get_other, list_other}
 use Rattle.core_runs.proofs.Weaves.{map_append, with_length, histories_length, woven_by}
-use Rattle.core_runs.proofs.Lanes.{own_answers, walk_on, memory_of_run, place_of_run}
+use Rattle.core_runs.proofs.CoreRuns.{all_answer}
+use Rattle.core_runs.proofs.Answered.{answers_there}
+use Rattle.core_runs.proofs.Lanes.{is_image, alone_rises, walk_on, memory_of_run, place_of_run}
 
 list_same : {A : Type 0} (ls : List (List A)) (i : ℕ) (x : List A) → 0 < i → i ≤ length ls → list_at (with_item ls i x) i ≡ x
 list_same ls zero x low high = absurd (omega arith)
@@ -68,20 +74,31 @@ module _ {C M B : Type 0} (r : Rules C M B) (b : Beginning C M B) (m m' : Moment
       (served_more (r.board_ready b.board) (r.board_reply b.board) m.board_history (entry (suc k) e) h.board_served (subst (λ v. IsTrue (r.board_ready v m.board_history (suc k) e.ask)) h.board t) (y ∙ ap (λ v. r.board_reply v m.board_history (suc k) e.ask) h.board))
   board_at places.Own n t y = subst (Served (r.board_ready b.board) (r.board_reply b.board) []) (sym n) h.board_served
 
-  answered_at : (q : Place) → place_of e.ask ≡ q → IsTrue (ready_there r m (suc k) e.ask q) → e.reply ≡ reply_there r m (suc k) e.ask q → Answers e.ask e.reply
-  answered_at (places.Memory owner) p t y = subst (Answers e.ask) (sym (reply owner.0 t y)) (h.fit.memory_answers (b.memory owner.0) (list_at m.histories owner.0) (suc k) e.ask (ready owner.0 t y))
-  answered_at places.Board p t y = subst (Answers e.ask) (sym y) (h.fit.board_answers m.board m.board_history (suc k) e.ask t)
-  answered_at places.Own p t y = subst (Answers e.ask) (sym y) (own_answers e.ask p)
+  answered_now : Each (λ x. Answers x.ask x.reply) (list_at m.events (suc k) ++ e ∷ [])
+  answered_now = each_last (λ x. Answers x.ask x.reply) (list_at m.events (suc k)) e (h.lanes (suc k) s.from s.stands).answered (subst (Answers e.ask) (sym s.due.reply) (answers_there r b m h (suc k) e.ask (place_of e.ask) refl s.due.ready))
+
+  walks_now : WalkTo r.step (b.first (suc k)) (map said (list_at m.events (suc k) ++ e ∷ [])) s.to
+  walks_now =
+      let es = list_at m.events (suc k) in
+      subst (λ l. WalkTo r.step (b.first (suc k)) l s.to) (sym (map_append said es (e ∷ [])))
+      (walk_on r.step (b.first (suc k)) s.from s.to (r.step s.from) (map said es) e refl (h.lanes (suc k) s.from s.stands).walks s.due.asked s.due.line s.goes_on)
+
+  -- the program doesn't ask a limit of stamps, so the step's stamp is above the image's last one by the rule of the others
+  rises : (n : ℕ) → stamp_alone e.ask n ≡ suc n
+  rises n =
+      let in_run = is_image m.configs b.images (suc k) s.from h.count s.stands in
+      let none = (h.fit.orderly (suc k) in_run).no_stamp_limit (map said (list_at m.events (suc k) ++ e ∷ [])) walks_now.0 (all_answer (list_at m.events (suc k) ++ e ∷ []) answered_now) walks_now.1 in
+      alone_rises e.ask n (each_at (λ (x : Said Ask Reply). IsStampLimit x.ask → ⊥) (map said (list_at m.events (suc k))) [] (said e) (subst (Each (λ (x : Said Ask Reply). IsStampLimit x.ask → ⊥)) (map_append said (list_at m.events (suc k)) (e ∷ [])) none))
 
   lane_here : IsLane r b (suc k) (list_at m.events (suc k) ++ e ∷ []) s.to
   lane_here =
       let lane = h.lanes (suc k) s.from s.stands in
       let es = list_at m.events (suc k) in
       record {
-        walks = subst (λ l. WalkTo r.step (b.first (suc k)) l s.to) (sym (map_append said es (e ∷ []))) (walk_on r.step (b.first (suc k)) s.from s.to (r.step s.from) (map said es) e refl lane.walks s.due.asked s.due.line s.goes_on);
+        walks = walks_now;
         rests = s.rests;
         places = each_last (λ x. IsPlace b (place_of x.ask)) es e lane.places (place_of_run r b m h.fit h.memories (suc k) e.ask (place_of e.ask) s.due.ready);
-        answered = each_last (λ x. Answers x.ask x.reply) es e lane.answered (answered_at (place_of e.ask) refl s.due.ready s.due.reply);
+        answered = answered_now;
         alone = each_last (λ x. place_of x.ask ≡ places.Own → x.reply ≡ replies.Done) es e lane.alone (λ p. s.due.reply ∙ ap (reply_there r m (suc k) e.ask) p);
       }
 
@@ -114,7 +131,7 @@ module _ {C M B : Type 0} (r : Rules C M B) (b : Beginning C M B) (m m' : Moment
     history_count = ap length s.histories ∙ histories_length (place_of e.ask) m.histories (entry (suc k) e) ∙ h.history_count;
     memories = s.memories ∙ h.memories;
     board = s.board ∙ h.board;
-    woven = woven_by r m m' (suc k) e (h.event_count ∙ sym h.count) (h.history_count ∙ sym memory_count) s h.woven;
+    woven = woven_by r m m' (suc k) e (h.event_count ∙ sym h.count) (h.history_count ∙ sym memory_count) s rises h.woven;
     memories_served = memories_at (place_of e.ask) s.histories s.due.ready s.due.reply;
     board_served = board_at (place_of e.ask) s.board_history s.due.ready s.due.reply;
     lanes = lanes_now;

@@ -16,7 +16,8 @@ use Rattle.caf_events.specs.Asks.{place_of}
 use Rattle.caf_events.specs.Walkers.{AsksNext, IsAtLine, Continues}
 use Rattle.trace_theory.specs.Machines.{Move, goes, asks, over, Said, WalkTo}
 use Rattle.trace_theory.proofs.Machines.{walk_to_more}
-use Rattle.core_runs.specs.Lists.{said}
+use Rattle.core_runs.specs.Lists.{said, stamp_alone}
+use Rattle.core_runs.specs.Sequences.{IsStampLimit}
 use Rattle.core_runs.specs.Moments.{Rules, Moment, item_at, ready_there, memory_ready_at}
 use Rattle.core_runs.specs.Beginnings.{Beginning, IsImage, IsPlace, numbers_to}
 use Rattle.core_runs.specs.CoreRuns.{IsFit}
@@ -64,6 +65,11 @@ own_answers (forms.LimitStatements number) h = tt
 own_answers (forms.LimitWords number) h = tt
 own_answers (forms.LimitStamp number) h = tt
 own_answers a h = absurd (cc)
+
+-- the stamp of an image's own step rises by one, but that of a limit of stamps
+pub alone_rises : (a : Ask) (n : ℕ) → (IsStampLimit a → ⊥) → stamp_alone a n ≡ suc n
+alone_rises (forms.LimitStamp number) n h = absurd (h tt)
+alone_rises a n h = refl
 
 -- a walk of which the image stands at the ask goes on by the event
 pub walk_on : {C : Type 0} (step : C → Move C Ask Reply) (first from to : C) (move : Move C Ask Reply) (es : List (Said Ask Reply)) (e : Event) → step from ≡ move → WalkTo step first es from

@@ -2,9 +2,12 @@ pub mod Numbered
 pub mod Weaves
 pub mod Beginnings
 pub mod Lanes
-pub mod KeptMore
 pub mod CoreRuns
+pub mod Answered
+pub mod KeptMore
+pub mod Elsewhere
 pub mod Waits
 pub mod OrderTraces
 pub mod Fronts
 pub mod Unique
+pub mod Lawfuls

@@ -10,9 +10,9 @@ use Rattle.caf_events.specs.declared.event.Entry.{Entry}
 use Rattle.caf_events.specs.Asks.{place_of, object_of}
 use Rattle.caf_events.specs.Histories.{last_stamp_of, last_stamp_from}
 use Rattle.trace_theory.specs.Entries.{last_or}
-use Rattle.trace_theory.specs.Runs.{Adds, place_last}
+use Rattle.trace_theory.specs.Runs.{Adds, due, place_last}
 use Rattle.trace_theory.proofs.More.{woven_more}
-use Rattle.core_runs.specs.Lists.{image_of, key_of, stamp_of, entry, list_at, entries_of, history_of, last_of, IsWoven}
+use Rattle.core_runs.specs.Lists.{image_of, key_of, stamp_of, stamp_alone, own_stamp, entry, list_at, entries_of, history_of, last_of, IsWoven}
 use Rattle.core_runs.specs.Moments.{Rules, Moment, item_at, with_item, ready_there, memory_ready_at, history_there, histories_with, board_with, Steps}
 use Rattle.core_runs.proofs.Numbered.{item_within, index_same, index_other, list_other}
 
@@ -46,7 +46,12 @@ pub data Where (n : ℕ) : Place → Type 0 where
   board : Where n places.Board
   memory : (owner : ImageNo) (j : ℕ) → owner.0 ≡ suc j → j < n → Where n (places.Memory owner)
 
-module _ {C M B : Type 0} (r : Rules C M B) (m m' : Moment C M B) (k : ℕ) (e : Event) (as_many : length m.events ≡ length m.configs) (as_many_histories : length m.histories ≡ length m.memories) (s : Steps r m (suc k) e m') where
+-- at an object and at an image's own place alike the stamp that is due to a step is one more than the greater of the last ones, unless it is a limit of stamps
+due_is : (o mine there : ℕ) (x : Entry) → ((n : ℕ) → own_stamp x n ≡ suc n) → (o ≡ 0 → there ≡ 0) → due own_stamp o x mine there ≡ suc (max mine there)
+due_is zero mine there x rises none = let z = none refl in rises mine ∙ omega arith
+due_is (suc o) mine there x rises none = refl
+
+module _ {C M B : Type 0} (r : Rules C M B) (m m' : Moment C M B) (k : ℕ) (e : Event) (as_many : length m.events ≡ length m.configs) (as_many_histories : length m.histories ≡ length m.memories) (s : Steps r m (suc k) e m') (rises : (n : ℕ) → stamp_alone e.ask n ≡ suc n) where
   found : (q : Place) → IsTrue (ready_there r m (suc k) e.ask q) → Where (length m.histories) q
   found (places.Memory owner) t =
       let w = ready_item r (list_at m.histories owner.0) (suc k) e.ask m.memories owner.0 (item_at m.memories owner.0) refl t in
@@ -109,25 +114,39 @@ module _ {C M B : Type 0} (r : Rules C M B) (m m' : Moment C M B) (k : ℕ) (e :
   now_is : (o : ℕ) → history_of m'.board_history m'.histories (suc o) ≡ history_of (board_with (place_of e.ask) m.board_history (entry (suc k) e)) (histories_with (place_of e.ask) m.histories (entry (suc k) e)) (suc o)
   now_is o = ap (λ b. history_of b m'.histories (suc o)) s.board_history ∙ ap (λ hs. history_of (board_with (place_of e.ask) m.board_history (entry (suc k) e)) hs (suc o)) s.histories
 
-  stamped : e.stamp ≡ suc (max (last_or stamp_of 0 (entries_of m.events (suc k))) (place_last stamp_of (object_of (place_of e.ask)) (history_of m.board_history m.histories (object_of (place_of e.ask)))))
-  stamped =
+  greater : e.stamp ≡ suc (max (last_or stamp_of 0 (entries_of m.events (suc k))) (place_last stamp_of (object_of (place_of e.ask)) (history_of m.board_history m.histories (object_of (place_of e.ask)))))
+  greater =
       let t = s.due.stamp in
       let a = last_or_map (suc k) 0 (list_at m.events (suc k)) in
       let b = history_is (place_of e.ask) place in
       let c : e.stamp ≡ suc (max (last_of (list_at m.events (suc k))) (last_stamp_of (history_there m (place_of e.ask)))) = omega arith in
       c ∙ ap (λ n. suc (max n (last_stamp_of (history_there m (place_of e.ask))))) (sym a) ∙ ap (λ n. suc (max (last_or stamp_of 0 (entries_of m.events (suc k))) n)) b
 
-  adds : Adds image_of key_of stamp_of (entries_of m.events) (history_of m.board_history m.histories) (entries_of m'.events) (history_of m'.board_history m'.histories) (entry (suc k) e)
+  abbrev key : ℕ
+  key = object_of (place_of e.ask)
+
+  abbrev mine : ℕ
+  mine = last_or stamp_of 0 (entries_of m.events (suc k))
+
+  abbrev there : ℕ
+  there = place_last stamp_of key (history_of m.board_history m.histories key)
+
+  at_own : (o : ℕ) → o ≡ 0 → place_last stamp_of o (history_of m.board_history m.histories o) ≡ 0
+  at_own zero z = refl
+  at_own (suc o) z = absurd (omega arith)
+
+  adds : Adds image_of key_of stamp_of own_stamp (entries_of m.events) (history_of m.board_history m.histories) (entries_of m'.events) (history_of m'.board_history m'.histories) (entry (suc k) e)
   adds = record {
     image_more = events_here;
     image_same = events_there;
     object_more = λ o p. now_is o ∙ histories_here (place_of e.ask) place o p;
     object_same = λ o n. now_is o ∙ histories_there (place_of e.ask) place o n;
-    stamped = stamped;
+    stamped = greater ∙ sym (due_is key mine there (entry (suc k) e) rises (at_own key));
+    above = let g = greater in omega arith;
   }
 
   pub woven_step : IsWoven m.events m.board_history m.histories → IsWoven m'.events m'.board_history m'.histories
-  woven_step w = woven_more Entry image_of key_of stamp_of (entries_of m.events) (history_of m.board_history m.histories) (entries_of m'.events) (history_of m'.board_history m'.histories) (entry (suc k) e) w adds
+  woven_step w = woven_more Entry image_of key_of stamp_of own_stamp (entries_of m.events) (history_of m.board_history m.histories) (entries_of m'.events) (history_of m'.board_history m'.histories) (entry (suc k) e) w adds
 
 -- the count of items stays
 pub with_length : {A : Type 0} (xs : List A) (n : ℕ) (x : A) → length (with_item xs n x) ≡ length xs
@@ -139,7 +158,7 @@ histories_length (places.Memory owner) hs x = with_length hs owner.0 (list_at hs
 histories_length places.Board hs x = refl
 histories_length places.Own hs x = refl
 
--- a step keeps the lists those of one run, whatever its image's number
-pub woven_by : {C M B : Type 0} (r : Rules C M B) (m m' : Moment C M B) (n : ℕ) (e : Event) → length m.events ≡ length m.configs → length m.histories ≡ length m.memories → Steps r m n e m' → IsWoven m.events m.board_history m.histories → IsWoven m'.events m'.board_history m'.histories
-woven_by r m m' zero e as_many as_many_histories s w = absurd (let h = s.stands in cc)
-woven_by r m m' (suc k) e as_many as_many_histories s w = woven_step r m m' k e as_many as_many_histories s w
+-- a step that is no limit of stamps keeps the lists those of one run, whatever its image's number
+pub woven_by : {C M B : Type 0} (r : Rules C M B) (m m' : Moment C M B) (n : ℕ) (e : Event) → length m.events ≡ length m.configs → length m.histories ≡ length m.memories → Steps r m n e m' → ((k : ℕ) → stamp_alone e.ask k ≡ suc k) → IsWoven m.events m.board_history m.histories → IsWoven m'.events m'.board_history m'.histories
+woven_by r m m' zero e as_many as_many_histories s rises w = absurd (let h = s.stands in cc)
+woven_by r m m' (suc k) e as_many as_many_histories s rises w = woven_step r m m' k e as_many as_many_histories s rises w

@@ -17,15 +17,23 @@ pub record Beginning (C M B : Type 0) : Type 0 where
 abbrev pub numbers_to : ℕ → List ℕ
 numbers_to n = range_with_len 1 n
 
+-- the image of this number is one of a run of n images
+abbrev pub IsOneOf : ℕ → ℕ → Type 0
+IsOneOf n i = (0 < i) × (i ≤ n)
+
+-- the place is one of a run of n images: an image itself, the board, or the memory of one of the images
+abbrev pub IsThere : ℕ → Place → Type 0
+IsThere n (Memory owner) = IsOneOf n owner.0
+IsThere n Board = Unit {0}
+IsThere n Own = Unit {0}
+
 -- the image of this number is one of the run
 abbrev pub IsImage : {C M B : Type 0} → Beginning C M B → ℕ → Type 0
-IsImage b i = (0 < i) × (i ≤ b.images)
+IsImage b i = IsOneOf b.images i
 
--- the place is one of the run: an image itself, the board, or the memory of one of its images
+-- the place is one of the run
 abbrev pub IsPlace : {C M B : Type 0} → Beginning C M B → Place → Type 0
-IsPlace b (Memory owner) = IsImage b owner.0
-IsPlace b Board = Unit {0}
-IsPlace b Own = Unit {0}
+IsPlace b place = IsThere b.images place
 
 -- the moment before the first step: each image has come to its first ask or its end, and there is no event
 pub record IsFirst {C M B : Type 0} (r : Rules C M B) (b : Beginning C M B) (m : Moment C M B) : Type 0 where

@@ -11,10 +11,12 @@ use Rattle.caf_events.specs.Histories.{Served}
 use Rattle.trace_theory.specs.Entries.{of, Each, IsTraceOrder}
 use Rattle.trace_theory.specs.Machines.{Said, Walk}
 use Rattle.trace_theory.specs.Runs.{IsStamped}
-use Rattle.core_runs.specs.Lists.{image_of, key_of, stamp_of, said}
+use Rattle.trace_theory.specs.Simulations.{AllAnswer}
+use Rattle.core_runs.specs.Lists.{image_of, key_of, stamp_of, own_stamp, said}
 use Rattle.core_runs.specs.Moments.{Rules}
 use Rattle.core_runs.specs.Beginnings.{Beginning, IsImage, IsPlace}
-use Rattle.core_runs.specs.Sequences.{Joins, NothingAfterEnd, IsOrderly}
+use Rattle.core_runs.specs.Failures.{FailsFrom}
+use Rattle.core_runs.specs.Sequences.{Joins, NothingAfterEnd, IsOrderly, HearsAnswers}
 
 -- the trace's entries of image i
 abbrev pub of_image : ℕ → List Entry → List Entry
@@ -36,11 +38,11 @@ said_by i t = map (λ x. said x.event) (of_image i t)
 abbrev pub IsDoneAlone : Entry → Type 0
 IsDoneAlone x = place_of x.event.ask ≡ Own → x.event.reply ≡ replies.Done
 
--- a lawful trace: by stamp, then image, each stamp one more than those before it at its image and its object; of this run's images and objects;
+-- a lawful trace: by stamp, then image, each stamp the one that is due after those before it at its image and its object; of this run's images and objects;
 -- each ask was ready where it stands and has the reply that is due there; each arrival has its departure
 pub record IsLawful {C M B : Type 0} (r : Rules C M B) (b : Beginning C M B) (t : List Entry) : Type 0 where
   pub ordered : IsTraceOrder image_of stamp_of t
-  pub stamped : IsStamped image_of key_of stamp_of t
+  pub stamped : IsStamped image_of key_of stamp_of own_stamp t
   pub images : Each (λ x. IsImage b (image_of x)) t
   pub places : Each (λ x. IsPlace b (place_of x.event.ask)) t
   pub memories : (i : ℕ) → IsImage b i → Served (r.memory_ready (b.memory i)) (r.memory_reply (b.memory i)) [] (of_memory i t)
@@ -54,8 +56,11 @@ pub record IsCoreRun {C M B : Type 0} (r : Rules C M B) (b : Beginning C M B) (t
   pub walks : (i : ℕ) → IsImage b i → (c : C) × Walk r.step (b.first i) (said_by i t) c
   pub nothing_after : (i : ℕ) → NothingAfterEnd (said_by i t)
 
--- what the rules and the programs of a run must be for its traces to be core runs: replies answer their asks, and walks are orderly
+-- what the rules and the programs of a run must be for its traces to be core runs: replies answer their asks, walks are orderly, an image that fails makes
+-- the steps of its failure, and each image can go on with each reply that answers
 pub record IsFit {C M B : Type 0} (r : Rules C M B) (b : Beginning C M B) : Type 0 where
-  pub memory_answers : (made : M) (h : List Entry) (i : ℕ) (a : Ask) → IsTrue (r.memory_ready made h i a) → Answers a (r.memory_reply made h i a)
-  pub board_answers : (made : B) (h : List Entry) (i : ℕ) (a : Ask) → IsTrue (r.board_ready made h i a) → Answers a (r.board_reply made h i a)
+  pub memory_answers : (made : M) (h : List Entry) (i : ℕ) (a : Ask) → Served (r.memory_ready made) (r.memory_reply made) [] h → IsTrue (r.memory_ready made h i a) → Answers a (r.memory_reply made h i a)
+  pub board_answers : (made : B) (h : List Entry) (i : ℕ) (a : Ask) → Served (r.board_ready made) (r.board_reply made) [] h → IsTrue (r.board_ready made h i a) → Answers a (r.board_reply made h i a)
   pub orderly : (i : ℕ) → IsImage b i → IsOrderly r.step (b.first i)
+  pub fails : (i : ℕ) → IsImage b i → (es : List (Said Ask Reply)) (c : C) → AllAnswer Answers es → Walk r.step (b.first i) es c → FailsFrom i es []
+  pub hears : (i : ℕ) → IsImage b i → HearsAnswers r.step r.hears (b.first i)

@@ -1,6 +1,8 @@
 pub mod Beginnings
 pub mod CoreRuns
+pub mod Failures
 pub mod Kept
+pub mod Lawful
 pub mod Lists
 pub mod Moments
 pub mod Orders

@@ -1,6 +1,7 @@
 -- The lists of a run as numbered lists of entries: each image's events and each object's history.
 use Rattle.std.specs.Prelude.{ℕ, zero, suc, List, [], map, slice_index_or}
 use Rattle.caf_events.specs.declared.ask.Ask.{Ask}
+use Rattle.caf_events.specs.declared.ask.Ask.TheVariants as asks
 use Rattle.caf_events.specs.declared.reply.Reply.{Reply}
 use Rattle.caf_events.specs.declared.event.Event.{Event}
 use Rattle.caf_events.specs.declared.event.Entry.{Entry}
@@ -20,6 +21,16 @@ key_of e = object_of (place_of e.event.ask)
 -- the stamp of an entry
 abbrev pub stamp_of : Entry → ℕ
 stamp_of e = e.event.stamp
+
+-- the stamp of an image's own step after the image's last one: one more; but a limit of stamps has one more than the stamp that it names, which may be the
+-- last one of an object
+abbrev pub stamp_alone : Ask → ℕ → ℕ
+stamp_alone (asks.LimitStamp number) mine = suc number
+stamp_alone ask mine = suc mine
+
+-- the same of an entry
+abbrev pub own_stamp : Entry → ℕ → ℕ
+own_stamp e mine = stamp_alone e.event.ask mine
 
 -- an image's event as an entry
 abbrev pub entry : ℕ → Event → Entry
@@ -50,4 +61,4 @@ last_of es = last_or (λ e. e.stamp) 0 es
 
 -- the images' events and the objects' histories are those of one run
 abbrev pub IsWoven : List (List Event) → List Entry → List (List Entry) → Type 0
-IsWoven ls board hs = Woven image_of key_of stamp_of (entries_of ls) (history_of board hs)
+IsWoven ls board hs = Woven image_of key_of stamp_of own_stamp (entries_of ls) (history_of board hs)

@@ -15,9 +15,10 @@ use Rattle.caf_events.specs.Walkers.{IsOver, AsksNext, IsAtLine, Continues}
 use Rattle.trace_theory.specs.Machines.{Move, asks, goes, over, Rests}
 use Rattle.core_runs.specs.Lists.{list_at, entry, last_of}
 
--- how the images go on, and how the memories and the board serve them
-pub record Rules (C M B : Type 0) : Type 0 where
+-- how the images go on and with which replies they can, and how the memories and the board serve them
+pub record Rules (C M B : Type 0) : Type 1 where
   pub step : C → Move C Ask Reply
+  pub hears : C → Reply → Type 0
   pub memory_ready : M → List Entry → ℕ → Ask → Bool
   pub memory_reply : M → List Entry → ℕ → Ask → Reply
   pub board_ready : B → List Entry → ℕ → Ask → Bool
@@ -27,6 +28,7 @@ pub record Rules (C M B : Type 0) : Type 0 where
 abbrev pub rules : {M O B : Type 0} (walks : walker.Ghosts M) (memory : object.Ghosts O) (control : object.Ghosts B) → Rules walks.Config memory.Made control.Made
 rules walks memory control = record {
   step = walks.step;
+  hears = walks.hears;
   memory_ready = memory.ready_after;
   memory_reply = memory.reply_after;
   board_ready = control.ready_after;

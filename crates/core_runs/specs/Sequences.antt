@@ -1,5 +1,6 @@
 -- The order of the asks of one image: an arrival and its departure (ISO/IEC 1539-1:2018, 11.6.3, 11.6.4, 11.6.9), and the end (5.3.6, 5.3.7).
 use Rattle.std.specs.Prelude.{◌≡◌, ◌⊎◌, List, [], ◌∷◌, ◌++◌, Option, Some, None}
+use Rattle.trace_theory.specs.Entries.{Each}
 use Rattle.trace_theory.specs.Machines.{Move, Said, Walk, WalkTo}
 use Rattle.trace_theory.specs.Simulations.{AllAnswer}
 use Rattle.caf_events.specs.declared.ask.Ask.{Ask}
@@ -8,7 +9,7 @@ use Rattle.caf_events.specs.declared.reply.Reply.{Reply}
 use Rattle.caf_events.specs.declared.reply.Reply.TheVariants as replies
 use Rattle.caf_events.specs.Answers.{Answers}
 use Rattle.caf_events.specs.Events.{EndsImage}
-use Rattle.caf_events.specs.Walkers.{IsOver}
+use Rattle.caf_events.specs.Walkers.{IsOver, AsksNext}
 
 -- the departure that is asked next after an arrival: from the round that it joined, or from the images of its SYNC IMAGES
 abbrev pub departure_after : Ask → Reply → Option Ask
@@ -32,6 +33,11 @@ CutsShort (asks.LimitWords number) = Unit {0}
 CutsShort (asks.LimitStamp number) = Unit {0}
 CutsShort ask = ⊥
 
+-- the ask is a limit of stamps
+abbrev pub IsStampLimit : Ask → Type 0
+IsStampLimit (asks.LimitStamp number) = Unit {0}
+IsStampLimit ask = ⊥
+
 -- after an arrival its departure is asked or the image is cut short, and no departure is asked elsewhere
 abbrev pub FollowsOn : Option Ask → Ask → Type 0
 FollowsOn None ask = IsDeparture ask → ⊥
@@ -53,8 +59,14 @@ NothingAfterEnd es = (before after : List (Said Ask Reply)) (e : Said Ask Reply)
 abbrev pub HasEndedBy : List (Said Ask Reply) → Type 0
 HasEndedBy es = (before : List (Said Ask Reply)) × (e : Said Ask Reply) × (es ≡ before ++ e ∷ []) × EndsImage e.ask e.reply
 
--- what every walk from here on has in common, whatever the replies are that answer its asks
+-- wherever a walk from here on comes to an ask, by replies that answered, the machine can go on with each reply that answers it
+abbrev pub HearsAnswers : {C : Type 0} → (C → Move C Ask Reply) → (C → Reply → Type 0) → C → Type 0
+HearsAnswers {C} step hears first =
+    (es : List (Said Ask Reply)) (c : C) → AllAnswer Answers es → WalkTo step first es c → (a : Ask) (q : Reply) → AsksNext (step c) a → Answers a q → hears c q
+
+-- what every walk from here on has in common, whatever the replies are that answer its asks; a limit of stamps isn't a program's own to ask
 pub record IsOrderly {C : Type 0} (step : C → Move C Ask Reply) (first : C) : Type 0 where
   pub joins : (es : List (Said Ask Reply)) (c : C) → AllAnswer Answers es → Walk step first es c → Joins es
   pub nothing_after : (es : List (Said Ask Reply)) (c : C) → AllAnswer Answers es → Walk step first es c → NothingAfterEnd es
+  pub no_stamp_limit : (es : List (Said Ask Reply)) (c : C) → AllAnswer Answers es → Walk step first es c → Each (λ e. IsStampLimit e.ask → ⊥) es
   pub over : (es : List (Said Ask Reply)) (c : C) → AllAnswer Answers es → WalkTo step first es c → IsOver (step c) → HasEndedBy es

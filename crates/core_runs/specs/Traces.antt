@@ -4,7 +4,7 @@ use Rattle.caf_events.specs.declared.event.Event.{Event}
 use Rattle.caf_events.specs.declared.event.Entry.{Entry}
 use Rattle.trace_theory.specs.Entries.{of, Rises, IsTraceOrder}
 use Rattle.trace_theory.specs.Runs.{TraceOf}
-use Rattle.core_runs.specs.Lists.{image_of, key_of, stamp_of, entries_of, history_of}
+use Rattle.core_runs.specs.Lists.{image_of, key_of, stamp_of, own_stamp, entries_of, history_of}
 
 -- each image's events have rising stamps
 abbrev pub EachRises : List (List Event) → Type 0
@@ -17,4 +17,4 @@ pub record IsTraceOf (ls : List (List Event)) (t : List Entry) : Type 0 where
 
 -- the entries have each object's history too, and the stamps of a trace
 abbrev pub HasHistories : List (List Event) → List Entry → List (List Entry) → List Entry → Type 0
-HasHistories ls board hs t = TraceOf image_of key_of stamp_of (entries_of ls) (history_of board hs) t
+HasHistories ls board hs t = TraceOf image_of key_of stamp_of own_stamp (entries_of ls) (history_of board hs) t

@@ -1,11 +1,13 @@
 //! The laws of fronts and of the order of a run.
 
-ghost use Rattle.std.specs.Prelude.{◌≡◌, ◌++◌, List};
+ghost use Rattle.std.specs.Prelude.{◌≡◌, ◌++◌, ℕ, List};
 ghost use Rattle.caf_events.specs.declared.event.Entry.{Entry};
+ghost use Rattle.object_rules.specs.Cells.{Declared};
 ghost use Rattle.trace_theory.specs.Machines.{OneNextAsk};
 ghost use Rattle.core_runs.specs.Moments.{rules};
 ghost use Rattle.core_runs.specs.Beginnings.{Beginning};
 ghost use Rattle.core_runs.specs.CoreRuns.{IsCoreRun, IsFit};
+ghost use Rattle.core_runs.specs.Lawful.{IsLawfulTrace};
 ghost use Rattle.core_runs.specs.Orders.{Chooser, IsOrderTrace};
 
 use caf_events::object::Object;
@@ -28,6 +30,11 @@ pub fn law_front<M: Walker, O: Object, B: Object>()
     ensures { (b : Beginning M.Config O.Made B.Made) (front rest : List Entry)
         → IsCoreRun (rules M.Walker O.Object B.Object) b (front ++ rest)
         → IsCoreRun (rules M.Walker O.Object B.Object) b front }
+{}
+
+/// Every front of a lawful trace is lawful.
+pub fn law_lawful_front()
+    ensures { (coarrays : List Declared) (n : ℕ) (front rest : List Entry) → IsLawfulTrace coarrays n (front ++ rest) → IsLawfulTrace coarrays n front }
 {}
 
 /// There is one trace of an ordered run: the beginning and the choices tell it.

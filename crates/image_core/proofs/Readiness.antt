@@ -22,7 +22,7 @@ use Rattle.image_core.specs.declared.prepared.Prepared.{Prepared}
 use Rattle.image_core.specs.declared.prepared.Prepared.TheVariants as prepareds
 use Rattle.core_runs.specs.Lists.{list_at}
 use Rattle.core_runs.specs.Moments.{Rules, Moment, item_at, ready_there, memory_ready_at, can_move, can_move_from, can_step, HasEnded, HasEndedFrom}
-use Rattle.image_core.specs.Prepared.{move_of, AsksAt, IsServedNext}
+use Rattle.image_core.specs.Prepared.{move_of, HasRoom, AsksAt, IsServedNext}
 use Rattle.core_runs.specs.Moments.{rules}
 use Rattle.image_core.specs.Parts.{moment, event_lists, IsPreparedRun, IsSetAside, IsServedThere}
 use Rattle.image_core.proofs.Slices.{map_index, map_get, map_length, map_same, index_set}
@@ -141,13 +141,13 @@ module _ {M O B : Type 0} (walks : walker.Ghosts M) (memory : object.Ghosts O) (
   served_aside : (p' : PartsOf M O B) (mv : Move walks.Config Ask Reply) (i : ℕ) → AsksAt places.Board mv → (pr : Prepared) → IsServedNext control mv i p'.board pr
       → IsSetAside walks memory control p' i mv pr
   served_aside p' mv i h prepareds.Nothing s = absurd s
-  served_aside p' mv i h (prepareds.Own ask) s = absurd s
+  served_aside p' mv i h (prepareds.Own told) s = absurd s
   served_aside p' mv i h (prepareds.Served ask spare) s =
       (s.0, subst (IsServedThere walks memory control p' i ask spare) (sym (asked_at places.Board mv ask h s.0)) s.1)
 
   -- the board set the step aside
-  pub board_aside : (p' : PartsOf M O B) (r1 r' : ImageRun M) → p'.images.items ≡ slice_set p.images.items k r' → r1.image.0 ≡ suc k → walks.config r1.machine ≡ walks.config r.machine → walks.config r'.machine ≡ walks.config r1.machine
-      → vec_len r1.events < vec_capacity r1.events → r'.events ≡ r1.events → AsksAt places.Board (move_of walks r)
+  pub board_aside : (p' : PartsOf M O B) (r1 r' : ImageRun M) → p'.images.items ≡ slice_set p.images.items k r' → r1.image.0 ≡ suc k → walks.config r1.machine ≡ walks.config r.machine → r'.machine ≡ r1.machine
+      → HasRoom walks r1 → r'.events ≡ r1.events → AsksAt places.Board (move_of walks r)
       → IsServedNext control (move_of walks r1) r1.image.0 p'.board r'.prepared
       → (x : ImageRun M) → x ≡ slice_index_or p'.images.items k x → IsPreparedRun walks memory control p' k x
   board_aside p' r1 r' s e c1 c room es h v x q =
@@ -155,8 +155,11 @@ module _ {M O B : Type 0} (walks : walker.Ghosts M) (memory : object.Ghosts O) (
       let n = subst (λ i. IsServedNext control (move_of walks r1) i p'.board r'.prepared) e v in
       let h1 = subst (λ d. AsksAt places.Board (walks.step d)) (sym c1) h in
       subst (IsPreparedRun walks memory control p' k) (sym w) (record {
-        room = subst (λ (t : Vec Event Global). vec_len t < vec_capacity t) (sym es) room;
-        next = subst (λ d. IsSetAside walks memory control p' (suc k) (walks.step d) r'.prepared) (sym c) (served_aside p' (move_of walks r1) (suc k) h1 r'.prepared n);
+        room = record {
+          events = subst (λ (t : Vec Event Global). vec_len t < vec_capacity t) (sym es) room.events;
+          machine = subst walks.has_room (sym c) room.machine;
+        };
+        next = subst (λ d. IsSetAside walks memory control p' (suc k) (walks.step (walks.config d)) r'.prepared) (sym c) (served_aside p' (move_of walks r1) (suc k) h1 r'.prepared n);
       })
 
 -- a fact of an Ok that follows from another

@@ -13,7 +13,8 @@ use Rattle.caf_events.specs.declared.event.Entry.{Entry}
 use Rattle.caf_events.specs.Asks.{place_of}
 use Rattle.caf_events.specs.Histories.{last_stamp_of}
 use Rattle.caf_events.specs.Walkers.{IsAtAsk, AsksNext, IsAtLine, Continues}
-use Rattle.trace_theory.specs.Machines.{Move, asks, goes, over, Rests}
+use Rattle.caf_events.proofs.Walking.{at_ask, same_ask}
+use Rattle.trace_theory.specs.Machines.{Move, Rests}
 use Rattle.image_core.specs.declared.run.ImageRun.{ImageRun}
 use Rattle.image_core.specs.declared.parts.PartsOf.{PartsOf}
 use Rattle.core_runs.specs.Lists.{list_at, entry, last_of}
@@ -25,52 +26,41 @@ use Rattle.core_runs.specs.Moments.{rules}
 use Rattle.image_core.specs.Parts.{moment, event_lists, IsSetAside, IsServedThere}
 use Rattle.image_core.proofs.Slices.{map_set, map_index, map_get, map_same}
 
--- two names of the next ask are one
-pub same_ask : {C : Type 0} (m : Move C Ask Reply) (a b : Ask) → AsksNext m a → AsksNext m b → a ≡ b
-same_ask (goes c) a b h k = absurd h
-same_ask (asks x l n) a b h k = h ∙ sym k
-same_ask over a b h k = absurd h
-
-pub at_ask : {C : Type 0} (m : Move C Ask Reply) (a : Ask) → AsksNext m a → IsAtAsk m
-at_ask (goes c) a h = absurd h
-at_ask (asks x l n) a h = tt
-at_ask over a h = absurd h
-
 module _ {M O B : Type 0} (walks : walker.Ghosts M) (memory : object.Ghosts O) (control : object.Ghosts B)
     (p : PartsOf M O B) (i : ℕ) (move : Move walks.Config Ask Reply) where
   -- the next ask is made where the step is set aside
   pub aside_place : (pr : Prepared) (a : Ask) → IsSetAside walks memory control p i move pr → AsksNext move a → place_of a ≡ place_aside pr
   aside_place prepareds.Nothing a h k = absurd h
-  aside_place (prepareds.Own ask) a h k = ap place_of (same_ask move a ask k h.0) ∙ h.1
+  aside_place (prepareds.Own told) a h k = ap place_of (same_ask move a told.ask k h.0) ∙ h.1
   aside_place (prepareds.Served ask spare) a h k = ap place_of (same_ask move a ask k h.0)
 
   pub aside_at_ask : (pr : Prepared) → IsSetAside walks memory control p i move pr → IsAtAsk move
   aside_at_ask prepareds.Nothing h = absurd h
-  aside_at_ask (prepareds.Own ask) h = at_ask move ask h.0
+  aside_at_ask (prepareds.Own told) h = at_ask move told.ask h.0
   aside_at_ask (prepareds.Served ask spare) h = at_ask move ask h.0
 
   -- a step that is set aside by the image itself
   pub aside_own : (pr : Prepared) → IsSetAside walks memory control p i move pr → place_aside pr ≡ places.Own → IsOwnNext move pr
   aside_own prepareds.Nothing h e = absurd h
-  aside_own (prepareds.Own ask) h e = h
+  aside_own (prepareds.Own told) h e = h
   aside_own (prepareds.Served ask spare) h e = absurd (subst (IsServedThere walks memory control p i ask spare) e h.1)
 
   -- by the board
   pub aside_board : (pr : Prepared) → IsSetAside walks memory control p i move pr → place_aside pr ≡ places.Board → IsServedNext control move i p.board pr
   aside_board prepareds.Nothing h e = absurd h
-  aside_board (prepareds.Own ask) h e = absurd (cc)
+  aside_board (prepareds.Own told) h e = absurd (cc)
   aside_board (prepareds.Served ask spare) h e = (h.0, subst (IsServedThere walks memory control p i ask spare) e h.1)
 
   -- by a memory, which the run has
   pub aside_within : (pr : Prepared) (owner : ImageNo) → IsSetAside walks memory control p i move pr → place_aside pr ≡ places.Memory owner → (0 < owner.0) × (owner.0 ≤ length p.memories.items)
   aside_within prepareds.Nothing owner h e = absurd h
-  aside_within (prepareds.Own ask) owner h e = absurd (cc)
+  aside_within (prepareds.Own told) owner h e = absurd (cc)
   aside_within (prepareds.Served ask spare) owner h e =
       let t = subst (IsServedThere walks memory control p i ask spare) e h.1 in (t.0, t.1)
 
   pub aside_memory : (pr : Prepared) (owner : ImageNo) (o : O) → IsSetAside walks memory control p i move pr → place_aside pr ≡ places.Memory owner → o ≡ slice_index_or p.memories.items (owner.0 - 1) o → IsServedNext memory move i o pr
   aside_memory prepareds.Nothing owner o h e m = absurd h
-  aside_memory (prepareds.Own ask) owner o h e m = absurd (cc)
+  aside_memory (prepareds.Own told) owner o h e m = absurd (cc)
   aside_memory (prepareds.Served ask spare) owner o h e m =
       (h.0, (subst (IsServedThere walks memory control p i ask spare) e h.1).2 o m)
 

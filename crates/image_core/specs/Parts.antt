@@ -1,11 +1,12 @@
 -- What the parts of a run mean.
-use Rattle.std.specs.Prelude.{ℕ, suc, ◌≡◌, ◌<◌, ◌≤◌, ◌+◌, ◌-◌, ◌^◌, true, false, List, [], ◌∷◌, map, length, slice_index_or, vec_len, vec_capacity, Some}
+use Rattle.std.specs.Prelude.{ℕ, suc, ◌≡◌, ◌<◌, ◌≤◌, ◌+◌, ◌-◌, ◌^◌, true, false, List, [], ◌∷◌, map, length, slice_index_or, Some}
 use Rattle.caf_base.specs.declared.place.Place.{Place}
 use Rattle.caf_base.specs.declared.place.Place.TheVariants.{Memory, Board, Own}
 use Rattle.caf_events.specs.declared.object.Object as object
 use Rattle.caf_events.specs.declared.walker.Walker as walker
 use Rattle.caf_events.specs.declared.ask.Ask.{Ask}
 use Rattle.caf_events.specs.declared.reply.Reply.{Reply}
+use Rattle.caf_events.specs.declared.reply.Reply.TheVariants as replies
 use Rattle.caf_events.specs.declared.event.Event.{Event}
 use Rattle.caf_events.specs.declared.object.Spare.{Spare}
 use Rattle.caf_events.specs.Asks.{place_of}
@@ -19,8 +20,10 @@ use Rattle.image_core.specs.declared.parts.Ready.TheVariants as answers
 use Rattle.image_core.specs.declared.prepared.Prepared.{Prepared}
 use Rattle.image_core.specs.declared.prepared.Prepared.TheVariants as prepareds
 use Rattle.core_runs.specs.Lists.{list_at, last_of}
-use Rattle.core_runs.specs.Moments.{Rules, Moment, can_step, HasEnded, item_at, with_item}
-use Rattle.image_core.specs.Prepared.{IsServed, move_of}
+use Rattle.core_runs.specs.Moments.{Rules, Moment, rules, can_step, HasEnded, item_at, with_item}
+use Rattle.core_runs.specs.Beginnings.{Beginning}
+use Rattle.core_runs.specs.Kept.{IsKept}
+use Rattle.image_core.specs.Prepared.{HasRoom, IsServed, move_of, place_aside}
 
 -- the events of each image
 abbrev pub event_lists : {M : Type 0} → List (ImageRun M) → List (List Event)
@@ -61,11 +64,13 @@ pub record IsBounded {C M B : Type 0} (left : C → ℕ) (m : Moment C M B) : Ty
   pub board : last_stamp_of m.board_history ≤ steps_made m
   pub few : steps_made m + total left m.configs < 2 ^ 60
 
--- what every call keeps of the parts: the images are numbered from 1, are not too many, and stamps stay far below the last
+-- what every call keeps of the parts: the images are numbered from 1, are not too many, stamps stay far below the last, and the parts stand in a run of their
+-- beginning
 pub record AreSound {M O B : Type 0} (walks : walker.Ghosts M) (memory : object.Ghosts O) (control : object.Ghosts B) (p : PartsOf M O B) : Type 0 where
   pub few : length p.images.items < 2 ^ 31
   pub numbered : AreNumbered p.images.items
   pub bounded : IsBounded walks.asks_left (moment walks memory control p)
+  pub kept : (b : Beginning walks.Config memory.Made control.Made) × IsKept (rules walks memory control) b (moment walks memory control p)
 
 -- the image of a number has fewer asks to come, and no other image's number changed
 pub record Spends {C M B : Type 0} (left : C → ℕ) (m : Moment C M B) (i : ℕ) (m' : Moment C M B) : Type 0 where
@@ -87,17 +92,27 @@ module _ {M O B : Type 0} (walks : walker.Ghosts M) (memory : object.Ghosts O) (
   -- this step is set aside for the image
   abbrev pub IsSetAside : PartsOf M O B → ℕ → Move walks.Config Ask Reply → Prepared → Type 0
   IsSetAside p i move prepareds.Nothing = ⊥
-  IsSetAside p i move (prepareds.Own ask) = AsksNext move ask × (place_of ask ≡ Own)
+  IsSetAside p i move (prepareds.Own told) = AsksNext move told.ask × (place_of told.ask ≡ Own) × (told.reply ≡ replies.Done)
   IsSetAside p i move (prepareds.Served ask spare) = AsksNext move ask × IsServedThere p i ask spare (place_of ask)
 
-  -- the step of the image at this place is set aside, with room for its event
+  -- the step of the image at this place is set aside, with room for its event and for what its reply brings
   pub record IsPreparedRun (p : PartsOf M O B) (k : ℕ) (r : ImageRun M) : Type 0 where
-    pub room : vec_len r.events < vec_capacity r.events
+    pub room : HasRoom walks r
     pub next : IsSetAside p (suc k) (move_of walks r) r.prepared
 
   -- the next step of the image at place k, from 0, is set aside
   abbrev pub IsPrepared : PartsOf M O B → ℕ → Type 0
   IsPrepared p k = (r : ImageRun M) → r ≡ slice_index_or p.images.items k r → IsPreparedRun p k r
+
+  -- what is set aside for the image at place j isn't at the object of the next ask of the image at place k
+  abbrev pub IsElsewhere : PartsOf M O B → ℕ → ℕ → Type 0
+  IsElsewhere p k j =
+      (r s : ImageRun M) → r ≡ slice_index_or p.images.items k r → s ≡ slice_index_or p.images.items j s
+      → (ask : Ask) → AsksNext (move_of walks r) ask → place_aside s.prepared ≡ place_of ask → place_aside s.prepared ≡ Own
+
+  -- what is set aside for another image stays so, where it isn't at the object of the next ask of the image at place k
+  abbrev pub KeepsOthers : PartsOf M O B → ℕ → PartsOf M O B → Type 0
+  KeepsOthers p k p' = (j : ℕ) → (k ≡ j → ⊥) → IsElsewhere p k j → IsPrepared p j → IsPrepared p' j
 
 -- what `prepare` answers for the image of a number
 abbrev pub AnswersReady : {C M B : Type 0} → Rules C M B → Moment C M B → ℕ → Ready → Type 0

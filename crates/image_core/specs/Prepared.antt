@@ -1,5 +1,5 @@
 -- What is set aside for an image's next step.
-use Rattle.std.specs.Prelude.{ℕ, ◌≡◌, ◌+◌, max, IsTrue, [], ◌∷◌, ◌++◌}
+use Rattle.std.specs.Prelude.{ℕ, ◌≡◌, ◌<◌, ◌+◌, max, IsTrue, [], ◌∷◌, ◌++◌, vec_len, vec_capacity}
 use Rattle.caf_base.specs.declared.place.Place.{Place}
 use Rattle.caf_base.specs.declared.place.Place.TheVariants.{Own}
 use Rattle.caf_events.specs.declared.object.Object as objects
@@ -22,6 +22,11 @@ use Rattle.core_runs.specs.Lists.{entry, last_of}
 abbrev pub move_of : {M : Type 0} (walks : walker.Ghosts M) → ImageRun M → Move walks.Config Ask Reply
 move_of walks r = walks.step (walks.config r.machine)
 
+-- the image has room for its next event, and its machine for what the reply brings
+pub record HasRoom {M : Type 0} (walks : walker.Ghosts M) (r : ImageRun M) : Type 0 where
+  pub events : vec_len r.events < vec_capacity r.events
+  pub machine : walks.has_room r.machine
+
 -- the object is ready for the ask of image i, has room for its entry, and set aside the ask and the reply
 pub record IsServed {O : Type 0} (object : objects.Ghosts O) (i : ℕ) (o : O) (ask : Ask) (spare : Spare) : Type 0 where
   pub ready : IsTrue (object.ready_after (object.made o) (object.history o) i ask)
@@ -31,7 +36,7 @@ pub record IsServed {O : Type 0} (object : objects.Ghosts O) (i : ℕ) (o : O) (
 -- what is set aside is the next ask, for which this object is ready
 abbrev pub IsServedNext : {O C : Type 0} (object : objects.Ghosts O) → Move C Ask Reply → ℕ → O → Prepared → Type 0
 IsServedNext object move i o prepareds.Nothing = ⊥
-IsServedNext object move i o (prepareds.Own ask) = ⊥
+IsServedNext object move i o (prepareds.Own told) = ⊥
 IsServedNext object move i o (prepareds.Served ask spare) = AsksNext move ask × IsServed object i o ask spare
 
 -- one step of an image at an object: one event at the end of both lists, with the stamp and the reply that were due
@@ -49,13 +54,13 @@ pub record StepsAt {M O : Type 0} (walks : walker.Ghosts M) (object : objects.Gh
 -- what is set aside is the next ask, which the image makes by itself
 abbrev pub IsOwnNext : {C : Type 0} → Move C Ask Reply → Prepared → Type 0
 IsOwnNext move prepareds.Nothing = ⊥
-IsOwnNext move (prepareds.Own ask) = AsksNext move ask × (place_of ask ≡ Own)
+IsOwnNext move (prepareds.Own told) = AsksNext move told.ask × (place_of told.ask ≡ Own) × (told.reply ≡ replies.Done)
 IsOwnNext move (prepareds.Served ask spare) = ⊥
 
 -- the place of the step that is set aside
 abbrev pub place_aside : Prepared → Place
 place_aside prepareds.Nothing = Own
-place_aside (prepareds.Own ask) = Own
+place_aside (prepareds.Own told) = Own
 place_aside (prepareds.Served ask spare) = place_of ask
 
 -- one step that an image makes by itself: one event at the end of its list

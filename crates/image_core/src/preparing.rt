@@ -4,7 +4,7 @@ ghost use Rattle.std.specs.Prelude.{◌≡◌, ◌<◌, ◌≤◌, ◌+◌, ◌-
 ghost use Rattle.caf_base.specs.declared.place.Place.TheVariants as places;
 ghost use Rattle.core_runs.specs.Moments.{can_step};
 ghost use Rattle.core_runs.specs.Moments.{rules};
-ghost use Rattle.image_core.specs.Parts.{moment, AreNumbered, AreSound, IsPrepared, AnswersReady};
+ghost use Rattle.image_core.specs.Parts.{moment, AreNumbered, AreSound, IsPrepared, KeepsOthers, AnswersReady};
 ghost use Rattle.image_core.specs.Prepared.{AsksAt, move_of};
 ghost use Rattle.image_core.specs.declared.run.ImageRun.{ImageRun};
 
@@ -25,10 +25,11 @@ impl<M: Walker, O: Object, B: Object> PartsOf<M, O, B> {
         ensures same { moment M.Walker O.Object B.Object self.new ≡ moment M.Walker O.Object B.Object self.old }
         ensures answer { IfOk result (λ b. b ≡ can_step (rules M.Walker O.Object B.Object) (moment M.Walker O.Object B.Object self.old) (suc k)) }
         ensures prepared { IfOk result (λ b. b ≡ true → IsPrepared M.Walker O.Object B.Object self.new k) }
+        ensures others { KeepsOthers M.Walker O.Object B.Object self.old k self.new }
     {
         let run = &mut self.images[k];
         let ask = next_ask(run)?;
-        prepare_alone(run, ask);
+        prepare_alone(run, ask)?;
         Ok(true)
     }
 
@@ -41,6 +42,7 @@ impl<M: Walker, O: Object, B: Object> PartsOf<M, O, B> {
         ensures same { moment M.Walker O.Object B.Object self.new ≡ moment M.Walker O.Object B.Object self.old }
         ensures answer { IfOk result (λ b. b ≡ can_step (rules M.Walker O.Object B.Object) (moment M.Walker O.Object B.Object self.old) (suc k)) }
         ensures prepared { IfOk result (λ b. b ≡ true → IsPrepared M.Walker O.Object B.Object self.new k) }
+        ensures others { KeepsOthers M.Walker O.Object B.Object self.old k self.new }
     {
         let run = &mut self.images[k];
         let ask = next_ask(run)?;
@@ -56,6 +58,7 @@ impl<M: Walker, O: Object, B: Object> PartsOf<M, O, B> {
         ensures same { moment M.Walker O.Object B.Object self.new ≡ moment M.Walker O.Object B.Object self.old }
         ensures answer { IfOk result (λ b. b ≡ can_step (rules M.Walker O.Object B.Object) (moment M.Walker O.Object B.Object self.old) (suc k)) }
         ensures prepared { IfOk result (λ b. b ≡ true → IsPrepared M.Walker O.Object B.Object self.new k) }
+        ensures others { KeepsOthers M.Walker O.Object B.Object self.old k self.new }
     {
         if owner.0 == 0 || owner.0 as usize > self.memories.len() {
             return Ok(false);
@@ -75,6 +78,7 @@ impl<M: Walker, O: Object, B: Object> PartsOf<M, O, B> {
         ensures same { moment M.Walker O.Object B.Object self.new ≡ moment M.Walker O.Object B.Object self.old }
         ensures answer { IfOk result (λ b. b ≡ can_step (rules M.Walker O.Object B.Object) (moment M.Walker O.Object B.Object self.old) (suc k)) }
         ensures prepared { IfOk result (λ b. b ≡ true → IsPrepared M.Walker O.Object B.Object self.new k) }
+        ensures others { KeepsOthers M.Walker O.Object B.Object self.old k self.new }
     {
         match place {
             Place::Own => self.set_aside_alone(k),
@@ -85,6 +89,8 @@ impl<M: Walker, O: Object, B: Object> PartsOf<M, O, B> {
 
     /// Sets the next step of an image aside: `Can` where it can be made now, `NotYet` exactly where the image's next ask
     /// isn't ready, `Over` exactly where the image stopped or made an ending step. No step is made, also after want of memory.
+    /// Another image that was prepared before stays so, but not where its step is at the same object: an object sets one step aside at a
+    /// time, and that image is prepared anew before its step is made.
     pub fn prepare(&mut self, image: ImageNo) -> Result<Ready, NoMemory>
         requires image { (0 < image.0) × (image.0 ≤ length self.old.images.items) }
         requires sound { AreSound M.Walker O.Object B.Object self.old }
@@ -92,6 +98,7 @@ impl<M: Walker, O: Object, B: Object> PartsOf<M, O, B> {
         ensures same { moment M.Walker O.Object B.Object self.new ≡ moment M.Walker O.Object B.Object self.old }
         ensures answer { IfOk result (AnswersReady (rules M.Walker O.Object B.Object) (moment M.Walker O.Object B.Object self.old) image.0) }
         ensures prepared { IfOk result (λ a. a ≡ Ready.Can → IsPrepared M.Walker O.Object B.Object self.new (image.0 - 1)) }
+        ensures others { KeepsOthers M.Walker O.Object B.Object self.old (image.0 - 1) self.new }
     {
         let k = (image.0 - 1) as usize;
         match self.images[k].machine.next() {

@@ -24,6 +24,7 @@ pub struct ImageRun<M> {
 impl<M: Walker> ImageRun<M> {
     ghost use Rattle.caf_events.specs.Walkers.{IsAtAsk, IsAtLine, IsOver, AsksNext, EndsAfter, Continues};
     ghost use Rattle.trace_theory.specs.Machines.{Rests};
+    ghost use Rattle.image_core.specs.Prepared.{HasRoom};
 
     /// The image's number.
     pub fn image(&self) -> ImageNo
@@ -52,24 +53,27 @@ impl<M: Walker> ImageRun<M> {
         }
     }
 
-    // Room for one event more.
+    // Room for one event more, and in the machine for what its reply brings.
     pub(crate) fn make_room(&mut self) -> Result<(), NoMemory>
+        requires { IsAtAsk (M.step (M.config self.old.machine)) }
         ensures image { self.new.image ≡ self.old.image }
         ensures machine { M.config self.new.machine ≡ M.config self.old.machine }
         ensures events { self.new.events.items ≡ self.old.events.items }
         ensures last { self.new.last ≡ self.old.last }
         ensures prepared { self.new.prepared ≡ self.old.prepared }
-        ensures room { OnOk result (vec_len self.new.events < vec_capacity self.new.events) }
+        ensures room { OnOk result (HasRoom M.Walker self.new) }
     {
         self.events.reserve(1)?;
-        Ok(())
+        self.machine.reserve()
     }
 
-    // Appends an event, and goes on with its reply.
+    // Appends the event of the next ask, and goes on with its reply.
     #[tactic(auto, using(crate::proofs::Last::last_more))]
     pub(crate) fn take(&mut self, event: Event)
-        requires at { IsAtAsk (M.step (M.config self.old.machine)) }
-        requires room { vec_len self.old.events < vec_capacity self.old.events }
+        requires asked { AsksNext (M.step (M.config self.old.machine)) event.ask }
+        requires line { IsAtLine (M.step (M.config self.old.machine)) event.line }
+        requires hears { M.hears (M.config self.old.machine) event.reply }
+        requires room { HasRoom M.Walker self.old }
         ensures image { self.new.image ≡ self.old.image }
         ensures events { self.new.events.items ≡ self.old.events.items ++ event ∷ [] }
         ensures goes { Continues M.step (M.step (M.config self.old.machine)) event.reply (M.config self.new.machine) }
@@ -77,8 +81,8 @@ impl<M: Walker> ImageRun<M> {
         ensures ends { IsOver (M.step (M.config self.new.machine)) ↔ EndsAfter (M.step (M.config self.old.machine)) event.reply }
         ensures spends { M.asks_left (M.config self.new.machine) < M.asks_left (M.config self.old.machine) }
     {
-        self.machine.give(&event.reply);
-        self.last = event.stamp;
+        self.machine.give(&event);
+        self.last = event.stamp();
         match self.events.push(event) {
             Ok(()) => {}
             Err(_) => unreachable!(),

@@ -6,21 +6,24 @@ ghost use Rattle.caf_base.specs.declared.place.Place.TheVariants as places;
 ghost use Rattle.caf_events.specs.Asks.{place_of};
 ghost use Rattle.caf_events.specs.Histories.{last_stamp_of};
 ghost use Rattle.caf_events.specs.Walkers.{IsAtAsk, IsOver, AsksNext, IsAtLine, Continues, EndsAfter};
+ghost use Rattle.caf_events.specs.declared.ask.Ask.{Ask};
+ghost use Rattle.caf_events.specs.declared.reply.Reply.TheVariants as replies;
 ghost use Rattle.caf_events.specs.declared.event.Event.{Event};
 ghost use Rattle.core_runs.specs.Lists.{last_of};
-ghost use Rattle.image_core.specs.Prepared.{move_of, IsServedNext, StepsAt, IsOwnNext, StepsAlone};
+ghost use Rattle.image_core.specs.Prepared.{move_of, HasRoom, IsServedNext, StepsAt, IsOwnNext, StepsAlone};
 
 use crate::prepared::Prepared;
 use crate::run::ImageRun;
 use caf_base::refusal::NoMemory;
 use caf_events::ask::Ask;
 use caf_events::event::Event;
+use caf_events::exchange::Exchange;
 use caf_events::object::Object;
 use caf_events::reply::Reply;
 use caf_events::walker::Walker;
 use std::mem;
 
-// The image's next ask, with room for its event.
+// The image's next ask, with room for its event and for what the reply brings.
 pub(crate) fn next_ask<M: Walker>(run: &mut ImageRun<M>) -> Result<Ask, NoMemory>
     requires at { IsAtAsk (move_of M.Walker run.old) }
     ensures image { run.new.image ≡ run.old.image }
@@ -28,7 +31,7 @@ pub(crate) fn next_ask<M: Walker>(run: &mut ImageRun<M>) -> Result<Ask, NoMemory
     ensures events { run.new.events.items ≡ run.old.events.items }
     ensures last { run.new.last ≡ run.old.last }
     ensures prepared { run.new.prepared ≡ run.old.prepared }
-    ensures room { OnOk result (vec_len run.new.events < vec_capacity run.new.events) }
+    ensures room { OnOk result (HasRoom M.Walker run.new) }
     ensures asked { IfOk result (AsksNext (move_of M.Walker run.old)) }
 {
     run.make_room()?;
@@ -39,16 +42,20 @@ pub(crate) fn next_ask<M: Walker>(run: &mut ImageRun<M>) -> Result<Ask, NoMemory
 // at the end of a block, it would be one goal for each kind of ask and reply.
 
 // Sets an ask aside that the image makes by itself.
-pub(crate) fn prepare_alone<M: Walker>(run: &mut ImageRun<M>, ask: Ask)
+pub(crate) fn prepare_alone<M: Walker>(run: &mut ImageRun<M>, ask: Ask) -> Result<(), NoMemory>
     requires asked { AsksNext (move_of M.Walker run.old) ask }
     requires place { place_of ask ≡ places.Own }
     ensures image { run.new.image ≡ run.old.image }
-    ensures machine { M.config run.new.machine ≡ M.config run.old.machine }
+    ensures machine { run.new.machine ≡ run.old.machine }
     ensures events { run.new.events ≡ run.old.events }
     ensures last { run.new.last ≡ run.old.last }
-    ensures prepared { IsOwnNext (move_of M.Walker run.old) run.new.prepared }
+    ensures prepared { OnOk result (IsOwnNext (move_of M.Walker run.old) run.new.prepared) }
 {
-    drop(mem::replace(&mut run.prepared, Prepared::Own { ask }));
+    let told = Exchange::new(*run.events.allocator(), &ask, &Reply::Done);
+    drop(ask);
+    let told = told?;
+    drop(mem::replace(&mut run.prepared, Prepared::Own { told }));
+    Ok(())
 }
 
 // Sets the image's next ask aside, with the reply of its object, where the object is ready.
@@ -59,7 +66,7 @@ pub(crate) fn prepare_at<M: Walker, O: Object>(
 ) -> Result<bool, NoMemory>
     requires asked { AsksNext (move_of M.Walker run.old) ask }
     ensures image { run.new.image ≡ run.old.image }
-    ensures machine { M.config run.new.machine ≡ M.config run.old.machine }
+    ensures machine { run.new.machine ≡ run.old.machine }
     ensures events { run.new.events ≡ run.old.events }
     ensures last { run.new.last ≡ run.old.last }
     ensures made { O.made object.new ≡ O.made object.old }
@@ -87,8 +94,9 @@ pub(crate) fn prepare_at<M: Walker, O: Object>(
 // Makes the step that was set aside at an object.
 pub(crate) fn commit_at<M: Walker, O: Object>(run: &mut ImageRun<M>, object: &mut O)
     requires at { IsAtAsk (move_of M.Walker run.old) }
-    requires room { vec_len run.old.events < vec_capacity run.old.events }
+    requires room { HasRoom M.Walker run.old }
     requires prepared { IsServedNext O.Object (move_of M.Walker run.old) run.old.image.0 object.old run.old.prepared }
+    requires hears { (ask : Ask) → AsksNext (move_of M.Walker run.old) ask → M.hears (M.config run.old.machine) (O.reply_after (O.made object.old) (O.history object.old) run.old.image.0 ask) }
     requires after { run.old.last < 2 ^ 62 }
     requires last { last_stamp_of (O.history object.old) < 2 ^ 62 }
     ensures image { run.new.image ≡ run.old.image }
@@ -111,8 +119,9 @@ pub(crate) fn commit_at<M: Walker, O: Object>(run: &mut ImageRun<M>, object: &mu
 // Makes the step that was set aside for the image itself.
 pub(crate) fn commit_alone<M: Walker>(run: &mut ImageRun<M>)
     requires at { IsAtAsk (move_of M.Walker run.old) }
-    requires room { vec_len run.old.events < vec_capacity run.old.events }
+    requires room { HasRoom M.Walker run.old }
     requires prepared { IsOwnNext (move_of M.Walker run.old) run.old.prepared }
+    requires hears { M.hears (M.config run.old.machine) replies.Done }
     requires after { run.old.last < 2 ^ 62 }
     ensures image { run.new.image ≡ run.old.image }
     ensures step { (e : Event) × StepsAlone M.Walker run.old run.new e }
@@ -122,12 +131,7 @@ pub(crate) fn commit_alone<M: Walker>(run: &mut ImageRun<M>)
     let line = run.machine.line();
     let stamp = run.last + 1;
     match mem::replace(&mut run.prepared, Prepared::Nothing) {
-        Prepared::Own { ask } => run.take(Event {
-            ask,
-            reply: Reply::Done,
-            stamp,
-            line,
-        }),
+        Prepared::Own { told } => run.take(Event::new(told, stamp, line)),
         _ => unreachable!(),
     }
 }

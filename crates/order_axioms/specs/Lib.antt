@@ -1,7 +1,8 @@
-pub mod Order
-pub mod Clocks
-pub mod Races
-pub mod Acts
-pub mod Facts
-pub mod Stored
-pub mod Marks
+pub mod Statuses
+pub mod Closes
+pub mod Views
+pub mod Touching
+pub mod FirstRaces
+pub mod OwnLists
+pub mod Turns
+pub mod Missed

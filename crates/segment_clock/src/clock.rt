@@ -1,7 +1,7 @@
 //! A count of segments for each image.
 
 ghost use Rattle.std.specs.Prelude.{◌≡◌, ◌<◌, ◌≤◌, ◌-◌, ◌^◌, ◌↔◌, length, replicate, IfOk, IsTrue};
-ghost use Rattle.segment_clock.specs.Counts.{count_of, joined, ticked, with_count};
+ghost use Rattle.segment_clock.specs.Counts.{count_of, joined, ticked};
 
 use caf_base::place::ImageNo;
 use caf_base::refusal::NoMemory;
@@ -62,12 +62,18 @@ impl Clock {
         self.counts[(image.0 - 1) as usize] += 1;
     }
 
-    /// Sets the count of an image from 1 to the number of counts. It takes no memory.
-    pub fn set(&mut self, image: ImageNo, count: u64)
-        requires first { 0 < image.0 }
-        requires last { image.0 ≤ length self.old }
-        ensures { self.new ≡ with_count self.old image.0 count }
+    /// Makes the counts equal to those of a clock with as many. It takes no memory.
+    pub fn set(&mut self, other: &Clock)
+        requires { length other.now ≡ length self.old }
+        ensures { self.new ≡ other.now }
     {
-        self.counts[(image.0 - 1) as usize] = count;
+        self.counts.copy_from_slice(&other.counts);
+    }
+
+    /// Makes each count 0. It takes no memory.
+    pub fn clear(&mut self)
+        ensures { self.new ≡ replicate (length self.old) 0 }
+    {
+        self.counts.fill(0);
     }
 }

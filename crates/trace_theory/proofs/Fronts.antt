@@ -20,9 +20,9 @@ module _ {E : Type 0} where
   split_front : (all front left g g' : List E) (e : E) → all ≡ front ++ left → front ≡ g ++ e ∷ g' → all ≡ g ++ e ∷ (g' ++ left)
   split_front all front left g g' e a b = a ∙ ap (λ xs. xs ++ left) b ∙ append_assoc g (e ∷ g') left
 
-module _ (E : Type 0) (image place stamp : E → ℕ) (events histories events' histories' : ℕ → List E) (w : Woven image place stamp events histories) (f : Front image place events histories events' histories') where
+module _ (E : Type 0) (image place stamp : E → ℕ) (own : E → ℕ → ℕ) (events histories events' histories' : ℕ → List E) (w : Woven image place stamp own events histories) (f : Front image place events histories events' histories') where
   -- fronts of the lists that agree with one another are of one run
-  pub woven_front : Woven image place stamp events' histories'
+  pub woven_front : Woven image place stamp own events' histories'
   woven_front = record {
     mine = λ i. each_front (λ e. image e ≡ i) (events' i) (f.image_left i) (subst (Each (λ e. image e ≡ i)) (f.image_front i) (w.mine i));
     there = λ o. each_front (λ e. place e ≡ suc o) (histories' (suc o)) (f.object_left o) (subst (Each (λ e. place e ≡ suc o)) (f.object_front o) (w.there o));

@@ -2,20 +2,20 @@
 use Rattle.std.proofs.Common.{◌≡◌, ℕ, suc, ◌<◌, ◌≤◌, max, List, [], ◌∷◌, ◌++◌, ◌⊎◌, inl, inr, refl, ap, sym, ◌∙◌, subst, arith}
 use Rattle.std.proofs.lemmas.Bool.{cases_eq}
 use Rattle.trace_theory.specs.Entries.{of, Each, last_or, Rises}
-use Rattle.trace_theory.specs.Runs.{place_last, Woven, Adds}
+use Rattle.trace_theory.specs.Runs.{place_last, due, Woven, Adds}
 use Rattle.trace_theory.proofs.Filters.{of_last, of_other}
 use Rattle.trace_theory.proofs.Snocs.{AtEnd, Before, split_last, each_at, each_last, at_most_last, rises_more}
 
 module _ (E : Type 0) where
-  module _ (image place stamp : E → ℕ) (events histories events' histories' : ℕ → List E) (e : E) (w : Woven image place stamp events histories) (m : Adds image place stamp events histories events' histories' e) where
+  module _ (image place stamp : E → ℕ) (own : E → ℕ → ℕ) (events histories events' histories' : ℕ → List E) (e : E) (w : Woven image place stamp own events histories) (m : Adds image place stamp own events histories events' histories' e) where
     more_at : (i : ℕ) → image e ≡ i → events' i ≡ events i ++ e ∷ []
     more_at i p = subst (λ k. events' k ≡ events k ++ e ∷ []) p m.image_more
 
     object_above : (o : ℕ) → place e ≡ suc o → last_or stamp 0 (histories (suc o)) < stamp e
-    object_above o p = let s = subst (λ k. stamp e ≡ suc (max (last_or stamp 0 (events (image e))) (place_last stamp k (histories k)))) p m.stamped in omega arith
+    object_above o p = let s = subst (λ k. stamp e ≡ due own k e (last_or stamp 0 (events (image e))) (place_last stamp k (histories k))) p m.stamped in omega arith
 
     image_above : last_or stamp 0 (events (image e)) < stamp e
-    image_above = let s = m.stamped in omega arith
+    image_above = m.above
 
     new_mine : (i : ℕ) → Each (λ x. image x ≡ i) (events' i)
     new_mine i = elim (cases_eq (image e) i) [
@@ -72,7 +72,7 @@ module _ (E : Type 0) where
 
     stamp_here : (i o : ℕ) → image e ≡ i → place e ≡ suc o → stamp e ≡ suc (max (last_or stamp 0 (events i)) (last_or stamp 0 (histories (suc o))))
     stamp_here i o p q =
-        let s = subst (λ k. stamp e ≡ suc (max (last_or stamp 0 (events (image e))) (place_last stamp k (histories k)))) q m.stamped in
+        let s = subst (λ k. stamp e ≡ due own k e (last_or stamp 0 (events (image e))) (place_last stamp k (histories k))) q m.stamped in
         subst (λ k. stamp e ≡ suc (max (last_or stamp 0 (events k)) (last_or stamp 0 (histories (suc o))))) p s
 
     both : (i o : ℕ) (g g' h h' : List E) (x : E) → image e ≡ i → place e ≡ suc o → AtEnd (events i) g g' e x ⊎ Before (events i) g g' e x → AtEnd (histories (suc o)) h h' e x ⊎ Before (histories (suc o)) h h' e x → stamp x ≡ suc (max (last_or stamp 0 g) (last_or stamp 0 h))
@@ -101,19 +101,19 @@ module _ (E : Type 0) where
       ]
     ]
 
-    own_case : (i : ℕ) (g g' : List E) (x : E) → image e ≡ i → place x ≡ 0 → AtEnd (events i) g g' e x ⊎ Before (events i) g g' e x → stamp x ≡ suc (last_or stamp 0 g)
+    own_case : (i : ℕ) (g g' : List E) (x : E) → image e ≡ i → place x ≡ 0 → AtEnd (events i) g g' e x ⊎ Before (events i) g g' e x → stamp x ≡ own x (last_or stamp 0 g)
     own_case i g g' x p q (inl a) =
         let z : place e ≡ 0 = ap place (sym a.last) ∙ q in
-        let s = subst (λ k. stamp e ≡ suc (max (last_or stamp 0 (events (image e))) (place_last stamp k (histories k)))) z m.stamped in
-        let r = subst (λ k. stamp e ≡ suc (max (last_or stamp 0 (events k)) 0)) p s in
-        rw (a.all, a.last) (omega arith)
+        let s = subst (λ k. stamp e ≡ due own k e (last_or stamp 0 (events (image e))) (place_last stamp k (histories k))) z m.stamped in
+        let r = subst (λ k. stamp e ≡ own e (last_or stamp 0 (events k))) p s in
+        rw (a.all, a.last) r
     own_case i g g' x p q (inr a) = w.own_fits i g a.rest x q a.split
 
-    new_own_fits : (i : ℕ) (g g' : List E) (x : E) → place x ≡ 0 → events' i ≡ g ++ x ∷ g' → stamp x ≡ suc (last_or stamp 0 g)
+    new_own_fits : (i : ℕ) (g g' : List E) (x : E) → place x ≡ 0 → events' i ≡ g ++ x ∷ g' → stamp x ≡ own x (last_or stamp 0 g)
     new_own_fits i g g' x p a = elim (cases_eq (image e) i) [
       | inl q ↦ own_case i g g' x q p (split_last (events i) g g' e x (sym (more_at i q) ∙ a))
       | inr k ↦ w.own_fits i g g' x p (sym (m.image_same i k) ∙ a)
     ]
 
-    pub woven_more : Woven image place stamp events' histories'
+    pub woven_more : Woven image place stamp own events' histories'
     woven_more = record { mine = new_mine; there = new_there; image_rises = new_image_rises; object_rises = new_object_rises; agree = new_agree; fits = new_fits; own_fits = new_own_fits }

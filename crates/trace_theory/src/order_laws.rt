@@ -3,7 +3,8 @@
 ghost use Rattle.std.specs.Prelude.{◌≡◌, ℕ, List};
 ghost use Rattle.trace_theory.specs.Entries.{of, Rises, NeverFalls, IsTraceOrder};
 
-/// Entries of a run: whose each one is, where it was made (0: at its image's own place, n + 1: at object n), and its stamp.
+/// Entries of a run: whose each one is, where it was made (0: at its image's own place, n + 1: at object n), its stamp, and for an entry
+/// at its image's own place the stamp that is due to it after the image's last one.
 pub trait Entries {
     ghost Entry: { Type 0 };
 
@@ -12,6 +13,8 @@ pub trait Entries {
     ghost place: { Entry → ℕ };
 
     ghost stamp: { Entry → ℕ };
+
+    ghost own: { Entry → ℕ → ℕ };
 }
 
 /// A list whose stamps rise is told by each image's entries: another list with the same ones in which no stamp falls is equal.

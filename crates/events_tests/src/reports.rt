@@ -1,0 +1,91 @@
+//! The status and the text of a report.
+
+ghost use Rattle.caf_report.specs.Ends.{HasEnd};
+
+use caf_base::listing::Listing;
+use caf_base::place::{INITIAL_TEAM, ImageNo};
+use caf_events::ask::Ask;
+use caf_events::event::{Entry, Event, Trace};
+use caf_events::exchange::Exchange;
+use caf_events::fault::FaultKind;
+use caf_events::reply::Reply;
+use caf_events::round::Arriving;
+use caf_report::report::{Report, Waiting};
+use std::alloc::Global;
+use std::process::Abort;
+
+// An entry of an image, of line 7.
+fn entry<R: Abort>(rt: &R, alloc: Global, image: u32, stamp: u64, ask: Ask) -> Entry {
+    let told = Exchange::new(alloc, &ask, &Reply::Done);
+    drop(ask);
+    Entry {
+        image: ImageNo(image),
+        event: Event::new(told.expect(rt, "memory"), stamp, 7),
+    }
+}
+
+// An entry that prints.
+fn print<R: Abort>(rt: &R, alloc: Global, image: u32, stamp: u64, text: &str) -> Entry {
+    let text = Listing::from_slice(alloc, text.as_bytes()).expect(rt, "memory");
+    entry(rt, alloc, image, stamp, Ask::Print { text })
+}
+
+// Whether a report has this status and this text is judged.
+fn says<R: Abort>(rt: &R, alloc: Global, report: Report, status: u8, wanted: &str)
+    requires { HasEnd report }
+{
+    let has = report.status();
+    let text = report.text(alloc);
+    drop(report);
+    let text = text.expect(rt, "memory");
+    assert!(rt; has == status);
+    assert!(rt; text.as_slice() == wanted.as_bytes(), "{wanted}");
+}
+
+// The report of two images that print, of which the first one then fails.
+fn faulty<R: Abort>(rt: &R, alloc: Global) -> Trace {
+    let kind = FaultKind::CoBounds;
+    let fault = entry(rt, alloc, 1, 2, Ask::Fault { kind });
+    let mut entries = Listing::new(alloc);
+    for (image, stamp, text) in [(2, 1, "two"), (1, 1, "one\n\nthree"), (2, 2, "")] {
+        let entry = print(rt, alloc, image, stamp, text);
+        entries.push(entry).expect(rt, "memory");
+    }
+    entries.push(fault).expect(rt, "memory");
+    let last = print(rt, alloc, 1, 3, "-4");
+    entries.push(last).expect(rt, "memory");
+    Trace { entries }
+}
+
+#[test]
+fn images_are_grouped_and_the_fault_ends(rt: HostRuntime) {
+    let alloc = rt.alloc();
+    let report = Report::new(2, faulty(&rt, alloc), Listing::new(alloc));
+    let wanted = "1: one\n1: \n1: three\n1: -4\n2: two\n2: \nfault image 1 line 7 CoBounds\n";
+    says(&rt, alloc, report, 8, wanted);
+}
+
+#[test]
+fn nothing_printed_and_finished_is_no_text(rt: HostRuntime) {
+    let alloc = rt.alloc();
+    let stop = entry(&rt, alloc, 1, 1, Ask::Stop { code: 0 });
+    let entries = Listing::of_one(alloc, stop).expect(&rt, "memory");
+    let report = Report::new(1, Trace { entries }, Listing::new(alloc));
+    says(&rt, alloc, report, 0, "");
+}
+
+#[test]
+fn an_image_that_waits_is_stuck(rt: HostRuntime) {
+    let alloc = rt.alloc();
+    let (team, arriving) = (INITIAL_TEAM, Arriving::Sync);
+    let arrival = entry(&rt, alloc, 2, 1, Ask::Arrive { team, arriving });
+    let entries = Listing::of_one(alloc, arrival).expect(&rt, "memory");
+    let wait = Waiting {
+        image: ImageNo(2),
+        line: 12,
+        ask: Ask::Leave { team, round: 1 },
+    };
+    let waits = Listing::of_one(alloc, wait).expect(&rt, "memory");
+    let report = Report::new(2, Trace { entries }, waits);
+    says(&rt, alloc, report, 6, "stuck image 2 line 12 leave\n");
+}

@@ -1,0 +1,15 @@
+pub mod Scans
+pub mod Happenings
+pub mod TeamRounds
+pub mod ImagePairs
+pub mod Constructs
+pub mod FormedTeams
+pub mod Folds
+pub mod Kinds
+pub mod BoardTeams
+pub mod BoardRules
+pub mod Locks
+pub mod SpanTests
+pub mod Cells
+pub mod MemoryRules
+pub mod Answering

@@ -1,0 +1,17 @@
+pub mod Withins
+pub mod Splits
+pub mod Paths
+pub mod Ways
+pub mod Clocks
+pub mod Classes
+pub mod LawReads
+pub mod Others
+pub mod Sources
+pub mod Readings
+pub mod Pausing
+pub mod Laws
+pub mod Recorder
+pub mod Queues
+pub mod Kept
+pub mod Seen
+pub mod Partners

@@ -1,0 +1,10 @@
+//! The theory of segment order: segments, edges, which segment precedes which, clocks, races and justified reads of a trace.
+//! It stands on std alone, and knows no ask, no reply and no statement: it is generic in the entries of a trace.
+//! On it stands the crate of segment order over the entries of a run; a recorder of races will.
+//! Its main contracts are `law_prefixes` (which segments precede a segment is told by the entries up to its beginning), `law_forward`
+//! (an access in a segment that precedes another access's stands before it) and `law_reads` (without a race each read is justified).
+//! What clocks, keys and kept marks say is in the lemmas of proofs/, which proofs cite (docs/ORDER.md).
+#![tactic(auto)]
+
+pub mod entries;
+pub mod order_laws;
