@@ -1,0 +1,12 @@
+pub mod Writing
+pub mod Storing
+pub mod Cutting
+pub mod Bounding
+pub mod Changing
+pub mod Serving
+pub mod Declaring
+pub mod Doing
+pub mod Replying
+pub mod Readying
+pub mod Acting
+pub mod Starting
