@@ -4,7 +4,7 @@ pub mod FairExpressions
 pub mod FairStatements
 pub mod FairPrograms
 pub mod SmallTrees
-mod Trying
+pub mod Trying
 mod ExpressionTries
 mod StatementTries
 mod UnitTries

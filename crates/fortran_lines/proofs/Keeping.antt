@@ -1,15 +1,14 @@
 -- The bytes of statements are taken from the lines.
 use Rattle.std.proofs.Common.{◌≡◌, ℕ, Bool, true, false, cond, not, ◌&&◌, nat_eq, List, [], ◌∷◌, ◌++◌, Option, Some, None, inl, inr, refl, ap, sym, ◌∙◌, subst, arith, append_assoc, append-nil}
 use Rattle.std.specs.Prelude.{slice_get}
-use Rattle.std.specs.List.{AllByRecursion, flat_map, onto_first}
+use Rattle.std.specs.List.{flat_map, onto_first}
 use Rattle.std.proofs.lemmas.Bool.{and_parts, eqb-true}
 use Rattle.fortran_lines.specs.declared.placed_byte.PlacedByte.{PlacedByte}
-use Rattle.fortran_lines.specs.declared.fault.LineFault.{LineFault}
 use Rattle.fortran_lines.specs.declared.context.Context.{Context}
 use Rattle.fortran_lines.specs.declared.context.Context.TheVariants.{Outside, Inside, Closed}
 use Rattle.fortran_lines.specs.declared.context.Before.{Before}
 use Rattle.fortran_lines.specs.declared.context.Before.TheVariants.{Start, Continued}
-use Rattle.fortran_lines.specs.PlacedBytes.{is_blank, all_blank, blank_at, physical_lines}
+use Rattle.fortran_lines.specs.PlacedBytes.{is_blank, all_blank, physical_lines}
 use Rattle.fortran_lines.specs.Contexts.{is_inside, behind}
 use Rattle.fortran_lines.specs.Lines.{Part, is_nothing, code_part, put_before, before_amp, behind_amp, part_by, part_from, continued, part_of, by_next, joined, separates, cut, kept, pieces, statements_of}
 use Rattle.fortran_lines.specs.Faults.{too_long, not_ascii, open_literal, faults_of_part, faults_from, faults_of}

@@ -1,5 +1,5 @@
 -- Of some faults one is the first.
-use Rattle.std.proofs.Common.{◌≡◌, ℕ, List, false, refl, ap, ◌∙◌, arith}
+use Rattle.std.proofs.Common.{◌≡◌, ℕ, List, false, ap, ◌∙◌, arith}
 use Rattle.std.proofs.lemmas.List.Elements.{All-contains}
 use Rattle.caf_base.specs.declared.place.Pos.{Pos}
 use Rattle.fortran_lines.specs.declared.fault.LineFault.{LineFault}

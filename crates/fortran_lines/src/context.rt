@@ -6,7 +6,7 @@ ghost use Rattle.fortran_lines.specs.Contexts as spec;
 use crate::placed_byte::{PlacedByte, is_quote};
 
 /// The context behind some text of a statement.
-#[derive(Clone, Copy, PartialEq, Eq, Debug)]
+#[derive(Clone, Copy)]
 pub enum Context {
     /// No literal is open.
     Outside,
@@ -17,7 +17,7 @@ pub enum Context {
 }
 
 /// What stands before a line.
-#[derive(Clone, Copy, PartialEq, Eq, Debug)]
+#[derive(Clone, Copy)]
 pub enum Before {
     /// No continuation.
     Start,

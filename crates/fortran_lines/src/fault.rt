@@ -7,7 +7,7 @@ use caf_base::place::Pos;
 use thiserror::Error;
 
 /// A break of the rules of free source form, and its place. At one place the variants rank as they stand here.
-#[derive(Clone, Copy, PartialEq, Eq, Debug, Error)]
+#[derive(Clone, Copy, Debug, Error)]
 pub enum LineFault {
     /// A byte above 127 outside comments.
     #[error("NotAscii at {}:{}", .at.line, .at.col)]

@@ -9,7 +9,7 @@ use crate::context::{Before, Context, behind, context_behind, is_inside};
 use crate::placed_byte::{PlacedByte, all_blank, blank_at, is_blank};
 
 /// What a line is to a statement.
-#[derive(Clone, Copy, Debug)]
+#[derive(Clone, Copy)]
 pub struct Part<'a> {
     /// The line without its comment, and without the `&` with which it begins where it continues one.
     pub code: &'a [PlacedByte],

@@ -6,7 +6,7 @@ ghost use Rattle.fortran_lines.specs.PlacedBytes as spec;
 use caf_base::place::Pos;
 
 /// A byte of the source, and where it stands.
-#[derive(Clone, Copy, PartialEq, Eq, Debug)]
+#[derive(Clone, Copy)]
 pub struct PlacedByte {
     pub code: u8,
     pub at: Pos,

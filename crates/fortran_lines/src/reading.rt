@@ -183,7 +183,7 @@ impl Reading {
         self.first = first_with_open(first_in_code(self.first, part.code), part.left_open);
         push_text(&mut self.text, part.blank, part.text)?;
         self.before = part.next;
-        if part.next == Before::Start {
+        if matches!(part.next, Before::Start) {
             push_pieces(alloc, &mut self.stmts, self.text.as_slice())?;
             self.text.clear();
         }

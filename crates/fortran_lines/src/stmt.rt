@@ -6,7 +6,7 @@ use caf_base::listing::{Listing, Text};
 use caf_base::place::Pos;
 
 /// A statement: its text in one line, with no comment and no continuation, and the place of each byte. A blank that a continuation puts in has the place of the `&`.
-#[derive(Debug, Drop)]
+#[derive(Drop)]
 pub struct Stmt {
     pub text: Text,
     pub at: Listing<Pos>,

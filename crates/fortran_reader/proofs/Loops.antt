@@ -1,5 +1,5 @@
 -- One step of each loop.
-use Rattle.std.proofs.Common.{◌≡◌, refl, sym, ◌∙◌, ap, subst, arith, ℕ, zero, suc, ◌+◌, ◌-◌, ◌*◌, ◌^◌, ◌<◌, ◌≤◌, min, Bool, true, false, cond, List, [], ◌∷◌, ◌++◌, length, take, drop, get_or, Option, Some, None, option_map, option_and_then, append_assoc, append-nil, nat_lt, ◌==◌, inl, inr, not, add-one, take-suc, ltb-true, position}
+use Rattle.std.proofs.Common.{◌≡◌, refl, sym, ◌∙◌, ap, subst, arith, ℕ, zero, suc, ◌+◌, ◌-◌, ◌*◌, ◌^◌, ◌<◌, ◌≤◌, min, Bool, true, false, cond, List, [], ◌∷◌, ◌++◌, length, take, drop, get_or, Option, Some, None, option_map, option_and_then, append_assoc, nat_lt, ◌==◌, inl, inr, not, add-one, take-suc, ltb-true, position}
 use Rattle.std.proofs.lemmas.Int.Digits.{digits_value_push}
 use Rattle.std.specs.Char.{digit_value}
 use Rattle.std.proofs.lemmas.Bool.Decides.{nat_tests}
@@ -97,14 +97,6 @@ joined_fault step done n rest goal some given inv = sym (ap (λ o. option_map (�
 pub joined_over : {T A : Type 0} (step : List T → Option (A × List T)) (done : List A) (n : ℕ) (rest : List T) (goal : Option (List A)) → n ≡ 0 → 0 < length rest
     → option_map (λ more. done ++ more) (several step n rest) ≡ goal → None ≡ goal
 joined_over step done n rest goal e some inv = sym (ap (λ o. option_map (λ more. done ++ more) o) (several_over step n rest e some)) ∙ inv
-
-pub joined_end : {T A : Type 0} (step : List T → Option (A × List T)) (done : List A) (n : ℕ) (rest : List T) (goal : Option (List A)) → length rest ≡ 0
-    → option_map (λ more. done ++ more) (several step n rest) ≡ goal → Some done ≡ goal
-joined_end step done n rest goal e inv = ap Some (sym (append-nil done)) ∙ (sym (ap (λ o. option_map (λ more. done ++ more) o) (several_end step n rest e)) ∙ inv)
-
-pub joined_line_fault : (done : List Row) (n : ℕ) (line : List ℕ) (all behind : List (List ℕ)) (goal : Option (List Row)) → all ≡ line ∷ behind → tokens_of line ≡ None
-    → option_map (λ more. done ++ more) (rows_from n all) ≡ goal → None ≡ goal
-joined_line_fault done n line all behind goal split given inv = sym (ap (λ o. option_map (λ more. done ++ more) o) (rows_fault n line all behind split given)) ∙ inv
 
 -- one digit more
 pub value_turn : (ds : List ℕ) (i v w u : ℕ) → list_all is_digit ds ≡ true → i < length ds → v ≡ min (digits_value 10 (take i ds)) (2 ^ 32 - 1)

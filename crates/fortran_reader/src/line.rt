@@ -11,7 +11,7 @@ use caf_base::refusal::NoMemory;
 use std::alloc::Global;
 
 /// A line that isn't blank: its number from 1, and its tokens.
-#[derive(Drop, Debug)]
+#[derive(Drop)]
 pub struct Row {
     pub line: u32,
     pub tokens: Listing<Token>,

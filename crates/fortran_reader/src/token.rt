@@ -16,7 +16,7 @@ use std::alloc::Global;
 const GREATEST: u32 = 2_147_483_647;
 
 /// A token that is always spelled alike: a keyword, an operator or a delimiter.
-#[derive(Clone, Copy, PartialEq, Eq, Debug)]
+#[derive(Clone, Copy, PartialEq, Eq)]
 pub enum Mark {
     Integer,
     Sync,
@@ -42,7 +42,7 @@ pub enum Mark {
 }
 
 /// A token.
-#[derive(Drop, Debug)]
+#[derive(Drop)]
 pub enum Token {
     Fixed(Mark),
     Name(Text),

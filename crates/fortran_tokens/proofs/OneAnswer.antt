@@ -14,7 +14,7 @@ use Rattle.fortran_tokens.specs.declared.cut.Piece.{Piece}
 use Rattle.fortran_tokens.specs.declared.cut.Wrong.{Wrong}
 use Rattle.fortran_tokens.specs.Bytes.{is_blank}
 use Rattle.fortran_tokens.specs.Cuts.{IsLongest, IsToken, IsWrong, IsCut, AreBlanks, IsStopped, excess_of, distance_of}
-use Rattle.fortran_tokens.specs.Tokens.{AreTokens, IsRefused, IsFaultOf, fault_at, piece_of, with_halves}
+use Rattle.fortran_tokens.specs.Tokens.{AreTokens, IsRefused, fault_at, piece_of, with_halves}
 use Rattle.fortran_tokens.proofs.Same.{same_length, same_kind, begins_within, not_later, same_start, blanks_alone, one_cut}
 
 -- at one place one thing is wrong

@@ -13,7 +13,7 @@ use caf_base::refusal::Refusal;
 use std::alloc::Global;
 
 /// A token without its place.
-#[derive(Clone, Copy, PartialEq, Eq, Debug)]
+#[derive(Clone, Copy)]
 pub struct Piece {
     pub kind: TokenKind,
     pub from: u32,
@@ -21,7 +21,7 @@ pub struct Piece {
 }
 
 /// Something that is wrong in a text: the text is cut up to `end`.
-#[derive(Clone, Copy, PartialEq, Eq, Debug)]
+#[derive(Clone, Copy)]
 pub struct Wrong {
     pub end: usize,
     pub excess: Excess,

@@ -3,7 +3,7 @@
 use caf_base::place::Pos;
 
 /// A token of fixed spelling: an operator, a logical literal, or a sign. The two spellings of a relation are one token.
-#[derive(Clone, Copy, PartialEq, Eq, Debug)]
+#[derive(Clone, Copy)]
 pub enum Sign {
     Plus,
     Minus,
@@ -41,7 +41,7 @@ pub enum Sign {
 }
 
 /// The sort of a token.
-#[derive(Clone, Copy, PartialEq, Eq, Debug)]
+#[derive(Clone, Copy)]
 pub enum TokenKind {
     /// A name or a keyword, of 63 characters at most.
     Name,
@@ -53,7 +53,7 @@ pub enum TokenKind {
 }
 
 /// A token: its text is the slice `from..to` of its statement's text, and its first byte stands at `at`.
-#[derive(Clone, Copy, PartialEq, Eq, Debug)]
+#[derive(Clone, Copy)]
 pub struct Token {
     pub kind: TokenKind,
     pub from: u32,

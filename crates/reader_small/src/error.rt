@@ -5,21 +5,21 @@ ghost use Rattle.std.specs.Prelude.{◌≡◌};
 use std::alloc::{AllocError, AllocFailed};
 
 /// Why a text is refused at a token: no statement goes on with it, or one level more than may be open begins at it.
-#[derive(Clone, Copy, PartialEq, Eq, Debug)]
+#[derive(Clone, Copy)]
 pub enum Cause {
     Expected,
     TooDeep,
 }
 
 /// A refusal. Its place is told by the number of tokens from it on: 0 just past the end.
-#[derive(Clone, Copy, PartialEq, Eq, Debug)]
+#[derive(Clone, Copy)]
 pub struct Refusal {
     pub cause: Cause,
     pub left: usize,
 }
 
 /// The text is refused, or memory ran out.
-#[derive(Debug, Drop)]
+#[derive(Drop)]
 pub enum ReadError {
     Memory,
     Refused(Refusal),

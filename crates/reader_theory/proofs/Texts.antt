@@ -8,7 +8,8 @@ use Rattle.reader_theory.specs.Readers.{then_by, more_of}
 use Rattle.reader_theory.specs.Exactness.{never, Exact}
 use Rattle.reader_theory.specs.Languages.{Nothing, By}
 use Rattle.reader_theory.specs.Texts.{AnyOf, Rest, tries, tries_or_end, from_here}
-use Rattle.reader_theory.proofs.Marks.{bare_append, never_stops, shallow_front, shallow_back}
+use Rattle.reader_theory.specs.TextLaws.{OnePart}
+use Rattle.reader_theory.proofs.Marks.{bare_append, never_stops, shallow_back}
 use Rattle.reader_theory.proofs.Single.{exact_nothing}
 use Rattle.reader_theory.proofs.Fronts.{same_answers}
 use Rattle.reader_theory.proofs.Whole.{exact_whole}
@@ -123,8 +124,8 @@ module _ {T A S I : Type 0} (L : I → A → List (Mark T) → Type 0) (p : I �
         (let g = alive s f in subst (λ js. Answers (Ways L forms next final s js) ts (tries p next (from_here p forms next final n) s js ts)) (sym g.2) (tries_answer (from_here p forms next final n) s g.0 g.1 ts (λ r us k. exact_rest_of_text n r us (omega arith)))))
   ]
 
--- Each text has one reading, where no two parts that a place allows begin one text, and each is longer than none.
-module _ {T A S I : Type 0} (L : I → A → List (Mark T) → Type 0) (forms : S → List I) (next : S → A → S) (final : S → Bool) (longer : (s : S) (a : A) (w : List (Mark T)) → AnyOf L (forms s) a w → 1 ≤ length (bare w)) (one_part : (s : S) (a b : A) (u v : List (Mark T)) (r q : List T) → AnyOf L (forms s) a u → AnyOf L (forms s) b v → Shallow u → Shallow v → bare u ++ r ≡ bare v ++ q → (a ≡ b) × (r ≡ q)) where
+-- Each text has one reading, where no two parts that a place allows begin one text with rests that they allow, and each is longer than none.
+module _ {T A S I : Type 0} (L : I → A → List (Mark T) → Type 0) (forms : S → List I) (next : S → A → S) (final : S → Bool) (longer : (s : S) (a : A) (w : List (Mark T)) → AnyOf L (forms s) a w → 1 ≤ length (bare w)) (one_part : OnePart L forms next final) where
   not_none : (s : S) (a : A) (u v : List (Mark T)) → AnyOf L (forms s) a u → [] ≡ bare u ++ bare v → ⊥
   not_none s a u v h e = let l = longer s a u h in let k = ap length e ∙ length-append (bare u) (bare v) in absurd (omega arith)
 
@@ -133,8 +134,7 @@ module _ {T A S I : Type 0} (L : I → A → List (Mark T) → Type 0) (forms : 
   one_of_texts [] (b ∷ fs) s ts (w, h, i, e) (z, (u, v, k, l, split), j, g) = absurd (not_none s b u v k (sym (e ∙ ap bare h.1) ∙ (g ∙ (ap bare split ∙ bare_append u v))))
   one_of_texts (a ∷ es) [] s ts (z, (u, v, k, l, split), j, g) (w, h, i, e) = absurd (not_none s a u v k (sym (e ∙ ap bare h.1) ∙ (g ∙ (ap bare split ∙ bare_append u v))))
   one_of_texts (a ∷ es) (b ∷ fs) s ts (w, (u, v, h, i, split), j, e) (w2, (u2, v2, h2, i2, split2), j2, e2) =
-      let k = one_part s a b u u2 (bare v) (bare v2) h h2 (shallow_front u v (subst Shallow split j)) (shallow_front u2 v2 (subst Shallow split2 j2))
-      (sym (e ∙ (ap bare split ∙ bare_append u v)) ∙ (e2 ∙ (ap bare split2 ∙ bare_append u2 v2))) in
+      let k = one_part s a b es fs u u2 v v2 h h2 i i2 (subst Shallow split j) (subst Shallow split2 j2) (sym (e ∙ (ap bare split ∙ bare_append u v)) ∙ (e2 ∙ (ap bare split2 ∙ bare_append u2 v2))) in
       let more = one_of_texts es fs (next s a) (bare v) (v, i, shallow_back u v (subst Shallow split j), refl)
       (v2, subst (λ c. Rest L forms next final fs (next s c) v2) (sym k.0) i2, shallow_back u2 v2 (subst Shallow split2 j2), k.1) in
       ap (λ c. c ∷ es) k.0 ∙ ap (λ gs. b ∷ gs) more

@@ -22,16 +22,17 @@ TextsAreExact {T} {A} {S} {I} L forms next final =
     → ((s : S) → final s ≡ false → (i : I) × (is : List I) × (forms s ≡ i ∷ is))
     → (n : ℕ) (s : S) (ts : List T) → length ts ≤ n → Answers (λ es w. Rest L forms next final es s w) ts (from_here p forms next final n s ts)
 
--- no two parts that a place allows begin one text
-abbrev pub OnePart : {T A S I : Type 0} → (I → Language T A) → (S → List I) → Type 0
-OnePart {T} {A} {S} L forms =
-    (s : S) (a b : A) (u v : List (Mark T)) (r q : List T) → AnyOf L (forms s) a u → AnyOf L (forms s) b v → Shallow u → Shallow v → bare u ++ r ≡ bare v ++ q
-    → (a ≡ b) × (r ≡ q)
+-- no two parts that a place allows begin one text, each with a rest that its next place allows
+abbrev pub OnePart : {T A S I : Type 0} → (I → Language T A) → (S → List I) → (S → A → S) → (S → Bool) → Type 0
+OnePart {T} {A} {S} L forms next final =
+    (s : S) (a b : A) (es fs : List A) (u v x y : List (Mark T)) → AnyOf L (forms s) a u → AnyOf L (forms s) b v
+    → Rest L forms next final es (next s a) x → Rest L forms next final fs (next s b) y
+    → Shallow (u ++ x) → Shallow (v ++ y) → bare u ++ bare x ≡ bare v ++ bare y → (a ≡ b) × (bare x ≡ bare y)
 
 -- a text of parts has one reading at most
 abbrev pub TextsReadOnce : {T A S I : Type 0} → (I → Language T A) → (S → List I) → (S → A → S) → (S → Bool) → Type 0
 TextsReadOnce {T} {A} {S} L forms next final =
-    ((s : S) (a : A) (w : List (Mark T)) → AnyOf L (forms s) a w → 1 ≤ length (bare w)) → OnePart L forms
+    ((s : S) (a : A) (w : List (Mark T)) → AnyOf L (forms s) a w → 1 ≤ length (bare w)) → OnePart L forms next final
     → (s : S) → OneReading (λ es w. Rest L forms next final es s w)
 
 -- Why a text is refused: which of its tokens sink first.

@@ -1,0 +1,14 @@
+pub mod Openings
+pub mod Reading
+pub mod Plain
+pub mod Tests
+pub mod Pieces
+pub mod Selectors
+pub mod Full
+pub mod Designators
+pub mod Slack
+pub mod Laws
+pub mod Words
+pub mod Results
+pub mod PieceViews
+pub mod Levels

@@ -1,0 +1,4 @@
+pub mod Sequence
+pub mod Nesting
+pub mod Laws
+pub mod Unfinished

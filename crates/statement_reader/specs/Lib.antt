@@ -1,0 +1,14 @@
+pub mod Statements
+pub mod Families
+pub mod Actions
+pub mod Dimensions
+pub mod Objects
+pub mod Keywords
+pub mod Heads
+pub mod Declarations
+pub mod Units
+pub mod Lines
+pub mod Skipping
+pub mod Parts
+pub mod Forms
+pub mod Laws
