@@ -1,0 +1,15 @@
+pub mod Words
+pub mod Statuses
+pub mod Faults
+pub mod Acts
+pub mod Core
+pub mod Taking
+pub mod Places
+pub mod Sections
+pub mod Frames
+pub mod Teams
+pub mod Owning
+pub mod Formats
+pub mod Replies
+pub mod Operate
+pub mod Meaning

@@ -1,0 +1,36 @@
+-- Statuses (ISO/IEC 1539-1:2018, 11.6.11) and limits, as numbers.
+use Rattle.std.specs.Prelude.{ℕ, ℤ, pos, negsuc}
+
+abbrev pub stopped_image : ℤ
+stopped_image = pos 6000
+
+abbrev pub failed_image : ℤ
+failed_image = pos 6001
+
+abbrev pub unlocked_failed_image : ℤ
+unlocked_failed_image = pos 6002
+
+abbrev pub bad_argument : ℤ
+bad_argument = pos 6006
+
+-- what stands in the place of a status where the coarray isn't there, and where an atomic action's result leaves its kind
+abbrev pub absent : ℤ
+absent = negsuc 0
+
+abbrev pub overflowed : ℤ
+overflowed = negsuc 1
+
+-- the most evaluation cells, local cells and coarray cells of an image
+abbrev pub most_cells : ℕ
+most_cells = 65536
+
+-- the most cells of one access, and the most frames
+abbrev pub most_access_cells : ℕ
+most_access_cells = 4096
+
+abbrev pub most_frames : ℕ
+most_frames = 256
+
+-- the greatest iteration count that is kept: no run comes to it
+abbrev pub most_iterations : ℕ
+most_iterations = 9223372036854775807

@@ -1,0 +1,9 @@
+pub mod Trees
+pub mod DeclarationTries
+pub mod ExpressionTries
+pub mod StatementTries
+pub mod UnitTries
+pub mod PrecedenceTries
+pub mod CornerTries
+pub mod MeaningTries
+pub mod PartTries

@@ -1,0 +1,53 @@
+//! The names of a scope.
+
+ghost use Rattle.std.specs.Prelude.{◌≡◌, ◌++◌, ◌∷◌, [], not, cond, IfOk, OnErr};
+ghost use Rattle.rule_definitions.specs.Names.{is_among};
+ghost use Rattle.scope_table.specs.Names.{place_of};
+
+use caf_base::listing::Text;
+use caf_base::refusal::NoMemory;
+use indexmap::IndexSet;
+use std::alloc::Global;
+use std::marker::Model;
+
+/// Names in declared order, none of them twice.
+#[derive(Drop)]
+pub struct Names {
+    set: IndexSet<Vec<u8>>,
+}
+
+impl Model for Names {
+    ghost use Rattle.std.specs.Prelude.{List, ℕ, map};
+
+    ghost Value = { List (List ℕ) };
+
+    ghost view = { λ n. map (λ v. v.items) n.set.keys };
+}
+
+impl Names {
+    /// No names.
+    pub fn new(alloc: Global) -> Names
+        ensures { result ≡ [] }
+    {
+        Names {
+            set: IndexSet::new(alloc),
+        }
+    }
+
+    /// The number of a name in declared order, from 0.
+    pub fn find(&self, name: &[u8]) -> Option<usize>
+        ensures { result ≡ place_of name.now self.now }
+    {
+        self.set.get_index_of(name)
+    }
+
+    /// Puts a name at the end; false where it is there already, and then nothing changes.
+    pub fn add(&mut self, name: Text) -> Result<bool, NoMemory>
+        ensures there { IfOk result (λ new. new ≡ not (is_among self.old name)) }
+        ensures names { IfOk result (λ new. self.new ≡ cond new (self.old ++ name ∷ []) self.old) }
+        ensures kept { OnErr result (self.new ≡ self.old) }
+    {
+        let (_, new) = self.set.insert_full(name.into_vec())?;
+        Ok(new)
+    }
+}

@@ -1,0 +1,14 @@
+pub mod Trying
+pub mod SmallTrees
+pub mod SmallAsks
+pub mod Tries
+pub mod ArrayTries
+pub mod TeamTries
+pub mod ProcedureTries
+pub mod SelectorTries
+pub mod ProgramTries
+pub mod FormTries
+pub mod OrderTries
+pub mod DoLoops
+pub mod Values
+pub mod Settling

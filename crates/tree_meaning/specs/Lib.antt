@@ -1,0 +1,14 @@
+pub mod Environment
+pub mod Sequences
+pub mod Expressions
+pub mod Settling
+pub mod Assignments
+pub mod ImageControl
+pub mod Pieces
+pub mod Subroutines
+pub mod Allocation
+pub mod Forms
+pub mod Start
+pub mod Configured
+pub mod DoLoops
+pub mod Values
