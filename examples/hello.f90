@@ -1,0 +1,2 @@
+print *, this_image()
+end

@@ -1,0 +1,59 @@
+# The tables of docs/REFUSALS.md, read by read_tables. An entry is a kind and a key: refusal 32, status 8, fault Overflow, code 6001, wait leave, limit stamp.
+# Its cells are in name, meaning, standard, example and place, by entry; is_told tells which of them today's program tells.
+
+function kind_of(section) {
+    if (section == "Statuses") return "status"
+    if (section == "Refusals") return "refusal"
+    if (section == "Run faults") return "fault"
+    if (section == "Codes of a status") return "code"
+    if (section == "What an image waits for") return "wait"
+    if (section == "Limits") return "limit"
+    return ""
+}
+
+function plain(text) {
+    gsub(/`/, "", text)
+    return text
+}
+
+function keep_row(kind, cells, count,   entry) {
+    entry = kind " " cells[1]
+    entries[++entry_count] = entry
+    kind_at[entry] = kind
+    key_at[entry] = cells[1]
+    name[entry] = cells[kind == "fault" || kind == "wait" || kind == "limit" ? 1 : 2]
+    meaning[entry] = plain(cells[kind == "status" ? 4 : kind == "fault" || kind == "wait" || kind == "limit" ? 2 : 3])
+    if (kind == "status") output[entry] = plain(cells[3])
+    if (kind == "refusal") {
+        standard[entry] = plain(cells[4])
+        example[entry] = cells[5]
+        place[entry] = cells[6]
+    }
+    if (kind == "fault") {
+        standard[entry] = plain(cells[3])
+        example[entry] = cells[4]
+    }
+}
+
+function keep_told(kind, list,   words, count, i) {
+    count = split(list, words, " ")
+    for (i = 1; i <= count; i++) is_told[kind " " words[i]] = 1
+}
+
+function read_tables(path,   line, kind, in_rows, cells, count) {
+    while ((getline line < path) > 0) {
+        if (line ~ /^## /) {
+            kind = kind_of(substr(line, 4))
+            in_rows = 0
+        }
+        if (line ~ /^- statuses: /) keep_told("status", substr(line, 13))
+        if (line ~ /^- refusals: /) keep_told("refusal", substr(line, 13))
+        if (line ~ /^- run faults: /) keep_told("fault", substr(line, 15))
+        if (line ~ /^\|---/) in_rows = 1
+        if (kind != "" && in_rows && line ~ /^\| /) {
+            count = split(substr(line, 3, length(line) - 4), cells, / [|] /)
+            keep_row(kind, cells, count)
+        }
+    }
+    close(path)
+}

@@ -1,0 +1,35 @@
+# Says what is wrong with the tables of docs/REFUSALS.md, and writes the example of each entry that today's program tells, and
+# its answer, to the folder CAF_TO: NAME.f90 and NAME.wanted.
+
+BEGIN {
+    read_tables(ENVIRON["CAF_TABLES"])
+    for (i = 1; i <= entry_count; i++) check_entry(entries[i])
+    for (i = 0; i <= 13; i++) want("status " i)
+    for (i = 1; i <= 59; i++) if (i <= 10 || i >= 20) want("refusal " i)
+    for (entry in is_told) if (seen[entry] != 1) print "told, but in no table: " entry
+}
+
+function want(entry) {
+    if (seen[entry] != 1) print entry " stands " seen[entry] + 0 " times"
+}
+
+function check_entry(entry,   text, parts) {
+    seen[entry]++
+    if (name[entry] == "" || meaning[entry] == "") print entry " has no name or no meaning"
+    if (!(entry in example)) return
+    text = substr(example[entry], 2, length(example[entry]) - 2)
+    if (entry in place) {
+        split(place[entry], parts, ":")
+        if (example[entry] ~ /^`/ && (parts[1] != 1 || parts[2] < 1 || parts[2] > length(text))) print entry " has its place out of its example"
+    }
+    if (entry in is_told) write_example(entry, text)
+}
+
+# A refusal's place is one in the example's single line; the statements of a run fault's example get lines of their own.
+function write_example(entry, text,   file) {
+    file = ENVIRON["CAF_TO"] name[entry]
+    if (kind_at[entry] == "fault") gsub(/; /, "\n", text)
+    print text >(file ".f90")
+    if (kind_at[entry] == "fault") print "fault image 1 " key_at[entry] >(file ".wanted")
+    else print "refused " key_at[entry] " at " place[entry] >(file ".wanted")
+}
