@@ -1,0 +1,124 @@
+-- A lane by its program goes as the program goes, and is at rest and over where the program is.
+use Rattle.std.proofs.Common.{◌≡◌, ℕ, zero, suc, ◌+◌, ◌*◌, ◌<◌, ◌≤◌, Bool, true, false, cond, List, [], ◌∷◌, ◌++◌, length, inl, inr, refl, ap, arith, length-append}
+use Rattle.std.specs.Prelude.{map, not, filter}
+use Rattle.std.proofs.lemmas.Bool.{cases_Bool}
+use Rattle.caf_events.specs.declared.ask.Ask.{Ask}
+use Rattle.caf_events.specs.declared.ask.Ask.TheVariants as asking
+use Rattle.caf_events.specs.declared.reply.Reply.{Reply}
+use Rattle.caf_events.specs.Walkers.{IsOver}
+use Rattle.trace_theory.specs.Machines.{Move, goes, asks, over, go, goes_on, Rests}
+use Rattle.core_runs.specs.Failures.{LockPlace, same_place, lock_place, without, held_after, release_of, failure_steps}
+use Rattle.object_rules.specs.Locks.{has_status, acquires}
+use Rattle.image_lanes.specs.Lanes.{by_program, OnLane, is_due, is_full, is_failure, begins_to_fail, is_limited, goes_past, program_next, failure_next, lane_step, course_left, lane_left}
+
+-- the lane with its program at c
+abbrev pub at_program : {C : Type 0} → OnLane C → C → OnLane C
+at_program l c = record l { program = c; course = by_program }
+
+module _ {C : Type 0} (step : C → Move C Ask Reply) where
+  same_goes : (x y : C) → ◌≡◌ {A = Move C Ask Reply} (goes x) (goes y) → x ≡ y
+  same_goes x y h = cc
+
+  go_by : (n : ℕ) (l : OnLane C) (x y : C) (m : Move C Ask Reply) → step x ≡ m → goes_on m (go step n) ≡ goes y
+      → ((c : C) → go step n c ≡ goes y → go (lane_step step) n (at_program l c) ≡ goes (at_program l y)) → goes_on (program_next (at_program l x) m) (go (lane_step step) n) ≡ goes (at_program l y)
+  go_by n l x y (goes c) e h next = next c h
+  go_by n l x y (asks a line k) e h next = absurd (cc)
+  go_by n l x y over e h next = absurd (cc)
+
+  -- the program's steps that ask nothing are the lane's
+  pub go_lane : (n : ℕ) (l : OnLane C) (x y : C) → go step n x ≡ goes y → go (lane_step step) n (at_program l x) ≡ goes (at_program l y)
+  go_lane zero l x y h = ap (λ c. goes (at_program l c)) (same_goes x y h)
+  go_lane (suc n) l x y h = go_by n l x y (step x) refl h (λ c e. go_lane n l c y e)
+
+  rests_at : (l : OnLane C) (m : Move C Ask Reply) → Rests m → Rests (program_next l m)
+  rests_at l (goes c) h = absurd h
+  rests_at l (asks a line k) h = elim (cases_Bool (is_due l)) [
+    | inl t ↦ rw t tt
+    | inr f ↦ rw f (elim (cases_Bool (is_failure a)) [ inl t ↦ rw t tt | inr g ↦ rw g (elim (cases_Bool (is_full l)) [ inl t ↦ rw t tt | inr i ↦ rw i tt ]) ])
+  ]
+  rests_at l over h = tt
+
+  -- a lane by a program that is at rest is at rest, and so is one in a failure or at a limit
+  pub rests_lane : (l : OnLane C) → Rests (step l.program) → Rests (program_next l (step l.program))
+  rests_lane l h = rests_at l (step l.program) h
+
+  pub rests_failing : (l : OnLane C) (steps : List Ask) (line : ℕ) → Rests (failure_next l steps line)
+  rests_failing l [] line = tt
+  rests_failing l (a ∷ as_) line = tt
+
+  over_at : (l : OnLane C) (m : Move C Ask Reply) → IsOver (program_next l m) → IsOver m
+  over_at l (goes c) h = absurd h
+  over_at l (asks a line k) h = absurd (never h)
+    where
+      never : IsOver (program_next l (asks a line k)) → ⊥
+      never = elim (cases_Bool (is_due l)) [
+        | inl t ↦ rw t (λ x. x)
+        | inr f ↦ rw f (elim (cases_Bool (is_failure a)) [ inl t ↦ rw t (λ x. x) | inr g ↦ rw g (elim (cases_Bool (is_full l)) [ inl t ↦ rw t (λ x. x) | inr i ↦ rw i (λ x. x) ]) ])
+      ]
+  over_at l over h = tt
+
+  -- it is over exactly where its program is
+  pub over_lane : (l : OnLane C) → IsOver (program_next l (step l.program)) → IsOver (step l.program)
+  over_lane l h = over_at l (step l.program) h
+
+  over_back : (l : OnLane C) (m : Move C Ask Reply) → IsOver m → IsOver (program_next l m)
+  over_back l (goes c) h = absurd h
+  over_back l (asks a line k) h = absurd h
+  over_back l over h = tt
+
+  pub lane_over : (l : OnLane C) → IsOver (step l.program) → IsOver (program_next l (step l.program))
+  lane_over l h = over_back l (step l.program) h
+
+-- ---- how many asks are still to come
+filter_few : {A : Type 0} (p : A → Bool) (xs : List A) → length (filter p xs) ≤ length xs
+filter_few p [] = omega arith
+filter_few p (x ∷ xs) = elim (cases_Bool (p x)) [
+  | inl t ↦ (let r = filter_few p xs in rw t (omega arith))
+  | inr f ↦ (let r = filter_few p xs in rw f (omega arith))
+]
+
+got_few : (b : Bool) (p : LockPlace) (held : List LockPlace) → length (cond b (without p held ++ p ∷ []) held) ≤ length held + 1
+got_few true p held =
+    let a = length-append (without p held) (p ∷ []) in
+    let b = filter_few (λ q. not (same_place q p)) held in
+    omega arith
+got_few false p held = omega arith
+
+lost_few : (b : Bool) (p : LockPlace) (held : List LockPlace) → length (cond b (without p held) held) ≤ length held + 1
+lost_few true p held = let b = filter_few (λ q. not (same_place q p)) held in omega arith
+lost_few false p held = omega arith
+
+-- a step gets at most one lock
+pub held_few : (held : List LockPlace) (a : Ask) (r : Reply) → length (held_after held a r) ≤ length held + 1
+held_few held (asking.Lock owner span) r = got_few (acquires r) (lock_place owner span) held
+held_few held (asking.TryLock owner span) r = got_few (acquires r) (lock_place owner span) held
+held_few held (asking.Unlock owner span) r = lost_few (has_status _ r) (lock_place owner span) held
+held_few held a r = omega arith
+
+length_map : {A B : Type 0} (f : A → B) (xs : List A) → length (map f xs) ≡ length xs
+length_map f [] = refl
+length_map f (x ∷ xs) = ap suc (length_map f xs)
+
+failure_length : (i : ℕ) (held : List LockPlace) → length (failure_steps i held) ≡ length held + 2
+failure_length i held =
+    let a = length-append (map release_of held) (asking.Gone ∷ []) in
+    let b = length_map release_of held in
+    omega arith
+
+module _ {C : Type 0} (left : C → ℕ) (l : OnLane C) (by : l.course ≡ by_program) where
+  left_is : lane_left left l ≡ 2 * left l.program + length l.held + 4
+  left_is = ap (course_left (left l.program) l) by
+
+  -- fewer are to come after the beginning of a failure, after a limit, and after a step of the program
+  pub fewer_failing : (line : ℕ) → lane_left left (begins_to_fail l line) < lane_left left l
+  fewer_failing line = let a = left_is in let b = failure_length l.image l.held in omega arith
+
+  pub fewer_limited : lane_left left (is_limited l) < lane_left left l
+  fewer_limited = let a = left_is in omega arith
+
+  pub fewer_past : (a : Ask) (r : Reply) (c : C) → left c < left l.program → lane_left left (goes_past l a r c) < lane_left left l
+  fewer_past a r c less =
+      let e = left_is in
+      let f : lane_left left (goes_past l a r c) ≡ 2 * left c + length (held_after l.held a r) + 4 = ap (course_left (left c) (goes_past l a r c)) by in
+      let h = held_few l.held a r in
+      omega arith

@@ -1,0 +1,6 @@
+pub mod LaneRows
+pub mod LaneLaws
+pub mod CourseLaws
+pub mod Releases
+pub mod Giving
+pub mod FailureLaws

@@ -1,0 +1,4 @@
+pub mod Lanes
+pub mod Courses
+pub mod Holds
+pub mod LaneStates

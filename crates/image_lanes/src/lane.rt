@@ -1,0 +1,223 @@
+//! The machine of a lane.
+
+ghost use Rattle.std.specs.Prelude.{◌≡◌, ◌<◌, ◌+◌, ◌^◌, ◌↔◌, ◌||◌, false};
+ghost use Rattle.trace_theory.specs.Machines.{Rests};
+ghost use Rattle.caf_events.specs.Events.{recorded_words};
+ghost use Rattle.caf_events.specs.Walkers.{AsksNext, IsAtLine, Continues, IsOver, EndsAfter};
+ghost use Rattle.image_lanes.specs.Lanes.{is_failure, is_due, is_full, lane_start, lane_step, lane_hears, begins_to_fail, fails_on, is_limited, goes_past};
+ghost use Rattle.image_lanes.specs.LaneStates.{lane_of, Given};
+ghost use Rattle.image_lanes.specs.Holds.{steps_from, rest_of};
+ghost use Rattle.image_lanes.specs.declared.course.Going.TheVariants as goings;
+
+use crate::course::{Failing, Going};
+use crate::held::HeldLocks;
+use caf_base::place::{ImageNo, Place};
+use caf_base::refusal::NoMemory;
+use caf_events::ask::Ask;
+use caf_events::event::Event;
+use caf_events::walker::{Next, Walker};
+use std::alloc::Global;
+
+/// The machine of an image's program with the image's failure and its limit of recorded words.
+#[derive(Drop)]
+pub struct Lane<M> {
+    alloc: Global,
+    image: ImageNo,
+    fails_in: u32,
+    limit: u32,
+    machine: M,
+    words: u64,
+    held: HeldLocks,
+    going: Going,
+}
+
+// Whether the ask is that of FAIL IMAGE.
+fn fails(ask: &Ask) -> bool
+    ensures { result ≡ is_failure ask.now }
+{
+    matches!(ask, Ask::Fail)
+}
+
+impl<M: Walker> Lane<M> {
+    /// The lane of an image before its first step. Its failure starts at its event of the number `fails_at`, counted from 1 (0 for
+    /// none), if its program doesn't fail before; with `limit` recorded words or more its next step is the limit.
+    pub fn new(alloc: Global, image: ImageNo, fails_at: u32, limit: u32, machine: M) -> Lane<M>
+        ensures { lane_of M.Walker result ≡ lane_start image.0 fails_at limit (M.config machine) }
+    {
+        Lane {
+            alloc,
+            image,
+            fails_in: fails_at,
+            limit,
+            machine,
+            words: 0,
+            held: HeldLocks::new(alloc),
+            going: Going::ByProgram,
+        }
+    }
+
+    fn is_due(&self) -> bool
+        ensures { result ≡ is_due (lane_of M.Walker self.now) }
+    {
+        self.fails_in == 1
+    }
+
+    fn is_full(&self) -> bool
+        ensures is { result ≡ is_full (lane_of M.Walker self.now) }
+        ensures few { result ≡ false → self.now.words < 2 ^ 32 }
+    {
+        u64::from(self.limit) <= self.words
+    }
+
+    fn begin_to_fail(&mut self, line: u32)
+        ensures { lane_of M.Walker self.new ≡ begins_to_fail (lane_of M.Walker self.old) line }
+    {
+        self.going = Going::Failing {
+            step: Failing::Mark,
+            line,
+        };
+    }
+
+    fn come_to_limit(&mut self)
+        ensures { lane_of M.Walker self.new ≡ is_limited (lane_of M.Walker self.old) }
+    {
+        self.going = Going::AtLimit;
+    }
+
+    // A step of the program.
+    fn go_past(&mut self, asked: &Ask, event: &Event)
+        requires going { self.old.going ≡ goings.ByProgram }
+        requires ask { asked.now ≡ event.now.ask }
+        requires asked { AsksNext (M.step (M.config self.old.machine)) event.now.ask }
+        requires line { IsAtLine (M.step (M.config self.old.machine)) event.now.line }
+        requires hears { M.hears (M.config self.old.machine) event.now.reply }
+        requires room { M.has_room self.old.machine }
+        requires lock { 0 < self.old.held.room }
+        requires words { self.old.words + recorded_words event.now < 2 ^ 64 }
+        ensures past { lane_of M.Walker self.new ≡ goes_past (lane_of M.Walker self.old) event.now.ask event.now.reply (M.config self.new.machine) }
+        ensures goes { Continues M.step (M.step (M.config self.old.machine)) event.now.reply (M.config self.new.machine) }
+        ensures rests { Rests (M.step (M.config self.new.machine)) }
+        ensures ends { IsOver (M.step (M.config self.new.machine)) ↔ EndsAfter (M.step (M.config self.old.machine)) event.now.reply }
+        ensures spends { M.asks_left (M.config self.new.machine) < M.asks_left (M.config self.old.machine) }
+    {
+        self.machine.give(event);
+        self.words += event.words();
+        self.fails_in = self.fails_in.saturating_sub(1);
+        let reply = event.reply(self.alloc);
+        self.held.note(asked, &reply);
+        drop(reply);
+    }
+
+    // Whether the image fails with this ask of the lane: by the list, or by its statement.
+    fn begins_failure(&self, asked: &Ask) -> bool
+        ensures { result ≡ (is_due (lane_of M.Walker self.now) || is_failure asked.now) }
+    {
+        self.is_due() || fails(asked)
+    }
+
+    // Goes on with an event, where the lane goes on by its program.
+    fn go_on(&mut self, asked: &Ask, event: &Event)
+        requires going { self.old.going ≡ goings.ByProgram }
+        requires ask { asked.now ≡ event.now.ask }
+        requires asked { AsksNext (lane_step M.step (lane_of M.Walker self.old)) event.now.ask }
+        requires line { IsAtLine (lane_step M.step (lane_of M.Walker self.old)) event.now.line }
+        requires hears { lane_hears M.step M.hears (lane_of M.Walker self.old) event.now.reply }
+        requires room { M.has_room self.old.machine }
+        requires lock { 0 < self.old.held.room }
+        ensures { Given M.step M.asks_left (lane_of M.Walker self.old) event.now.reply (lane_of M.Walker self.new) }
+    {
+        if self.begins_failure(asked) {
+            self.begin_to_fail(event.line());
+        } else if self.is_full() {
+            self.come_to_limit();
+        } else {
+            self.go_past(asked, event);
+        }
+    }
+
+    // Goes on with the next step of a failure.
+    fn fail_on(&mut self, step: Failing, line: u32)
+        ensures { lane_of M.Walker self.new ≡ fails_on (lane_of M.Walker self.old) (rest_of (steps_from self.old.image.0 self.old.held.locks step)) line }
+    {
+        let step = step.after(&self.held);
+        self.going = Going::Failing { step, line };
+    }
+}
+
+impl<M: Walker> Walker for Lane<M> {
+    ghost use Rattle.std.specs.Prelude.{◌<◌};
+    ghost use Rattle.image_lanes.specs.Lanes.{OnLane, lane_step, lane_hears, lane_left};
+    ghost use Rattle.image_lanes.specs.Holds.{ByProgram};
+    ghost use Rattle.image_lanes.specs.LaneStates.{lane_of};
+
+    ghost Config = { OnLane M.Config };
+
+    ghost config = { lane_of M.Walker };
+
+    ghost step = { lane_step M.step };
+
+    ghost hears = { lane_hears M.step M.hears };
+
+    ghost asks_left = { lane_left M.asks_left };
+
+    ghost has_room = { λ l. ByProgram l.going (M.has_room l.machine × (0 < l.held.room)) };
+
+    fn next(&self) -> Next {
+        match self.going {
+            Going::ByProgram => match self.machine.next() {
+                Next::Ask(_) if self.is_due() || self.is_full() => Next::Ask(Place::Own),
+                next => next,
+            },
+            Going::Failing { step, .. } => step.next(self.image, &self.held),
+            Going::AtLimit => Next::Ended,
+        }
+    }
+
+    fn ask(&self) -> Result<Ask, NoMemory> {
+        match self.going {
+            Going::ByProgram if self.is_due() => Ok(Ask::Fail),
+            Going::ByProgram => {
+                let ask = self.machine.ask()?;
+                if self.is_full() && !fails(&ask) {
+                    drop(ask);
+                    Ok(Ask::LimitWords { number: self.words })
+                } else {
+                    Ok(ask)
+                }
+            }
+            Going::Failing { step, .. } => Ok(step.ask(self.alloc, self.image, &self.held)),
+            Going::AtLimit => Ok(Ask::Gone),
+        }
+    }
+
+    fn line(&self) -> u32 {
+        match self.going {
+            Going::ByProgram if self.is_due() => 0,
+            Going::ByProgram => self.machine.line(),
+            Going::Failing { line, .. } => line,
+            Going::AtLimit => 0,
+        }
+    }
+
+    fn reserve(&mut self) -> Result<(), NoMemory> {
+        match self.going {
+            Going::ByProgram => {
+                self.machine.reserve()?;
+                self.held.reserve()
+            }
+            _ => Ok(()),
+        }
+    }
+
+    fn give(&mut self, event: &Event) {
+        match self.going {
+            Going::ByProgram => {
+                let asked = event.told().ask(self.alloc);
+                self.go_on(&asked, event);
+                drop(asked);
+            }
+            Going::Failing { step, line } => self.fail_on(step, line),
+            Going::AtLimit => {}
+        }
+    }
+}

@@ -1,0 +1,10 @@
+//! The lane of an image: a machine over the machine of its program, which makes the steps of a failure and comes to the limit of recorded words.
+//! It stands on `core_runs`, `object_rules` and `caf_events`.
+//! A lane is a `Walker` (caf_events) like the machine that it holds, so a run of lanes is a run as `core_runs` has it.
+//! Main contract: what a lane says is a walk of its program, and behind it nothing, its failure, or its limit (`law_course`).
+#![tactic(auto)]
+
+mod course;
+mod held;
+pub mod lane;
+pub mod laws;
