@@ -10,24 +10,8 @@ use caf_base::place::ImageNo;
 use caf_base::refusal::NoMemory;
 use caf_events::event::{Entry, Trace};
 use caf_text::push_number;
-use itoa::Buffer;
 use std::alloc::Global;
-
-/// Appends a text.
-pub fn push_text(out: &mut Vec<u8>, text: &str) -> Result<(), NoMemory>
-    ensures { OnOk result (out.new.items ≡ out.old.items ++ text.now) }
-{
-    out.extend_from_slice(text.as_bytes())?;
-    Ok(())
-}
-
-/// Appends a number that isn't negative, in decimal.
-pub fn push_count(out: &mut Vec<u8>, count: u64) -> Result<(), NoMemory>
-    ensures { OnOk result (out.new.items ≡ out.old.items ++ decimal_text (pos count)) }
-{
-    let mut buffer = Buffer::new();
-    push_text(out, buffer.format(count))
-}
+use trace_text::piece::push_text;
 
 /// Appends `image I line L`.
 pub fn push_place(out: &mut Vec<u8>, image: ImageNo, line: u32) -> Result<(), NoMemory>
