@@ -2,7 +2,8 @@
 
 ghost use Rattle.std.specs.Prelude.{◌≡◌, ◌||◌, [], map, IfOk};
 ghost use Rattle.object_rules.specs.Cells.{value_after, is_mark};
-ghost use Rattle.coarray_memory.specs.Memories.{stored_at, fits_now, comes_now, reply_now, items_of, store_of, declared_of, first_of, value_there, AreDeclared};
+ghost use Rattle.object_rules.specs.MemoryRules.{value_there};
+ghost use Rattle.coarray_memory.specs.Memories.{stored_at, fits_now, comes_now, reply_now, items_of, store_of, declared_of, first_of, AreDeclared};
 
 use crate::coarray::{Coarray, Declarations};
 use crate::prepare::{Prepared, dead_reply_of, first_cells, reply_of, section_of};

@@ -19,7 +19,6 @@ use Rattle.trace_theory.proofs.Weaving.{trace_of}
 use Rattle.core_runs.specs.Lists.{said, entry, image_of, key_of, stamp_of, own_stamp, list_at, entries_of, history_of}
 use Rattle.core_runs.specs.Moments.{Rules, Moment}
 use Rattle.core_runs.specs.Beginnings.{Beginning, IsImage, IsPlace}
-use Rattle.core_runs.specs.Failures.{FailsFrom}
 use Rattle.core_runs.specs.Sequences.{Joins, NothingAfterEnd}
 use Rattle.core_runs.specs.CoreRuns.{at_board, of_memory, said_by, IsDoneAlone, IsLawful, IsCoreRun}
 use Rattle.core_runs.specs.Kept.{IsLane, IsKept}
@@ -108,10 +107,6 @@ module _ {C M B : Type 0} (r : Rules C M B) (b : Beginning C M B) (m : Moment C 
     alone = each_entry IsDoneAlone (λ i c in_run lane. lane.alone);
     joins = each_walk (λ i. Joins) (λ i in_run. (h.fit.orderly i in_run).joins) (λ i. tt);
   }
-
-  -- an image that fails makes the steps of its failure
-  pub fails_is : (i : ℕ) → FailsFrom i (said_by i t) []
-  fails_is = each_walk (λ i es. FailsFrom i es []) (λ i in_run. h.fit.fails i in_run) (λ i. tt)
 
   -- the trace of what is kept is a core run
   pub core_run : IsCoreRun r b t

@@ -112,6 +112,7 @@ limits_front xs ys h =
 -- every front of a lawful trace is one
 pub lawful_trace_front : (s : List Declared) (n : ℕ) (xs ys : List Entry) → IsLawfulTrace s n (xs ++ ys) → IsLawfulTrace s n xs
 lawful_trace_front s n xs ys h = record {
+  declared = h.declared;
   ordered = order_front image_of key_of stamp_of xs ys h.ordered;
   stamped = stamped_front image_of key_of stamp_of own_stamp xs ys h.stamped;
   images = each_front image_of key_of stamp_of (λ x. IsOneOf n (image_of x)) xs ys h.images;

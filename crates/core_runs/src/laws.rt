@@ -1,6 +1,7 @@
 //! The laws of runs: what is kept from the first moment on, and what its trace is then.
 
-ghost use Rattle.std.specs.Prelude.{◌≡◌, ℕ, List, Some, false, IsTrue};
+ghost use Rattle.std.specs.Prelude.{◌≡◌, ℕ, List, Some, true, false, IsTrue};
+ghost use Rattle.std.specs.List.{list_all};
 ghost use Rattle.caf_base.specs.declared.place.Place.{Place};
 ghost use Rattle.caf_events.specs.declared.ask.Ask.{Ask};
 ghost use Rattle.caf_events.specs.declared.event.Event.{Event};
@@ -8,6 +9,7 @@ ghost use Rattle.caf_events.specs.declared.event.Entry.{Entry};
 ghost use Rattle.caf_events.specs.Walkers.{AsksNext, IsAtLine, IsOver};
 ghost use Rattle.caf_events.specs.Asks.{place_of};
 ghost use Rattle.object_rules.specs.Cells.{Declared, MadeMemory};
+ghost use Rattle.object_rules.specs.MemoryRules.{has_first_values};
 ghost use Rattle.core_runs.specs.Moments.{Moment, rules, item_at, ready_there, reply_there, can_step, Steps};
 ghost use Rattle.core_runs.specs.Beginnings.{Beginning, IsFirst};
 ghost use Rattle.core_runs.specs.CoreRuns.{IsCoreRun, IsFit};
@@ -62,10 +64,20 @@ pub fn law_core_run<M: Walker, O: Object, B: Object>()
         → IsCoreRun (rules M.Walker O.Object B.Object) b t }
 {}
 
-/// The trace of what is kept in a run whose memories and control board are those of the language is lawful, whatever the images' machines are.
+/// The trace of what is kept in a run whose memories and control board are those of the language is lawful, whatever the images' machines are, where each static
+/// coarray of values has a first value of its kind for each of its cells.
 pub fn law_lawful<M: Walker>()
     ensures { (coarrays : List Declared) (n : ℕ) (first : ℕ → M.Config) (m : Moment M.Config MadeMemory ℕ) (t : List Entry)
+        → list_all has_first_values coarrays ≡ true
         → IsKept (full_rules M.step M.hears) (full_beginning coarrays n first) m → IsTraceOf m.events t → IsLawfulTrace coarrays n t }
+{}
+
+/// So is every core run whose programs are fit, with such coarrays: who knows that a trace is a core run can cite the laws of lawful traces.
+pub fn law_core_run_lawful<M: Walker>()
+    ensures { (coarrays : List Declared) (n : ℕ) (first : ℕ → M.Config) (t : List Entry)
+        → list_all has_first_values coarrays ≡ true
+        → IsFit (full_rules M.step M.hears) (full_beginning coarrays n first) → IsCoreRun (full_rules M.step M.hears) (full_beginning coarrays n first) t
+        → IsLawfulTrace coarrays n t }
 {}
 
 /// An image that has ended made a step that ended it.

@@ -1,6 +1,7 @@
 -- Small runs at a memory, worked by hand and computed.
 use Rattle.std.proofs.Common.{◌≡◌, ℕ, true, false, List, [], ◌∷◌, ◌++◌, refl}
-use Rattle.std.specs.Prelude.{ℤ, pos, negsuc}
+use Rattle.std.specs.Prelude.{ℤ, pos, negsuc, Some, None}
+use Rattle.std.specs.List.{list_all}
 use Rattle.caf_base.specs.declared.place.ImageNo.{ImageNo}
 use Rattle.caf_base.specs.declared.span.Span.{Span}
 use Rattle.caf_base.specs.declared.value.AtomicOp.{AtomicOp}
@@ -13,8 +14,8 @@ use Rattle.caf_events.specs.declared.ask.Ask.TheVariants as asks
 use Rattle.caf_events.specs.declared.reply.Reply.{Reply}
 use Rattle.caf_events.specs.declared.reply.Reply.TheVariants as replies
 use Rattle.caf_events.specs.declared.event.Entry.{Entry}
-use Rattle.object_rules.specs.Cells.{of_kind, locks, events, MadeMemory}
-use Rattle.object_rules.specs.MemoryRules.{memory_ready, memory_reply}
+use Rattle.object_rules.specs.Cells.{of_kind, locks, events, MadeMemory, written}
+use Rattle.object_rules.specs.MemoryRules.{has_first_values, memory_ready, memory_reply}
 
 -- image 1's memory: four integers that begin as 9, a lock, an event, and an allocatable integer array
 abbrev memory_1 : MadeMemory
@@ -142,6 +143,16 @@ there = (refl, refl)
 
 gone_again : replied (step 1 (asks.Create one 3 2) ∷ step 1 (asks.Delete one 3) ∷ []) 2 (asks.Read one (cell 3 1)) replies.Absent
 gone_again = (refl, refl)
+
+-- an allocation of two cells writes no sixth one
+fewer_cells : written memory_1 3 (pos 1) (asks.Create one 3 2) replies.Done ≡ Some (int 0)
+fewer_cells = refl
+
+no_sixth : written memory_1 3 (pos 5) (asks.Create one 3 2) replies.Done ≡ None
+no_sixth = refl
+
+first_values : list_all has_first_values memory_1.coarrays ≡ true
+first_values = refl
 
 twice : unready (step 1 (asks.Create one 3 2) ∷ []) 1 (asks.Create one 3 2)
 twice = refl

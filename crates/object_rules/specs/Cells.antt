@@ -127,11 +127,11 @@ value_beside o [] vs = None
 value_beside o (x ∷ xs) [] = None
 value_beside o (x ∷ xs) (v ∷ vs) = or_else (value_beside o xs vs) (cond (int_eq x o) (Some v) None)
 
--- what a step writes to the cell of a coarray at an offset; a deallocation leaves no value that could be read
+-- what a step writes to the cell of a coarray at an offset: an allocation writes its cells and no other, a deallocation leaves no value that could be read
 abbrev pub written : MadeMemory → ℕ → ℤ → Ask → Reply → Option Value
 written m c o (asks.Write owner span vs) reply = made_only reply (cond (nat_eq span.coarray c) (value_beside o (offsets_of span) vs) None)
 written m c o (asks.Atomic owner op span x y) reply = cond (nat_eq span.coarray c && int_eq (pos span.start) o) (atomic_written op x y reply) None
-written m c o (asks.Create owner coarray cells) reply = cond (nat_eq coarray c) (zero_there (slice_get m.coarrays c)) None
+written m c o (asks.Create owner coarray cells) reply = cond (nat_eq coarray c && is_offset (Some cells) o) (zero_there (slice_get m.coarrays c)) None
 written m c o ask reply = None
 
 -- the value of the last write of a cell, where there is one

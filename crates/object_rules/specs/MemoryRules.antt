@@ -18,7 +18,7 @@ use Rattle.caf_events.specs.declared.event.Entry.{Entry}
 use Rattle.object_rules.specs.Folds.{is_of_kind}
 use Rattle.object_rules.specs.SpanTests.{is_span}
 use Rattle.object_rules.specs.Locks.{lock_after, event_after, lock_status, unlock_status, is_others}
-use Rattle.object_rules.specs.Cells.{Content, of_kind, locks, events, Declared, MadeMemory, size_after, is_within, is_marked, atomic_value, value_after, values_after}
+use Rattle.object_rules.specs.Cells.{Content, of_kind, locks, events, Declared, MadeMemory, size_after, is_offset, is_within, is_marked, atomic_value, value_after, values_after}
 
 -- what the cells of a coarray hold, where it is declared
 abbrev pub is_values : Content → Bool
@@ -41,6 +41,10 @@ holds test (Some d) = test d.content
 abbrev pub suits_values : List Value → Content → Bool
 suits_values vs (of_kind k) = list_all (is_of_kind k) vs
 suits_values vs content = false
+
+-- each cell of a static coarray of values has a first value of the coarray's kind
+abbrev pub has_first_values : Declared → Bool
+has_first_values d = d.allocatable || not (is_values d.content) || (nat_eq (length d.first) d.cells && suits_values d.first d.content)
 
 -- an operand is of the coarray's type (16.9.20 to 16.9.30)
 abbrev pub is_of_type : Kind → Value → Bool
@@ -87,6 +91,10 @@ cells_used m h (c ∷ cs) = or_zero (size_after m h c) + cells_used m h cs
 
 abbrev pub all_cells : MadeMemory → List Entry → ℕ
 all_cells m h = cells_used m h (range_with_len 0 (length m.coarrays))
+
+-- the value of a cell; None where there is no such cell or it is a lock or an event
+abbrev pub value_there : MadeMemory → List Entry → ℕ → ℕ → Option Value
+value_there m h c o = cond (holds is_values (slice_get m.coarrays c) && is_offset (size_after m h c) (pos o)) (value_after m h c (pos o)) None
 
 -- the memory that an ask names is this one
 abbrev pub is_here : MadeMemory → ImageNo → Bool

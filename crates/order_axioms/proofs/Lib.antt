@@ -13,3 +13,6 @@ pub mod QuietEnds
 pub mod Marked
 pub mod Holders
 pub mod Quiet
+pub mod CellValues
+pub mod KeptValues
+pub mod MemoryRule

@@ -11,7 +11,8 @@ use Rattle.caf_events.specs.declared.ask.Ask.TheVariants as asks
 use Rattle.caf_events.specs.declared.reply.Reply.{Reply}
 use Rattle.caf_events.specs.declared.reply.Reply.TheVariants as replies
 use Rattle.caf_events.specs.declared.event.Entry.{Entry}
-use Rattle.object_rules.specs.Cells.{MadeMemory, value_beside, value_after}
+use Rattle.object_rules.specs.Cells.{MadeMemory, value_beside}
+use Rattle.object_rules.specs.MemoryRules.{value_there}
 use Rattle.core_runs.specs.CoreRuns.{of_memory}
 use Rattle.order_theory.specs.Races.{Cell, Class, reads, writes, looks, changes, makes, signals, Touching, Accesses}
 use Rattle.order_axioms.specs.Statuses.{tells_failed}
@@ -92,11 +93,12 @@ abbrev pub given : Cell → Ask → Reply → Option Value
 given c (asks.Read owner span) (replies.Values values) = value_beside (pos c.offset) (offsets_of span) values
 given c ask reply = None
 
--- the same with values, for a run whose memories were made with these: a write leaves at a cell the value that the cell has right after it
+-- The same with values, for a run whose memories were made with these: a definition leaves at a cell the value that the cell has right after it, so a
+-- deallocation leaves none, and no reference gives what it leaves.
 abbrev pub accesses : (ℕ → MadeMemory) → Accesses Entry (Option Value)
 accesses made = record {
   touching = touches;
   gives = λ e c. given c e.event.ask e.event.reply;
-  leaves = λ g e c. value_after (made c.owner) (of_memory c.owner (g ++ e ∷ [])) c.coarray (pos c.offset);
-  first_value = λ c. value_after (made c.owner) [] c.coarray (pos c.offset);
+  leaves = λ g e c. value_there (made c.owner) (of_memory c.owner (g ++ e ∷ [])) c.coarray c.offset;
+  first_value = λ c. value_there (made c.owner) [] c.coarray c.offset;
 }

@@ -2,8 +2,9 @@
 //! images a status speaks.
 //! It stands on `order_theory`, whose laws it gives for these entries, on `object_rules` and on `core_runs`. The recorder of races and what explains them will
 //! stand on it.
-//! Its main definitions are `view` and `edges` (specs/Views), `touches` and `accesses` (specs/Touching), and the first race of a trace (specs/FirstRaces).
-//! Its main contracts are `law_prefixes`, `law_forward` and `law_reads`. Traces of small programs are computed in proofs/Tries.
+//! Its main definitions are `view` and `edges` (specs/Views), `touches` and `accesses` (specs/Touching), and the first race of a trace with what is allowed before it
+//! (specs/FirstRaces).
+//! Its main contracts are `law_prefixes`, `law_forward` and `law_reads`, the last two of every lawful trace. Traces of small programs are computed in proofs/Tries.
 #![tactic(auto)]
 
 pub mod laws;
