@@ -1,7 +1,7 @@
 //! Rows of cells, the newest on top: frames of procedures, or array values.
 
 ghost use Rattle.std.specs.Prelude.{◌≡◌, ◌<◌, ◌≤◌, ◌+◌, ◌-◌, ◌∷◌, [], pos, IsTrue, IsFalse, IfSome, IfNone, Some, None, replicate, slice_get, slice_set, slice_index_or, length, drop, ℕ, ℤ, List};
-ghost use Rattle.image_stores.specs.Rows.{Held, set_first, set_second, first, second, longer, zeros, total};
+ghost use Rattle.image_stores.specs.Rows.{Held, set_first, first, longer, total};
 
 use std::marker::Model;
 
@@ -108,15 +108,15 @@ impl Rows {
 
     /// Writes a cell of the first row, where it has it.
     #[tactic(auto, using(crate::proofs::RowLaws::set_none, crate::proofs::RowLaws::write_fit))]
-    pub fn set(&mut self, x: u32, v: i64)
+    pub fn set(&mut self, x: usize, v: i64)
         ensures { self.new ≡ record { rows = set_first self.old.rows x v; size = self.old.size; most = self.old.most } }
     {
         let base = self.base;
         let top = self.top;
-        if x as usize >= top - base {
+        if x >= top - base {
             return;
         }
-        write(&mut self.cells, base + x as usize, v);
+        write(&mut self.cells, base + x, v);
     }
 
     /// How many rows there are.
@@ -137,7 +137,7 @@ impl Rows {
     }
 
     /// Begins a row of so many zeros.
-    pub fn begin_zeros(&mut self, n: u32)
+    pub fn begin_zeros(&mut self, n: usize)
         requires deep { length self.old.rows < self.old.most }
         requires room { total self.old.rows + n ≤ self.old.size }
         ensures { self.new ≡ record { rows = replicate n (pos 0) ∷ self.old.rows; size = self.old.size; most = self.old.most } }
@@ -150,16 +150,15 @@ impl Rows {
 
     /// A cell of the first row, where it has it.
     #[tactic(auto, using(crate::proofs::RowLaws::read_view, crate::proofs::RowLaws::read_none, crate::proofs::RowLaws::same_word))]
-    pub fn get(&self, x: u32) -> Option<i64>
-        ensures some { IfSome result (λ v. slice_get (first self.now.rows) x ≡ Some v) }
-        ensures none { IfNone result (slice_get (first self.now.rows) x ≡ None) }
+    pub fn get(&self, x: usize) -> Option<i64>
+        ensures { result ≡ slice_get (first self.now.rows) x }
     {
         let base = self.base;
         let top = self.top;
-        if x as usize >= top - base {
+        if x >= top - base {
             return None;
         }
-        Some(read(&self.cells, base + x as usize))
+        Some(read(&self.cells, base + x))
     }
 }
 
