@@ -4,8 +4,8 @@ ghost use Rattle.std.specs.Prelude.{◌≡◌, ◌+◌, ◌-◌, ◌<◌, ◌≤
 ghost use Rattle.object_rules.specs.Happenings.{Happening, numbers_of};
 ghost use Rattle.object_rules.specs.Kinds.{same_kind as same_kinds};
 ghost use Rattle.object_rules.specs.TeamRounds.{arrivals, opening_of, at_close};
-ghost use Rattle.failure_status.specs.Endings.{AreWithin, end_of, TellsEnded};
-ghost use Rattle.team_round.specs.TeamStates.{clash_of, closed_at, opened_at, joined_by, told_arrival, happened_with, status_at, Tells, IsTold};
+ghost use Rattle.failure_status.specs.Endings.{AreWithin, Ended, end_of, TellsEnded};
+ghost use Rattle.team_round.specs.TeamStates.{clash_of, closed_at, opened_at, joined_by, told_arrival, happened_with, status_at, CanExpect, Tells, IsTold};
 
 use crate::round::{Arrival, Round, same_kind};
 use crate::team::{try_close, try_from};
@@ -152,6 +152,27 @@ impl TeamRounds {
             endings,
         );
         Arrival::Joined(place as u64 + 1)
+    }
+
+    // What would come of the arrival of a member by a statement of a kind.
+    pub(crate) fn expected(&self, image: ImageNo, kind: &RoundKind) -> Arrival
+        requires { CanExpect self.now image.0 }
+        ensures { (t : ℕ) (ended : Ended) (hs : List Happening) → IsTold t self.now ended hs
+            → result ≡ told_arrival same_kinds kind.now (arrivals t image.0 hs + 1) (opening_of t (arrivals t image.0 hs + 1) hs) }
+    {
+        let place = joined_rounds(&self.joined, image) as usize;
+        match clash_with(&self.rounds, place, kind) {
+            Some(clash) => clash,
+            None => Arrival::Joined(place as u64 + 1),
+        }
+    }
+
+    // How many rounds the image has joined.
+    pub(crate) fn joined(&self, image: ImageNo) -> u64
+        requires { (0 < image.0) × (image.0 ≤ length self.now.joined) }
+        ensures { result ≡ joined_by self.now.joined image.0 }
+    {
+        joined_rounds(&self.joined, image)
     }
 
     /// The status at the close of a round, 6000, 6001 or 0 by the members that had ended; None where it hasn't closed.
