@@ -1,12 +1,12 @@
 //! The rounds of all teams of a run.
 
-ghost use Rattle.std.specs.Prelude.{◌≡◌, ◌+◌, ◌-◌, ◌<◌, ◌≤◌, ◌^◌, ℕ, List, [], ◌∷◌, ◌++◌, Some, true, length, slice_get, IfOk, OnOk, vec_len, vec_capacity};
+ghost use Rattle.std.specs.Prelude.{◌≡◌, ◌+◌, ◌-◌, ◌<◌, ◌≤◌, ◌^◌, ℕ, List, [], ◌∷◌, ◌++◌, Some, None, true, length, slice_get, IfOk, OnOk, MatchOption, vec_len, vec_capacity};
 ghost use Rattle.std.specs.Option.{is_some};
 ghost use Rattle.object_rules.specs.Happenings.{Happening, numbers_of};
 ghost use Rattle.object_rules.specs.Kinds.{same_kind as same_kinds};
 ghost use Rattle.object_rules.specs.TeamRounds.{arrivals, opening_of, at_close, missed_by, result_of};
 ghost use Rattle.failure_status.specs.Endings.{AreWithin, end_of, ended_with};
-ghost use Rattle.team_round.specs.TeamStates.{TeamState, CanArrive, CanEnd, AreEnded, told_arrival, happened_with, TellsAll, CanExpect, closed_at, fresh_team, images_to, members_in, status_told, AreZeros};
+ghost use Rattle.team_round.specs.TeamStates.{TeamState, CanArrive, CanEnd, AreEnded, told_arrival, happened_with, TellsAll, CanExpect, kind_told, closed_at, fresh_team, images_to, members_in, status_told, AreZeros};
 
 use crate::round::Arrival;
 use crate::rounds_of_team::TeamRounds;
@@ -180,6 +180,15 @@ impl Rounds {
             → result ≡ told_arrival same_kinds kind.now (arrivals t.0 image.0 hs + 1) (opening_of t.0 (arrivals t.0 image.0 hs + 1) hs) }
     {
         self.teams[(t.0 - 1) as usize].expected(image, kind)
+    }
+
+    /// The kind of a round of the team that has an arrival.
+    pub fn kind(&self, t: TeamNo, round: u64) -> Option<&RoundKind>
+        requires team { (0 < t.0) × (t.0 ≤ length self.now.teams) }
+        requires round { 0 < round }
+        ensures { (n : ℕ) (hs : List Happening) → TellsAll n self.now hs → MatchOption result (kind_told (opening_of t.0 round hs) ≡ None) (λ k. kind_told (opening_of t.0 round hs) ≡ Some k.now) }
+    {
+        self.teams[(t.0 - 1) as usize].kind(round)
     }
 
     /// Whether the round of the team has closed.
