@@ -1,12 +1,12 @@
 //! The rounds of all teams of a run.
 
-ghost use Rattle.std.specs.Prelude.{◌≡◌, ◌+◌, ◌-◌, ◌<◌, ◌≤◌, ◌^◌, ℕ, List, [], ◌∷◌, ◌++◌, Some, true, length, slice_get, IfOk, OnOk, vec_len, vec_capacity};
+ghost use Rattle.std.specs.Prelude.{◌≡◌, ◌+◌, ◌-◌, ◌<◌, ◌≤◌, ◌^◌, ℕ, List, [], ◌∷◌, ◌++◌, Some, None, true, length, slice_get, IfOk, OnOk, MatchOption, vec_len, vec_capacity};
 ghost use Rattle.std.specs.Option.{is_some};
 ghost use Rattle.object_rules.specs.Happenings.{Happening, numbers_of};
 ghost use Rattle.object_rules.specs.Kinds.{same_kind as same_kinds};
 ghost use Rattle.object_rules.specs.TeamRounds.{arrivals, opening_of, at_close, missed_by, result_of};
 ghost use Rattle.failure_status.specs.Endings.{AreWithin, end_of, ended_with};
-ghost use Rattle.team_round.specs.TeamStates.{TeamState, CanArrive, CanEnd, AreEnded, told_arrival, happened_with, TellsAll, closed_at, fresh_team, images_to, status_told, AreZeros};
+ghost use Rattle.team_round.specs.TeamStates.{TeamState, CanArrive, CanEnd, AreEnded, told_arrival, happened_with, TellsAll, CanExpect, kind_told, closed_at, fresh_team, images_to, members_in, status_told, AreZeros};
 
 use crate::round::Arrival;
 use crate::rounds_of_team::TeamRounds;
@@ -119,6 +119,7 @@ impl Rounds {
         requires { (0 < t.0) × (t.0 ≤ length self.old.teams) }
         ensures images { self.new.images ≡ self.old.images }
         ensures as_many { length self.new.teams ≡ length self.old.teams }
+        ensures members { members_in self.new.teams ≡ members_in self.old.teams }
         ensures told { (n : ℕ) (hs : List Happening) → TellsAll n self.old hs → TellsAll n self.new hs }
         ensures round { OnOk result ((x : TeamState) → slice_get self.new.teams (t.0 - 1) ≡ Some x → 0 < x.room) }
         ensures room { OnOk result (more ≤ self.new.room) }
@@ -155,6 +156,41 @@ impl Rounds {
         }
     }
 
+    /// Which images have stopped or failed.
+    pub fn endings(&self) -> &Endings
+        ensures { result.now ≡ self.now.ended }
+    {
+        &self.endings
+    }
+
+    /// How many rounds of the team the image has joined.
+    pub fn joined(&self, t: TeamNo, image: ImageNo) -> u64
+        requires team { (0 < t.0) × (t.0 ≤ length self.now.teams) }
+        requires image { (x : TeamState) → slice_get self.now.teams (t.0 - 1) ≡ Some x → (0 < image.0) × (image.0 ≤ length x.joined) }
+        ensures { (n : ℕ) (hs : List Happening) → TellsAll n self.now hs → result ≡ arrivals t.0 image.0 hs }
+    {
+        self.teams[(t.0 - 1) as usize].joined(image)
+    }
+
+    /// What would come of the arrival of a member of a team by a statement of a kind.
+    pub fn expected(&self, t: TeamNo, image: ImageNo, kind: &RoundKind) -> Arrival
+        requires team { (0 < t.0) × (t.0 ≤ length self.now.teams) }
+        requires state { (x : TeamState) → slice_get self.now.teams (t.0 - 1) ≡ Some x → CanExpect x image.0 }
+        ensures { (n : ℕ) (hs : List Happening) → TellsAll n self.now hs
+            → result ≡ told_arrival same_kinds kind.now (arrivals t.0 image.0 hs + 1) (opening_of t.0 (arrivals t.0 image.0 hs + 1) hs) }
+    {
+        self.teams[(t.0 - 1) as usize].expected(image, kind)
+    }
+
+    /// The kind of a round of the team that has an arrival.
+    pub fn kind(&self, t: TeamNo, round: u64) -> Option<&RoundKind>
+        requires team { (0 < t.0) × (t.0 ≤ length self.now.teams) }
+        requires round { 0 < round }
+        ensures { (n : ℕ) (hs : List Happening) → TellsAll n self.now hs → MatchOption result (kind_told (opening_of t.0 round hs) ≡ None) (λ k. kind_told (opening_of t.0 round hs) ≡ Some k.now) }
+    {
+        self.teams[(t.0 - 1) as usize].kind(round)
+    }
+
     /// Whether the round of the team has closed.
     pub fn closed(&self, t: TeamNo, round: u64) -> bool
         requires team { (0 < t.0) × (t.0 ≤ length self.now.teams) }
@@ -188,6 +224,7 @@ impl Rounds {
         ensures told { (n : ℕ) (hs : List Happening) → TellsAll n self.old hs
             → TellsAll n self.new (happened_with hs t.0 image.0 kind line result) }
         ensures images { self.new.images ≡ self.old.images }
+        ensures members { members_in self.new.teams ≡ members_in self.old.teams }
         ensures room { self.new.room ≡ self.old.room }
         ensures spare { self.new.spare ≡ self.old.spare }
     {
@@ -201,6 +238,7 @@ impl Rounds {
         requires state { (k : ℕ) (x : TeamState) → slice_get self.old.teams k ≡ Some x → CanEnd (ended_with self.old.ended image.0 failed) x image.0 }
         ensures told { (n : ℕ) (hs : List Happening) → TellsAll n self.old hs → TellsAll n self.new (hs ++ end_of image.0 failed ∷ []) }
         ensures images { self.new.images ≡ self.old.images }
+        ensures members { members_in self.new.teams ≡ members_in self.old.teams }
         ensures room { self.new.room ≡ self.old.room }
         ensures spare { self.new.spare ≡ self.old.spare }
     {

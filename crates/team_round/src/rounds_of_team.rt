@@ -1,11 +1,11 @@
 //! The rounds of one team.
 
-ghost use Rattle.std.specs.Prelude.{◌≡◌, ◌+◌, ◌-◌, ◌<◌, ◌≤◌, ◌^◌, ℕ, Bool, vec_len, vec_capacity, List, [], ◌∷◌, ◌++◌, length, slice_get, OnOk};
+ghost use Rattle.std.specs.Prelude.{◌≡◌, ◌+◌, ◌-◌, ◌<◌, ◌≤◌, ◌^◌, ℕ, Bool, vec_len, vec_capacity, List, [], ◌∷◌, ◌++◌, length, slice_get, Some, None, OnOk, MatchOption};
 ghost use Rattle.object_rules.specs.Happenings.{Happening, numbers_of};
 ghost use Rattle.object_rules.specs.Kinds.{same_kind as same_kinds};
 ghost use Rattle.object_rules.specs.TeamRounds.{arrivals, opening_of, at_close};
-ghost use Rattle.failure_status.specs.Endings.{AreWithin, end_of, TellsEnded};
-ghost use Rattle.team_round.specs.TeamStates.{clash_of, closed_at, opened_at, joined_by, told_arrival, happened_with, status_at, Tells, IsTold};
+ghost use Rattle.failure_status.specs.Endings.{AreWithin, Ended, end_of, TellsEnded};
+ghost use Rattle.team_round.specs.TeamStates.{clash_of, closed_at, opened_at, joined_by, told_arrival, happened_with, status_at, CanExpect, kind_told, kind_kept, Tells, IsTold};
 
 use crate::round::{Arrival, Round, same_kind};
 use crate::team::{try_close, try_from};
@@ -57,6 +57,15 @@ fn status_at_close(rounds: &Vec<Round>, round: u64) -> Option<i32>
 {
     let round = rounds.get((round - 1) as usize)?;
     round.closed
+}
+
+// The kind of the round of this number, where it is there.
+fn kind_at(rounds: &Vec<Round>, round: u64) -> Option<&RoundKind>
+    requires { 0 < round }
+    ensures { MatchOption result (kind_kept (slice_get rounds.now.items (round - 1)) ≡ None) (λ k. kind_kept (slice_get rounds.now.items (round - 1)) ≡ Some k.now) }
+{
+    let round = rounds.get((round - 1) as usize)?;
+    Some(&round.kind)
 }
 
 // The clash of an arrival with the first one of its round, where that is of another kind.
@@ -152,6 +161,35 @@ impl TeamRounds {
             endings,
         );
         Arrival::Joined(place as u64 + 1)
+    }
+
+    // What would come of the arrival of a member by a statement of a kind.
+    pub(crate) fn expected(&self, image: ImageNo, kind: &RoundKind) -> Arrival
+        requires { CanExpect self.now image.0 }
+        ensures { (t : ℕ) (ended : Ended) (hs : List Happening) → IsTold t self.now ended hs
+            → result ≡ told_arrival same_kinds kind.now (arrivals t image.0 hs + 1) (opening_of t (arrivals t image.0 hs + 1) hs) }
+    {
+        let place = joined_rounds(&self.joined, image) as usize;
+        match clash_with(&self.rounds, place, kind) {
+            Some(clash) => clash,
+            None => Arrival::Joined(place as u64 + 1),
+        }
+    }
+
+    // How many rounds the image has joined.
+    pub(crate) fn joined(&self, image: ImageNo) -> u64
+        requires { (0 < image.0) × (image.0 ≤ length self.now.joined) }
+        ensures { result ≡ joined_by self.now.joined image.0 }
+    {
+        joined_rounds(&self.joined, image)
+    }
+
+    // The kind of a round that has an arrival.
+    pub(crate) fn kind(&self, round: u64) -> Option<&RoundKind>
+        requires { 0 < round }
+        ensures { (t : ℕ) (hs : List Happening) → Tells t self.now hs → MatchOption result (kind_told (opening_of t round hs) ≡ None) (λ k. kind_told (opening_of t round hs) ≡ Some k.now) }
+    {
+        kind_at(&self.rounds, round)
     }
 
     /// The status at the close of a round, 6000, 6001 or 0 by the members that had ended; None where it hasn't closed.

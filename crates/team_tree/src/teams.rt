@@ -67,12 +67,28 @@ impl Teams {
         Ok(Teams { teams })
     }
 
+    /// How many teams there are.
+    pub fn len(&self) -> usize
+        ensures { result ≡ length self.now.teams }
+    {
+        self.teams.len()
+    }
+
     /// Whether the image is a member of the team.
     pub fn member(&self, t: TeamNo, image: ImageNo) -> bool
         requires { (0 < t.0) × (t.0 ≤ length self.now.teams) }
         ensures { result ≡ names image.0 (numbers_of (team_of self.now.teams t.0).members) }
     {
         self.teams[(t.0 - 1) as usize].has(image)
+    }
+
+    /// The members of the team in index order.
+    pub fn members(&self, t: TeamNo) -> &[ImageNo]
+        requires { (0 < t.0) × (t.0 ≤ length self.now.teams) }
+        ensures members { result.now ≡ (team_of self.now.teams t.0).members }
+        ensures few { length result.now < 2 ^ 32 }
+    {
+        self.teams[(t.0 - 1) as usize].members()
     }
 
     /// The image index of the image in the team; 0 exactly for a stranger.

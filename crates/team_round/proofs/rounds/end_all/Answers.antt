@@ -49,7 +49,7 @@ loop-k-preserved c =
     let t = c.loop-k-test.true in
     let high : c.loop-k.k < length c.loop-k.teams.items = omega arith in (
       ended_more c.args.image.0 c.args.endings.now c.loop-k.k _ c.args.teams.now.items c.loop-k.teams.items c.index_mut.result.now c.ended.new.self c.loop-k.invariant.0 refl high c.index_mut.ensures.value
-          (record { told = c.ended.ensures.told; images = c.ended.ensures.images }),
+          (record { told = c.ended.ensures.told; images = c.ended.ensures.images; members = c.ended.ensures.members }),
       c.loop-k.invariant.1,
       c.loop-k.invariant.2,
     )

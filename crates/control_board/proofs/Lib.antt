@@ -1,0 +1,9 @@
+pub mod Members
+pub mod Rounds
+pub mod Forms
+pub mod Counts
+pub mod Keeping
+pub mod Arrivals
+pub mod Steps
+pub mod Replying
+pub mod Departures

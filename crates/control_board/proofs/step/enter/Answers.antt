@@ -1,0 +1,7 @@
+use Rattle.std.proofs.Common.{refl}
+use Rattle.caf_events.specs.declared.ask.Ask.TheVariants as asks
+use Rattle.control_board.proofs.Steps.{turned_steps}
+use Rattle.control_board.proofs.step.enter.Goals as goal
+
+pub returns : goal.returns
+returns c line n h stamp b ready late = turned_steps c.args.parts.now _ c.args.image (asks.Enter c.args.construct) line (λ r. refl) (λ r. refl) c.enter.ensures.turned refl refl refl refl n h stamp b ready late

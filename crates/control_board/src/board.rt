@@ -1,0 +1,86 @@
+//! The control board: what it keeps, beside the history that says what that is.
+
+ghost use Rattle.std.specs.Prelude.{◌≡◌, [], IfOk};
+
+use crate::parts::{Parts, new_parts};
+use crate::ready::is_ready;
+use crate::reply::reply;
+use crate::step::{make_room, step};
+use caf_base::place::ImageNo;
+use caf_base::refusal::NoMemory;
+use caf_events::ask::Ask;
+use caf_events::event::Event;
+use caf_events::history::History;
+use caf_events::object::{Object, Spare};
+use std::alloc::Global;
+use std::marker::Model;
+
+/// The control board of a run. In a contract it is the number of images, its history, the room for further entries, and what it keeps.
+#[derive(Drop)]
+pub struct Board {
+    alloc: Global,
+    parts: Parts,
+    history: History,
+}
+
+impl Model for Board {
+    ghost use Rattle.control_board.specs.Boards.{BoardState, IsBoard};
+
+    ghost Value = { BoardState };
+
+    ghost view = { λ b. record { images = b.parts.images; history = b.history.entries; room = b.history.room; parts = b.parts } };
+
+    ghost invariant = { λ b. IsBoard b.parts.images b.history.entries b.parts };
+}
+
+impl Board {
+    /// The control board of a run of so many images at its start.
+    pub fn new(alloc: Global, images: u32) -> Result<Board, NoMemory>
+        ensures made { IfOk result (λ b. b.images ≡ images) }
+        ensures history { IfOk result (λ b. b.history ≡ []) }
+    {
+        Ok(Board {
+            alloc,
+            parts: new_parts(alloc, images)?,
+            history: History::new(alloc),
+        })
+    }
+}
+
+impl Object for Board {
+    ghost use Rattle.std.specs.Prelude.{ℕ};
+    ghost use Rattle.object_rules.specs.BoardRules.{board_reply};
+    ghost use Rattle.control_board.specs.Boards.{BoardState, HasRoom, served_ready};
+
+    ghost Made = { ℕ };
+
+    ghost made = { λ b. b.images };
+
+    ghost history = { λ b. b.history };
+
+    ghost has_room = { λ b image ask. HasRoom b ask };
+
+    ghost ready_after = { λ n h image ask. served_ready n h image ask };
+
+    ghost reply_after = { λ n h image ask. board_reply n h image ask };
+
+    fn ready(&self, image: ImageNo, ask: &Ask) -> bool {
+        is_ready(&self.parts, image, ask)
+    }
+
+    fn last_stamp(&self) -> u64 {
+        self.history.last_stamp()
+    }
+
+    fn reserve(&mut self, image: ImageNo, ask: &Ask) -> Result<Spare, NoMemory> {
+        self.history.reserve()?;
+        make_room(self.alloc, &mut self.parts, ask)?;
+        let told = reply(self.alloc, &self.parts, image, ask)?;
+        Spare::new(self.alloc, ask, told)
+    }
+
+    fn apply(&mut self, image: ImageNo, ask: Ask, spare: Spare, line: u32, after: u64) -> Event {
+        step(&mut self.parts, image, ask, line);
+        self.history.append(image, spare, line, after)
+    }
+}

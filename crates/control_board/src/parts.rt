@@ -1,0 +1,63 @@
+//! What the control board keeps beside its history.
+
+ghost use Rattle.std.specs.Prelude.{◌≡◌, ℕ, List, [], ◌&&◌, length, IfOk};
+ghost use Rattle.caf_events.specs.declared.event.Entry.{Entry};
+ghost use Rattle.object_rules.specs.BoardRules.{is_image};
+ghost use Rattle.object_rules.specs.BoardTeams.{teams_after, members_at};
+ghost use Rattle.object_rules.specs.ImagePairs.{names};
+ghost use Rattle.control_board.specs.Boards.{IsBoard, IsKept};
+
+use caf_base::place::{ImageNo, TeamNo};
+use caf_base::refusal::NoMemory;
+use image_sync::criticals::Criticals;
+use image_sync::pairs::Pairs;
+use std::alloc::Global;
+use team_round::rounds::Rounds;
+use team_tree::teams::Teams;
+
+/// The number of images, the teams, their rounds, the SYNC IMAGES of each image, and who is inside CRITICAL constructs.
+#[derive(Drop)]
+pub struct Parts {
+    pub images: u32,
+    pub teams: Teams,
+    pub control: Rounds,
+    pub pairs: Pairs,
+    pub criticals: Criticals,
+}
+
+// The parts of a run of n images at its start.
+pub(crate) fn new_parts(alloc: Global, n: u32) -> Result<Parts, NoMemory>
+    ensures { IfOk result (λ p. IsBoard n [] p) }
+{
+    let teams = Teams::new(alloc, n)?;
+    let control = Rounds::new(alloc, n)?;
+    let pairs = Pairs::new(alloc, n)?;
+    Ok(Parts {
+        images: n,
+        teams,
+        control,
+        pairs,
+        criticals: Criticals::new(alloc),
+    })
+}
+
+// Whether the run has this image.
+pub(crate) fn has_image(images: u32, image: ImageNo) -> bool
+    ensures { result ≡ is_image images image.0 }
+{
+    image.0 >= 1 && image.0 <= images
+}
+
+// Whether there is this team.
+fn has_team(teams: &Teams, team: TeamNo) -> bool
+    ensures { result ≡ is_image (length teams.now.teams) team.0 }
+{
+    team.0 >= 1 && team.0 as usize <= teams.len()
+}
+
+// Whether the image is a member of the team.
+pub(crate) fn is_member(parts: &Parts, team: TeamNo, image: ImageNo) -> bool
+    ensures { (n : ℕ) (h : List Entry) → IsBoard n h parts.now → result ≡ names image.0 (members_at (teams_after n h) team.0) }
+{
+    has_team(&parts.teams, team) && parts.teams.member(team, image)
+}
