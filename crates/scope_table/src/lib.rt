@@ -5,6 +5,7 @@
 #![tactic(auto)]
 
 pub mod broken;
+pub mod dummy;
 pub mod item;
 pub mod known;
 pub mod names;

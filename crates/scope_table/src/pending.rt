@@ -90,7 +90,7 @@ fn add_entities(names: &mut Names, entities: &[Entity]) -> Result<(), NoMemory>
     Ok(())
 }
 
-fn add_names(names: &mut Names, more: &[Name]) -> Result<(), NoMemory>
+pub(crate) fn add_names(names: &mut Names, more: &[Name]) -> Result<(), NoMemory>
     ensures { OnOk result (Adds names.new names.old (name_texts more.now)) }
 {
     for name in more {
