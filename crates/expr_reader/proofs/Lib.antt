@@ -17,8 +17,9 @@ pub mod Full
 pub mod Whole
 pub mod Designators
 pub mod Moving
-pub mod Ends
-pub mod Endings
+pub mod Steady
+pub mod Greedy
+pub mod Firmly
 pub mod Lengths
 pub mod Chained
 pub mod PieceLists

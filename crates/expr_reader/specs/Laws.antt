@@ -8,6 +8,7 @@ use Rattle.fortran_grammar.specs.Tokens.{Token}
 use Rattle.fortran_grammar.specs.Phrases.{Words}
 use Rattle.fortran_grammar.specs.ExpressionGrammar.{expr}
 use Rattle.expr_reader.specs.Full.{full}
+use Rattle.expr_reader.specs.Longest.{LongestOfAll, OneLongest}
 
 -- the grammar's expressions, where so many levels may be open and so many are
 abbrev pub Expressions_at : ℕ → ℕ → Expression → List (Mark Token) → Type 0
@@ -20,3 +21,11 @@ ExpressionsAnswered = (limit left level : ℕ) → level + left ≡ limit → An
 -- no text is two expressions
 abbrev pub ExpressionsOnce : Type 0
 ExpressionsOnce = (limit level : ℕ) → level ≤ limit → OneReading (Expressions_at limit level)
+
+-- each text of tokens gets the longest expression that begins it, or where and why there is none
+abbrev pub LongestAnswered : Type 0
+LongestAnswered = (limit left level : ℕ) → level + left ≡ limit → LongestOfAll (Expressions_at limit level) (full left).expression
+
+-- each text has one such answer
+abbrev pub LongestOnce : Type 0
+LongestOnce = (limit level : ℕ) → level ≤ limit → OneLongest (Expressions_at limit level)

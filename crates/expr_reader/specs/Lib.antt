@@ -12,3 +12,4 @@ pub mod Words
 pub mod Results
 pub mod PieceViews
 pub mod Levels
+pub mod Longest
