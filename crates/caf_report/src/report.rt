@@ -1,17 +1,20 @@
 //! A report: the trace of a run and its end.
 
 ghost use Rattle.std.specs.Prelude.{◌≡◌, IfOk, MatchOption};
-ghost use Rattle.caf_report.specs.Ends.{EndsAt, IsFirstEnding, HasNoEnding, ending_at, ending_by, IsEndOf, HasEnd, status_of};
+ghost use Rattle.caf_report.specs.Ends.{EndsAt, IsFirstEnding, HasNoEnding, ending_at, ending_by, IsEndOf, EndStands, HasEnd, status_of};
 ghost use Rattle.caf_report.specs.ReportText.{report_text};
 
 use super::ending::push_end;
+use super::finals::push_finals;
 use super::line::push_prints;
-use caf_base::listing::Listing;
+use caf_base::listing::{Listing, Text};
 use caf_base::place::ImageNo;
 use caf_base::refusal::NoMemory;
+use caf_base::value::Value;
 use caf_events::ask::Ask;
 use caf_events::event::Trace;
 use std::alloc::Global;
+use trace_text::trace::push_trace;
 
 /// An image that waits: the line of its statement, and the ask that it can't make.
 #[derive(Drop)]
@@ -38,12 +41,31 @@ pub enum End {
     Stuck { waits: Listing<Waiting> },
 }
 
-/// A run that is over: its number of images, its trace, and its end.
+/// What a variable of the main program holds at the end on an image: its values in array element order, none where it isn't allocated.
+#[derive(Drop)]
+pub struct Final {
+    pub image: ImageNo,
+    pub name: Text,
+    pub is_allocated: bool,
+    pub values: Listing<Value>,
+}
+
+/// What a report's text shows beside the printed lines and the end: the final values of variables, and the trace.
+#[derive(Clone, Copy)]
+pub struct Shown {
+    pub vars: bool,
+    pub trace: bool,
+}
+
+/// A run that is over: its number of images, its trace, its end, the names of the coarrays in declared order, and the final values
+/// of the images that haven't failed, by image in rising order and by variable in declared order.
 #[derive(Drop)]
 pub struct Report {
     pub images: u32,
     pub trace: Trace,
     pub end: End,
+    pub names: Listing<Text>,
+    pub finals: Listing<Final>,
 }
 
 /// The place of the first ending event, from 0; `None` exactly where no event ends the run.
@@ -83,20 +105,42 @@ fn end_by(at: usize, ask: &Ask) -> End
     }
 }
 
+// The end of a run with this trace, of which those images wait.
+fn end_of(trace: &Trace, waits: Listing<Waiting>) -> End
+    ensures is { IsEndOf trace.now waits result }
+    ensures stands { EndStands trace.now result }
+{
+    match first_ending(trace) {
+        Some(at) => end_at(trace, at),
+        None if waits.len() > 0 => End::Stuck { waits },
+        None => End::Finished,
+    }
+}
+
 impl Report {
     /// The report of a run of so many images, of which those in `waits` can't go on. It takes no memory.
-    pub fn new(images: u32, trace: Trace, waits: Listing<Waiting>) -> Report
+    pub fn new(
+        images: u32,
+        trace: Trace,
+        waits: Listing<Waiting>,
+        names: Listing<Text>,
+        finals: Listing<Final>,
+    ) -> Report
         ensures images { result.images ≡ images }
         ensures trace { result.trace ≡ trace }
+        ensures names { result.names ≡ names }
+        ensures finals { result.finals ≡ finals }
         ensures end { IsEndOf trace waits result.end }
         ensures has_end { HasEnd result }
     {
-        let end = match first_ending(&trace) {
-            Some(at) => end_at(&trace, at),
-            None if waits.len() > 0 => End::Stuck { waits },
-            None => End::Finished,
-        };
-        Report { images, trace, end }
+        let end = end_of(&trace, waits);
+        Report {
+            images,
+            trace,
+            end,
+            names,
+            finals,
+        }
     }
 
     /// The exit status: 0 Finished, 4 ErrorStop, 6 Stuck, 7 Limit, 8 RunFault, 9 Clash. 5, a race, has no end yet.
@@ -113,14 +157,20 @@ impl Report {
         }
     }
 
-    /// What each image printed, by image in rising order, and then the line of the end. Condition: the end's event stands in the
-    /// trace, as in each report that `new` makes.
-    pub fn text(&self, alloc: Global) -> Result<Vec<u8>, NoMemory>
+    /// What each image printed, by image in rising order; then the final values and the trace, where they are to be shown; and the line
+    /// of the end. Condition: the end's event stands in the trace, as in each report that `new` makes.
+    pub fn text(&self, alloc: Global, shown: Shown) -> Result<Vec<u8>, NoMemory>
         requires { HasEnd self.now }
-        ensures { IfOk result (λ bytes. bytes.items ≡ report_text self.now) }
+        ensures { IfOk result (λ bytes. bytes.items ≡ report_text shown self.now) }
     {
         let mut out = Vec::new(alloc);
         push_prints(&mut out, self.images, &self.trace)?;
+        if shown.vars {
+            push_finals(&mut out, self.finals.as_slice())?;
+        }
+        if shown.trace {
+            push_trace(alloc, &mut out, self.names.as_slice(), &self.trace)?;
+        }
         push_end(&mut out, &self.trace, &self.end)?;
         Ok(out)
     }

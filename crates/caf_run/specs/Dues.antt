@@ -7,6 +7,7 @@ use Rattle.caf_base.specs.Outside.{Files, Rose, HaveNot, MayNotBegin}
 use Rattle.caf_report.specs.declared.report.Report.{Report}
 use Rattle.caf_report.specs.Ends.{status_of}
 use Rattle.caf_report.specs.ReportText.{report_text}
+use Rattle.caf_report.specs.declared.report.Shown.{Shown}
 use Rattle.fortran_reader.specs.Reads.{Reads}
 use Rattle.caf_run.specs.Words.{Word, IsRun, IsValid, UsageIs}
 use Rattle.caf_run.specs.Reading.{HasBytesIfTold, HasBytes, HasNothingLeft, IsLonger}
@@ -67,10 +68,14 @@ pub record ExactClause (words : List Word) (files : Option Files) (faults faults
   pub absent : (file : Word) → NamesFile words file → HaveNot files file → status ≡ 10
   pub settled : (file : Word) (bytes : List ℕ) → NamesFile words file → HasBytes files file bytes → Settle bytes status ⊎ ((status ≡ 10) × Rose faults faults')
 
+-- nothing is shown beside what was printed and the end
+abbrev pub plain : Shown
+plain = record { vars = false; trace = false }
+
 -- Report: one is there exactly where a run's status is due, which is that of its end, and the text due is its text.
 abbrev pub ReportClause : Option Report → ℕ → List ℕ → Type 0
 ReportClause None status text = (status ≡ 2) ⊎ (status ≡ 3) ⊎ (status ≡ 10) ⊎ (status ≡ 13)
-ReportClause (Some r) status text = IsRunStatus status × (status ≡ status_of r.end) × (text ≡ report_text r)
+ReportClause (Some r) status text = IsRunStatus status × (status ≡ status_of r.end) × (text ≡ report_text plain r)
 
 -- all that is due for these words over this source
 pub record IsDue (words : List Word) (files : Option Files) (left' : Option (List ℕ)) (faults faults' status : ℕ) (text : List ℕ) (report : Option Report) : Type 0 where

@@ -16,7 +16,7 @@ use crate::words::{Command, Input, Way, words_of};
 use caf_base::outside::Source;
 use caf_base::refusal::{NoMemory, Refusal};
 use caf_base::thin::{THIN_SOURCE_BYTES, ThinProgram};
-use caf_report::report::Report;
+use caf_report::report::{Report, Shown};
 use caf_text::push_number;
 use fortran_reader::read;
 use std::alloc::Global;
@@ -62,7 +62,11 @@ fn run_due(alloc: Global, program: ThinProgram, n: u32, seed: u32) -> Result<Due
     ensures { IfOk result (λ d. (r : Report) × (d.report ≡ Some r) × ReportClause d.report d.status d.text.items × IsReportOf program n seed r) }
 {
     let report = run_program(alloc, program, n, seed)?;
-    let text = report.text(alloc)?;
+    let shown = Shown {
+        vars: false,
+        trace: false,
+    };
+    let text = report.text(alloc, shown)?;
     Ok(Due {
         status: report.status(),
         text,

@@ -2,15 +2,18 @@
 
 ghost use Rattle.caf_report.specs.Ends.{HasEnd};
 
+use caf_base::few::Few;
 use caf_base::listing::Listing;
 use caf_base::place::{INITIAL_TEAM, ImageNo};
+use caf_base::span::{Dims, Span};
+use caf_base::value::Value;
 use caf_events::ask::Ask;
 use caf_events::event::{Entry, Event, Trace};
 use caf_events::exchange::Exchange;
 use caf_events::fault::FaultKind;
 use caf_events::reply::Reply;
 use caf_events::round::Arriving;
-use caf_report::report::{Report, Waiting};
+use caf_report::report::{Final, Report, Shown, Waiting};
 use std::alloc::Global;
 use std::process::Abort;
 
@@ -30,12 +33,16 @@ fn print<R: Abort>(rt: &R, alloc: Global, image: u32, stamp: u64, text: &str) ->
     entry(rt, alloc, image, stamp, Ask::Print { text })
 }
 
-// Whether a report has this status and this text is judged.
-fn says<R: Abort>(rt: &R, alloc: Global, report: Report, status: u8, wanted: &str)
+// Whether a report has this status and this text is judged; with `all` it shows the final values and the trace too.
+fn says<R: Abort>(rt: &R, alloc: Global, report: Report, all: bool, status: u8, wanted: &str)
     requires { HasEnd report }
 {
     let has = report.status();
-    let text = report.text(alloc);
+    let shown = Shown {
+        vars: all,
+        trace: all,
+    };
+    let text = report.text(alloc, shown);
     drop(report);
     let text = text.expect(rt, "memory");
     assert!(rt; has == status);
@@ -60,9 +67,10 @@ fn faulty<R: Abort>(rt: &R, alloc: Global) -> Trace {
 #[test]
 fn images_are_grouped_and_the_fault_ends(rt: HostRuntime) {
     let alloc = rt.alloc();
-    let report = Report::new(2, faulty(&rt, alloc), Listing::new(alloc));
+    let (names, finals) = (Listing::new(alloc), Listing::new(alloc));
+    let report = Report::new(2, faulty(&rt, alloc), Listing::new(alloc), names, finals);
     let wanted = "1: one\n1: \n1: three\n1: -4\n2: two\n2: \nfault image 1 line 7 CoBounds\n";
-    says(&rt, alloc, report, 8, wanted);
+    says(&rt, alloc, report, false, 8, wanted);
 }
 
 #[test]
@@ -70,8 +78,9 @@ fn nothing_printed_and_finished_is_no_text(rt: HostRuntime) {
     let alloc = rt.alloc();
     let stop = entry(&rt, alloc, 1, 1, Ask::Stop { code: 0 });
     let entries = Listing::of_one(alloc, stop).expect(&rt, "memory");
-    let report = Report::new(1, Trace { entries }, Listing::new(alloc));
-    says(&rt, alloc, report, 0, "");
+    let (names, finals) = (Listing::new(alloc), Listing::new(alloc));
+    let report = Report::new(1, Trace { entries }, Listing::new(alloc), names, finals);
+    says(&rt, alloc, report, false, 0, "");
 }
 
 #[test]
@@ -86,6 +95,64 @@ fn an_image_that_waits_is_stuck(rt: HostRuntime) {
         ask: Ask::Leave { team, round: 1 },
     };
     let waits = Listing::of_one(alloc, wait).expect(&rt, "memory");
-    let report = Report::new(2, Trace { entries }, waits);
-    says(&rt, alloc, report, 6, "stuck image 2 line 12 leave\n");
+    let (names, finals) = (Listing::new(alloc), Listing::new(alloc));
+    let report = Report::new(2, Trace { entries }, waits, names, finals);
+    says(
+        &rt,
+        alloc,
+        report,
+        false,
+        6,
+        "stuck image 2 line 12 leave\n",
+    );
+}
+
+// What a variable holds at the end on an image.
+fn last<R: Abort>(rt: &R, alloc: Global, image: u32, name: &str, values: &[Value]) -> Final {
+    let name = Listing::from_slice(alloc, name.as_bytes()).expect(rt, "memory");
+    let values = Listing::from_slice(alloc, values).expect(rt, "memory");
+    Final {
+        image: ImageNo(image),
+        name,
+        is_allocated: true,
+        values,
+    }
+}
+
+#[test]
+fn final_values_and_the_trace_are_shown(rt: HostRuntime) {
+    let alloc = rt.alloc();
+    let owner = ImageNo(2);
+    let span = Span {
+        coarray: 0,
+        start: 3,
+        dims: Dims::new(alloc),
+    };
+    let values = Few::of_one(Value::Int(-5));
+    let write = entry(
+        &rt,
+        alloc,
+        1,
+        4,
+        Ask::Write {
+            owner,
+            span,
+            values,
+        },
+    );
+    let entries = Listing::of_one(alloc, write).expect(&rt, "memory");
+    let name = Listing::from_slice(alloc, b"field").expect(&rt, "memory");
+    let names = Listing::of_one(alloc, name).expect(&rt, "memory");
+    let mut finals = Listing::new(alloc);
+    let scalar = last(&rt, alloc, 1, "a", &[Value::Bool(true)]);
+    finals.push(scalar).expect(&rt, "memory");
+    let array = last(&rt, alloc, 2, "v", &[Value::Int(7), Value::Int(-8)]);
+    finals.push(array).expect(&rt, "memory");
+    let mut absent = last(&rt, alloc, 2, "w", &[]);
+    absent.is_allocated = false;
+    finals.push(absent).expect(&rt, "memory");
+    let report = Report::new(2, Trace { entries }, Listing::new(alloc), names, finals);
+    let wanted =
+        "var 1 a = T\nvar 2 v = 7,-8\nvar 2 w = unallocated\n4 1 7 m2 write field:3 -5 > ok\n";
+    says(&rt, alloc, report, true, 0, wanted);
 }

@@ -29,7 +29,7 @@ pub fn push_count(out: &mut Vec<u8>, count: u64) -> Result<(), NoMemory>
 }
 
 /// Appends a blank and a number that isn't negative.
-pub(crate) fn push_spaced(out: &mut Vec<u8>, count: u64) -> Result<(), NoMemory>
+pub fn push_spaced(out: &mut Vec<u8>, count: u64) -> Result<(), NoMemory>
     ensures { OnOk result (out.new.items ≡ out.old.items ++ spaced (number_text count)) }
 {
     push_text(out, " ")?;
@@ -71,7 +71,7 @@ fn push_further_values(out: &mut Vec<u8>, values: &[Value]) -> Result<(), NoMemo
 }
 
 /// Appends values with commas between them.
-pub(crate) fn push_values(out: &mut Vec<u8>, values: &[Value]) -> Result<(), NoMemory>
+pub fn push_values(out: &mut Vec<u8>, values: &[Value]) -> Result<(), NoMemory>
     ensures { OnOk result (out.new.items ≡ out.old.items ++ values_text values.now) }
 {
     match values.split_first() {
