@@ -1,0 +1,9 @@
+pub mod Marks
+pub mod Joined
+pub mod Noting
+pub mod Lines
+pub mod Turning
+pub mod Keys
+pub mod Stepping
+pub mod Finishing
+pub mod Firsts
