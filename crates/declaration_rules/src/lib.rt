@@ -5,5 +5,9 @@
 #![tactic(auto)]
 
 pub mod asked;
+pub mod attribute;
 pub mod bound;
+pub mod dimension;
+pub mod initial;
 pub mod kind;
+pub mod whole;
