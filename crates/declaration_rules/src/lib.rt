@@ -10,4 +10,5 @@ pub mod bound;
 pub mod dimension;
 pub mod initial;
 pub mod kind;
+pub mod law;
 pub mod whole;
