@@ -3,10 +3,13 @@ use Rattle.std.specs.Prelude.{ℕ, ℤ, pos, int_lt, Bool, not, Option, Some, No
 use Rattle.std.specs.Option.{option_map}
 use Rattle.caf_base.specs.declared.place.Pos.{Pos}
 use Rattle.caf_base.specs.declared.value.Kind.{Kind}
-use Rattle.rule_definitions.specs.Judgements.{Judgement, fine, ruled, then, under, unless, made_of_both}
+use Rattle.fortran_tree.specs.Expressions as f
+use Rattle.fortran_tree.specs.Statements as d
+use Rattle.rule_definitions.specs.Names.{Scope}
+use Rattle.rule_definitions.specs.Judgements.{Judgement, fine, made, ruled, then, under, unless, made_of_both}
 use Rattle.rule_definitions.specs.Parts.{integer_kind, logical_kind, kind_of_value, logical_array_breaks}
 use Rattle.rule_definitions.specs.Declarations.{bound_of_value}
-use Rattle.declaration_rules.specs.Asked.{Asked, Worth, asked, constant_worth}
+use Rattle.declaration_rules.specs.Asked.{Asked, Worth, asked, asked_of, constant_worth}
 use Rattle.declaration_rules.specs.declared.asked.Asked.{Asked as AskedInMemory}
 use Rattle.declaration_rules.specs.declared.bound.AskedBounds.{AskedBounds as BoundsInMemory}
 use Rattle.declaration_rules.specs.declared.kind.KindOf.{KindOf}
@@ -47,3 +50,10 @@ bounds_asked b = made_of_both (λ m n. (m, n)) (lower_asked b.lower) (bound_aske
 
 abbrev pub cobounds_asked : AskedBounds → Judgement (ℤ × ℤ)
 cobounds_asked b = under (bounds_asked b) (λ m. unless (not (int_lt m.1 m.0)) 25 b.upper.at)
+
+-- what is asked of bounds in a scope
+abbrev pub maybe_asked_of : Scope → Option f.Expression → Option Asked
+maybe_asked_of s o = made (asked_of s) o
+
+abbrev pub bounds_asked_of : Scope → d.Bounds → AskedBounds
+bounds_asked_of s b = record { lower = maybe_asked_of s b.lower; upper = asked_of s b.upper }

@@ -1,2 +1,5 @@
 pub mod Asked
 pub mod Bounds
+pub mod Entities
+pub mod Initials
+pub mod Shapes

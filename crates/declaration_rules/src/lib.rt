@@ -5,5 +5,10 @@
 #![tactic(auto)]
 
 pub mod asked;
+pub mod attribute;
 pub mod bound;
+pub mod dimension;
+pub mod initial;
 pub mod kind;
+pub mod law;
+pub mod whole;

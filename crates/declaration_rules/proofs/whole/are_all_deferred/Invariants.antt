@@ -1,0 +1,7 @@
+use Rattle.std.proofs.Common.{◌≡◌, drop, map}
+use Rattle.fortran_tree.specs.DeclarationViews.{dimension}
+use Rattle.rule_definitions.specs.Declarations.{all_deferred}
+use Rattle.declaration_rules.proofs.whole.are_all_deferred.Given as goal
+
+abbrev pub invariant-loop-next : goal.invariant-loop-next
+invariant-loop-next l = all_deferred (map dimension (drop l.next-index l.dimensions)) ≡ all_deferred (map dimension l.dimensions)

@@ -1,0 +1,26 @@
+//! What is asked of expressions says what the definitions say of them.
+
+ghost use Rattle.std.specs.Prelude.{◌≡◌, Option};
+ghost use Rattle.fortran_tree.specs.Expressions as f;
+ghost use Rattle.fortran_tree.specs.Statements as d;
+ghost use Rattle.rule_definitions.specs.Names.{Scope};
+ghost use Rattle.rule_definitions.specs.Declarations.{bounds_value, declared_kind, raw_breaks};
+ghost use Rattle.declaration_rules.specs.Asked.{asked_of};
+ghost use Rattle.declaration_rules.specs.Bounds.{bounds_asked, bounds_asked_of, kind_asked, kinds_of, maybe_asked_of};
+ghost use Rattle.declaration_rules.specs.Shapes.{raw_asked};
+ghost use Rattle.declaration_rules.specs.declared.kind.KindOf.{KindOf};
+
+/// Bounds of a scope, by what is asked of their expressions.
+pub fn law_bounds()
+    ensures { (s : Scope) (b : d.Bounds) → bounds_asked (bounds_asked_of s b) ≡ bounds_value s b }
+{}
+
+/// A kind of a scope, by what is asked of its expression.
+pub fn law_kind()
+    ensures { (s : Scope) (k : KindOf) (e : f.Expression) → kind_asked k (asked_of s e) ≡ declared_kind s (kinds_of k) e }
+{}
+
+/// What breaks in an expression alone.
+pub fn law_raw()
+    ensures { (s : Scope) (o : Option f.Expression) → raw_asked (maybe_asked_of s o) ≡ raw_breaks s o }
+{}
