@@ -10,7 +10,8 @@ use Rattle.core_runs.specs.Lists.{image_of, key_of, stamp_of, list_at, entries_o
 use Rattle.core_runs.specs.Moments.{Rules, Moment, item_at}
 use Rattle.core_runs.specs.Beginnings.{Beginning, IsFirst}
 use Rattle.core_runs.specs.CoreRuns.{IsFit}
-use Rattle.core_runs.specs.Kept.{IsLane, IsKept}
+use Rattle.core_runs.specs.Lanes.{IsLane}
+use Rattle.core_runs.specs.Kept.{IsKept}
 
 pub not_cons : {A : Type 0} (g g' : List A) (e : A) → [] ≡ g ++ e ∷ g' → ⊥
 not_cons [] g' e h = cc

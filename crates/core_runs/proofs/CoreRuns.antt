@@ -21,7 +21,8 @@ use Rattle.core_runs.specs.Moments.{Rules, Moment}
 use Rattle.core_runs.specs.Beginnings.{Beginning, IsImage, IsPlace}
 use Rattle.core_runs.specs.Sequences.{Joins, NothingAfterEnd}
 use Rattle.core_runs.specs.CoreRuns.{at_board, of_memory, said_by, IsDoneAlone, IsLawful, IsCoreRun}
-use Rattle.core_runs.specs.Kept.{IsLane, IsKept}
+use Rattle.core_runs.specs.Lanes.{IsLane}
+use Rattle.core_runs.specs.Kept.{IsKept}
 use Rattle.core_runs.specs.Traces.{IsTraceOf, HasHistories}
 use Rattle.core_runs.proofs.Beginnings.{not_cons}
 

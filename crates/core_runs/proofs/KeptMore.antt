@@ -19,7 +19,8 @@ use Rattle.trace_theory.proofs.Snocs.{each_at, each_last}
 use Rattle.core_runs.specs.Lists.{said, entry, list_at, stamp_alone}
 use Rattle.core_runs.specs.Moments.{Rules, Moment, item_at, with_item, ready_there, reply_there, memory_ready_at, memory_reply_at, histories_with, board_with, Steps}
 use Rattle.core_runs.specs.Beginnings.{Beginning, IsImage, IsPlace}
-use Rattle.core_runs.specs.Kept.{IsLane, IsKept}
+use Rattle.core_runs.specs.Lanes.{IsLane}
+use Rattle.core_runs.specs.Kept.{IsKept}
 use Rattle.core_runs.specs.Sequences.{IsStampLimit}
 use Rattle.core_runs.proofs.Numbered.{item_within, index_same, get_same, get_other, list_other}
 use Rattle.core_runs.proofs.Weaves.{map_append, with_length, histories_length, woven_by}

@@ -13,10 +13,11 @@ use Rattle.trace_theory.specs.Machines.{Said, Walk}
 use Rattle.trace_theory.specs.Runs.{IsStamped}
 use Rattle.trace_theory.specs.Simulations.{AllAnswer}
 use Rattle.core_runs.specs.Lists.{image_of, key_of, stamp_of, own_stamp, said}
-use Rattle.core_runs.specs.Moments.{Rules}
+use Rattle.core_runs.specs.Moments.{Rules, Moment}
 use Rattle.core_runs.specs.Beginnings.{Beginning, IsImage, IsPlace}
 use Rattle.core_runs.specs.Failures.{FailsFrom}
-use Rattle.core_runs.specs.Sequences.{Joins, NothingAfterEnd, IsOrderly, HearsAnswers}
+use Rattle.core_runs.specs.Lanes.{IsMoment, HearsDue}
+use Rattle.core_runs.specs.Sequences.{Joins, NothingAfterEnd, IsOrderly}
 
 -- the trace's entries of image i
 abbrev pub of_image : ℕ → List Entry → List Entry
@@ -57,10 +58,10 @@ pub record IsCoreRun {C M B : Type 0} (r : Rules C M B) (b : Beginning C M B) (t
   pub nothing_after : (i : ℕ) → NothingAfterEnd (said_by i t)
 
 -- what the rules and the programs of a run must be for its traces to be core runs: replies answer their asks, walks are orderly, an image that fails makes
--- the steps of its failure, and each image can go on with each reply that answers
+-- the steps of its failure, and at each moment of a run each image can go on with the reply that is due
 pub record IsFit {C M B : Type 0} (r : Rules C M B) (b : Beginning C M B) : Type 0 where
   pub memory_answers : (made : M) (h : List Entry) (i : ℕ) (a : Ask) → Served (r.memory_ready made) (r.memory_reply made) [] h → IsTrue (r.memory_ready made h i a) → Answers a (r.memory_reply made h i a)
   pub board_answers : (made : B) (h : List Entry) (i : ℕ) (a : Ask) → Served (r.board_ready made) (r.board_reply made) [] h → IsTrue (r.board_ready made h i a) → Answers a (r.board_reply made h i a)
   pub orderly : (i : ℕ) → IsImage b i → IsOrderly r.step (b.first i)
   pub fails : (i : ℕ) → IsImage b i → (es : List (Said Ask Reply)) (c : C) → AllAnswer Answers es → Walk r.step (b.first i) es c → FailsFrom i es []
-  pub hears : (i : ℕ) → IsImage b i → HearsAnswers r.step r.hears (b.first i)
+  pub hears : (m : Moment C M B) → IsMoment r b m → HearsDue r m

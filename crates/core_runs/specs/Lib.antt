@@ -2,6 +2,7 @@ pub mod Beginnings
 pub mod CoreRuns
 pub mod Failures
 pub mod Kept
+pub mod Lanes
 pub mod Lawful
 pub mod Lists
 pub mod Moments

@@ -9,7 +9,7 @@ use Rattle.caf_events.specs.declared.reply.Reply.{Reply}
 use Rattle.caf_events.specs.declared.reply.Reply.TheVariants as replies
 use Rattle.caf_events.specs.Answers.{Answers}
 use Rattle.caf_events.specs.Events.{EndsImage}
-use Rattle.caf_events.specs.Walkers.{IsOver, AsksNext}
+use Rattle.caf_events.specs.Walkers.{IsOver}
 
 -- the departure that is asked next after an arrival: from the round that it joined, or from the images of its SYNC IMAGES
 abbrev pub departure_after : Ask → Reply → Option Ask
@@ -58,11 +58,6 @@ NothingAfterEnd es = (before after : List (Said Ask Reply)) (e : Said Ask Reply)
 -- the last step ended the image
 abbrev pub HasEndedBy : List (Said Ask Reply) → Type 0
 HasEndedBy es = (before : List (Said Ask Reply)) × (e : Said Ask Reply) × (es ≡ before ++ e ∷ []) × EndsImage e.ask e.reply
-
--- wherever a walk from here on comes to an ask, by replies that answered, the machine can go on with each reply that answers it
-abbrev pub HearsAnswers : {C : Type 0} → (C → Move C Ask Reply) → (C → Reply → Type 0) → C → Type 0
-HearsAnswers {C} step hears first =
-    (es : List (Said Ask Reply)) (c : C) → AllAnswer Answers es → WalkTo step first es c → (a : Ask) (q : Reply) → AsksNext (step c) a → Answers a q → hears c q
 
 -- what every walk from here on has in common, whatever the replies are that answer its asks; a limit of stamps isn't a program's own to ask
 pub record IsOrderly {C : Type 0} (step : C → Move C Ask Reply) (first : C) : Type 0 where
