@@ -1,0 +1,4 @@
+pub mod Fetch
+pub mod Steps
+pub mod Sizes
+pub mod Walking

@@ -1,0 +1,4 @@
+pub mod Places
+pub mod Start
+pub mod Engine
+pub mod Walk

@@ -1,0 +1,265 @@
+//! The machine of an image, at its next ask or at its end.
+
+ghost use Rattle.std.specs.Prelude.{◌≡◌, ◌≤◌, ◌<◌, ◌*◌, [], ℕ, Some, length, slice_get, IfOk};
+ghost use Rattle.std.specs.Arc.{arc_value};
+ghost use Rattle.trace_theory.specs.Machines.{go, goes, Rests};
+ghost use Rattle.caf_events.specs.Walkers.{IsAtAsk, NextIs};
+ghost use Rattle.image_acts.specs.Faults as faults;
+ghost use Rattle.image_code.specs.declared.step.Step.{Step};
+ghost use Rattle.image_state.specs.Acting.{HasFrame};
+ghost use Rattle.image_state.specs.Plain.{IsPlainAsk};
+ghost use Rattle.image_code.specs.declared.step.Step.TheVariants as steps;
+ghost use Rattle.caf_events.specs.declared.walker.Next.TheVariants as nexts;
+ghost use Rattle.image_machine.specs.Engine.{step_does, start_of, first_kept};
+ghost use Rattle.image_machine.specs.Walk.{ArePlain, HasRoom, IsWell, lifted, machine_step, Stood, Answered};
+
+use crate::engine::{Engine, Went};
+use caf_base::place::{ImageNo, Place};
+use caf_base::refusal::NoMemory;
+use caf_events::ask::Ask;
+use caf_events::event::Event;
+use caf_events::fault::FaultKind;
+use caf_events::reply::Reply;
+use caf_events::walker::{Next, Walker};
+use image_code::code::Code;
+use image_code::step::{AskStep, Step};
+use image_state::state::ImageState;
+use std::alloc::Global;
+use std::marker::Model;
+use std::sync::Arc;
+
+/// The machine of an image at its next ask, or after its last step.
+#[derive(Drop)]
+pub struct Machine {
+    alloc: Global,
+    engine: Engine,
+    stand: Went,
+}
+
+impl Model for Machine {
+    ghost use Rattle.image_machine.specs.Engine.{Engine};
+    ghost use Rattle.image_machine.specs.Walk.{IsWell, Stood};
+
+    ghost Value = { Engine };
+
+    ghost view = { λ m. m.engine };
+
+    ghost invariant = { λ m. IsWell m.engine × Stood m.engine m.stand };
+}
+
+impl Machine {
+    /// Image `me` of so many at the first ask of its code, which may count so many statements. Its stack and its frames are made whole here. So far the code is plain and
+    /// has no coarrays and no arrays.
+    pub fn new(
+        alloc: Global,
+        code: Arc<Code>,
+        me: ImageNo,
+        n: u32,
+        limit: u64,
+    ) -> Result<Machine, NoMemory>
+        requires limit { limit ≤ 100000000 }
+        requires plain { ArePlain (arc_value code).program.steps }
+        requires coarrays { (arc_value code).program.tables.coarrays ≡ [] }
+        requires arrays { (arc_value code).program.tables.main.arrays ≡ [] }
+        ensures start { IfOk result (λ m. (room frame_room steps : ℕ) × (go machine_step steps (start_of (arc_value code) limit room frame_room me.0 n) ≡ goes m)) }
+        ensures rests { IfOk result (λ m. Rests (machine_step m)) }
+    {
+        let (room, frame_room) = rooms(&code)?;
+        let image = first_image(alloc, &code, room, frame_room, me, n)?;
+        let mut engine = Engine::new(alloc, code, image, limit)?;
+        let stand = engine.run();
+        Ok(Machine {
+            alloc,
+            engine,
+            stand,
+        })
+    }
+}
+
+impl Walker for Machine {
+    ghost use Rattle.image_machine.specs.Engine.{Engine};
+    ghost use Rattle.image_machine.specs.Walk.{machine_step, left_of, EndsWell};
+
+    ghost Config = { Engine };
+
+    ghost config = { λ m. m };
+
+    ghost step = { machine_step };
+
+    ghost hears = { λ c reply. EndsWell (machine_step c) reply };
+
+    ghost asks_left = { left_of };
+
+    ghost has_room = { λ m. Unit {0} };
+
+    #[tactic(auto, using(crate::proofs::Walking::stood_plain, crate::proofs::Walking::stood_asks, crate::proofs::Walking::next_there))]
+    fn next(&self) -> Next {
+        match self.stand {
+            Went::Fault(_) | Went::Limit => Next::Ask(Place::Own),
+            Went::Asks(ask) => Next::Ask(place_of(&self.engine, ask)),
+            Went::Over => Next::Ended,
+            Went::On => unreachable!(),
+        }
+    }
+
+    #[tactic(auto, using(crate::proofs::Walking::stood_plain, crate::proofs::Walking::stood_asks, crate::proofs::Walking::asks_there))]
+    fn ask(&self) -> Result<Ask, NoMemory> {
+        match self.stand {
+            Went::Fault(n) => Ok(Ask::Fault { kind: fault_of(n) }),
+            Went::Limit => Ok(Ask::LimitStatements {
+                number: self.engine.next_count(),
+            }),
+            Went::Asks(ask) => Ok(self.engine.ask_of(ask)),
+            Went::Over | Went::On => unreachable!(),
+        }
+    }
+
+    fn line(&self) -> u32 {
+        self.engine.line()
+    }
+
+    fn reserve(&mut self) -> Result<(), NoMemory> {
+        Ok(())
+    }
+
+    fn give(&mut self, event: &Event) {
+        take(&mut self.engine, self.stand, event, self.alloc);
+        self.stand = self.engine.run();
+    }
+}
+
+/// Goes on after the reply of an event.
+fn take(engine: &mut Engine, stand: Went, event: &Event, alloc: Global)
+    requires well { IsWell engine.old }
+    requires stood { Stood engine.old stand }
+    requires ask { IsAtAsk (machine_step engine.old) }
+    ensures { Answered (machine_step engine.old) event.now.reply engine.new }
+{
+    let reply = event.reply(alloc);
+    hear(engine, stand, &reply);
+    drop(reply);
+}
+
+/// Goes on after the reply, where the engine stands at an ask.
+#[tactic(auto, using(crate::proofs::Walking::ask_within, crate::proofs::Walking::ask_room, crate::proofs::Walking::stood_plain, crate::proofs::Walking::stood_asks, crate::proofs::Walking::answered_there))]
+fn hear(engine: &mut Engine, stand: Went, reply: &Reply)
+    requires well { IsWell engine.old }
+    requires stood { Stood engine.old stand }
+    requires ask { IsAtAsk (machine_step engine.old) }
+    ensures { Answered (machine_step engine.old) reply.now engine.new }
+{
+    match stand {
+        Went::Fault(_) => engine.end_after_fault(),
+        Went::Limit => engine.end(),
+        Went::Asks(ask) => engine.answer(ask, reply),
+        Went::Over | Went::On => unreachable!(),
+    }
+}
+
+/// The place of an ask.
+#[tactic(auto, using(crate::proofs::Walking::next_of))]
+fn place_of(engine: &Engine, ask: AskStep) -> Place
+    requires plain { IsPlainAsk ask }
+    requires asks { IsAtAsk (lifted engine.now (step_does engine.now (steps.Ask ask))) }
+    ensures { NextIs (lifted engine.now (step_does engine.now (steps.Ask ask))) (nexts.Ask result) }
+{
+    let ask = engine.ask_of(ask);
+    let place = ask.place();
+    drop(ask);
+    place
+}
+
+/// Room for the numbers of all bodies, and for the scalars of a frame.
+fn rooms(code: &Code) -> Result<(usize, u32), NoMemory>
+    ensures { IfOk result (λ r. HasRoom code.now r.0 r.1) }
+{
+    let room = numbers_room(code.highest().numbers)?;
+    Ok((room, most_scalars(code.steps())))
+}
+
+/// The core of an image at the start of its code.
+fn first_image(
+    alloc: Global,
+    code: &Code,
+    room: usize,
+    frame_room: u32,
+    me: ImageNo,
+    n: u32,
+) -> Result<ImageState, NoMemory>
+    ensures { IfOk result (λ k. k ≡ first_kept code.now room frame_room me.0 n) }
+{
+    let main = &code.tables().main;
+    ImageState::new(
+        alloc,
+        main.cells.as_slice(),
+        main.need,
+        room,
+        frame_room as usize,
+        me,
+        n,
+    )
+}
+
+/// The fault with this number.
+fn fault_of(n: u32) -> FaultKind
+    ensures { result ≡ faults.fault_of n }
+{
+    match n {
+        2 => FaultKind::DivideByZero,
+        3 => FaultKind::Bounds,
+        4 => FaultKind::ZeroStep,
+        5 => FaultKind::CoBounds,
+        6 => FaultKind::NotAllocated,
+        7 => FaultKind::NotEstablished,
+        8 => FaultKind::NoTeam,
+        9 => FaultKind::Cells,
+        10 => FaultKind::Depth,
+        11 => FaultKind::Room,
+        12 => FaultKind::Shape,
+        13 => FaultKind::Format,
+        _ => FaultKind::Overflow,
+    }
+}
+
+/// Room for the numbers of 258 bodies, where the stack of one is no higher than this.
+fn numbers_room(most: u64) -> Result<usize, NoMemory>
+    ensures { IfOk result (λ room. most * 258 < room) }
+{
+    let Some(room) = most.checked_mul(258) else {
+        return Err(NoMemory);
+    };
+    let Some(room) = room.checked_add(1) else {
+        return Err(NoMemory);
+    };
+    Ok(room as usize)
+}
+
+/// The most scalars of a frame that some step begins.
+fn most_scalars(steps: &[Step]) -> u32
+    ensures { (p : ℕ) (s : Step) → slice_get steps.now p ≡ Some s → HasFrame result s }
+{
+    let mut most = 0;
+    for p in 0..steps.len() {
+        most = with_scalars(step_at(steps, p), most);
+    }
+    most
+}
+
+/// The greater of `most` and the scalars of the frame that a step begins.
+fn with_scalars(step: Step, most: u32) -> u32
+    ensures frame { HasFrame result step }
+    ensures most { most ≤ result }
+{
+    match step {
+        Step::BeginFrame(cells, _, _) if most < cells => cells,
+        _ => most,
+    }
+}
+
+/// The step at a place.
+fn step_at(steps: &[Step], p: usize) -> Step
+    requires { p < length steps.now }
+    ensures { slice_get steps.now p ≡ Some result }
+{
+    steps[p]
+}
