@@ -7,13 +7,19 @@ use Rattle.fortran_tree.specs.Expressions as f
 use Rattle.fortran_tree.specs.Statements as d
 use Rattle.checked_tree.specs.Expressions as t
 use Rattle.rule_definitions.specs.declared.broken.Broken.{Broken}
-use Rattle.rule_definitions.specs.Judgements.{Judgement, is_nothing, made, made_of, made_of_both, then, then_made, under, formed, unless, breaks}
+use Rattle.rule_definitions.specs.Judgements.{Judgement, is_nothing, made, made_of, made_of_both, then, then_made, under, formed, ruled, unless, breaks}
 use Rattle.rule_definitions.specs.Names.{Scope}
 use Rattle.rule_definitions.specs.Parts.{place_of, plain, is_listed}
 use Rattle.rule_definitions.specs.Expressions.{judged, placed}
 use Rattle.rule_definitions.specs.Declarations.{constant_expression, lacks_value, without_meaning, declared_kind, bound_value, lower_value, bounds_value, cobounds_value, raw_breaks}
 use Rattle.declaration_rules.specs.Asked.{Asked, Worth, worth_of, asked_of, plain_worth, constant_worth}
 use Rattle.declaration_rules.specs.Bounds.{kinds_of, kind_of_worth, kind_asked, bound_of_worth, bound_asked, lower_asked, bounds_asked, cobounds_asked, bounds_asked_of, maybe_asked_of}
+use Rattle.checked_tree.specs.declared.data.DataType.{DataType}
+use Rattle.checked_tree.specs.declared.data.DataType.TheVariants.{Intrinsic, Team, Event, Lock}
+use Rattle.rule_definitions.specs.Names.{KnownBounds}
+use Rattle.rule_definitions.specs.Declarations.{Unit', Attributes, initial_judged, initial_value, initialized_breaks, is_named_constant}
+use Rattle.rule_definitions.specs.Constants.{Constancy}
+use Rattle.declaration_rules.specs.Initials.{initial_of_worth, constant_initial_asked, initial_asked}
 use Rattle.declaration_rules.specs.Shapes.{raw_asked}
 use Rattle.declaration_rules.specs.declared.kind.KindOf.{KindOf}
 use Rattle.declaration_rules.specs.declared.kind.KindOf.TheVariants.{Integer, Logical}
@@ -80,3 +86,18 @@ bounds_is s b = ap (λ k. made_of_both (λ m n. (m, n)) k (bound_asked (asked_of
 pub raw_is : (s : Scope) (o : Option f.Expression) → raw_asked (maybe_asked_of s o) ≡ raw_breaks s o
 raw_is s None = refl
 raw_is s (Some e) = ap (λ (k : Judgement Worth). k.breaks) (plain_is s e)
+
+initial_rules : (s : Scope) (y : Option DataType) (ds : List KnownBounds) (e : f.Expression) → constant_initial_asked y ds (asked_of s e) ≡ constant_expression s 22 e (initial_value s y ds e)
+unfolding asked_of
+initial_rules s None ds e = constant_is s 22 e (initial_of_worth None ds (place_of e))
+initial_rules s (Some (Intrinsic k)) ds e = constant_is s 22 e (initial_of_worth (Some (Intrinsic k)) ds (place_of e))
+initial_rules s (Some Team) ds e = constant_is s 22 e (initial_of_worth (Some Team) ds (place_of e))
+initial_rules s (Some Event) ds e = constant_is s 22 e (initial_of_worth (Some Event) ds (place_of e))
+initial_rules s (Some Lock) ds e = constant_is s 22 e (initial_of_worth (Some Lock) ds (place_of e))
+
+pub initial_is : (s : Scope) (u : Unit') (a : Attributes) (n : List ℕ) (y : Option DataType) (ds : List KnownBounds) (e : f.Expression)
+    → made_of Some (initial_asked u (is_named_constant u a n) a.is_allocatable y ds (asked_of s e)) ≡ initial_judged s u a n y ds (Some e)
+unfolding asked_of
+initial_is s u a n y ds e =
+    ap (λ (k : Judgement Constancy). made_of Some (ruled k (cond (is_nothing (plain_worth (asked_of s e)).breaks) (initialized_breaks u (is_named_constant u a n) a.is_allocatable y (place_of e)) []))) (initial_rules s y ds e)
+    ∙ ap (λ (k : List Broken). made_of Some (ruled (constant_expression s 22 e (initial_value s y ds e)) (cond (is_nothing k) (initialized_breaks u (is_named_constant u a n) a.is_allocatable y (place_of e)) []))) (raw_is s (Some e))

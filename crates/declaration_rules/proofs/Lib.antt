@@ -1,3 +1,4 @@
 pub mod Definitions
+pub mod Headings
 pub mod Shapes
 pub mod Wholes

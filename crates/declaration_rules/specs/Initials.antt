@@ -22,6 +22,9 @@ abbrev pub initial_of_worth : Option DataType → List KnownBounds → Pos → W
 initial_of_worth (Some (Intrinsic k)) ds p w = ruled (fine w.constancy) (value_breaks (Intrinsic k) ds w.of_type w.constancy p)
 initial_of_worth y ds p w = ruled unknown (constant_breaks w.constancy p)
 
+abbrev pub constant_initial_asked : Option DataType → List KnownBounds → Asked → Judgement Constancy
+constant_initial_asked y ds a = then (constant_worth 22 a) (initial_of_worth y ds a.at)
+
 abbrev pub initial_asked : Unit' → Bool → Bool → Option DataType → List KnownBounds → Asked → Judgement Constancy
 initial_asked u is_named allocates y ds a =
-    ruled (then (constant_worth 22 a) (initial_of_worth y ds a.at)) (cond (is_nothing (plain_worth a).breaks) (initialized_breaks u is_named allocates y a.at) [])
+    ruled (constant_initial_asked y ds a) (cond (is_nothing (plain_worth a).breaks) (initialized_breaks u is_named allocates y a.at) [])

@@ -7,10 +7,10 @@ ghost use Rattle.rule_definitions.specs.Names.{is_integer, is_team};
 ghost use Rattle.rule_definitions.specs.Declarations.{is_like, is_held, all_held, has_extents, type_breaks, extent_breaks, value_breaks, is_special, initialized_breaks};
 ghost use Rattle.constant_values.specs.Views.{constancy};
 ghost use Rattle.declaration_rules.specs.Entities.{unit};
-ghost use Rattle.declaration_rules.specs.Asked.{worth};
-ghost use Rattle.declaration_rules.specs.Initials.{initial_of_worth, is_extent, extent_of_bounds};
+ghost use Rattle.declaration_rules.specs.Asked.{asked, worth};
+ghost use Rattle.declaration_rules.specs.Initials.{constant_initial_asked, initial_asked, initial_of_worth, is_extent, extent_of_bounds};
 
-use crate::asked::Valued;
+use crate::asked::{Asked, Valued, constant_value, is_clean};
 use crate::attribute::DeclaringUnit;
 use crate::kind::is_logical_type;
 use caf_base::place::Pos;
@@ -192,8 +192,8 @@ fn is_special_type(of_type: Option<DataType>) -> bool
     }
 }
 
-/// Rules 27, 28 and 22: whether a variable may have an initial value at all (8.4, 8.5.16).
-#[tactic(auto, using(scope_table::proofs::First::first_of_both))]
+// Rules 27, 28 and 22: whether a variable may have an initial value at all (8.4, 8.5.16); whether nothing breaks.
+#[tactic(auto, using(scope_table::proofs::First::first_of_both, crate::proofs::Shapes::nothing_in_both))]
 fn judge_initialized(
     first: &mut Option<Broken>,
     of: &DeclaringUnit<'_>,
@@ -201,13 +201,16 @@ fn judge_initialized(
     allocates: bool,
     of_type: Option<DataType>,
     at: Pos,
-)
-    ensures { first.new ≡ first_of first.old (initialized_breaks (unit of.now) is_constant allocates of_type at) }
+) -> bool
+    ensures first { first.new ≡ first_of first.old (initialized_breaks (unit of.now) is_constant allocates of_type at) }
+    ensures fine { result ≡ is_nothing (initialized_breaks (unit of.now) is_constant allocates of_type at) }
 {
-    if is_special_type(of_type) {
+    let is_special = is_special_type(of_type);
+    if is_special {
         note(first, 27, at);
     }
-    judge_unit_value(first, of, is_constant, allocates, at);
+    let is_fine = judge_unit_value(first, of, is_constant, allocates, at);
+    !is_special && is_fine
 }
 
 #[tactic(auto, using(scope_table::proofs::First::first_of_both))]
@@ -217,15 +220,19 @@ fn judge_unit_value(
     is_constant: bool,
     allocates: bool,
     at: Pos,
-)
-    ensures { first.new ≡ first_of first.old (unless (is_constant || not of.now.is_procedure) 28 at ++ unless (not allocates) 22 at) }
+) -> bool
+    ensures first { first.new ≡ first_of first.old (unless (is_constant || not of.now.is_procedure) 28 at ++ unless (not allocates) 22 at) }
+    ensures fine { result ≡ is_nothing (unless (is_constant || not of.now.is_procedure) 28 at ++ unless (not allocates) 22 at) }
 {
-    if !is_constant && of.is_procedure {
+    let is_misplaced = !is_constant && of.is_procedure;
+    if is_misplaced {
         note(first, 28, at);
     }
     if allocates {
         note(first, 22, at);
+        return false;
     }
+    !is_misplaced
 }
 
 // What a value is for a variable of this type and shape.
@@ -249,4 +256,43 @@ fn initial_of_value<'a>(
         note(first, 22, at);
     }
     None
+}
+
+// A value that must be constant, for a variable of this type and shape.
+#[tactic(auto, using(scope_table::proofs::First::first_of_both))]
+fn constant_initial<'a>(
+    first: &mut Option<Broken>,
+    of_type: Option<DataType>,
+    bounds: &[KnownBounds],
+    expr: &'a Asked,
+) -> Option<&'a Constancy>
+    ensures first { first.new ≡ first_of first.old (constant_initial_asked of_type bounds.now (asked expr.now)).breaks }
+    ensures value { option_map (λ c. constancy c.now) result ≡ (constant_initial_asked of_type bounds.now (asked expr.now)).meaning }
+{
+    let value = constant_value(first, 22, expr)?;
+    initial_of_value(first, of_type, bounds, value, expr.at)
+}
+
+/// An initial value (ISO/IEC 1539-1:2018, 8.4) of a variable of this type and shape, or of a named constant.
+#[tactic(auto, using(scope_table::proofs::First::first_of_both))]
+pub fn judge_initial<'a>(
+    first: &mut Option<Broken>,
+    of: &DeclaringUnit<'_>,
+    is_constant: bool,
+    allocates: bool,
+    of_type: Option<DataType>,
+    bounds: &[KnownBounds],
+    expr: &'a Asked,
+) -> Option<&'a Constancy>
+    ensures first { first.new ≡ first_of first.old (initial_asked (unit of.now) is_constant allocates of_type bounds.now (asked expr.now)).breaks }
+    ensures value { option_map (λ c. constancy c.now) result ≡ (initial_asked (unit of.now) is_constant allocates of_type bounds.now (asked expr.now)).meaning }
+{
+    let value = constant_initial(first, of_type, bounds, expr);
+    if !is_clean(expr) {
+        return value;
+    }
+    if !judge_initialized(first, of, is_constant, allocates, of_type, expr.at) {
+        return None;
+    }
+    value
 }

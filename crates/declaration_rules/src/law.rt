@@ -1,10 +1,13 @@
 //! What is asked of expressions says what the definitions say of them.
 
-ghost use Rattle.std.specs.Prelude.{◌≡◌, Option};
+ghost use Rattle.std.specs.Prelude.{◌≡◌, List, ℕ, Option, Some};
 ghost use Rattle.fortran_tree.specs.Expressions as f;
 ghost use Rattle.fortran_tree.specs.Statements as d;
-ghost use Rattle.rule_definitions.specs.Names.{Scope};
-ghost use Rattle.rule_definitions.specs.Declarations.{bounds_value, declared_kind, raw_breaks};
+ghost use Rattle.rule_definitions.specs.Names.{KnownBounds, Scope};
+ghost use Rattle.rule_definitions.specs.Judgements.{made_of};
+ghost use Rattle.checked_tree.specs.declared.data.DataType.{DataType};
+ghost use Rattle.declaration_rules.specs.Initials.{initial_asked};
+ghost use Rattle.rule_definitions.specs.Declarations.{Attributes, Unit', bounds_value, declared_kind, initial_judged, is_named_constant, raw_breaks};
 ghost use Rattle.declaration_rules.specs.Asked.{asked_of};
 ghost use Rattle.declaration_rules.specs.Bounds.{bounds_asked, bounds_asked_of, kind_asked, kinds_of, maybe_asked_of};
 ghost use Rattle.declaration_rules.specs.Shapes.{raw_asked};
@@ -23,4 +26,9 @@ pub fn law_kind()
 /// What breaks in an expression alone.
 pub fn law_raw()
     ensures { (s : Scope) (o : Option f.Expression) → raw_asked (maybe_asked_of s o) ≡ raw_breaks s o }
+{}
+
+/// An initial value of a scope, by what is asked of its expression.
+pub fn law_initial()
+    ensures { (s : Scope) (u : Unit') (a : Attributes) (n : List ℕ) (y : Option DataType) (ds : List KnownBounds) (e : f.Expression) → made_of Some (initial_asked u (is_named_constant u a n) a.is_allocatable y ds (asked_of s e)) ≡ initial_judged s u a n y ds (Some e) }
 {}

@@ -8,6 +8,7 @@ pub mod asked;
 pub mod attribute;
 pub mod bound;
 pub mod dimension;
+pub mod heading;
 pub mod initial;
 pub mod kind;
 pub mod law;

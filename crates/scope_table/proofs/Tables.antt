@@ -8,6 +8,8 @@ use Rattle.rule_definitions.specs.Names.{Named, Meaning, named, denoted_in, is_a
 use Rattle.scope_table.specs.Names.{place_of}
 use Rattle.scope_table.specs.Symbols.{entry, entry_name, entry_meaning}
 use Rattle.scope_table.specs.declared.symbol.Entry.{Entry}
+use Rattle.checked_tree.specs.declared.data.Home.TheVariants.{Own, Host}
+use Rattle.scope_table.specs.Scopes.{seen_entry}
 use Rattle.scope_table.specs.Known.{listed, known_meaning, with_first}
 use Rattle.scope_table.specs.declared.known.Known.{Known}
 
@@ -150,3 +152,12 @@ pub item_of : {A B : Type 0} (f : A → B) (xs : List A) (k : ℕ) → item_at (
 item_of f [] k = refl
 item_of f (x ∷ xs) zero = refl
 item_of f (x ∷ xs) (suc k) = item_of f xs k
+
+-- the names of the host, entry by entry
+pub hosted_entries : (es : List Entry) → map hosted (map entry es) ≡ map (seen_entry Host) es
+hosted_entries [] = refl
+hosted_entries (e ∷ es) = ap (λ k. hosted (entry e) ∷ k) (hosted_entries es)
+
+pub own_entries : (es : List Entry) → map (seen_entry Own) es ≡ map entry es
+own_entries [] = refl
+own_entries (e ∷ es) = ap (λ k. entry e ∷ k) (own_entries es)

@@ -5,8 +5,10 @@ use Rattle.checked_tree.specs.declared.data.Home.{Home}
 use Rattle.checked_tree.specs.declared.data.Home.TheVariants.{Own, Host}
 use Rattle.rule_definitions.specs.Names as n
 use Rattle.rule_definitions.specs.Names.{Named, Meaning, named}
-use Rattle.rule_definitions.specs.Units.{hosted, hosted_meaning}
-use Rattle.scope_table.specs.Symbols.{symbol, seen_from, constant_symbol, function_name, subroutine_name}
+use Rattle.checked_tree.specs.declared.data.Object.{Object}
+use Rattle.rule_definitions.specs.Units.{hosted, hosted_meaning, hosted_object}
+use Rattle.scope_table.specs.declared.symbol.Entry.{Entry}
+use Rattle.scope_table.specs.Symbols.{entry_name, entry_meaning, symbol, seen_from, constant_symbol, function_name, subroutine_name}
 use Rattle.scope_table.specs.declared.symbol.Symbol.{Symbol}
 use Rattle.scope_table.specs.declared.table.Table.{Table}
 use Rattle.scope_table.specs.declared.pending.Pending.{Pending}
@@ -47,3 +49,11 @@ host_names (Some t) = map hosted t.now
 
 abbrev pub host_of : Option (Bor Symbol) → Option (Bor Table) → List Named
 host_of x t = answer_names x ++ host_names t
+
+abbrev pub object_seen : Home → Object → Object
+object_seen Own o = o
+object_seen Host o = hosted_object o
+
+-- a declared name, seen from its scope or from a procedure of it
+abbrev pub seen_entry : Home → Entry → Named
+seen_entry h e = named (entry_name e) (meaning_from h (entry_meaning e))

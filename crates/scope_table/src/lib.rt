@@ -9,6 +9,7 @@ pub mod dummy;
 pub mod item;
 pub mod known;
 pub mod names;
+pub mod object;
 pub mod outside;
 pub mod pending;
 pub mod scope;

@@ -3,19 +3,20 @@
 ghost use Rattle.std.specs.Prelude.{◌≡◌, map};
 ghost use Rattle.std.specs.Option.{option_map};
 ghost use Rattle.rule_definitions.specs.Judgements.{item_at};
-ghost use Rattle.rule_definitions.specs.Names.{denotes, denoted_in, is_among};
+ghost use Rattle.rule_definitions.specs.Names.{denotes, denoted_in, is_among, symbol_in, symbol_of};
 ghost use Rattle.rule_definitions.specs.Units.{hosted as hosted_name};
 ghost use Rattle.scope_table.specs.Known.{known_meaning};
-ghost use Rattle.scope_table.specs.Scopes.{denoted, host_of, meaning_from, pending_of};
+ghost use Rattle.scope_table.specs.Scopes.{denoted, host_of, meaning_from, pending_of, visible};
 ghost use Rattle.scope_table.specs.Symbols.{entry_meaning, interface};
 
 use crate::item::item;
 use crate::known::Known;
+use crate::object::{is_same_object, symbol_among};
 use crate::outside::Outside;
 use crate::pending::Pending;
 use crate::symbol::{ConstantSymbol, Entry, FunctionName, Interface, SubroutineName, Symbol};
 use crate::table::Table;
-use checked_tree::data::{Constant, DataType, Home};
+use checked_tree::data::{Constant, DataType, Home, Object};
 use std::marker::Model;
 
 /// A variable as it is seen from a scope: its own one, or that of the main program by host association (ISO/IEC 1539-1:2018, 19.5.1.4).
@@ -91,6 +92,19 @@ impl<'a> Scope<'a> {
             Some(known) => Some(known_elsewhere(known)),
             None => None,
         }
+    }
+
+    /// The variable that an object is.
+    pub fn symbol_of(&self, object: Object) -> Option<Visible<'_>>
+        ensures { option_map visible result ≡ symbol_of self.now object }
+    {
+        if let Some(symbol) = symbol_among(self.own.entries(), Home::Own, object) {
+            return Some(Visible {
+                symbol,
+                home: Home::Own,
+            });
+        }
+        hosted_symbol(self.answer, self.host, object)
     }
 
     /// The interface with this number.
@@ -173,6 +187,41 @@ fn of_host<'a>(host: &'a Table, name: &[u8]) -> Option<Denoted<'a>>
 {
     match host.find(name) {
         Some(entry) => Some(declared(entry, Home::Host)),
+        None => None,
+    }
+}
+
+// The variable of the host that an object is.
+fn hosted_symbol<'a>(
+    answer: Option<&'a Symbol>,
+    host: Option<&'a Table>,
+    object: Object,
+) -> Option<Visible<'a>>
+    ensures { option_map visible result ≡ symbol_in (host_of answer.entry host.entry) object }
+{
+    if let Some(symbol) = answer {
+        if is_same_object(symbol.object, object) {
+            return Some(Visible {
+                symbol,
+                home: Home::Own,
+            });
+        }
+    }
+    match host {
+        Some(host) => symbol_of_host(host, object),
+        None => None,
+    }
+}
+
+#[tactic(auto, using(crate::proofs::Tables::hosted_entries))]
+fn symbol_of_host<'a>(host: &'a Table, object: Object) -> Option<Visible<'a>>
+    ensures { option_map visible result ≡ symbol_in (map hosted_name host.now) object }
+{
+    match symbol_among(host.entries(), Home::Host, object) {
+        Some(symbol) => Some(Visible {
+            symbol,
+            home: Home::Host,
+        }),
         None => None,
     }
 }

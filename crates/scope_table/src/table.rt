@@ -1,8 +1,10 @@
 //! The names that a scope declares, with what they stand for.
 
-ghost use Rattle.std.specs.Prelude.{◌≡◌, ◌++◌, ◌∷◌, ◌<◌, [], List, ℕ, None, map, vec_len, vec_capacity, false, OnOk, OnErr};
+ghost use Rattle.std.specs.Prelude.{◌≡◌, ◌++◌, ◌∷◌, ◌<◌, [], List, ℕ, None, map, vec_len, vec_capacity, false, length, ◌+◌, IfOk, OnOk, OnErr};
 ghost use Rattle.std.specs.Option.{option_map};
 ghost use Rattle.rule_definitions.specs.Names.{denoted_in, is_among, variables_of};
+ghost use Rattle.rule_definitions.specs.Declarations.{count_coarrays};
+ghost use Rattle.scope_table.specs.Counts.{coarray_count, variable_count};
 ghost use Rattle.scope_table.specs.Symbols.{entry, entry_name, entry_meaning};
 
 use crate::item::item;
@@ -18,6 +20,8 @@ use std::marker::Model;
 pub struct Table {
     names: Names,
     entries: Vec<Entry>,
+    variables: u32,
+    coarrays: u32,
 }
 
 impl Model for Table {
@@ -29,7 +33,13 @@ impl Model for Table {
 
     ghost view = { λ t. map entry t.entries.items };
 
-    ghost invariant = { λ t. t.names ≡ map entry_name t.entries.items };
+    ghost use Rattle.scope_table.specs.Counts.{variables_in, coarrays_in};
+
+    ghost invariant = { λ t. record {
+      names : t.names ≡ map entry_name t.entries.items;
+      variables : t.variables ≡ variables_in t.entries.items;
+      coarrays : t.coarrays ≡ coarrays_in t.entries.items;
+    } };
 }
 
 impl Table {
@@ -40,6 +50,8 @@ impl Table {
         Table {
             names: Names::new(alloc),
             entries: Vec::new(alloc),
+            variables: 0,
+            coarrays: 0,
         }
     }
 
@@ -60,14 +72,31 @@ impl Table {
         self.entries.as_slice()
     }
 
+    /// How many of them are variables.
+    pub fn variables(&self) -> u32
+        ensures { result ≡ length (variables_of self.now) }
+    {
+        self.variables
+    }
+
+    /// How many of them are coarrays.
+    pub fn coarrays(&self) -> u32
+        ensures { result ≡ count_coarrays (variables_of self.now) }
+    {
+        self.coarrays
+    }
+
     /// Puts a name that isn't there yet at the end.
     pub fn add(&mut self, next: Entry) -> Result<(), NoMemory>
         requires { denoted_in self.old (entry_name next) ≡ None }
         ensures added { OnOk result (self.new ≡ self.old ++ entry next ∷ []) }
         ensures kept { OnErr result (self.new ≡ self.old) }
     {
+        let (variables, coarrays) = counted(self.variables, self.coarrays, &next)?;
         add_name(&mut self.names, &mut self.entries, name_of(&next))?;
         drop(self.entries.push(next));
+        self.variables = variables;
+        self.coarrays = coarrays;
         Ok(())
     }
 }
@@ -92,4 +121,28 @@ fn add_name(names: &mut Names, entries: &mut Vec<Entry>, name: &Text) -> Result<
     entries.reserve(1)?;
     names.add(name.copy()?)?;
     Ok(())
+}
+
+// How many variables and coarrays there are with one more entry.
+fn counted(variables: u32, coarrays: u32, next: &Entry) -> Result<(u32, u32), NoMemory>
+    ensures variables { IfOk result (λ c. c.0 ≡ variables + variable_count next.now) }
+    ensures coarrays { IfOk result (λ c. c.1 ≡ coarrays + coarray_count next.now) }
+{
+    let Entry::Variable(symbol) = next else {
+        return Ok((variables, coarrays));
+    };
+    let variables = one_more(variables)?;
+    if symbol.corank == 0 {
+        return Ok((variables, coarrays));
+    }
+    Ok((variables, one_more(coarrays)?))
+}
+
+fn one_more(number: u32) -> Result<u32, NoMemory>
+    ensures { IfOk result (λ n. n ≡ number + 1) }
+{
+    match number.checked_add(1) {
+        Some(next) => Ok(next),
+        None => Err(NoMemory),
+    }
 }

@@ -1,13 +1,21 @@
-use Rattle.std.proofs.Common.{◌≡◌, ◌∙◌, ap, sym, arith, List, ◌++◌, ◌∷◌, [], map}
+use Rattle.std.proofs.Common.{◌≡◌, ◌∙◌, ap, sym, arith, List, ◌++◌, ◌∷◌, [], map, ◌+◌}
 use Rattle.std.proofs.lemmas.Grind.{common_steps}
 use Rattle.scope_table.specs.declared.symbol.Entry.{Entry}
 use Rattle.scope_table.specs.Symbols.{entry_name}
+use Rattle.scope_table.specs.Counts.{variables_in, coarrays_in, variable_count, coarray_count}
 use Rattle.scope_table.proofs.Tables.{one_more_entry}
+use Rattle.scope_table.proofs.Counts.{variables_more, coarrays_more}
 use Rattle.scope_table.proofs.table.Table.add.Goals as goal
 
 pub invariant_of-self-2 : goal.invariant_of-self-2
 invariant_of-self-2 c =
     let p : c.push.new.self.items ≡ c.self.inside.entries.items ++ c.args.next ∷ [] = grind (arith, common_steps) in
-    one_more_entry c.self.inside.entries.items c.args.next c.self.inside.names c.add_name.new.names c.name_of.result.now c.args.self.now
-    c.self.invariant c.self.view_is c.name_of.ensures c.in_ok-add_name.ensures.names c.requires
-    ∙ ap (map entry_name) (sym p)
+    record {
+      names = one_more_entry c.self.inside.entries.items c.args.next c.self.inside.names c.add_name.new.names c.name_of.result.now c.args.self.now
+          c.self.invariant.names c.self.view_is c.name_of.ensures c.in_ok-add_name.ensures.names c.requires
+          ∙ ap (map entry_name) (sym p);
+      variables = c.in_ok-variables.ensures.variables ∙ ap (λ k. k + variable_count c.args.next) c.self.invariant.variables
+          ∙ sym (variables_more c.self.inside.entries.items c.args.next) ∙ ap variables_in (sym p);
+      coarrays = c.in_ok-variables.ensures.coarrays ∙ ap (λ k. k + coarray_count c.args.next) c.self.invariant.coarrays
+          ∙ sym (coarrays_more c.self.inside.entries.items c.args.next) ∙ ap coarrays_in (sym p);
+    }
