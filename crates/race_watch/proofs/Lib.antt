@@ -1,4 +1,4 @@
-pub mod Marks
+pub mod MarkLists
 pub mod Joined
 pub mod Noting
 pub mod Lines
@@ -7,3 +7,6 @@ pub mod Keys
 pub mod Stepping
 pub mod Finishing
 pub mod Firsts
+pub mod Made
+pub mod Reached
+pub mod Marking

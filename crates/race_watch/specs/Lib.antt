@@ -5,3 +5,6 @@ pub mod Rows
 pub mod RowCells
 pub mod Tables
 pub mod Orders
+pub mod Touched
+pub mod Marked
+pub mod Recorded

@@ -7,7 +7,10 @@
 pub mod act;
 pub mod class;
 pub mod kept;
+pub mod marks;
 pub mod order;
 pub mod queue;
+pub mod recorder;
 pub mod row;
 pub mod table;
+pub mod touch;

@@ -118,7 +118,7 @@ fn arrives(
 }
 
 // The line of a coarray in a memory.
-fn line_of(n: u32, owner: ImageNo, coarray: u32) -> usize
+pub(crate) fn line_of(n: u32, owner: ImageNo, coarray: u32) -> usize
     requires { 0 < owner.0 }
     ensures { result ≡ line_of n owner.0 coarray }
 {

@@ -3,7 +3,7 @@ use Rattle.std.proofs.lemmas.List.{map-append}
 use Rattle.std.proofs.lemmas.Fn.{filter_same}
 use Rattle.order_theory.specs.Marks.{stays}
 use Rattle.race_watch.specs.Classes.{as_mark}
-use Rattle.race_watch.proofs.Marks.{map_filter}
+use Rattle.race_watch.proofs.MarkLists.{map_filter}
 use Rattle.race_watch.proofs.kept.note.Goals as goal
 
 pub returns : goal.returns

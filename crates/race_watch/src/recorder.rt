@@ -1,0 +1,195 @@
+//! What is kept while the entries of a trace are read.
+
+ghost use Rattle.std.specs.Prelude.{◌≡◌, ◌<◌, ◌≤◌, ℕ, [], ◌∷◌, ◌++◌, length, get_or, IfOk, MatchBool};
+ghost use Rattle.order_axioms.specs.Views.{act_of};
+ghost use Rattle.race_watch.specs.ActParts.{as_act};
+ghost use Rattle.race_watch.specs.Touched.{FitsMemory, MadeIs};
+ghost use Rattle.race_watch.specs.Marked.{Marked, HasPartner, TouchesAll, MayNote};
+ghost use Rattle.race_watch.specs.Recorded.{IsRecorded, FitsRun, IsTold, MadeKept};
+
+use crate::act::{Act, act_by};
+use crate::marks::Marks;
+use crate::order::{Order, line_of};
+use crate::touch::{Touch, touch_by};
+use caf_base::refusal::NoMemory;
+use caf_events::ask::Ask;
+use caf_events::event::Entry;
+use segment_clock::clock::Clock;
+use std::alloc::Global;
+
+/// The clocks of images and of what waits, the marks of cells, and for each line how many cells its coarray was last given.
+#[derive(Drop)]
+pub struct Recorder {
+    pub(crate) order: Order,
+    pub(crate) marks: Marks,
+    pub(crate) made: Vec<u32>,
+}
+
+// How many cells the coarray of a deallocation has.
+fn made_of(made: &Vec<u32>, n: u32, _before: &[Entry], ask: &Ask) -> u32
+    requires memory { FitsMemory n ask.now }
+    requires made { MadeKept n _before.now made.now.items }
+    ensures { MadeIs _before.now ask.now result }
+{
+    match ask {
+        Ask::Delete { owner, coarray } => made
+            .get(line_of(n, *owner, *coarray))
+            .copied()
+            .unwrap_or(0),
+        _ => 0,
+    }
+}
+
+// Makes the lines up to this one.
+fn reach(made: &mut Vec<u32>, line: usize) -> Result<(), NoMemory>
+    ensures far { IfOk result (λ _. line < length made.new.items) }
+    ensures same { IfOk result (λ _. (k : ℕ) → get_or made.new.items k 0 ≡ get_or made.old.items k 0) }
+{
+    while made.len() <= line {
+        made.push(0)?;
+    }
+    Ok(())
+}
+
+// Keeps how many cells an allocation gives its coarray.
+fn keep_made(
+    made: &mut Vec<u32>,
+    n: u32,
+    _before: &[Entry],
+    _e: &Entry,
+    ask: &Ask,
+) -> Result<(), NoMemory>
+    requires ask { ask.now ≡ _e.now.event.ask }
+    requires memory { FitsMemory n ask.now }
+    requires made { MadeKept n _before.now made.old.items }
+    ensures { IfOk result (λ _. MadeKept n (_before.now ++ _e.now ∷ []) made.new.items) }
+{
+    match ask {
+        Ask::Create {
+            owner,
+            coarray,
+            cells,
+        } => {
+            let line = line_of(n, *owner, *coarray);
+            reach(made, line)?;
+            made[line] = *cells;
+            Ok(())
+        }
+        _ => Ok(()),
+    }
+}
+
+// What an entry is to segment order.
+fn act_of(alloc: Global, e: &Entry) -> Result<Act, NoMemory>
+    ensures { IfOk result (λ a. as_act a ≡ act_of e.now) }
+{
+    let ask = e.event.told().ask(alloc);
+    let reply = e.event.reply(alloc);
+    let act = act_by(alloc, &ask, &reply);
+    drop(ask);
+    drop(reply);
+    act
+}
+
+impl Recorder {
+    /// Before the first entry of a run of n images.
+    pub fn new(alloc: Global, n: u32) -> Result<Recorder, NoMemory>
+        ensures { IfOk result (IsRecorded n []) }
+    {
+        Ok(Recorder {
+            order: Order::new(alloc, n)?,
+            marks: Marks::new(alloc, n),
+            made: Vec::new(alloc),
+        })
+    }
+
+    // What an entry touches.
+    fn touch_of(
+        &self,
+        alloc: Global,
+        n: u32,
+        before: &[Entry],
+        e: &Entry,
+    ) -> Result<Option<Touch>, NoMemory>
+        requires fits { FitsRun n before.now e.now }
+        requires recorded { IsRecorded n before.now self.now }
+        ensures { IfOk result (TouchesAll n before.now e.now) }
+    {
+        let ask = e.event.told().ask(alloc);
+        let reply = e.event.reply(alloc);
+        let made = made_of(&self.made, n, before, &ask);
+        let touch = touch_by(alloc, n, before, &ask, &reply, made);
+        drop(ask);
+        drop(reply);
+        touch
+    }
+
+    /// Whether an entry so far conflicts with the next one and stands in a segment that doesn't precede its segment.
+    pub fn clash(
+        &self,
+        alloc: Global,
+        n: u32,
+        before: &[Entry],
+        e: &Entry,
+    ) -> Result<bool, NoMemory>
+        requires fits { FitsRun n before.now e.now }
+        requires recorded { IsRecorded n before.now self.now }
+        ensures { IfOk result (λ b. MatchBool b (HasPartner n before.now e.now) (HasPartner n before.now e.now → ⊥)) }
+    {
+        let touch = self.touch_of(alloc, n, before, e)?;
+        let found = self.marks.clash(&self.order, n, before, e, &touch);
+        drop(touch);
+        Ok(found)
+    }
+
+    // Notes the next entry at the cells that it touches.
+    fn note(&mut self, alloc: Global, n: u32, before: &[Entry], e: &Entry) -> Result<(), NoMemory>
+        requires fits { FitsRun n before.now e.now }
+        requires recorded { IsRecorded n before.now self.old }
+        requires none { MayNote n before.now e.now }
+        ensures order { self.new.order ≡ self.old.order }
+        ensures made { self.new.made ≡ self.old.made }
+        ensures marks { IfOk result (λ _. Marked n (before.now ++ e.now ∷ []) self.new.marks) }
+    {
+        let touch = self.touch_of(alloc, n, before, e)?;
+        let noted = self.marks.note(alloc, &self.order, n, before, e, &touch);
+        drop(touch);
+        noted
+    }
+
+    // Keeps what the next entry gives its coarray.
+    fn keep(&mut self, alloc: Global, n: u32, before: &[Entry], e: &Entry) -> Result<(), NoMemory>
+        requires fits { FitsRun n before.now e.now }
+        requires made { MadeKept n before.now self.old.made.items }
+        ensures order { self.new.order ≡ self.old.order }
+        ensures marks { self.new.marks ≡ self.old.marks }
+        ensures made { IfOk result (λ _. MadeKept n (before.now ++ e.now ∷ []) self.new.made.items) }
+    {
+        let ask = e.event.told().ask(alloc);
+        let kept = keep_made(&mut self.made, n, before, e, &ask);
+        drop(ask);
+        kept
+    }
+
+    /// Records the next entry. `told` covers the last segments of the failed images of which its status speaks. Condition: no entry so far is unordered
+    /// with it, or it is no access.
+    pub fn record(
+        &mut self,
+        alloc: Global,
+        n: u32,
+        before: &[Entry],
+        e: &Entry,
+        told: &Option<Clock>,
+    ) -> Result<(), NoMemory>
+        requires fits { FitsRun n before.now e.now }
+        requires recorded { IsRecorded n before.now self.old }
+        requires none { MayNote n before.now e.now }
+        requires told { IsTold n before.now e.now told.now }
+        ensures { IfOk result (λ _. IsRecorded n (before.now ++ e.now ∷ []) self.new) }
+    {
+        self.note(alloc, n, before, e)?;
+        self.keep(alloc, n, before, e)?;
+        let act = act_of(alloc, e)?;
+        self.order.step(alloc, n, before, e, act, told)
+    }
+}
