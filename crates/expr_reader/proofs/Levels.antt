@@ -1,9 +1,9 @@
 -- The readers of each level, from those of this level and of one further in.
 use Rattle.std.proofs.lemmas.Bool.{false≢true}
-use Rattle.std.proofs.Common.{◌≡◌, ℕ, zero, suc, ◌-◌, ◌<◌, Bool, true, false, cond, List, [], ◌∷◌, length, refl, ap, sym, ◌∙◌, arith}
+use Rattle.std.proofs.Common.{◌≡◌, ℕ, zero, suc, ◌-◌, ◌<◌, Bool, true, false, cond, List, [], ◌∷◌, length, refl, ap, sym, subst, ◌∙◌, arith}
 use Rattle.std.specs.declared.alloc.Global.{Global}
 use Rattle.std.specs.declared.boxed.Box.{Box}
-use Rattle.std.specs.Prelude.{Option, Some, None}
+use Rattle.std.specs.Prelude.{Option, Some, None, Result}
 use Rattle.reader_theory.specs.Words.{Verdict, found, fault, expected, too_deep}
 use Rattle.reader_theory.specs.Readers.{then, then_by, joined, both, many, many_by, several_by, optional, sunk, token, mapped, behind, pair, first, second, more_of}
 use Rattle.fortran_tokens.specs.declared.token.Sign.{Sign}
@@ -19,16 +19,14 @@ use Rattle.expr_reader.specs.declared.piece.Piece.{Piece as Held}
 use Rattle.expr_reader.specs.declared.piece.Mode.{Mode}
 use Rattle.expr_reader.specs.declared.piece.Mode.TheVariants as modes
 use Rattle.expr_reader.specs.Openings.{binds, opens}
-use Rattle.expr_reader.specs.Reading.{Reader, tier, folded, related, item, maybe_signed}
+use Rattle.expr_reader.specs.Reading.{Reader, tier, chain, folded, related, item, maybe_signed, operand_of}
 use Rattle.expr_reader.specs.Tests.{is_sign, is_sign_tok, in_round, in_square, list_of, a_name}
 use Rattle.expr_reader.specs.Pieces.{Piece, Mode as Allowed, value, named, range, either, ranged, keyed, made_optional, piece_in, named_piece, subscript_piece, pieces_after, pieces_or_none, begins_piece, next_mode, colon_part, open_range, with_range}
 use Rattle.expr_reader.specs.Selectors.{chosen, choices, choice_in, seen}
 use Rattle.expr_reader.specs.Full.{full, is_square, is_square_tok, any_primary, expressions_of}
 use Rattle.expr_reader.specs.PieceViews.{pieces_of, piece_here, held_optional, mode_after, takes_keyword, takes_range, piece_by, further, grown, grown_list, bounds, expression_list}
 use Rattle.expr_reader.specs.Levels.{a_keyword, round_opened, square_opened, enclosed, group_at, pieces_at, selector_at, constructor_at, signed_term, begins_with}
-use Rattle.expr_reader.specs.Results.{Fails}
-use Rattle.expr_reader.proofs.Chained.{tree_laws}
-use Rattle.expr_reader.proofs.Lengths.{words_laws}
+use Rattle.expr_reader.specs.Results.{Fails, Gives}
 
 one_more : (left : ℕ) → 0 < left → left ≡ suc (left - 1)
 one_more left h = omega arith
@@ -98,6 +96,23 @@ power_more m ts = refl
 
 pub power_some : (left : ℕ) (ts : List Token) → 0 < left → (full left).power ts ≡ then related (optional (binds 8) (item 8 (full (left - 1)).power)) ((full left).primary ts)
 power_some left ts h = let e = one_more left h in ap (λ n. (full n).power ts) e ∙ (power_more (left - 1) ts ∙ ap (λ n. then related (optional (binds 8) (item 8 (full (left - 1)).power)) ((full n).primary ts)) (sym e))
+
+-- What a chain's operand is: a chain of the next operators.
+module _ {X : Type 0} (look : X → Expression × List Token) where
+  abbrev Chain_gives : ℕ → ℕ → List Token → Result X ReadError → Type 0
+  Chain_gives k left ts r = Gives look r (chain k (operand_of k (full left)) (operand_of k (full left)) ts)
+
+  abbrev Operand_gives : ℕ → ℕ → List Token → Result X ReadError → Type 0
+  Operand_gives k left ts r = Gives look r (operand_of k (full left) ts)
+
+  pub operand_one : (k left : ℕ) (ts : List Token) (r : Result X ReadError) → k ≡ 1 → Chain_gives 2 left ts r → Operand_gives k left ts r
+  operand_one k left ts r e h = subst (λ i. Operand_gives i left ts r) (sym e) (subst (Gives look r) (sym (disjunction_is left ts)) h)
+
+  pub operand_two : (k left : ℕ) (ts : List Token) (r : Result X ReadError) → k ≡ 2 → Chain_gives 3 left ts r → Operand_gives k left ts r
+  operand_two k left ts r e h = subst (λ i. Operand_gives i left ts r) (sym e) (subst (Gives look r) (sym (conjunction_is left ts)) h)
+
+  pub operand_six : (k left : ℕ) (ts : List Token) (r : Result X ReadError) → k ≡ 6 → Chain_gives 7 left ts r → Operand_gives k left ts r
+  operand_six k left ts r e h = subst (λ i. Operand_gives i left ts r) (sym e) (subst (Gives look r) (sym (term_is left ts)) h)
 
 -- Primaries.
 pub primary_is : (left : ℕ) → (full left).primary ≡ any_primary (pieces_at left) (selector_at left) (group_at left) (constructor_at left)
@@ -318,4 +333,3 @@ subscript_is r (x ∷ ts) = refl
 pub colon_is : (r : Reader Expression) (ts : List Token) → colon_part r ts ≡ then_by pair (λ _. bounds r) (token (is_sign sign.Colon) ts)
 colon_is r ts = refl
 
-pub ruleset level_laws = (tree_laws, words_laws, expression_is, disjunction_is, conjunction_is, negation_none, negation_some, relation_is, sum_is, signed_none, signed_some, term_is, power_none, power_some, primary_is, primary_empty, group_is, pieces_is, selector_is, constructor_is, named_is, piece_is, pieces_none, grown_empty, held_is, expressions_are, list_one, subscript_is, colon_is)

@@ -40,7 +40,7 @@ type Choices = (Vec<Expr>, Vec<Specifier>);
 
 /// An expression.
 #[cycle(expr)]
-#[tactic(auto, using(crate::proofs::Levels::level_laws))]
+#[tactic(auto, using(crate::proofs::Levels::expression_is))]
 pub fn expression<'a>(
     alloc: Global,
     words: &'a [Word],
@@ -48,51 +48,27 @@ pub fn expression<'a>(
 ) -> Result<(Expr, &'a [Word]), ReadError>
     ensures { Gives (λ r. (view.expression r.0, tokens_of r.1.now)) result ((full left).expression (tokens_of words.now)) }
 {
-    let (first, rest) = disjunction(alloc, words, left)?;
-    operators(alloc, 1, first, rest, left)
+    chain(alloc, 1, words, left)
 }
 
-/// What binds as `.or.` or more tightly.
+/// Operands, with operators between them that bind so.
 #[cycle(expr)]
-#[tactic(auto, using(crate::proofs::Levels::level_laws))]
-fn disjunction<'a>(
+fn chain<'a>(
     alloc: Global,
+    strong: u8,
     words: &'a [Word],
     left: u32,
 ) -> Result<(Expr, &'a [Word]), ReadError>
-    ensures { Gives (λ r. (view.expression r.0, tokens_of r.1.now)) result ((full left).disjunction (tokens_of words.now)) }
+    requires some { 1 ≤ strong }
+    requires chain { strong ≤ 7 }
+    ensures { Gives (λ r. (view.expression r.0, tokens_of r.1.now)) result (reading.chain strong (reading.operand_of strong (full left)) (reading.operand_of strong (full left)) (tokens_of words.now)) }
 {
-    let (first, rest) = conjunction(alloc, words, left)?;
-    operators(alloc, 2, first, rest, left)
-}
-
-/// What binds as `.and.` or more tightly.
-#[cycle(expr)]
-#[tactic(auto, using(crate::proofs::Levels::level_laws))]
-fn conjunction<'a>(
-    alloc: Global,
-    words: &'a [Word],
-    left: u32,
-) -> Result<(Expr, &'a [Word]), ReadError>
-    ensures { Gives (λ r. (view.expression r.0, tokens_of r.1.now)) result ((full left).conjunction (tokens_of words.now)) }
-{
-    let (first, rest) = negation(alloc, words, left)?;
-    operators(alloc, 3, first, rest, left)
-}
-
-/// Powers with `*` and `/` between them.
-#[cycle(expr)]
-#[tactic(auto, using(crate::proofs::Levels::level_laws))]
-fn term<'a>(alloc: Global, words: &'a [Word], left: u32) -> Result<(Expr, &'a [Word]), ReadError>
-    ensures { Gives (λ r. (view.expression r.0, tokens_of r.1.now)) result ((full left).term (tokens_of words.now)) }
-{
-    let (first, rest) = power(alloc, words, left)?;
-    operators(alloc, 7, first, rest, left)
+    let (first, rest) = operand(alloc, strong, words, left)?;
+    operators(alloc, strong, first, rest, left)
 }
 
 /// An operand of a chain of operators that bind so: what binds more tightly.
 #[cycle(expr)]
-#[tactic(auto, using(crate::proofs::Levels::level_laws))]
 fn operand<'a>(
     alloc: Global,
     strong: u8,
@@ -104,17 +80,17 @@ fn operand<'a>(
     ensures { Gives (λ r. (view.expression r.0, tokens_of r.1.now)) result (reading.operand_of strong (full left) (tokens_of words.now)) }
 {
     match strong {
-        1 => disjunction(alloc, words, left),
-        2 => conjunction(alloc, words, left),
+        1 => chain(alloc, 2, words, left),
+        2 => chain(alloc, 3, words, left),
         3 => negation(alloc, words, left),
-        6 => term(alloc, words, left),
+        6 => chain(alloc, 7, words, left),
         _ => power(alloc, words, left),
     }
 }
 
 /// Further operators that bind so, from the left, where the first operand is read.
 #[cycle(expr)]
-#[tactic(auto, using(crate::proofs::Levels::level_laws))]
+#[tactic(auto, using(crate::proofs::Lengths::words_laws))]
 fn operators<'a>(
     alloc: Global,
     strong: u8,
@@ -150,7 +126,7 @@ fn operators<'a>(
 
 /// A relation, or `.not.` before one.
 #[cycle(expr)]
-#[tactic(auto, using(crate::proofs::Levels::level_laws))]
+#[tactic(auto, using(crate::proofs::Levels::negation_none, crate::proofs::Levels::negation_some, crate::proofs::Lengths::words_laws))]
 fn negation<'a>(
     alloc: Global,
     words: &'a [Word],
@@ -173,7 +149,7 @@ fn negation<'a>(
 
 /// A sum, or two with a relation between them.
 #[cycle(expr)]
-#[tactic(auto, using(crate::proofs::Levels::level_laws))]
+#[tactic(auto, using(crate::proofs::Levels::relation_is, crate::proofs::Lengths::words_laws))]
 fn relation<'a>(
     alloc: Global,
     words: &'a [Word],
@@ -200,7 +176,7 @@ fn relation<'a>(
 
 /// Terms with `+` and `-` between them, the first perhaps with a sign.
 #[cycle(expr)]
-#[tactic(auto, using(crate::proofs::Levels::level_laws))]
+#[tactic(auto, using(crate::proofs::Levels::sum_is))]
 fn sum<'a>(alloc: Global, words: &'a [Word], left: u32) -> Result<(Expr, &'a [Word]), ReadError>
     ensures { Gives (λ r. (view.expression r.0, tokens_of r.1.now)) result ((full left).sum (tokens_of words.now)) }
 {
@@ -210,26 +186,26 @@ fn sum<'a>(alloc: Global, words: &'a [Word], left: u32) -> Result<(Expr, &'a [Wo
 
 /// A term, perhaps with a sign.
 #[cycle(expr)]
-#[tactic(auto, using(crate::proofs::Levels::level_laws))]
+#[tactic(auto, using(crate::proofs::Levels::signed_none, crate::proofs::Levels::signed_some, crate::proofs::Levels::term_is, crate::proofs::Lengths::words_laws))]
 fn signed<'a>(alloc: Global, words: &'a [Word], left: u32) -> Result<(Expr, &'a [Word]), ReadError>
     ensures { Gives (λ r. (view.expression r.0, tokens_of r.1.now)) result (levels.signed_term left (tokens_of words.now)) }
 {
     let Some((sign, rest)) = words.split_first() else {
-        return term(alloc, words, left);
+        return chain(alloc, 7, words, left);
     };
     if !prefixed(6, sign) {
-        return term(alloc, words, left);
+        return chain(alloc, 7, words, left);
     }
     if left == 0 {
         return Err(sunken(7, rest));
     }
-    let (operand, rest) = term(alloc, rest, left - 1)?;
+    let (operand, rest) = chain(alloc, 7, rest, left - 1)?;
     Ok((prefix(alloc, prefix_of(sign), operand, sign.at)?, rest))
 }
 
 /// A primary, perhaps with an exponent.
 #[cycle(expr)]
-#[tactic(auto, using(crate::proofs::Levels::level_laws))]
+#[tactic(auto, using(crate::proofs::Levels::power_none, crate::proofs::Levels::power_some, crate::proofs::Lengths::words_laws))]
 fn power<'a>(alloc: Global, words: &'a [Word], left: u32) -> Result<(Expr, &'a [Word]), ReadError>
     ensures { Gives (λ r. (view.expression r.0, tokens_of r.1.now)) result ((full left).power (tokens_of words.now)) }
 {
@@ -256,7 +232,7 @@ fn power<'a>(alloc: Global, words: &'a [Word], left: u32) -> Result<(Expr, &'a [
 
 /// A primary (R1001).
 #[cycle(expr)]
-#[tactic(auto, using(crate::proofs::Levels::level_laws))]
+#[tactic(auto, using(crate::proofs::Levels::primary_is, crate::proofs::Levels::primary_empty, crate::proofs::Lengths::words_laws, crate::proofs::Chained::tree_laws))]
 fn primary<'a>(alloc: Global, words: &'a [Word], left: u32) -> Result<(Expr, &'a [Word]), ReadError>
     ensures { Gives (λ r. (view.expression r.0, tokens_of r.1.now)) result ((full left).primary (tokens_of words.now)) }
 {
@@ -295,7 +271,7 @@ fn primary<'a>(alloc: Global, words: &'a [Word], left: u32) -> Result<(Expr, &'a
 
 /// An expression in round brackets.
 #[cycle(expr)]
-#[tactic(auto, using(crate::proofs::Levels::level_laws))]
+#[tactic(auto, using(crate::proofs::Levels::group_is))]
 pub fn group<'a>(
     alloc: Global,
     words: &'a [Word],
@@ -316,7 +292,7 @@ pub fn group<'a>(
 
 /// The values of an array constructor (7.8), in their brackets.
 #[cycle(expr)]
-#[tactic(auto, using(crate::proofs::Levels::level_laws))]
+#[tactic(auto, using(crate::proofs::Levels::constructor_is, crate::proofs::Levels::expressions_are))]
 fn constructor<'a>(
     alloc: Global,
     words: &'a [Word],
@@ -337,7 +313,7 @@ fn constructor<'a>(
 
 /// Expressions with commas between them, one at least.
 #[cycle(expr)]
-#[tactic(auto, using(crate::proofs::Levels::level_laws))]
+#[tactic(auto, using(crate::proofs::Levels::list_one))]
 pub fn expressions<'a>(
     alloc: Global,
     words: &'a [Word],
@@ -353,7 +329,7 @@ pub fn expressions<'a>(
 
 /// Further expressions, each behind a comma.
 #[cycle(expr)]
-#[tactic(auto, using(crate::proofs::Levels::level_laws))]
+#[tactic(auto, using(crate::proofs::Lengths::words_laws))]
 pub fn more_expressions<'a>(
     alloc: Global,
     first: Vec<Expr>,
@@ -386,7 +362,6 @@ pub fn more_expressions<'a>(
 
 /// A name and what stands in brackets behind it: a designator, or a function with its arguments.
 #[cycle(expr)]
-#[tactic(auto, using(crate::proofs::Levels::level_laws))]
 fn named<'a>(alloc: Global, words: &'a [Word], left: u32) -> Result<(Expr, &'a [Word]), ReadError>
     ensures { Gives (λ r. (view.expression r.0, tokens_of r.1.now)) result (spec.named_reader (levels.pieces_at left) (levels.selector_at left) (tokens_of words.now)) }
 {
@@ -414,7 +389,7 @@ fn named<'a>(alloc: Global, words: &'a [Word], left: u32) -> Result<(Expr, &'a [
 
 /// What stands in round brackets behind a name, where there are any.
 #[cycle(expr)]
-#[tactic(auto, using(crate::proofs::Levels::level_laws))]
+#[tactic(auto, using(crate::proofs::Levels::pieces_is, crate::proofs::Lengths::words_laws))]
 pub fn brackets<'a>(
     alloc: Global,
     words: &'a [Word],
@@ -441,7 +416,7 @@ pub fn brackets<'a>(
 
 /// Subscripts, or arguments, or nothing.
 #[cycle(expr)]
-#[tactic(auto, using(crate::proofs::Levels::level_laws))]
+#[tactic(auto, using(crate::proofs::Levels::pieces_none))]
 fn pieces<'a>(
     alloc: Global,
     words: &'a [Word],
@@ -463,7 +438,7 @@ fn pieces<'a>(
 
 /// Further pieces, each behind a comma; which may come is told by those that came.
 #[cycle(expr)]
-#[tactic(auto, using(crate::proofs::Levels::level_laws))]
+#[tactic(auto, using(crate::proofs::Lengths::words_laws))]
 pub fn more_pieces<'a>(
     alloc: Global,
     mode: Mode,
@@ -499,7 +474,7 @@ pub fn more_pieces<'a>(
 
 /// A subscript, an argument or a specifier, as the pieces so far allow it.
 #[cycle(expr)]
-#[tactic(auto, using(crate::proofs::Levels::level_laws))]
+#[tactic(auto, using(crate::proofs::Levels::piece_is))]
 pub fn piece<'a>(
     alloc: Global,
     mode: Mode,
@@ -520,7 +495,7 @@ pub fn piece<'a>(
 
 /// A name, `=` and an expression.
 #[cycle(expr)]
-#[tactic(auto, using(crate::proofs::Levels::level_laws))]
+#[tactic(auto, using(crate::proofs::Levels::named_is))]
 pub fn specifier<'a>(
     alloc: Global,
     words: &'a [Word],
@@ -540,7 +515,7 @@ pub fn specifier<'a>(
 
 /// A subscript or a subscript triplet (R920).
 #[cycle(expr)]
-#[tactic(auto, using(crate::proofs::Levels::level_laws))]
+#[tactic(auto, using(crate::proofs::Levels::subscript_is, crate::proofs::Levels::colon_is, crate::proofs::Levels::held_is, crate::proofs::Lengths::words_laws))]
 pub fn subscript<'a>(
     alloc: Global,
     words: &'a [Word],
@@ -581,7 +556,7 @@ pub fn subscript<'a>(
 
 /// The upper bound and the stride of a triplet, behind its first colon.
 #[cycle(expr)]
-#[tactic(auto, using(crate::proofs::Levels::level_laws))]
+#[tactic(auto, using(crate::proofs::Levels::held_is, crate::proofs::Lengths::words_laws))]
 fn bounds<'a>(
     alloc: Global,
     words: &'a [Word],
@@ -607,7 +582,7 @@ fn bounds<'a>(
 
 /// An expression where one begins.
 #[cycle(expr)]
-#[tactic(auto, using(crate::proofs::Levels::level_laws))]
+#[tactic(auto, using(crate::proofs::Lengths::words_laws))]
 pub fn maybe_expression<'a>(
     alloc: Global,
     words: &'a [Word],
@@ -627,7 +602,7 @@ pub fn maybe_expression<'a>(
 
 /// An image selector (R924), where there is one: cosubscripts and specifiers.
 #[cycle(expr)]
-#[tactic(auto, using(crate::proofs::Levels::level_laws))]
+#[tactic(auto, using(crate::proofs::Levels::selector_is, crate::proofs::Lengths::words_laws))]
 pub fn selector<'a>(
     alloc: Global,
     words: &'a [Word],
@@ -654,7 +629,6 @@ pub fn selector<'a>(
 
 /// Cosubscripts, one at least, and then specifiers.
 #[cycle(expr)]
-#[tactic(auto, using(crate::proofs::Levels::level_laws))]
 fn choices<'a>(
     alloc: Global,
     words: &'a [Word],
@@ -675,7 +649,7 @@ fn choices<'a>(
 
 /// Further cosubscripts and specifiers, each behind a comma.
 #[cycle(expr)]
-#[tactic(auto, using(crate::proofs::Levels::level_laws))]
+#[tactic(auto, using(crate::proofs::Levels::grown_empty))]
 fn more_choices<'a>(
     alloc: Global,
     words: &'a [Word],

@@ -3,7 +3,7 @@ use Rattle.std.proofs.lemmas.Grind.{common_steps}
 use Rattle.reader_theory.specs.Words.{found}
 use Rattle.reader_theory.specs.Readers.{joined}
 use Rattle.expr_reader.specs.Results.{Gives}
-use Rattle.expr_reader.proofs.Levels.{pieces_some, choices_found, choices_fault}
+use Rattle.expr_reader.proofs.Levels.{pieces_some, choices_found, choices_fault, operand_one, operand_two, operand_six}
 use Rattle.reader_theory.specs.Exactness.{Stops}
 use Rattle.fortran_tokens.specs.declared.token.Sign.TheVariants as sign
 use Rattle.fortran_tree.specs.ExpressionViews.{expression, expressions, specifiers}
@@ -20,6 +20,22 @@ use Rattle.expr_reader.proofs.Loops as loops
 use Rattle.expr_reader.proofs.Repeats as repeats
 use Rattle.expr_reader.proofs.PieceLists.{pieces_append, list_append}
 use Rattle.expr_reader.proofs.expr.+expr.Goals as goal
+
+-- Operands of a chain.
+pub operand-returns-in-1 : goal.operand-returns-in-1
+operand-returns-in-1 t c =
+    let strong : c.args.strong ≡ 1 = search rules in
+    operand_one (λ r. (expression r.0, tokens_of r.1.now)) c.args.strong c.args.left (tokens_of c.args.words.now) c.chain.result strong c.chain.ensures
+
+pub operand-returns-in-2 : goal.operand-returns-in-2
+operand-returns-in-2 t c =
+    let strong : c.args.strong ≡ 2 = search rules in
+    operand_two (λ r. (expression r.0, tokens_of r.1.now)) c.args.strong c.args.left (tokens_of c.args.words.now) c.chain-in-2.result strong c.chain-in-2.ensures
+
+pub operand-returns-in-6 : goal.operand-returns-in-6
+operand-returns-in-6 t c =
+    let strong : c.args.strong ≡ 6 = search rules in
+    operand_six (λ r. (expression r.0, tokens_of r.1.now)) c.args.strong c.args.left (tokens_of c.args.words.now) c.chain-in-6.result strong c.chain-in-6.ensures
 
 -- Chains of operators.
 pub operators-loop-turn-init : goal.operators-loop-turn-init

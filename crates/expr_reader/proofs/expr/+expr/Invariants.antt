@@ -16,6 +16,9 @@ use Rattle.expr_reader.proofs.expr.+expr.Given as goal
 abbrev pub decreases-expression : goal.decreases-expression
 decreases-expression l = l.left * 200 + 89
 
+abbrev pub decreases-chain : goal.decreases-chain
+decreases-chain l = l.left * 200 + ((8 - l.strong) * 10 + 15)
+
 abbrev pub decreases-operand : goal.decreases-operand
 decreases-operand l = l.left * 200 + ((8 - l.strong) * 10 + 10)
 
@@ -84,15 +87,6 @@ decreases-choices l = l.left * 200 + 96
 
 abbrev pub decreases-pieces : goal.decreases-pieces
 decreases-pieces l = l.left * 200 + 95
-
-abbrev pub decreases-disjunction : goal.decreases-disjunction
-decreases-disjunction l = l.left * 200 + 79
-
-abbrev pub decreases-conjunction : goal.decreases-conjunction
-decreases-conjunction l = l.left * 200 + 69
-
-abbrev pub decreases-term : goal.decreases-term
-decreases-term l = l.left * 200 + 29
 
 abbrev pub decreases-more_choices : goal.decreases-more_choices
 decreases-more_choices l = l.left * 200 + 95
