@@ -332,4 +332,3 @@ subscript_is r (x ∷ ts) = refl
 
 pub colon_is : (r : Reader Expression) (ts : List Token) → colon_part r ts ≡ then_by pair (λ _. bounds r) (token (is_sign sign.Colon) ts)
 colon_is r ts = refl
-

@@ -20,6 +20,7 @@ pub mod Moving
 pub mod Steady
 pub mod Greedy
 pub mod Firmly
+pub mod Told
 pub mod Lengths
 pub mod Chained
 pub mod PieceLists

@@ -46,3 +46,13 @@ selector = refl
 no_level : (full 0).expression (cut (codes "f ( 1 )")) ≡ fault too_deep (cut (codes "  ( 1 )"))
 unfolding tier
 no_level = refl
+
+-- one relation alone: the second isn't read
+one_relation : (full 3).expression (cut (codes "a == b == c")) ≡ found (s.binary o.Equal (v (codes "a") 1) (v (codes "b") 6) (here 1)) (cut (codes "       == c"))
+unfolding tier
+one_relation = refl
+
+-- an operand is missing
+no_operand : (full 3).expression (cut (codes "a + )")) ≡ fault expected (cut (codes "    )"))
+unfolding tier
+no_operand = refl

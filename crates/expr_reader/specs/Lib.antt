@@ -13,3 +13,4 @@ pub mod Results
 pub mod PieceViews
 pub mod Levels
 pub mod Longest
+pub mod Greedy

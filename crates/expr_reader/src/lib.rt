@@ -10,6 +10,7 @@ pub mod expr;
 pub mod law;
 pub mod one;
 pub mod piece;
+pub mod read;
 pub mod token;
 pub mod tree;
 pub mod word;

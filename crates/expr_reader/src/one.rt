@@ -146,7 +146,7 @@ fn kind_of(kind: &NumberKind) -> Result<NumberKind, NoMemory>
 }
 
 /// The integer literal that a token is.
-#[tactic(auto, using(crate::proofs::Chained::tree_laws))]
+#[tactic(auto, using(fortran_tree::specs::ExpressionViews::expression_number))]
 pub fn number(word: &Word) -> Result<Expr, NoMemory>
     ensures { IfOk result (λ e. view.expression e ≡ full.number_of (token_of word.now)) }
 {

@@ -122,7 +122,6 @@ pub fn is_call(all: &[Piece]) -> bool
 }
 
 /// A piece as an argument, where it is no triplet.
-#[tactic(auto, using(crate::proofs::Chained::tree_laws))]
 fn argument(piece: Piece) -> Option<Argument>
     ensures { view.arguments (option_items result) ≡ pieces.arguments_of (piece_of piece ∷ []) }
 {
@@ -150,7 +149,6 @@ fn argument(piece: Piece) -> Option<Argument>
 }
 
 /// The pieces as arguments; none of them is a triplet.
-#[tactic(auto, using(crate::proofs::Chained::tree_laws))]
 fn arguments_of(alloc: Global, all: Vec<Piece>) -> Result<Vec<Argument>, AllocError>
     ensures { IfOk result (λ v. view.arguments v.items ≡ pieces.arguments_of (pieces_of all.items)) }
 {
@@ -164,7 +162,7 @@ fn arguments_of(alloc: Global, all: Vec<Piece>) -> Result<Vec<Argument>, AllocEr
 }
 
 /// A piece as a subscript, where it has no keyword.
-#[tactic(auto, using(crate::proofs::Chained::tree_laws))]
+#[tactic(auto, using(fortran_tree::specs::ExpressionViews::section_subscript_alone, fortran_tree::specs::ExpressionViews::section_subscript_triplet))]
 fn subscript(piece: Piece) -> Subscript
     ensures { view.section_subscript result ≡ pieces.subscript_of (piece_of piece) }
 {
@@ -189,7 +187,6 @@ fn subscript(piece: Piece) -> Subscript
 }
 
 /// The pieces as subscripts; none of them has a keyword.
-#[tactic(auto, using(crate::proofs::Chained::tree_laws))]
 fn subscripts_of(alloc: Global, all: Vec<Piece>) -> Result<Vec<Subscript>, AllocError>
     ensures { IfOk result (λ v. view.section_subscripts v.items ≡ pieces.subscripts_of (pieces_of all.items)) }
 {
@@ -294,7 +291,7 @@ pub fn designator(
 }
 
 /// The expression that a name is with what stands in brackets behind it.
-#[tactic(auto, using(crate::proofs::Chained::tree_laws))]
+#[tactic(auto, using(fortran_tree::specs::ExpressionViews::expression_designator, fortran_tree::specs::ExpressionViews::expression_function_reference))]
 pub fn named_expression(
     alloc: Global,
     name: Name,
@@ -320,7 +317,6 @@ pub fn named_expression(
 }
 
 /// A triplet with a lower bound.
-#[tactic(auto, using(crate::proofs::Chained::tree_laws))]
 pub fn range(
     alloc: Global,
     lower: Expr,

@@ -26,8 +26,25 @@ pub fn place_of(expr: &Expr) -> Pos
     }
 }
 
+/// An operator between two operands.
+#[tactic(auto, using(fortran_tree::specs::ExpressionViews::expression_binary))]
+fn between(alloc: Global, operator: Operator, left: Expr, right: Expr) -> Result<Expr, AllocError>
+    ensures { IfOk result (λ e. view.expression e ≡ tree.binary operator (view.expression left) (view.expression right) (reading.place_of (view.expression left))) }
+{
+    let at = place_of(&left);
+    let left = Box::new(alloc, left)?;
+    let right = Box::new(alloc, right)?;
+    Ok(Expr::Binary {
+        operator,
+        left,
+        right,
+        links: Vec::new(alloc),
+        at,
+    })
+}
+
 /// An operator behind its left operand, and its right one: a link more where operators stand on the left already.
-#[tactic(auto, using(crate::proofs::Chained::tree_laws))]
+#[tactic(auto, using(fortran_tree::specs::ExpressionViews::expression_binary, fortran_tree::specs::ExpressionViews::chain_pushed, crate::proofs::Chained::chain_place))]
 pub fn binary(
     alloc: Global,
     operator: Operator,
@@ -56,21 +73,12 @@ pub fn binary(
                 at,
             })
         }
-        left => {
-            let at = place_of(&left);
-            Ok(Expr::Binary {
-                operator,
-                left: Box::new(alloc, left)?,
-                right: Box::new(alloc, right)?,
-                links: Vec::new(alloc),
-                at,
-            })
-        }
+        left => between(alloc, operator, left, right),
     }
 }
 
 /// An operator before its operand.
-#[tactic(auto, using(crate::proofs::Chained::tree_laws))]
+#[tactic(auto, using(fortran_tree::specs::ExpressionViews::expression_prefix))]
 pub fn prefix(
     alloc: Global,
     operator: PrefixOperator,
@@ -87,7 +95,7 @@ pub fn prefix(
 }
 
 /// An expression in brackets.
-#[tactic(auto, using(crate::proofs::Chained::tree_laws))]
+#[tactic(auto, using(fortran_tree::specs::ExpressionViews::expression_parenthesized))]
 pub fn parenthesized(alloc: Global, inner: Expr, at: Pos) -> Result<Expr, AllocError>
     ensures { IfOk result (λ e. view.expression e ≡ tree.parenthesized (view.expression inner) at) }
 {
