@@ -1,10 +1,10 @@
 -- The reader of expressions looks no further than where it stops: from the readers that it is put together from.
-use Rattle.std.proofs.Common.{◌≡◌, ◌∙◌, ℕ, zero, suc, ◌≤◌, Bool, true, false, cond, nat_eq, nat_le, List, [], ◌∷◌, ◌++◌, length, length-append, refl, ap, subst, arith}
+use Rattle.std.proofs.Common.{◌≡◌, ◌∙◌, ℕ, zero, suc, ◌≤◌, Bool, true, false, cond, nat_eq, nat_le, List, [], ◌∷◌, ◌++◌, length, length-append, refl, ap, arith}
 use Rattle.std.proofs.lemmas.Bool.{false≢true, true≢false}
-use Rattle.std.specs.Prelude.{Option, Some, None}
+use Rattle.std.specs.Prelude.{Option, None}
 use Rattle.caf_base.specs.declared.place.Pos.{Pos}
-use Rattle.reader_theory.specs.Words.{Verdict, found, fault, expected, too_deep}
-use Rattle.reader_theory.specs.Readers.{token, sunk, turned, mapped, then_by, both, both_by, pick, optional, many, many_by, behind, between, second, first, pair, more_of, rest_of}
+use Rattle.reader_theory.specs.Words.{Verdict, found, fault, expected}
+use Rattle.reader_theory.specs.Readers.{token, sunk, turned, mapped, then_by, both, both_by, pick, optional, many, many_by, behind, between, second, first, pair, rest_of}
 use Rattle.fortran_tokens.specs.declared.token.Sign.{Sign}
 use Rattle.fortran_tokens.specs.declared.token.Sign.TheVariants as sign
 use Rattle.fortran_tree.specs.declared.name.Name.{Name}
@@ -13,11 +13,11 @@ use Rattle.fortran_grammar.specs.Tokens as t
 use Rattle.fortran_grammar.specs.Tokens.{Tok, Token}
 use Rattle.expr_reader.specs.Openings.{binds, opens, opening, prefixed}
 use Rattle.expr_reader.specs.Reading.{Reader, Tier, tier, tier_from, item, chain, single, folded, related, signed, maybe_signed, powers, terms, sums, relations, negations, conjunctions, disjunctions, expressions}
-use Rattle.expr_reader.specs.Tests.{is_sign, is_sign_tok, is_word, is_word_tok, name_of, a_name, placed, in_round, in_square, followed_by, list_of}
+use Rattle.expr_reader.specs.Tests.{is_sign, is_word, is_word_tok, name_of, a_name, placed, in_round, in_square, followed_by, list_of}
 use Rattle.expr_reader.specs.Pieces.{Piece, Mode, either, ranged, keyed, value, named, colon_part, open_range, with_range, subscript_piece, named_piece, piece_in, pieces_after, next_mode, begins_piece, pieces_or_none}
 use Rattle.expr_reader.specs.Selectors.{Chosen, chosen, choice_in, choices, seen}
 use Rattle.expr_reader.specs.Full.{is_integer, number_of, is_truth, truth_of, is_square, is_square_tok, is_function, named_expression, selector_part, named_reader, expressions_of, grouped, constructed, any_primary, all_primaries, last_primaries, full}
-use Rattle.expr_reader.proofs.Steady.{Past, Agree, read, stop, past, Firm, Passes, Takes, Solid, agree_turned, either_past, past_short, past_turned, rest_turned, rest_joined, firm_by, firm_both, firm_mapped, firm_found, firm_token, firm_sunk, firm_pick, firm_optional, firm_ahead, firm_many, passes_by, passes_mapped, passes_token, passes_sunk, passes_ahead, takes_by, takes_mapped, takes_token, solid_by, solid_mapped, solid_token, solid_sunk, solid_pick}
+use Rattle.expr_reader.proofs.Steady.{Past, Agree, read, stop, past, Firm, Passes, Takes, Solid, agree_turned, either_past, past_short, past_turned, rest_turned, rest_joined, firm_by, firm_both, firm_mapped, firm_found, firm_token, firm_sunk, firm_pick, firm_optional, firm_ahead, firm_many, passes_by, passes_mapped, passes_token, passes_sunk, passes_ahead, takes_by, takes_mapped, takes_token, solid_by, solid_token, solid_sunk, solid_pick}
 
 -- The place of the first token is kept; such a reader finds no empty word.
 module _ {A B : Type 0} (f : Pos → A → B) (r : Reader A) (k : Firm r) (solid : Solid r) where

@@ -1,16 +1,16 @@
 -- An exact reader that looks no further than where it stops gives the longest reading; and a text has one.
-use Rattle.std.proofs.Common.{◌≡◌, ◌≤◌, ◌<◌, Bool, false, List, [], ◌∷◌, ◌++◌, ◌⊎◌, inl, inr, length, refl, ap, sym, ◌∙◌, subst, arith, append_assoc}
-use Rattle.std.proofs.lemmas.List.{append-nil, length-append, append_cancel_right}
+use Rattle.std.proofs.Common.{◌≡◌, ◌<◌, Bool, false, List, [], ◌∷◌, ◌++◌, inl, inr, length, refl, ap, sym, ◌∙◌, subst, arith}
+use Rattle.std.proofs.lemmas.List.{length-append, append_cancel_right}
 use Rattle.reader_theory.specs.Words.{Mark, bare, Shallow, Cause, expected, too_deep, Verdict, found, fault}
-use Rattle.reader_theory.specs.Refusals.{Begins, Opens, StopsAt, Reads, Refused, Answers}
+use Rattle.reader_theory.specs.Refusals.{Begins, StopsAt, Reads, Refused, Answers}
 use Rattle.reader_theory.specs.Readers.{ended_by}
 use Rattle.reader_theory.specs.Exactness.{Finds, Tells, Exact}
 use Rattle.reader_theory.specs.Laws.{OneReading}
 use Rattle.reader_theory.proofs.Marks.{judge_all, same_front}
-use Rattle.reader_theory.proofs.Fronts.{begins_front, read_begins, opens_begins}
+use Rattle.reader_theory.proofs.Fronts.{begins_front, read_begins}
 use Rattle.reader_theory.proofs.Whole.{exact_whole}
 use Rattle.expr_reader.specs.Longest.{Unfollowed, ReadsUpTo, Unread, FailsAt, Longest, LongestOfAll, OneLongest}
-use Rattle.expr_reader.proofs.Steady.{Past, Near, Agree, read, stop, past, Firm}
+use Rattle.expr_reader.proofs.Steady.{Past, Agree, read, stop, past, Firm}
 
 module _ {T A : Type 0} (L : A → List (Mark T) → Type 0) (more : T → Bool) (p : List T → Verdict T A) (x : Exact L more p) (firm : Firm p) (end : T) (ends : more end ≡ false) where
   -- where the reader found a word in front of a token, it doesn't expect more in front of another

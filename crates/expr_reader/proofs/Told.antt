@@ -1,5 +1,5 @@
 -- From the reader's answer to that of the reader of expressions by themselves.
-use Rattle.std.proofs.Common.{◌≡◌, ℕ, zero, suc, ◌+◌, ◌-◌, ◌≤◌, List, [], ◌∷◌, ◌++◌, length, length-append, drop, refl, ap, sym, ◌∙◌, subst, arith}
+use Rattle.std.proofs.Common.{◌≡◌, ℕ, zero, suc, ◌-◌, ◌≤◌, List, [], ◌∷◌, ◌++◌, length, length-append, drop, refl, ap, sym, ◌∙◌, subst, arith}
 use Rattle.std.proofs.lemmas.List.{drop_at}
 use Rattle.std.specs.Prelude.{Result, Ok, Err}
 use Rattle.caf_base.specs.declared.limits.TheConstants.{NESTING}
@@ -19,7 +19,7 @@ use Rattle.expr_reader.specs.Greedy.{place_at, cause_told, place_told, IsRead}
 use Rattle.expr_reader.specs.Laws.{Expressions_at}
 use Rattle.expr_reader.specs.Longest.{Longest}
 use Rattle.expr_reader.specs.Openings.{goes}
-use Rattle.expr_reader.specs.Results.{cause_of, Stands, Gives}
+use Rattle.expr_reader.specs.Results.{cause_of, Stands}
 use Rattle.expr_reader.specs.Tests.{nowhere}
 use Rattle.expr_reader.specs.Words.{tokens_of}
 use Rattle.expr_reader.proofs.Firmly.{firm_full}

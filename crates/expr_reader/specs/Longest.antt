@@ -1,6 +1,6 @@
 -- What is read where a text may go on behind it: the longest word that begins the text, or the first token that fits none.
 use Rattle.std.specs.Prelude.{◌≡◌, List, [], ◌∷◌, ◌++◌}
-use Rattle.reader_theory.specs.Words.{Mark, Language, Cause, expected, too_deep, Verdict, found, fault}
+use Rattle.reader_theory.specs.Words.{Language, Cause, expected, too_deep, Verdict, found, fault}
 use Rattle.reader_theory.specs.Refusals.{Reads, Begins, Opens, StopsAt}
 
 -- no word goes on with the next token, and none has a level too deep that begins at it

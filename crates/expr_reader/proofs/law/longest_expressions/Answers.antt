@@ -1,5 +1,4 @@
 use Rattle.std.proofs.Common.{◌-◌, refl, arith}
-use Rattle.caf_base.specs.declared.place.Pos.{Pos}
 use Rattle.fortran_grammar.specs.Tokens as t
 use Rattle.expr_reader.specs.Laws.{Expressions_at}
 use Rattle.expr_reader.specs.Openings.{goes}

@@ -1,4 +1,4 @@
-use Rattle.std.proofs.Common.{◌≡◌, ◌-◌, subst, ◌∙◌}
+use Rattle.std.proofs.Common.{◌-◌, subst, ◌∙◌}
 use Rattle.caf_base.specs.declared.limits.TheConstants.{NESTING}
 use Rattle.fortran_tree.specs.ExpressionViews as view
 use Rattle.expr_reader.specs.Full.{full}
