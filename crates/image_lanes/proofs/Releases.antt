@@ -1,5 +1,5 @@
 -- The steps of a failure, one after the other.
-use Rattle.std.proofs.Common.{◌≡◌, ℕ, zero, suc, ◌+◌, ◌<◌, List, [], ◌∷◌, ◌++◌, length, inl, inr, refl, ap, subst, arith}
+use Rattle.std.proofs.Common.{sym, ◌≡◌, ℕ, zero, suc, ◌+◌, ◌<◌, List, [], ◌∷◌, ◌++◌, length, inl, inr, refl, ap, subst, arith}
 use Rattle.std.specs.Prelude.{map, drop, not, option_map, slice_get, Some, None}
 use Rattle.std.specs.List.{filter}
 use Rattle.std.proofs.lemmas.Bool.{cases_Bool}
@@ -8,7 +8,7 @@ use Rattle.caf_events.specs.declared.ask.Ask.{Ask}
 use Rattle.caf_events.specs.declared.ask.Ask.TheVariants as asking
 use Rattle.caf_events.specs.declared.walker.Next.TheVariants as nexts
 use Rattle.core_runs.specs.Failures.{LockPlace, same_place, without, release_of}
-use Rattle.image_lanes.specs.Holds.{place_of_lock, places_of_locks, FirstIs, PlaceIs, rest_of}
+use Rattle.image_lanes.specs.Holds.{place_of_lock, places_of_locks, first_of, PlaceIs, rest_of}
 use Rattle.image_lanes.specs.declared.held.HeldLock.{HeldLock}
 
 -- the releases from a number on, and the end
@@ -34,13 +34,13 @@ no_release number [] h = none number
 no_release zero (p ∷ ps) h = absurd (h (omega arith))
 no_release (suc number) (p ∷ ps) h = no_release number ps (λ lt. h (omega arith))
 
-pub first_release : (number : ℕ) (held : List LockPlace) (ask : Ask) → option_map release_of (slice_get held number) ≡ Some ask → FirstIs (from number held) ask
+pub first_release : (number : ℕ) (held : List LockPlace) (ask : Ask) → option_map release_of (slice_get held number) ≡ Some ask → Some ask ≡ first_of (from number held)
 first_release zero [] ask h = absurd (cc)
 first_release (suc number) [] ask h = absurd (cc)
-first_release zero (p ∷ ps) ask h = cc
+first_release zero (p ∷ ps) ask h = sym h
 first_release (suc number) (p ∷ ps) ask h = first_release number ps ask h
 
-pub last_release : (number : ℕ) (held : List LockPlace) → option_map release_of (slice_get held number) ≡ None → FirstIs (from number held) asking.Gone
+pub last_release : (number : ℕ) (held : List LockPlace) → option_map release_of (slice_get held number) ≡ None → Some asking.Gone ≡ first_of (from number held)
 last_release zero [] h = refl
 last_release (suc number) [] h = refl
 last_release zero (p ∷ ps) h = absurd (cc)

@@ -1,5 +1,5 @@
 -- What a lane keeps, as plain data.
-use Rattle.std.specs.Prelude.{ℕ, ◌≡◌, List, [], ◌∷◌, ◌++◌, map, drop}
+use Rattle.std.specs.Prelude.{ℕ, ◌≡◌, List, [], ◌∷◌, ◌++◌, map, drop, Option, None, Some}
 use Rattle.caf_events.specs.declared.ask.Ask.{Ask}
 use Rattle.caf_events.specs.declared.ask.Ask.TheVariants as asking
 use Rattle.core_runs.specs.Failures.{LockPlace, release_of, failure_steps}
@@ -41,9 +41,9 @@ ByProgram goings.ByProgram holds = holds
 ByProgram going holds = Unit {0}
 
 -- the first of the steps, if there is one
-abbrev pub FirstIs : List Ask → Ask → Type 0
-FirstIs [] ask = Unit {0}
-FirstIs (a ∷ as_) ask = ask ≡ a
+abbrev pub first_of : List Ask → Option Ask
+first_of [] = None
+first_of (a ∷ as_) = Some a
 
 abbrev pub rest_of : List Ask → List Ask
 rest_of [] = []

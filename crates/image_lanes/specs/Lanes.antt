@@ -82,7 +82,7 @@ module _ {C : Type 0} where
   abbrev pub lane_start : ℕ → ℕ → ℕ → C → OnLane C
   lane_start image fails_at limit c = record { image = image; fails_in = fails_at; limit = limit; program = c; words = 0; held = []; course = by_program }
 
-  -- the replies with which the program can go on, each of fewer words than any step of a run has
+  -- the replies with which the program can go on and the step has fewer than 2^62 words, so that their count stays a number of 64 bits
   abbrev pub heard_by_program : (C → Reply → Type 0) → OnLane C → Move C Ask Reply → Reply → Type 0
   heard_by_program hears l (goes c) reply = ⊥
   heard_by_program hears l (asks ask line k) reply = is_due l ≡ false → is_failure ask ≡ false → is_full l ≡ false → hears l.program reply × (words_by ask reply < 2 ^ 62)

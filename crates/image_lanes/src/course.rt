@@ -1,7 +1,7 @@
 //! How an image goes on: by its program, or with the steps of its failure (ISO/IEC 1539-1:2018, 5.3.6).
 
 ghost use Rattle.std.specs.Prelude.{◌≡◌, ℕ};
-ghost use Rattle.image_lanes.specs.Holds.{steps_from, FirstIs, PlaceIs, rest_of};
+ghost use Rattle.image_lanes.specs.Holds.{steps_from, first_of, PlaceIs, rest_of};
 
 use crate::held::HeldLocks;
 use caf_base::place::{ImageNo, Place};
@@ -27,18 +27,18 @@ pub(crate) enum Going {
 }
 
 impl Failing {
-    /// The ask of this step.
+    /// The ask of this step, if there is one.
     #[tactic(auto, using(crate::proofs::Releases::first_release, crate::proofs::Releases::last_release))]
-    pub(crate) fn ask(self, alloc: Global, image: ImageNo, held: &HeldLocks) -> Ask
-        ensures { FirstIs (steps_from image.0 held.now.locks self) result }
+    pub(crate) fn ask(self, alloc: Global, image: ImageNo, held: &HeldLocks) -> Option<Ask>
+        ensures { result ≡ first_of (steps_from image.0 held.now.locks self) }
     {
         match self {
-            Failing::Mark => Ask::Mark { owner: image },
+            Failing::Mark => Some(Ask::Mark { owner: image }),
             Failing::Release(number) => match held.release(alloc, number) {
-                Some(release) => release,
-                None => Ask::Gone,
+                Some(release) => Some(release),
+                None => Some(Ask::Gone),
             },
-            Failing::Ended => Ask::Gone,
+            Failing::Ended => None,
         }
     }
 

@@ -185,8 +185,11 @@ impl<M: Walker> Walker for Lane<M> {
                     Ok(ask)
                 }
             }
-            Going::Failing { step, .. } => Ok(step.ask(self.alloc, self.image, &self.held)),
-            Going::AtLimit => Ok(Ask::Gone),
+            Going::Failing { step, .. } => match step.ask(self.alloc, self.image, &self.held) {
+                Some(ask) => Ok(ask),
+                None => unreachable!(),
+            },
+            Going::AtLimit => unreachable!(),
         }
     }
 
@@ -195,7 +198,7 @@ impl<M: Walker> Walker for Lane<M> {
             Going::ByProgram if self.is_due() => 0,
             Going::ByProgram => self.machine.line(),
             Going::Failing { line, .. } => line,
-            Going::AtLimit => 0,
+            Going::AtLimit => unreachable!(),
         }
     }
 
