@@ -1,2 +1,5 @@
 pub mod First
+pub mod Orders
 pub mod Places
+pub mod Sets
+pub mod Tables

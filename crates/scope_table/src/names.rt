@@ -41,6 +41,13 @@ impl Names {
         self.set.get_index_of(name)
     }
 
+    /// Whether a name is there.
+    pub fn contains(&self, name: &[u8]) -> bool
+        ensures { result ≡ is_among self.now name.now }
+    {
+        self.set.contains(name)
+    }
+
     /// Puts a name at the end; false where it is there already, and then nothing changes.
     pub fn add(&mut self, name: Text) -> Result<bool, NoMemory>
         ensures there { IfOk result (λ new. new ≡ not (is_among self.old name)) }
