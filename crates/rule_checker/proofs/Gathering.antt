@@ -4,7 +4,7 @@ use Rattle.std.specs.Prelude.{List, [], ◌∷◌, ◌++◌, Option, Some, None,
 use Rattle.std.specs.Option.{option_map}
 use Rattle.std.proofs.lemmas.List.{append-nil, append_assoc, map-append}
 use Rattle.rule_definitions.specs.declared.broken.Broken.{Broken}
-use Rattle.rule_definitions.specs.Judgements.{Judgement, both, all_made, made_of_both}
+use Rattle.rule_definitions.specs.Judgements.{Judgement, both, all_made}
 use Rattle.rule_checker.specs.Views.{one_more}
 
 module _ {T : Type 0} where

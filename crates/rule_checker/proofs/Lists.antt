@@ -1,6 +1,6 @@
 -- Lists of parts by their items.
 use Rattle.std.proofs.Common.{◌≡◌, refl, ap, sym, ◌∙◌}
-use Rattle.std.specs.Prelude.{List, [], ◌∷◌, ◌++◌, Option, Some, None, map}
+use Rattle.std.specs.Prelude.{List, [], ◌∷◌, ◌++◌, Option, map}
 use Rattle.std.specs.Option.{option_map}
 use Rattle.checked_tree.specs.Expressions as t
 use Rattle.checked_tree.specs.ExpressionViews.{expression, expressions}
