@@ -1,0 +1,3 @@
+pub mod Beginnings
+pub mod Views
+pub mod Pieces
