@@ -7,8 +7,8 @@ use Rattle.team_round.specs.TeamStates.{TeamState, TellsAll}
 use Rattle.team_tree.specs.KnownTeams.{team_of}
 use Rattle.control_board.specs.Values.{BroughtState}
 use Rattle.control_board.proofs.Members.{get_there, member_there, member_initial, rounds_members, known_there, known_within}
-use Rattle.std.proofs.Common.{◌≡◌, ℕ, zero, suc, ◌+◌, ◌-◌, ◌<◌, ◌≤◌, Bool, true, false, ◌&&◌, ◌||◌, nat_eq, nat_le, cond, List, [], ◌∷◌, ◌++◌, inl, inr, length, map, refl, ap, sym, ◌∙◌, subst, arith, length-append}
-use Rattle.std.specs.Prelude.{ℤ, pos, Option, Some, None, is_some, filter_map, slice_get, slice_index_or}
+use Rattle.std.proofs.Common.{◌≡◌, ℕ, zero, suc, ◌+◌, ◌-◌, ◌<◌, ◌≤◌, Bool, true, false, ◌&&◌, ◌||◌, cond, List, [], ◌∷◌, ◌++◌, inl, inr, length, map, refl, ap, sym, ◌∙◌, subst, arith, length-append}
+use Rattle.std.specs.Prelude.{ℤ, pos, Option, Some, None, is_some, slice_get, slice_index_or}
 use Rattle.std.specs.List.{list_any, list_all}
 use Rattle.std.specs.Ordering.{int_eq}
 use Rattle.std.proofs.lemmas.List.Elements.{filter_map-append}

@@ -9,7 +9,7 @@ use Rattle.std.proofs.lemmas.List.{length-map}
 use Rattle.caf_base.specs.declared.place.ImageNo.{ImageNo}
 use Rattle.caf_events.specs.Histories.{last_stamp_of}
 use Rattle.caf_events.specs.declared.event.Entry.{Entry}
-use Rattle.object_rules.specs.Happenings.{Happening, control, images, happened, numbers_of}
+use Rattle.object_rules.specs.Happenings.{Happening, images, happened, numbers_of}
 use Rattle.object_rules.specs.Constructs.{construct_turn}
 use Rattle.object_rules.specs.BoardTeams.{Team, teams_after}
 use Rattle.object_rules.specs.BoardRules.{is_image}

@@ -1,5 +1,5 @@
 -- What making room asks holds of an ask that comes.
-use Rattle.std.proofs.Common.{◌≡◌, ℕ, true, false, List, IsTrue}
+use Rattle.std.proofs.Common.{ℕ, true, false, List, IsTrue}
 use Rattle.caf_events.specs.declared.ask.Ask.{Ask}
 use Rattle.caf_events.specs.declared.ask.Ask.TheVariants as asks
 use Rattle.caf_events.specs.declared.event.Entry.{Entry}

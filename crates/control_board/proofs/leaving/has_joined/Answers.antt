@@ -1,4 +1,4 @@
-use Rattle.std.proofs.Common.{◌≡◌, ◌-◌, ◌&&◌, nat_le, ◌<◌, ◌≤◌, length, ap, sym, subst, ◌∙◌}
+use Rattle.std.proofs.Common.{◌-◌, ◌&&◌, nat_le, ◌<◌, ◌≤◌, length, ap, sym, subst, ◌∙◌}
 use Rattle.std.specs.Prelude.{slice_get}
 use Rattle.object_rules.specs.BoardRules.{is_image}
 use Rattle.object_rules.specs.Happenings.{happened}

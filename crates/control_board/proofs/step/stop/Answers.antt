@@ -1,7 +1,7 @@
 use Rattle.std.proofs.Common.{true, false, refl}
 use Rattle.caf_events.specs.declared.ask.Ask.TheVariants as asks
 use Rattle.control_board.proofs.Keeping.{can_end, in_stopped, in_failed, in_rows}
-use Rattle.control_board.proofs.Steps.{both, ready_parts, ended_steps}
+use Rattle.control_board.proofs.Steps.{both, ended_steps}
 use Rattle.control_board.proofs.step.stop.Goals as goal
 
 pub ended-requires-clause-stopped : goal.ended-requires-clause-stopped
