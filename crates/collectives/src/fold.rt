@@ -11,7 +11,12 @@ use caf_base::value::{Kind, Overflow, Value};
 use std::alloc::Global;
 
 // Combines one more argument, which is no shorter, with those before it, element by element.
-fn fold_each(total: &mut Vec<Value>, op: Fold, kind: Kind, part: &Vec<Value>) -> Result<(), Overflow>
+fn fold_each(
+    total: &mut Vec<Value>,
+    op: Fold,
+    kind: Kind,
+    part: &Vec<Value>,
+) -> Result<(), Overflow>
     requires { length total.old.items ≤ length part.now.items }
     ensures { MatchResult result (λ _. combined_each (op_of op) kind total.old.items part.now.items ≡ Some total.new.items)
         (λ _. combined_each (op_of op) kind total.old.items part.now.items ≡ None) }

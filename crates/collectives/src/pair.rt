@@ -14,8 +14,8 @@ pub enum Fold {
     Max,
 }
 
-// Whether the kind holds the number.
-fn fits(kind: Kind, n: i64) -> bool
+/// Whether the kind holds the number.
+pub fn fits(kind: Kind, n: i64) -> bool
     ensures { result ≡ fits_kind kind n }
 {
     match kind {

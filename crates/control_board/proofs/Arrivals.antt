@@ -1,5 +1,6 @@
 -- The reply to an arrival, and what has happened with it.
-use Rattle.std.proofs.Common.{◌≡◌, ℕ, suc, ◌+◌, Bool, ◌&&◌, nat_eq, List, [], ◌∷◌, ◌++◌, inl, inr, refl, ap, sym, ◌∙◌, arith}
+use Rattle.object_rules.specs.Happenings.{Class, collective}
+use Rattle.std.proofs.Common.{◌≡◌, ℕ, suc, ◌+◌, Bool, ◌&&◌, nat_eq, List, [], ◌∷◌, ◌++◌, length, inl, inr, refl, ap, sym, ◌∙◌, arith}
 use Rattle.std.specs.Prelude.{ℤ, Option, Some, None}
 use Rattle.std.specs.Ordering.{int_eq}
 use Rattle.std.specs.Cmp.Lexicographic.{pointwise}
@@ -16,6 +17,7 @@ use Rattle.caf_events.specs.declared.round.GatherOp.{GatherOp}
 use Rattle.caf_events.specs.declared.round.GatherOp.TheVariants as ops
 use Rattle.caf_base.specs.declared.value.Kind.{Kind}
 use Rattle.caf_base.specs.declared.value.Kind.TheVariants as values
+use Rattle.caf_base.specs.declared.value.Value.{Value}
 use Rattle.object_rules.specs.Kinds.{same_bounds, same_allotted, same_op, same_value_kind, same_kind}
 use Rattle.object_rules.specs.Happenings.{control, happens, happened, kind_of}
 use Rattle.object_rules.specs.TeamRounds.{Opening, arrivals, opening_of}
@@ -83,10 +85,10 @@ told_by kind r (Some o) = elim (cases_Bool (same_kind o.kind kind)) [
 ]
 
 -- what is told of an arrival is the reply
-pub told_is : (h : List Entry) (i t : ℕ) (kind : RoundKind) (a : Arrival) → a ≡ told_arrival same_kind kind (arrivals t i (happened control h) + 1) (opening_of t (arrivals t i (happened control h) + 1) (happened control h))
-    → reply_to a ≡ arrival_reply control h i t kind
-told_is h i t kind a e =
-    let hs = happened control h in
+pub told_is : (c : Class) (h : List Entry) (i t : ℕ) (kind : RoundKind) (a : Arrival) → a ≡ told_arrival same_kind kind (arrivals t i (happened c h) + 1) (opening_of t (arrivals t i (happened c h) + 1) (happened c h))
+    → reply_to a ≡ arrival_reply c h i t kind
+told_is c h i t kind a e =
+    let hs = happened c h in
     let next : arrivals t i hs + 1 ≡ suc (arrivals t i hs) = omega arith in
     ap reply_to e ∙ told_by kind (arrivals t i hs + 1) (opening_of t (arrivals t i hs + 1) hs) ∙ ap (λ r. joined_or_clash kind r (opening_of t r hs)) next
 
@@ -95,3 +97,10 @@ pub happened_arrival : (h : List Entry) (e : Entry) (team : TeamNo) (arriving : 
     → happened control (h ++ e ∷ []) ≡ happened_with (happened control h) team.0 e.image.0 (kind_of arriving) e.event.line a
 happened_arrival h e team arriving (arrived.Joined r) ask reply = happened_some control h e _ (ap (λ x. happens control e.image.0 e.event.line x e.event.reply) ask ∙ ap (happens control e.image.0 e.event.line (asks.Arrive team arriving)) reply)
 happened_arrival h e team arriving (arrived.Clash j l) ask reply = happened_none control h e (ap (λ x. happens control e.image.0 e.event.line x e.event.reply) ask ∙ ap (happens control e.image.0 e.event.line (asks.Arrive team arriving)) reply)
+
+pub happened_gather : (h : List Entry) (e : Entry) (team : TeamNo) (op : GatherOp) (root : ℕ) (kind : Kind) (vs : List Value) (a : Arrival) → e.event.ask ≡ asks.Gather team op root kind vs → e.event.reply ≡ reply_to a
+    → happened collective (h ++ e ∷ []) ≡ happened_with (happened collective h) team.0 e.image.0 (kinds.Collective op root kind (length vs)) e.event.line a
+happened_gather h e team op root kind vs (arrived.Joined r) ask reply =
+    happened_some collective h e _ (ap (λ x. happens collective e.image.0 e.event.line x e.event.reply) ask ∙ ap (happens collective e.image.0 e.event.line (asks.Gather team op root kind vs)) reply)
+happened_gather h e team op root kind vs (arrived.Clash j l) ask reply =
+    happened_none collective h e (ap (λ x. happens collective e.image.0 e.event.line x e.event.reply) ask ∙ ap (happens collective e.image.0 e.event.line (asks.Gather team op root kind vs)) reply)

@@ -5,22 +5,22 @@ use Rattle.std.proofs.lemmas.Bool.{and_parts, leb-true}
 use Rattle.caf_base.specs.declared.place.TeamNo.{TeamNo}
 use Rattle.caf_events.specs.declared.ask.Ask.TheVariants as asks
 use Rattle.caf_events.specs.declared.event.Entry.{Entry}
-use Rattle.object_rules.specs.Happenings.{control, happened, numbers_of}
+use Rattle.object_rules.specs.Happenings.{Class, control, collective, happened, numbers_of}
 use Rattle.object_rules.specs.ImagePairs.{names}
 use Rattle.object_rules.specs.TeamRounds.{arrivals, at_close}
 use Rattle.object_rules.specs.BoardRules.{has_joined}
 use Rattle.object_rules.specs.BoardTeams.{teams_after, members_at, closing}
 use Rattle.team_round.specs.TeamStates.{TeamState}
 use Rattle.control_board.specs.declared.parts.Parts.{Parts}
-use Rattle.control_board.specs.Boards.{IsBoard, served_ready}
+use Rattle.control_board.specs.Boards.{IsBoard, class_of, rounds_in, served_ready}
 use Rattle.control_board.proofs.Members.{get_there, member_there, rounds_members}
 use Rattle.control_board.proofs.Replying.{close_law}
 use Rattle.control_board.proofs.Steps.{ready_parts}
 
 -- it is a member of the team, and the round has a number from 1
-pub joined_is : (n : ℕ) (h : List Entry) (i t r : ℕ) → has_joined control n h i t r ≡ true → (names i (members_at (teams_after n h) t) ≡ true) × (0 < r)
-joined_is n h i t r j =
-    let a = and_parts (names i (members_at (teams_after n h) t) && nat_le 1 r) (nat_le r (arrivals t i (happened control h))) j in
+pub joined_is : (c : Class) (n : ℕ) (h : List Entry) (i t r : ℕ) → has_joined c n h i t r ≡ true → (names i (members_at (teams_after n h) t) ≡ true) × (0 < r)
+joined_is c n h i t r j =
+    let a = and_parts (names i (members_at (teams_after n h) t) && nat_le 1 r) (nat_le r (arrivals t i (happened c h))) j in
     let m = and_parts (names i (members_at (teams_after n h) t)) (nat_le 1 r) a.0 in
     let l = leb-true 1 r m.1 in
     (m.0, omega arith)
@@ -29,20 +29,28 @@ pub joined_parts : (n : ℕ) (h : List Entry) (i : ℕ) (team : TeamNo) (r : ℕ
     → (names i (members_at (teams_after n h) team.0) ≡ true) × (0 < r) × (is_some (closing control team.0 r (members_at (teams_after n h) team.0) h) ≡ true)
 joined_parts n h i team r ready =
     let p = ready_parts n h i (asks.Leave team r) ready in
-    let j = joined_is n h i team.0 r p.2 in
+    let j = joined_is control n h i team.0 r p.2 in
+    (j.0, j.1, p.3)
+
+-- the same of a collective subroutine
+pub taken_parts : (n : ℕ) (h : List Entry) (i : ℕ) (team : TeamNo) (r : ℕ) → IsTrue (served_ready n h i (asks.Take team r))
+    → (names i (members_at (teams_after n h) team.0) ≡ true) × (0 < r) × (is_some (closing collective team.0 r (members_at (teams_after n h) team.0) h) ≡ true)
+taken_parts n h i team r ready =
+    let p = ready_parts n h i (asks.Take team r) ready in
+    let j = joined_is collective n h i team.0 r p.2 in
     (j.0, j.1, p.3)
 
 -- whether it can leave
-pub can_leave_law : (n : ℕ) (h : List Entry) (p : Parts) → IsBoard n h p → (i t r : ℕ) (closed : Bool) → has_joined control n h i t r ≡ true
-    → ((x : TeamState) → slice_get p.control.teams (t - 1) ≡ Some x → closed ≡ is_some (at_close (numbers_of x.members) t r (happened control h)))
-    → closed ≡ (has_joined control n h i t r && is_some (closing control t r (members_at (teams_after n h) t) h))
-can_leave_law n h p b i t r closed joined is =
-    let j = joined_is n h i t r joined in
-    let there = member_there n h p b t i j.0 in
+pub can_depart_law : (c : Bool) (n : ℕ) (h : List Entry) (p : Parts) → IsBoard n h p → (i t r : ℕ) (closed : Bool) → has_joined (class_of c) n h i t r ≡ true
+    → ((x : TeamState) → slice_get (rounds_in p c).teams (t - 1) ≡ Some x → closed ≡ is_some (at_close (numbers_of x.members) t r (happened (class_of c) h)))
+    → closed ≡ (has_joined (class_of c) n h i t r && is_some (closing (class_of c) t r (members_at (teams_after n h) t) h))
+can_depart_law c n h p b i t r closed joined is =
+    let j = joined_is (class_of c) n h i t r joined in
+    let there = member_there n h p b c t i j.0 in
     let low : 0 < t = there.0 in
-    let high : t ≤ length p.control.teams = there.1 in
-    let x = get_there p.control.teams (t - 1) (omega arith) in
+    let high : t ≤ length (rounds_in p c).teams = there.1 in
+    let x = get_there (rounds_in p c).teams (t - 1) (omega arith) in
     is x.0 x.1
-    ∙ ap (λ ms. is_some (at_close ms t r (happened control h))) (rounds_members n h p b t x.0 low x.1)
-    ∙ close_law t r (members_at (teams_after n h) t) h
-    ∙ ap (λ z. z && is_some (closing control t r (members_at (teams_after n h) t) h)) (sym joined)
+    ∙ ap (λ ms. is_some (at_close ms t r (happened (class_of c) h))) (rounds_members n h p b c t x.0 low x.1)
+    ∙ close_law (class_of c) t r (members_at (teams_after n h) t) h
+    ∙ ap (λ z. z && is_some (closing (class_of c) t r (members_at (teams_after n h) t) h)) (sym joined)

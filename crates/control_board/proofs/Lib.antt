@@ -4,6 +4,9 @@ pub mod Forms
 pub mod Counts
 pub mod Keeping
 pub mod Arrivals
+pub mod Bringing
 pub mod Steps
 pub mod Replying
 pub mod Departures
+pub mod Collecting
+pub mod Rooms

@@ -12,7 +12,7 @@ use Rattle.failure_status.specs.Endings.{AreWithin}
 use Rattle.team_round.specs.TeamStates.{TeamState, members_in}
 use Rattle.team_tree.specs.KnownTeams.{KnownTeam, no_team, team_of, images_from, known, all_known}
 use Rattle.control_board.specs.declared.parts.Parts.{Parts}
-use Rattle.control_board.specs.Boards.{IsBoard}
+use Rattle.control_board.specs.Boards.{IsBoard, rounds_in}
 
 pub numbers_images : (ms : List ℕ) → numbers_of (images_from ms) ≡ ms
 numbers_images [] = refl
@@ -118,24 +118,33 @@ get_there (x ∷ xs) zero h = (x, refl)
 get_there (x ∷ xs) (suc k) h = get_there xs k (omega arith)
 
 module _ (n : ℕ) (h : List Entry) (p : Parts) (b : IsBoard n h p) where
-  pub rounds_members : (t : ℕ) (x : TeamState) → 0 < t → slice_get p.control.teams (t - 1) ≡ Some x → numbers_of x.members ≡ members_at (teams_after n h) t
-  rounds_members t x low at = rounds_at p.control.teams (teams_after n h) t x low b.members at
+  pub rounds_members : (c : Bool) (t : ℕ) (x : TeamState) → 0 < t → slice_get (rounds_in p c).teams (t - 1) ≡ Some x → numbers_of x.members ≡ members_at (teams_after n h) t
+  rounds_members c t x low at = rounds_at (rounds_in p c).teams (teams_after n h) t x low (b.members c) at
 
-  pub rounds_count : length p.control.teams ≡ length (teams_after n h)
-  rounds_count = sym (length-map p.control.teams (λ (x : TeamState). x.members)) ∙ ap length b.members ∙ length-map (teams_after n h) (λ (x : Team). images_from x.members)
+  pub rounds_count : (c : Bool) → length (rounds_in p c).teams ≡ length (teams_after n h)
+  rounds_count c = sym (length-map (rounds_in p c).teams (λ (x : TeamState). x.members)) ∙ ap length (b.members c) ∙ length-map (teams_after n h) (λ (x : Team). images_from x.members)
 
   pub teams_count : length p.teams.teams ≡ length (teams_after n h)
   teams_count = ap length b.teams ∙ length-map (teams_after n h) known
 
   -- the team of a member is there, in all parts
-  pub member_there : (t i : ℕ) → names i (members_at (teams_after n h) t) ≡ true → (0 < t) × (t ≤ length p.control.teams) × (t ≤ length p.teams.teams)
-  member_there t i m =
+  pub member_there : (c : Bool) (t i : ℕ) → names i (members_at (teams_after n h) t) ≡ true → (0 < t) × (t ≤ length (rounds_in p c).teams) × (t ≤ length p.teams.teams)
+  member_there c t i m =
       let r = member_range (teams_after n h) t i m in
-      let a = rounds_count in
-      let c = teams_count in
+      let a = rounds_count c in
+      let d = teams_count in
       let low : 0 < t = r.0 in
       let high : t ≤ length (teams_after n h) = r.1 in
       (low, omega arith, omega arith)
+
+  -- no other team than the initial one is there
+  pub member_initial : (t i : ℕ) → names i (members_at (teams_after n h) t) ≡ true → t ≡ 1
+  member_initial t i m =
+      let r = member_range (teams_after n h) t i m in
+      let one : length (teams_after n h) ≡ 1 = ap length b.initial in
+      let low : 0 < t = r.0 in
+      let high : t ≤ length (teams_after n h) = r.1 in
+      omega arith
 
   pub is_member_law : (t i : ℕ) → (is_image (length p.teams.teams) t && names i (numbers_of (team_of p.teams.teams t).members)) ≡ names i (members_at (teams_after n h) t)
   is_member_law t i = ap (λ (ts : List KnownTeam). is_image (length ts) t && names i (numbers_of (team_of ts t).members)) b.teams ∙ member_law (teams_after n h) t i
@@ -149,8 +158,8 @@ module _ (n : ℕ) (h : List Entry) (p : Parts) (b : IsBoard n h p) where
   pub known_within : (t : ℕ) → 0 < t → t ≤ length p.teams.teams → AreWithin n (team_of p.teams.teams t).members
   known_within t low high =
       let c = teams_count in
-      let d = rounds_count in
+      let d = rounds_count false in
       let x = get_there p.control.teams (t - 1) (omega arith) in
       let e : x.0.members ≡ (team_of p.teams.teams t).members =
-      rounds_images p.control.teams (teams_after n h) (t - 1) x.0 b.members x.1 ∙ sym (known_images (teams_after n h) (t - 1) (omega arith)) ∙ ap (λ (ts : List KnownTeam). (team_of ts t).members) (sym b.teams) in
+      rounds_images p.control.teams (teams_after n h) (t - 1) x.0 (b.members false) x.1 ∙ sym (known_images (teams_after n h) (t - 1) (omega arith)) ∙ ap (λ (ts : List KnownTeam). (team_of ts t).members) (sym b.teams) in
       subst (AreWithin n) e (b.within (t - 1) x.0 x.1)

@@ -15,7 +15,7 @@ use Rattle.team_round.proofs.Closings.{happened_by, closing_is}
 use Rattle.team_round.proofs.NewTeams.{closes_is}
 use Rattle.team_round.proofs.Statuses.{status_is}
 use Rattle.control_board.specs.declared.parts.Parts.{Parts}
-use Rattle.control_board.specs.Boards.{IsBoard, marks_of, ended_as}
+use Rattle.control_board.specs.Boards.{IsBoard, class_of, rounds_in, marks_of, ended_as}
 use Rattle.control_board.proofs.Members.{rounds_members}
 use Rattle.control_board.proofs.Rounds.{close_opens, formless_opening, formless_front, are_formless}
 use Rattle.control_board.proofs.Forms.{served_formless}
@@ -57,17 +57,17 @@ some_kept : (c : Class) (o : Option (List Entry)) → is_some (happened_by c o) 
 some_kept c None = refl
 some_kept c (Some f) = refl
 
-pub close_law : (t r : ℕ) (ms : List ℕ) (h : List Entry) → is_some (at_close ms t r (happened control h)) ≡ is_some (closing control t r ms h)
-close_law t r ms h = ap is_some (sym (closing_is control t r ms h)) ∙ some_kept control (closing control t r ms h)
+pub close_law : (c : Class) (t r : ℕ) (ms : List ℕ) (h : List Entry) → is_some (at_close ms t r (happened c h)) ≡ is_some (closing c t r ms h)
+close_law c t r ms h = ap is_some (sym (closing_is c t r ms h)) ∙ some_kept c (closing c t r ms h)
 
 module _ (n : ℕ) (h : List Entry) (p : Parts) (b : IsBoard n h p) (t r : ℕ) (low : 0 < t) (first : 0 < r) where
   -- its status is there, in the team's rounds
-  pub closed_there : is_some (closing control t r (members_at (teams_after n h) t) h) ≡ true → (x : TeamState) → slice_get p.control.teams (t - 1) ≡ Some x → is_some (closed_at x.rounds (r - 1)) ≡ true
-  closed_there closed x at =
+  pub closed_there : (c : Bool) → is_some (closing (class_of c) t r (members_at (teams_after n h) t) h) ≡ true → (x : TeamState) → slice_get (rounds_in p c).teams (t - 1) ≡ Some x → is_some (closed_at x.rounds (r - 1)) ≡ true
+  closed_there c closed x at =
       let number : suc (t - 1) ≡ t = omega arith in
-      let told = subst (λ u. Tells u x (happened control h)) number (b.rounds.told (t - 1) x at) in
-      closes_is (numbers_of x.members) (at_close (numbers_of x.members) t r (happened control h)) (closed_at x.rounds (r - 1)) (status_is t r x (happened control h) first told)
-      ∙ ap (λ ms. is_some (at_close ms t r (happened control h))) (rounds_members n h p b t x low at) ∙ close_law t r (members_at (teams_after n h) t) h ∙ closed
+      let told = subst (λ u. Tells u x (happened (class_of c) h)) number ((b.rounds c).told (t - 1) x at) in
+      closes_is (numbers_of x.members) (at_close (numbers_of x.members) t r (happened (class_of c) h)) (closed_at x.rounds (r - 1)) (status_is t r x (happened (class_of c) h) first told)
+      ∙ ap (λ ms. is_some (at_close ms t r (happened (class_of c) h))) (rounds_members n h p b c t x low at) ∙ close_law (class_of c) t r (members_at (teams_after n h) t) h ∙ closed
 
   no_teams : made_teams t r 1 (teams_after n h) ≡ []
   no_teams =

@@ -58,7 +58,7 @@ impl Object for Board {
 
     ghost history = { λ b. b.history };
 
-    ghost has_room = { λ b image ask. HasRoom b ask };
+    ghost has_room = { λ b image ask. HasRoom b image ask };
 
     ghost ready_after = { λ n h image ask. served_ready n h image ask };
 
@@ -74,7 +74,7 @@ impl Object for Board {
 
     fn reserve(&mut self, image: ImageNo, ask: &Ask) -> Result<Spare, NoMemory> {
         self.history.reserve()?;
-        make_room(self.alloc, &mut self.parts, ask)?;
+        make_room(self.alloc, &mut self.parts, image, ask)?;
         let told = reply(self.alloc, &self.parts, image, ask)?;
         Spare::new(self.alloc, ask, told)
     }

@@ -1,37 +1,61 @@
 //! The departure from a round of a team.
 
-ghost use Rattle.std.specs.Prelude.{◌≡◌, ℕ, List, IsTrue, ◌&&◌};
+ghost use Rattle.std.specs.Prelude.{◌≡◌, ◌-◌, ◌<◌, ◌≤◌, ℕ, Bool, List, Some, IsTrue, ◌&&◌, nat_le, length, slice_get};
 ghost use Rattle.std.specs.Option.{is_some};
 ghost use Rattle.caf_events.specs.declared.ask.Ask.TheVariants as asks;
 ghost use Rattle.caf_events.specs.declared.event.Entry.{Entry};
-ghost use Rattle.object_rules.specs.Happenings.{control};
+ghost use Rattle.object_rules.specs.Happenings.{Happening};
+ghost use Rattle.object_rules.specs.TeamRounds.{arrivals};
+ghost use Rattle.team_round.specs.TeamStates.{TeamState, TellsAll};
 ghost use Rattle.object_rules.specs.BoardRules.{is_image, has_joined as joined_by_rules, board_reply};
 ghost use Rattle.object_rules.specs.BoardTeams.{teams_after, members_at, closing};
-ghost use Rattle.control_board.specs.Boards.{IsBoard, IsKept, Comes, served_ready};
+ghost use Rattle.control_board.specs.Boards.{IsBoard, AreRounds, Comes, class_of, rounds_in, served_ready};
 
 use crate::parts::{Parts, is_member};
 use caf_base::listing::Listing;
 use caf_base::place::{ImageNo, TeamNo};
 use caf_events::reply::Reply;
 use std::alloc::Global;
+use team_round::rounds::Rounds;
 
-// Whether the image has joined this round of the team, of which it is a member.
-fn has_joined(parts: &Parts, image: ImageNo, team: TeamNo, round: u64) -> bool
-    requires kept { IsKept parts.now }
-    requires image { IsTrue (is_image parts.now.images image.0) }
-    ensures { (n : ℕ) (h : List Entry) → IsBoard n h parts.now → result ≡ joined_by_rules control n h image.0 team.0 round }
+// Whether the image has joined this round of the team.
+fn has_come(rounds: &Rounds, image: ImageNo, team: TeamNo, round: u64) -> bool
+    requires team { (0 < team.0) × (team.0 ≤ length rounds.now.teams) }
+    requires image { (x : TeamState) → slice_get rounds.now.teams (team.0 - 1) ≡ Some x → (0 < image.0) × (image.0 ≤ length x.joined) }
+    ensures { (n : ℕ) (hs : List Happening) → TellsAll n rounds.now hs → result ≡ (nat_le 1 round && nat_le round (arrivals team.0 image.0 hs)) }
 {
-    is_member(parts, team, image) && round >= 1 && round <= parts.control.joined(team, image)
+    round >= 1 && round <= rounds.joined(team, image)
 }
 
-// Whether the image can leave the round: it has joined it, and the round has closed.
-pub(crate) fn can_leave(parts: &Parts, image: ImageNo, team: TeamNo, round: u64) -> bool
-    requires kept { IsKept parts.now }
+// Whether the image has joined this round of the team, of which it is a member.
+pub(crate) fn has_joined(
+    parts: &Parts,
+    rounds: &Rounds,
+    image: ImageNo,
+    team: TeamNo,
+    round: u64,
+) -> bool
+    requires rounds { (c : Bool) × AreRounds rounds.now c parts.now }
     requires image { IsTrue (is_image parts.now.images image.0) }
-    ensures { (n : ℕ) (h : List Entry) → IsBoard n h parts.now
-        → result ≡ (joined_by_rules control n h image.0 team.0 round && is_some (closing control team.0 round (members_at (teams_after n h) team.0) h)) }
+    ensures { (n : ℕ) (h : List Entry) (c : Bool) → IsBoard n h parts.now → rounds.now ≡ rounds_in parts.now c → result ≡ joined_by_rules (class_of c) n h image.0 team.0 round }
 {
-    has_joined(parts, image, team, round) && parts.control.closed(team, round)
+    is_member(parts, team, image) && has_come(rounds, image, team, round)
+}
+
+// Whether the image can leave the round of these rounds: it has joined it, and the round has closed.
+pub(crate) fn can_depart(
+    parts: &Parts,
+    rounds: &Rounds,
+    image: ImageNo,
+    team: TeamNo,
+    round: u64,
+) -> bool
+    requires rounds { (c : Bool) × AreRounds rounds.now c parts.now }
+    requires image { IsTrue (is_image parts.now.images image.0) }
+    ensures { (n : ℕ) (h : List Entry) (c : Bool) → IsBoard n h parts.now → rounds.now ≡ rounds_in parts.now c
+        → result ≡ (joined_by_rules (class_of c) n h image.0 team.0 round && is_some (closing (class_of c) team.0 round (members_at (teams_after n h) team.0) h)) }
+{
+    has_joined(parts, rounds, image, team, round) && rounds.closed(team, round)
 }
 
 // The reply to a departure. It takes no memory.

@@ -1,13 +1,16 @@
-//! The control board of a run (ISO/IEC 1539-1:2018, 11.1.5, 11.1.6, 11.6): rounds of the teams, SYNC IMAGES, CRITICAL constructs, and which images have ended.
-//! It stands on `failure_status`, `team_round`, `image_sync`, `team_tree` and on the definitions of `object_rules`; the run will stand on it.
+//! The control board of a run (ISO/IEC 1539-1:2018, 11.1.5, 11.1.6, 11.6, 16.6): rounds of the teams, collective subroutines, SYNC IMAGES, CRITICAL
+//! constructs, and which images have ended.
+//! It stands on `failure_status`, `team_round`, `image_sync`, `team_tree`, `collectives` and on the definitions of `object_rules`; the run will stand on it.
 //! Its main contract is that of `Object` for `Board`: whether an ask is ready and what is replied are `board_ready` and `board_reply` of the whole
-//! history, for every ask that it serves (`is_served`). It serves neither FORM TEAM nor collective subroutines: these are never ready.
+//! history, for every ask that it serves (`is_served`): all of them but the arrivals of FORM TEAM, which are never ready.
 #![tactic(auto)]
 
 pub mod board;
+pub mod brought;
 pub mod ending;
 pub mod leaving;
 pub mod parts;
 pub mod ready;
 pub mod reply;
 pub mod step;
+pub mod taking;

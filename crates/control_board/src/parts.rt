@@ -5,8 +5,10 @@ ghost use Rattle.caf_events.specs.declared.event.Entry.{Entry};
 ghost use Rattle.object_rules.specs.BoardRules.{is_image};
 ghost use Rattle.object_rules.specs.BoardTeams.{teams_after, members_at};
 ghost use Rattle.object_rules.specs.ImagePairs.{names};
-ghost use Rattle.control_board.specs.Boards.{IsBoard, IsKept};
+ghost use Rattle.control_board.specs.Boards.{IsBoard, IsFreshRounds};
+ghost use Rattle.team_tree.specs.KnownTeams.{all_known};
 
+use crate::brought::{Brought, none_brought};
 use caf_base::place::{ImageNo, TeamNo};
 use caf_base::refusal::NoMemory;
 use image_sync::criticals::Criticals;
@@ -15,14 +17,43 @@ use std::alloc::Global;
 use team_round::rounds::Rounds;
 use team_tree::teams::Teams;
 
-/// The number of images, the teams, their rounds, the SYNC IMAGES of each image, and who is inside CRITICAL constructs.
+/// The number of images, the teams, their rounds of image control statements and of collective subroutines, what each image has brought to the
+/// latter, the SYNC IMAGES of each image, and who is inside CRITICAL constructs.
 #[derive(Drop)]
 pub struct Parts {
     pub images: u32,
     pub teams: Teams,
     pub control: Rounds,
+    pub collective: Rounds,
+    pub brought: Vec<Brought>,
     pub pairs: Pairs,
     pub criticals: Criticals,
+}
+
+// The parts of a run of n images at its start, with its teams and rounds.
+fn parts_with(
+    alloc: Global,
+    n: u32,
+    teams: Teams,
+    control: Rounds,
+    collective: Rounds,
+) -> Result<Parts, NoMemory>
+    requires teams { teams.teams ≡ all_known (teams_after n []) }
+    requires control { IsFreshRounds n control }
+    requires collective { IsFreshRounds n collective }
+    ensures { IfOk result (λ p. IsBoard n [] p) }
+{
+    let brought = none_brought(alloc, n)?;
+    let pairs = Pairs::new(alloc, n)?;
+    Ok(Parts {
+        images: n,
+        teams,
+        control,
+        collective,
+        brought,
+        pairs,
+        criticals: Criticals::new(alloc),
+    })
 }
 
 // The parts of a run of n images at its start.
@@ -31,14 +62,8 @@ pub(crate) fn new_parts(alloc: Global, n: u32) -> Result<Parts, NoMemory>
 {
     let teams = Teams::new(alloc, n)?;
     let control = Rounds::new(alloc, n)?;
-    let pairs = Pairs::new(alloc, n)?;
-    Ok(Parts {
-        images: n,
-        teams,
-        control,
-        pairs,
-        criticals: Criticals::new(alloc),
-    })
+    let collective = Rounds::new(alloc, n)?;
+    parts_with(alloc, n, teams, control, collective)
 }
 
 // Whether the run has this image.

@@ -1,21 +1,24 @@
 //! The reply that is due to an ask.
 
-ghost use Rattle.std.specs.Prelude.{◌≡◌, ℕ, List, IsTrue, IfOk};
+ghost use Rattle.std.specs.Prelude.{◌≡◌, ◌<◌, ◌^◌, ℕ, List, IsTrue, IfOk, length};
 ghost use Rattle.caf_events.specs.declared.ask.Ask.TheVariants as asks;
 ghost use Rattle.caf_events.specs.declared.event.Entry.{Entry};
-ghost use Rattle.object_rules.specs.Happenings.{kind_of};
-ghost use Rattle.object_rules.specs.BoardRules.{board_reply};
-ghost use Rattle.control_board.specs.Boards.{IsBoard, Comes, served_ready, reply_by, reply_to};
+ghost use Rattle.caf_events.specs.declared.round.RoundKind.TheVariants as kinds;
+ghost use Rattle.object_rules.specs.Happenings.{collective, kind_of};
+ghost use Rattle.object_rules.specs.BoardRules.{arrival_reply, board_reply};
+ghost use Rattle.control_board.specs.Boards.{IsBoard, Comes, Gathers, served_ready, reply_by, reply_to};
 
 use crate::ending::{ended_members, member_status};
 use crate::leaving::left;
 use crate::parts::Parts;
+use crate::taking::taken;
 use caf_base::copying::TryCopy;
 use caf_base::place::{ImageNo, TeamNo};
 use caf_base::refusal::NoMemory;
+use caf_base::value::{Kind, Value};
 use caf_events::ask::Ask;
 use caf_events::reply::Reply;
-use caf_events::round::{Arriving, RoundKind};
+use caf_events::round::{Arriving, GatherOp, RoundKind};
 use std::alloc::Global;
 use team_round::round::Arrival;
 
@@ -57,6 +60,27 @@ fn joined(
     let arrival = parts.control.expected(team, image, &kind);
     drop(kind);
     Ok(told(arrival))
+}
+
+// The kind of a collective subroutine to which an image brings these values. It takes no memory.
+pub(crate) fn kind_with(op: GatherOp, root: u32, kind: Kind, values: &[Value]) -> RoundKind
+    requires { length values.now < 2 ^ 32 }
+    ensures { result ≡ kinds.Collective op root kind (length values.now) }
+{
+    RoundKind::Collective {
+        op,
+        root,
+        kind,
+        count: values.len() as u32,
+    }
+}
+
+// The reply to an arrival at a collective subroutine of this kind.
+fn gathered(parts: &Parts, image: ImageNo, team: TeamNo, what: &RoundKind) -> Reply
+    requires { Gathers parts.now image.0 team.0 }
+    ensures { (n : ℕ) (h : List Entry) → IsBoard n h parts.now → result ≡ arrival_reply collective h image.0 team.0 what.now }
+{
+    told(parts.collective.expected(team, image, what))
 }
 
 // The reply to a departure from SYNC IMAGES.
@@ -115,6 +139,19 @@ pub(crate) fn reply(
     match ask {
         Ask::Arrive { team, arriving } => joined(parts, image, *team, arriving),
         Ask::Leave { team, round } => Ok(left(alloc, parts, image, *team, *round)),
+        Ask::Gather {
+            team,
+            op,
+            root,
+            kind,
+            values,
+        } => Ok(gathered(
+            parts,
+            image,
+            *team,
+            &kind_with(*op, *root, *kind, values.as_slice()),
+        )),
+        Ask::Take { team, round } => taken(alloc, parts, image, *team, *round),
         Ask::Unpair => Ok(unpaired(parts, image)),
         Ask::Enter { construct } => Ok(entered(parts, *construct)),
         Ask::Failed { team } => failed(alloc, parts, image, *team),

@@ -2,26 +2,59 @@
 
 ghost use Rattle.std.specs.Prelude.{◌≡◌, ◌<◌, ◌≤◌, ℕ, ℤ, List, length, OnOk};
 ghost use Rattle.caf_events.specs.declared.ask.Ask.TheVariants as asks;
+ghost use Rattle.caf_base.specs.declared.value.Kind.{Kind};
 ghost use Rattle.caf_events.specs.declared.event.Entry.{Entry};
-ghost use Rattle.control_board.specs.Boards.{IsBoard, HasImage, CanStep, StepsTo, StepBy, RoomNeeds, PartsRoom};
+ghost use Rattle.caf_events.specs.declared.round.GatherOp.{GatherOp};
+ghost use Rattle.caf_events.specs.declared.round.RoundKind.TheVariants as kinds;
+ghost use Rattle.control_board.specs.Boards.{IsBoard, HasImage, CanStep, CanGather, GatherRoom, StepsTo, StepBy, RoomNeeds, PartsRoom};
 
+use crate::brought::{keep_joined, make_room_for};
 use crate::parts::Parts;
-use crate::reply::kind_from;
+use crate::reply::{kind_from, kind_with};
+use caf_base::few::Few;
 use caf_base::listing::Listing;
 use caf_base::place::{ImageNo, TeamNo};
 use caf_base::refusal::NoMemory;
+use caf_base::value::Value;
 use caf_events::ask::Ask;
-use caf_events::round::Arriving;
+use caf_events::round::{Arriving, RoundKind};
 use std::alloc::Global;
 
-// Makes room for the step of an ask.
-pub(crate) fn make_room(alloc: Global, parts: &mut Parts, ask: &Ask) -> Result<(), NoMemory>
-    requires { RoomNeeds parts.old ask.now }
+// Makes room for what the image brings to a collective subroutine of the team.
+fn make_room_to_gather(
+    alloc: Global,
+    parts: &mut Parts,
+    image: ImageNo,
+    team: TeamNo,
+    values: &[Value],
+) -> Result<(), NoMemory>
+    requires { ((0 < team.0) × (team.0 ≤ length parts.old.collective.teams)) × ((0 < image.0) × (image.0 ≤ length parts.old.brought.items)) }
     ensures kept { (n : ℕ) (h : List Entry) → IsBoard n h parts.old → IsBoard n h parts.new }
-    ensures room { OnOk result (PartsRoom parts.new ask.now) }
+    ensures room { OnOk result (GatherRoom parts.new image.0 team.0 (length values.now)) }
+{
+    if values.len() > 4_294_967_295 {
+        return Err(NoMemory);
+    }
+    parts.collective.reserve(alloc, team, 0)?;
+    make_room_for(&mut parts.brought, image)
+}
+
+// Makes room for the step of an ask of an image.
+pub(crate) fn make_room(
+    alloc: Global,
+    parts: &mut Parts,
+    image: ImageNo,
+    ask: &Ask,
+) -> Result<(), NoMemory>
+    requires { RoomNeeds parts.old image.0 ask.now }
+    ensures kept { (n : ℕ) (h : List Entry) → IsBoard n h parts.old → IsBoard n h parts.new }
+    ensures room { OnOk result (PartsRoom parts.new image.0 ask.now) }
 {
     match ask {
         Ask::Arrive { team, .. } => parts.control.reserve(alloc, *team, 0),
+        Ask::Gather { team, values, .. } => {
+            make_room_to_gather(alloc, parts, image, *team, values.as_slice())
+        }
         Ask::Enter { construct } => parts.criticals.reserve(*construct),
         _ => Ok(()),
     }
@@ -33,6 +66,22 @@ fn arrive(parts: &mut Parts, image: ImageNo, team: TeamNo, arriving: Arriving, l
     ensures { StepsTo parts.old image (asks.Arrive team arriving) line parts.new }
 {
     parts.control.arrive(team, image, kind_from(arriving), line);
+}
+
+// The image comes to a collective subroutine of this kind of the team, and brings values.
+fn gather(
+    parts: &mut Parts,
+    image: ImageNo,
+    team: TeamNo,
+    what: RoundKind,
+    values: Few<Value>,
+    line: u32,
+)
+    requires { CanGather parts.old image.0 team what values }
+    ensures { (op : GatherOp) (root : ℕ) (kind : Kind) → what ≡ kinds.Collective op root kind (length values) → StepsTo parts.old image (asks.Gather team op root kind values) line parts.new }
+{
+    let arrival = parts.collective.arrive(team, image, what, line);
+    keep_joined(&mut parts.brought, image, values, arrival);
 }
 
 // The image begins SYNC IMAGES with a set.
@@ -64,6 +113,7 @@ fn fail(parts: &mut Parts, image: ImageNo)
     ensures { (line : ℕ) → StepsTo parts.old image asks.Gone line parts.new }
 {
     parts.control.ended(image, true);
+    parts.collective.ended(image, true);
     parts.pairs.ended(image, true);
     parts.criticals.gone(image);
 }
@@ -74,10 +124,11 @@ fn stop(parts: &mut Parts, image: ImageNo)
     ensures { (code : ℤ) (line : ℕ) → StepsTo parts.old image (asks.Stop code) line parts.new }
 {
     parts.control.ended(image, false);
+    parts.collective.ended(image, false);
     parts.pairs.ended(image, false);
 }
 
-// The step of an ask that is no arrival at a round.
+// The step of an ask that brings nothing to be kept.
 fn step_other(parts: &mut Parts, image: ImageNo, ask: &Ask)
     requires { CanStep parts.old image.0 ask.now }
     ensures { (line : ℕ) → StepBy parts.old image ask.now line parts.new }
@@ -99,6 +150,16 @@ pub(crate) fn step(parts: &mut Parts, image: ImageNo, ask: Ask, line: u32)
 {
     match ask {
         Ask::Arrive { team, arriving } => arrive(parts, image, team, arriving, line),
+        Ask::Gather {
+            team,
+            op,
+            root,
+            kind,
+            values,
+        } => {
+            let what = kind_with(op, root, kind, values.as_slice());
+            gather(parts, image, team, what, values, line);
+        }
         other => {
             step_other(parts, image, &other);
             drop(other);

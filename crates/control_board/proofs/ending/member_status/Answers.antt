@@ -1,3 +1,4 @@
+use Rattle.std.proofs.Common.{false}
 use Rattle.std.proofs.Common.{rules, ◌≡◌, ◌-◌, ◌≤◌, length, ap, sym, subst, ◌∙◌, arith, to_z, of_z, w32}
 use Rattle.std.specs.Prelude.{slice_get}
 use Rattle.std.proofs.lemmas.List.{length-map}
@@ -27,19 +28,19 @@ status_at-requires-clause-stopped c =
     let k = c.requires.team.kept in
     let within = known_within k.images k.history c.args.parts.now k.board c.args.team.0 c.requires.team.low c.requires.team.high in
     subst (λ e. AreWithin (length e.stopped) c.members-members.result.now) (sym c.endings.ensures)
-    (subst (λ m. AreWithin m c.members-members.result.now) (sym k.board.rounds.ended_told.stopped_count) (subst (AreWithin k.images) (sym c.members-members.ensures.members) within))
+    (subst (λ m. AreWithin m c.members-members.result.now) (sym (k.board.rounds false).ended_told.stopped_count) (subst (AreWithin k.images) (sym c.members-members.ensures.members) within))
 
 pub status_at-requires-clause-failed : goal.status_at-requires-clause-failed
 status_at-requires-clause-failed c =
     let k = c.requires.team.kept in
     let within = known_within k.images k.history c.args.parts.now k.board c.args.team.0 c.requires.team.low c.requires.team.high in
     subst (λ e. AreWithin (length e.failed) c.members-members.result.now) (sym c.endings.ensures)
-    (subst (λ m. AreWithin m c.members-members.result.now) (sym k.board.rounds.ended_told.failed_count) (subst (AreWithin k.images) (sym c.members-members.ensures.members) within))
+    (subst (λ m. AreWithin m c.members-members.result.now) (sym (k.board.rounds false).ended_told.failed_count) (subst (AreWithin k.images) (sym c.members-members.ensures.members) within))
 
 pub returns : goal.returns
 returns c n h b =
     let e : to_z w32 (of_z w32 c.status_at.result) ≡ c.status_at.result = search rules in
-    let told = subst (λ e. TellsEnded n e (happened control h)) (sym c.endings.ensures) b.rounds.ended_told in
+    let told = subst (λ e. TellsEnded n e (happened control h)) (sym c.endings.ensures) (b.rounds false).ended_told in
     let within = subst (AreWithin n) (sym c.members-members.ensures.members) (known_within n h c.args.parts.now b c.args.team.0 c.requires.team.low c.requires.team.high) in
     ap replies.Number (
     e ∙ c.status_at.ensures n (happened control h) told within

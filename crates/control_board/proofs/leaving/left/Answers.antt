@@ -10,7 +10,7 @@ use Rattle.control_board.proofs.leaving.left.Goals as goal
 pub result-requires-clause-team : goal.result-requires-clause-team
 result-requires-clause-team c =
     let j = joined_parts c.requires.images c.requires.history c.args.image.0 c.args.team c.args.round c.requires.ready in
-    let t = member_there c.requires.images c.requires.history c.args.parts.now c.requires.board c.args.team.0 c.args.image.0 j.0 in
+    let t = member_there c.requires.images c.requires.history c.args.parts.now c.requires.board false c.args.team.0 c.args.image.0 j.0 in
     (t.0, t.1)
 
 pub result-requires-clause-round : goal.result-requires-clause-round
@@ -19,19 +19,19 @@ result-requires-clause-round c = (joined_parts c.requires.images c.requires.hist
 pub result-requires-clause-closed : goal.result-requires-clause-closed
 result-requires-clause-closed c =
     let j = joined_parts c.requires.images c.requires.history c.args.image.0 c.args.team c.args.round c.requires.ready in
-    let t = member_there c.requires.images c.requires.history c.args.parts.now c.requires.board c.args.team.0 c.args.image.0 j.0 in
-    closed_there c.requires.images c.requires.history c.args.parts.now c.requires.board c.args.team.0 c.args.round t.0 j.1 j.2
+    let t = member_there c.requires.images c.requires.history c.args.parts.now c.requires.board false c.args.team.0 c.args.image.0 j.0 in
+    closed_there c.requires.images c.requires.history c.args.parts.now c.requires.board c.args.team.0 c.args.round t.0 j.1 false j.2
 
 pub returns : goal.returns
 returns c n h b ready =
     let j = joined_parts n h c.args.image.0 c.args.team c.args.round ready in
-    let there = member_there n h c.args.parts.now b c.args.team.0 c.args.image.0 j.0 in
+    let there = member_there n h c.args.parts.now b false c.args.team.0 c.args.image.0 j.0 in
     let low : 0 < c.args.team.0 = there.0 in
     let high : c.args.team.0 ≤ length c.args.parts.now.control.teams = there.1 in
     let x = get_there c.args.parts.now.control.teams (c.args.team.0 - 1) (omega arith) in
-    let m = rounds_members n h c.args.parts.now b c.args.team.0 x.0 low x.1 in
+    let m = rounds_members n h c.args.parts.now b false c.args.team.0 x.0 low x.1 in
     let e : to_z w32 (of_z w32 c.result.result) ≡ c.result.result = search rules in
     ap (λ s. replies.Left s c.new.result) e
     ∙ ap (replies.Left c.result.result) c.new.ensures
     ∙ left_law n h c.args.parts.now b c.args.team.0 c.args.round low j.1 c.result.result j.2
-    (λ f close. c.result.ensures n (happened control h) f x.0 b.rounds x.1 (ap (λ ms. at_close ms c.args.team.0 c.args.round (happened control h)) m ∙ close) ∙ ap (λ ms. result_of (missed_by ms f) false) m)
+    (λ f close. c.result.ensures n (happened control h) f x.0 (b.rounds false) x.1 (ap (λ ms. at_close ms c.args.team.0 c.args.round (happened control h)) m ∙ close) ∙ ap (λ ms. result_of (missed_by ms f) false) m)

@@ -1,3 +1,4 @@
+use Rattle.std.proofs.Common.{false}
 use Rattle.std.proofs.Common.{ap, ◌∙◌}
 use Rattle.caf_events.specs.declared.ask.Ask.TheVariants as asks
 use Rattle.object_rules.specs.Happenings.{control, happened, kind_of}
@@ -11,16 +12,16 @@ use Rattle.control_board.proofs.reply.joined.Goals as goal
 pub expected-arrival-requires-clause-team : goal.expected-arrival-requires-clause-team
 expected-arrival-requires-clause-team c =
     let r = ready_parts c.requires.images c.requires.history c.args.image.0 (asks.Arrive c.args.team c.args.arriving.now) c.requires.ready in
-    let t = member_there c.requires.images c.requires.history c.args.parts.now c.requires.board c.args.team.0 c.args.image.0 r.2 in
+    let t = member_there c.requires.images c.requires.history c.args.parts.now c.requires.board false c.args.team.0 c.args.image.0 r.2 in
     (t.0, t.1)
 
 pub expected-arrival-requires-clause-state : goal.expected-arrival-requires-clause-state
 expected-arrival-requires-clause-state c =
     let r = ready_parts c.requires.images c.requires.history c.args.image.0 (asks.Arrive c.args.team c.args.arriving.now) c.requires.ready in
-    can_expect c.requires.images c.requires.history c.args.parts.now c.requires.board c.args.image.0 r.1 c.args.team.0 c.requires.few
+    can_expect c.requires.images c.requires.history c.args.parts.now c.requires.board c.args.image.0 r.1 false c.args.team.0 c.requires.few
 
 pub returns : goal.returns
 returns c n h b =
     c.told.ensures
-    ∙ told_is h c.args.image.0 c.args.team.0 c.kind_from-kind.result c.expected-arrival.result (c.expected-arrival.ensures n (happened control h) b.rounds)
+    ∙ told_is control h c.args.image.0 c.args.team.0 c.kind_from-kind.result c.expected-arrival.result (c.expected-arrival.ensures n (happened control h) (b.rounds false))
     ∙ ap (arrival_reply control h c.args.image.0 c.args.team.0) (c.kind_from-kind.ensures ∙ ap kind_of c.in_ok-copy.ensures)

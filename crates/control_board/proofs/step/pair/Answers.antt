@@ -25,4 +25,4 @@ pub returns : goal.returns
 returns c line n h stamp b ready late =
     paired_steps c.args.parts.now _ c.args.image c.args.set.now line
     (λ m hs told. subst (λ set. TellsSyncs m c.arrive.new.self (hs ++ pairs c.args.image.0 (numbers_of set) ∷ [])) c.as_slice.ensures (c.arrive.ensures.told m hs told))
-    refl refl refl refl n h stamp b ready late
+    refl refl refl refl refl refl n h stamp b ready late

@@ -1,0 +1,8 @@
+use Rattle.std.proofs.Common.{true, refl}
+use Rattle.control_board.proofs.ready.can_take.Goals as goal
+
+pub can_depart-requires-clause-rounds : goal.can_depart-requires-clause-rounds
+can_depart-requires-clause-rounds c = (true, record { images = c.requires.kept.images; history = c.requires.kept.history; board = c.requires.kept.board; same = refl })
+
+pub returns : goal.returns
+returns c n h b = c.can_depart.ensures n h true b refl

@@ -1,0 +1,114 @@
+//! Rounds, collective subroutines, SYNC IMAGES, CRITICAL and failures of two images.
+
+use caf_base::few::Few;
+use caf_base::listing::Listing;
+use caf_base::place::{INITIAL_TEAM, ImageNo};
+use caf_base::value::{Kind, Value};
+use caf_events::ask::Ask;
+use caf_events::object::Object;
+use caf_events::reply::Reply;
+use caf_events::round::{Arriving, GatherOp};
+use control_board::board::Board;
+use std::alloc::Global;
+use std::fmt::Debug;
+use std::process::Abort;
+
+// The words of `Debug` for a value, which is given up.
+fn shown<R: Abort, T: Debug + Drop>(rt: &R, alloc: Global, value: T) -> String {
+    let text = format!(in alloc; "{value:?}");
+    drop(value);
+    text.expect(rt, "memory")
+}
+
+// One step of an image, which is told this reply.
+fn step<R: Abort>(rt: &R, alloc: Global, board: &mut Board, image: u32, ask: Ask, wanted: Reply) {
+    assert!(rt; board.ready(ImageNo(image), &ask));
+    assert!(rt; board.last_stamp() < 4_611_686_018_427_387_904);
+    let spare = board.reserve(ImageNo(image), &ask).expect(rt, "memory");
+    let event = board.apply(ImageNo(image), ask, spare, 7, 0);
+    let told = shown(rt, alloc, event.reply(alloc));
+    drop(event);
+    assert!(rt; told == shown(rt, alloc, wanted));
+}
+
+fn sync() -> Ask {
+    Ask::Arrive {
+        team: INITIAL_TEAM,
+        arriving: Arriving::Sync,
+    }
+}
+
+fn leave(round: u64) -> Ask {
+    Ask::Leave {
+        team: INITIAL_TEAM,
+        round,
+    }
+}
+
+fn sum(value: i64) -> Ask {
+    Ask::Gather {
+        team: INITIAL_TEAM,
+        op: GatherOp::Sum,
+        root: 0,
+        kind: Kind::I4,
+        values: Few::of_one(Value::Int(value)),
+    }
+}
+
+fn take(round: u64) -> Ask {
+    Ask::Take {
+        team: INITIAL_TEAM,
+        round,
+    }
+}
+
+fn left(alloc: Global, status: i32) -> Reply {
+    Reply::Left {
+        status,
+        teams: Listing::new(alloc),
+    }
+}
+
+#[test]
+fn all_come(rt: HostRuntime) {
+    let alloc = rt.alloc();
+    let mut board = Board::new(alloc, 2).expect(&rt, "memory");
+    step(&rt, alloc, &mut board, 1, sync(), Reply::Round { round: 1 });
+    assert!(rt; !board.ready(ImageNo(1), &leave(1)));
+    step(&rt, alloc, &mut board, 2, sync(), Reply::Round { round: 1 });
+    step(&rt, alloc, &mut board, 1, leave(1), left(alloc, 0));
+    step(&rt, alloc, &mut board, 2, sum(5), Reply::Round { round: 1 });
+    step(&rt, alloc, &mut board, 1, sum(2), Reply::Round { round: 1 });
+    let total = Reply::Taken {
+        status: 0,
+        values: Few::of_one(Value::Int(7)),
+    };
+    step(&rt, alloc, &mut board, 1, take(1), total);
+    drop(board);
+}
+
+#[test]
+fn one_fails(rt: HostRuntime) {
+    let alloc = rt.alloc();
+    let mut board = Board::new(alloc, 2).expect(&rt, "memory");
+    step(
+        &rt,
+        alloc,
+        &mut board,
+        2,
+        Ask::Enter { construct: 1 },
+        Reply::Number { status: 0 },
+    );
+    step(&rt, alloc, &mut board, 1, sync(), Reply::Round { round: 1 });
+    step(&rt, alloc, &mut board, 2, Ask::Gone, Reply::Done);
+    step(&rt, alloc, &mut board, 1, leave(1), left(alloc, 6001));
+    step(
+        &rt,
+        alloc,
+        &mut board,
+        1,
+        Ask::Enter { construct: 1 },
+        Reply::Number { status: 6001 },
+    );
+    drop(board);
+}
