@@ -1,19 +1,18 @@
 -- The words here over what is asked of expressions are those of the definitions.
-use Rattle.std.proofs.Common.{◌≡◌, ◌∙◌, ℕ, Bool, true, false, not, List, [], ◌∷◌, ◌++◌, refl, sym, ap}
-use Rattle.std.specs.Prelude.{ℤ, cond, Option, Some, None}
+use Rattle.std.proofs.Common.{◌≡◌, ◌∙◌, ℕ, Bool, true, false, not, List, [], ◌∷◌, ◌++◌, refl, ap}
+use Rattle.std.specs.Prelude.{cond, Option, Some, None}
 use Rattle.caf_base.specs.declared.place.Pos.{Pos}
-use Rattle.caf_base.specs.declared.value.Kind.{Kind}
 use Rattle.fortran_tree.specs.Expressions as f
 use Rattle.fortran_tree.specs.Statements as d
 use Rattle.checked_tree.specs.Expressions as t
 use Rattle.rule_definitions.specs.declared.broken.Broken.{Broken}
-use Rattle.rule_definitions.specs.Judgements.{Judgement, is_nothing, made, made_of, made_of_both, then, then_made, under, formed, ruled, unless, breaks}
+use Rattle.rule_definitions.specs.Judgements.{Judgement, is_nothing, made, made_of, made_of_both, then, under, formed, ruled, unless, breaks}
 use Rattle.rule_definitions.specs.Names.{Scope}
 use Rattle.rule_definitions.specs.Parts.{place_of, plain, is_listed}
 use Rattle.rule_definitions.specs.Expressions.{judged, placed}
-use Rattle.rule_definitions.specs.Declarations.{constant_expression, lacks_value, without_meaning, declared_kind, bound_value, lower_value, bounds_value, cobounds_value, raw_breaks}
+use Rattle.rule_definitions.specs.Declarations.{constant_expression, lacks_value, without_meaning, declared_kind, bound_value, lower_value, bounds_value, raw_breaks}
 use Rattle.declaration_rules.specs.Asked.{Asked, Worth, worth_of, asked_of, plain_worth, constant_worth}
-use Rattle.declaration_rules.specs.Bounds.{kinds_of, kind_of_worth, kind_asked, bound_of_worth, bound_asked, lower_asked, bounds_asked, cobounds_asked, bounds_asked_of, maybe_asked_of}
+use Rattle.declaration_rules.specs.Bounds.{kinds_of, kind_of_worth, kind_asked, bound_of_worth, bound_asked, lower_asked, bounds_asked, bounds_asked_of, maybe_asked_of}
 use Rattle.checked_tree.specs.declared.data.DataType.{DataType}
 use Rattle.checked_tree.specs.declared.data.DataType.TheVariants.{Intrinsic, Team, Event, Lock}
 use Rattle.rule_definitions.specs.Names.{KnownBounds}
@@ -22,7 +21,6 @@ use Rattle.rule_definitions.specs.Constants.{Constancy}
 use Rattle.declaration_rules.specs.Initials.{initial_of_worth, constant_initial_asked, initial_asked}
 use Rattle.declaration_rules.specs.Shapes.{raw_asked}
 use Rattle.declaration_rules.specs.declared.kind.KindOf.{KindOf}
-use Rattle.declaration_rules.specs.declared.kind.KindOf.TheVariants.{Integer, Logical}
 
 abbrev both_parts : {T : Type 0} → List Broken → Option T → Judgement T
 both_parts bs m = record { breaks = bs; meaning = m }

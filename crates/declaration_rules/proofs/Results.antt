@@ -1,5 +1,5 @@
 -- A turn of the loop over the dummy arguments of a procedure.
-use Rattle.std.proofs.Common.{◌≡◌, ◌∙◌, ℕ, ◌+◌, List, [], ◌∷◌, drop, refl, sym, ap}
+use Rattle.std.proofs.Common.{◌≡◌, ◌∙◌, List, ◌∷◌, sym, ap}
 use Rattle.std.specs.Prelude.{Option}
 use Rattle.fortran_tree.specs.declared.name.Name.{Name}
 use Rattle.rule_definitions.specs.declared.broken.Broken.{Broken}

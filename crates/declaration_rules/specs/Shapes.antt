@@ -1,10 +1,10 @@
 -- Shapes of entities, by what is asked of their expressions: the words of the definitions of declarations (8.5.8, 8.5.6), without the scope.
-use Rattle.std.specs.Prelude.{ℕ, ℤ, Bool, true, false, cond, List, [], ◌∷◌, ◌++◌, Option, Some, None, map}
+use Rattle.std.specs.Prelude.{ℤ, Bool, true, false, List, [], ◌∷◌, ◌++◌, Option, Some, None}
 use Rattle.rule_definitions.specs.declared.broken.Broken.{Broken}
 use Rattle.rule_definitions.specs.Judgements.{Judgement, unknown}
 use Rattle.rule_definitions.specs.Names.{KnownBounds}
 use Rattle.declaration_rules.specs.Asked.{Asked, plain_worth}
-use Rattle.declaration_rules.specs.Bounds.{AskedBounds, asked_bounds, bounds_asked, maybe_asked}
+use Rattle.declaration_rules.specs.Bounds.{AskedBounds, asked_bounds, bounds_asked}
 use Rattle.declaration_rules.specs.declared.dimension.AskedDimension.{AskedDimension as DimensionInMemory}
 use Rattle.declaration_rules.specs.declared.dimension.AskedDimension.TheVariants as dimensions
 
