@@ -1,28 +1,27 @@
 -- The words here over what is asked of expressions are those of the definitions.
-use Rattle.std.proofs.Common.{◌≡◌, ◌∙◌, ℕ, Bool, true, false, not, List, [], ◌∷◌, ◌++◌, refl, sym, ap}
-use Rattle.std.specs.Prelude.{ℤ, cond, Option, Some, None}
+use Rattle.std.proofs.Common.{◌≡◌, ◌∙◌, ℕ, Bool, true, false, not, List, [], ◌∷◌, ◌++◌, refl, ap, sym, map, ℤ}
+use Rattle.std.specs.Prelude.{int_lt}
+use Rattle.std.specs.Prelude.{cond, Option, Some, None}
 use Rattle.caf_base.specs.declared.place.Pos.{Pos}
-use Rattle.caf_base.specs.declared.value.Kind.{Kind}
 use Rattle.fortran_tree.specs.Expressions as f
 use Rattle.fortran_tree.specs.Statements as d
 use Rattle.checked_tree.specs.Expressions as t
 use Rattle.rule_definitions.specs.declared.broken.Broken.{Broken}
-use Rattle.rule_definitions.specs.Judgements.{Judgement, is_nothing, made, made_of, made_of_both, then, then_made, under, formed, ruled, unless, breaks}
+use Rattle.rule_definitions.specs.Judgements.{Judgement, is_nothing, made, made_of, made_of_both, then, under, formed, ruled, unless, breaks}
 use Rattle.rule_definitions.specs.Names.{Scope}
 use Rattle.rule_definitions.specs.Parts.{place_of, plain, is_listed}
 use Rattle.rule_definitions.specs.Expressions.{judged, placed}
-use Rattle.rule_definitions.specs.Declarations.{constant_expression, lacks_value, without_meaning, declared_kind, bound_value, lower_value, bounds_value, cobounds_value, raw_breaks}
+use Rattle.rule_definitions.specs.Declarations.{cobounds_value, dimensions_breaks, dimensions_known, raw_bounds_breaks, raw_dimensions_breaks, constant_expression, lacks_value, without_meaning, declared_kind, bound_value, lower_value, bounds_value, raw_breaks}
 use Rattle.declaration_rules.specs.Asked.{Asked, Worth, worth_of, asked_of, plain_worth, constant_worth}
-use Rattle.declaration_rules.specs.Bounds.{kinds_of, kind_of_worth, kind_asked, bound_of_worth, bound_asked, lower_asked, bounds_asked, cobounds_asked, bounds_asked_of, maybe_asked_of}
+use Rattle.declaration_rules.specs.Bounds.{cobounds_asked, kinds_of, kind_of_worth, kind_asked, bound_of_worth, bound_asked, lower_asked, bounds_asked, bounds_asked_of, maybe_asked_of}
 use Rattle.checked_tree.specs.declared.data.DataType.{DataType}
 use Rattle.checked_tree.specs.declared.data.DataType.TheVariants.{Intrinsic, Team, Event, Lock}
 use Rattle.rule_definitions.specs.Names.{KnownBounds}
 use Rattle.rule_definitions.specs.Declarations.{Unit', Attributes, initial_judged, initial_value, initialized_breaks, is_named_constant}
 use Rattle.rule_definitions.specs.Constants.{Constancy}
 use Rattle.declaration_rules.specs.Initials.{initial_of_worth, constant_initial_asked, initial_asked}
-use Rattle.declaration_rules.specs.Shapes.{raw_asked}
+use Rattle.declaration_rules.specs.Shapes.{dimension_asked_of, dimensions_asked, known_dimension, raw_asked, raw_bounds_asked, raw_dimensions_asked}
 use Rattle.declaration_rules.specs.declared.kind.KindOf.{KindOf}
-use Rattle.declaration_rules.specs.declared.kind.KindOf.TheVariants.{Integer, Logical}
 
 abbrev both_parts : {T : Type 0} → List Broken → Option T → Judgement T
 both_parts bs m = record { breaks = bs; meaning = m }
@@ -101,3 +100,40 @@ unfolding asked_of
 initial_is s u a n y ds e =
     ap (λ (k : Judgement Constancy). made_of Some (ruled k (cond (is_nothing (plain_worth (asked_of s e)).breaks) (initialized_breaks u (is_named_constant u a n) a.is_allocatable y (place_of e)) []))) (initial_rules s y ds e)
     ∙ ap (λ (k : List Broken). made_of Some (ruled (constant_expression s 22 e (initial_value s y ds e)) (cond (is_nothing k) (initialized_breaks u (is_named_constant u a n) a.is_allocatable y (place_of e)) []))) (raw_is s (Some e))
+
+pub cobounds_is : (s : Scope) (b : d.Bounds) → cobounds_asked (bounds_asked_of s b) ≡ cobounds_value s b
+unfolding asked_of
+cobounds_is s b = ap (λ (k : Judgement (ℤ × ℤ)). under k (λ m. unless (not (int_lt m.1 m.0)) 25 (place_of b.upper))) (bounds_is s b)
+
+append_both : {T : Type 0} (a b c : List T) → (a ++ b) ++ c ≡ a ++ (b ++ c)
+append_both [] b c = refl
+append_both (x ∷ a) b c = ap (λ k. x ∷ k) (append_both a b c)
+
+raw_bounds_are : (s : Scope) (b : d.Bounds) → raw_bounds_asked (bounds_asked_of s b) ≡ raw_bounds_breaks s (b ∷ [])
+raw_bounds_are s b =
+    ap (λ k. k ++ raw_asked (Some (asked_of s b.upper))) (raw_is s b.lower) ∙ ap (λ k. raw_breaks s b.lower ++ k) (raw_is s (Some b.upper) ∙ sym (append_nothing (raw_breaks s (Some b.upper))))
+
+pub raw_dimensions_are : (s : Scope) (ds : List d.Dimension) → raw_dimensions_asked (map (dimension_asked_of s) ds) ≡ raw_dimensions_breaks s ds
+raw_dimensions_are s [] = refl
+raw_dimensions_are s (d.deferred p ∷ ds) = raw_dimensions_are s ds
+raw_dimensions_are s (d.explicit b ∷ ds) =
+    ap (λ k. k ++ raw_dimensions_asked (map (dimension_asked_of s) ds)) (raw_bounds_are s b) ∙ ap (λ k. raw_bounds_breaks s (b ∷ []) ++ k) (raw_dimensions_are s ds)
+
+pub dimensions_are : (s : Scope) (a : Bool) (ds : List d.Dimension) → dimensions_asked a (map (dimension_asked_of s) ds) ≡ dimensions_breaks s a ds
+dimensions_are s true [] = refl
+dimensions_are s true (d.deferred p ∷ ds) = dimensions_are s true ds
+dimensions_are s true (d.explicit b ∷ ds) =
+    ap (λ k. k ++ dimensions_asked true (map (dimension_asked_of s) ds)) (raw_bounds_are s b) ∙ ap (λ k. raw_bounds_breaks s (b ∷ []) ++ k) (dimensions_are s true ds)
+dimensions_are s false [] = refl
+dimensions_are s false (d.deferred p ∷ ds) = dimensions_are s false ds
+dimensions_are s false (d.explicit b ∷ ds) =
+    ap (λ (k : Judgement (ℤ × ℤ)). k.breaks ++ dimensions_asked false (map (dimension_asked_of s) ds)) (bounds_is s b) ∙ ap (λ k. (bounds_value s b).breaks ++ k) (dimensions_are s false ds)
+
+pub known_dimensions_are : (s : Scope) (a : Bool) (ds : List d.Dimension) → map (known_dimension a) (map (dimension_asked_of s) ds) ≡ dimensions_known s a ds
+known_dimensions_are s true [] = refl
+known_dimensions_are s true (d.deferred p ∷ ds) = ap (λ k. None ∷ k) (known_dimensions_are s true ds)
+known_dimensions_are s true (d.explicit b ∷ ds) = ap (λ k. None ∷ k) (known_dimensions_are s true ds)
+known_dimensions_are s false [] = refl
+known_dimensions_are s false (d.deferred p ∷ ds) = ap (λ k. None ∷ k) (known_dimensions_are s false ds)
+known_dimensions_are s false (d.explicit b ∷ ds) =
+    ap (λ (k : Judgement (ℤ × ℤ)). k.meaning ∷ map (known_dimension false) (map (dimension_asked_of s) ds)) (bounds_is s b) ∙ ap (λ k. (bounds_value s b).meaning ∷ k) (known_dimensions_are s false ds)

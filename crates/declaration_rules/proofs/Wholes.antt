@@ -1,5 +1,5 @@
 -- The rules on an entity as a whole, noted one behind the other.
-use Rattle.std.proofs.Common.{◌≡◌, ◌∙◌, ℕ, suc, List, [], ◌∷◌, length, refl, sym, ap, arith}
+use Rattle.std.proofs.Common.{◌≡◌, ◌∙◌, ℕ, List, [], ◌∷◌, length, refl, ap, arith}
 use Rattle.std.specs.Prelude.{Option, map}
 use Rattle.fortran_tree.specs.Statements as d
 use Rattle.checked_tree.specs.declared.data.DataType.{DataType}

@@ -1,5 +1,5 @@
 -- What declarations ask of expressions.
-use Rattle.std.specs.Prelude.{ℕ, Bool, true, false, not, cond, List, Option, Some, None}
+use Rattle.std.specs.Prelude.{ℕ, Bool, false, not, cond, Option, Some, None}
 use Rattle.std.specs.Option.{option_map}
 use Rattle.caf_base.specs.declared.place.Pos.{Pos}
 use Rattle.fortran_tree.specs.Expressions as f

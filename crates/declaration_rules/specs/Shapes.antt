@@ -1,10 +1,11 @@
 -- Shapes of entities, by what is asked of their expressions: the words of the definitions of declarations (8.5.8, 8.5.6), without the scope.
-use Rattle.std.specs.Prelude.{ℕ, ℤ, Bool, true, false, cond, List, [], ◌∷◌, ◌++◌, Option, Some, None, map}
+use Rattle.std.specs.Prelude.{ℤ, Bool, true, false, List, [], ◌∷◌, ◌++◌, Option, Some, None}
 use Rattle.rule_definitions.specs.declared.broken.Broken.{Broken}
 use Rattle.rule_definitions.specs.Judgements.{Judgement, unknown}
-use Rattle.rule_definitions.specs.Names.{KnownBounds}
+use Rattle.fortran_tree.specs.Statements as d
+use Rattle.rule_definitions.specs.Names.{KnownBounds, Scope}
 use Rattle.declaration_rules.specs.Asked.{Asked, plain_worth}
-use Rattle.declaration_rules.specs.Bounds.{AskedBounds, asked_bounds, bounds_asked, maybe_asked}
+use Rattle.declaration_rules.specs.Bounds.{AskedBounds, bounds_asked_of, asked_bounds, bounds_asked}
 use Rattle.declaration_rules.specs.declared.dimension.AskedDimension.{AskedDimension as DimensionInMemory}
 use Rattle.declaration_rules.specs.declared.dimension.AskedDimension.TheVariants as dimensions
 
@@ -47,3 +48,8 @@ known_dimension a x = (dimension_asked a x).meaning
 abbrev pub dimensions_asked : Bool → List AskedDimension → List Broken
 dimensions_asked a [] = []
 dimensions_asked a (x ∷ xs) = (dimension_asked a x).breaks ++ dimensions_asked a xs
+
+-- what is asked of a dimension in a scope
+abbrev pub dimension_asked_of : Scope → d.Dimension → AskedDimension
+dimension_asked_of s (d.deferred p) = colon
+dimension_asked_of s (d.explicit b) = explicit (bounds_asked_of s b)

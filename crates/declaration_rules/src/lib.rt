@@ -12,4 +12,5 @@ pub mod heading;
 pub mod initial;
 pub mod kind;
 pub mod law;
+pub mod result;
 pub mod whole;

@@ -1,5 +1,5 @@
 -- How many entries of a table are variables and coarrays.
-use Rattle.std.proofs.Common.{◌≡◌, ◌∙◌, ℕ, suc, ◌+◌, Bool, true, false, List, [], ◌∷◌, ◌++◌, length, refl, sym, ap, arith}
+use Rattle.std.proofs.Common.{◌≡◌, ℕ, ◌+◌, Bool, true, false, List, [], ◌∷◌, ◌++◌, length, refl, arith}
 use Rattle.std.specs.Prelude.{cond, nat_eq, map}
 use Rattle.rule_definitions.specs.Names.{variables_of}
 use Rattle.rule_definitions.specs.Declarations.{count_coarrays}

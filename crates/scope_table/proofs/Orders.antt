@@ -1,7 +1,7 @@
 -- Names behind others.
 use Rattle.std.proofs.Common.{◌≡◌, ◌∙◌, ℕ, suc, ◌+◌, ◌<◌, Bool, true, false, List, [], ◌∷◌, ◌++◌, length, drop, refl, sym, ap, arith, slice_index_or, get_or}
 use Rattle.std.proofs.Math.Seq.{drop-cons}
-use Rattle.std.specs.Prelude.{cond, bytes_eq, Option, Some, None, map}
+use Rattle.std.specs.Prelude.{cond, bytes_eq, Option, Some, None}
 use Rattle.std.specs.Bool.{Decides}
 use Rattle.std.proofs.lemmas.Slice.Eq.{bytes_eq-Decides}
 use Rattle.rule_definitions.specs.Judgements.{is_there, or_else}

@@ -1,8 +1,8 @@
 -- What the look-ups in a table of names find.
-use Rattle.std.proofs.Common.{◌≡◌, ◌∙◌, ℕ, zero, suc, ◌+◌, Bool, true, false, not, List, [], ◌∷◌, ◌++◌, length, refl, sym, ap, arith, Bor, ◌||◌}
+use Rattle.std.proofs.Common.{◌≡◌, ◌∙◌, ℕ, zero, suc, Bool, true, false, not, List, [], ◌∷◌, ◌++◌, length, refl, sym, ap, arith, Bor, ◌||◌}
 use Rattle.std.specs.Prelude.{cond, map, Option, Some, None, slice_get, bytes_eq}
 use Rattle.std.specs.Option.{option_map, option_copied}
-use Rattle.rule_definitions.specs.Judgements.{made, is_there, or_else, item_at}
+use Rattle.rule_definitions.specs.Judgements.{made, is_there, item_at}
 use Rattle.rule_definitions.specs.Units.{hosted, hosted_meaning}
 use Rattle.rule_definitions.specs.Names.{Named, Meaning, named, denoted_in, is_among}
 use Rattle.scope_table.specs.Names.{place_of}

@@ -1,5 +1,5 @@
 -- Names of procedures and of what USE makes accessible.
-use Rattle.std.specs.Prelude.{ℕ, cond, List, [], ◌∷◌, ◌++◌, Option, Some, None}
+use Rattle.std.specs.Prelude.{ℕ, cond, List, [], ◌∷◌, ◌++◌}
 use Rattle.rule_definitions.specs.Judgements.{is_there}
 use Rattle.rule_definitions.specs.Names as n
 use Rattle.rule_definitions.specs.Names.{Named, Meaning, named, denoted_in}

@@ -1,5 +1,5 @@
 -- The names that a program knows without declaring them.
-use Rattle.std.specs.Prelude.{ℕ, List, [], ◌∷◌, ◌≡◌, map}
+use Rattle.std.specs.Prelude.{ℕ, List, ◌≡◌, map}
 use Rattle.std.specs.Borrow.{Bor}
 use Rattle.fortran_tree.specs.Units as u
 use Rattle.rule_definitions.specs.Judgements.{or_else}

@@ -1,4 +1,4 @@
-use Rattle.std.proofs.Common.{◌≡◌, drop, map}
+use Rattle.std.proofs.Common.{◌≡◌, drop}
 use Rattle.rule_definitions.specs.Judgements.{first_of}
 use Rattle.rule_definitions.specs.Units.{dummy_breaks}
 use Rattle.declaration_rules.proofs.heading.judge_dummy_names.Given as goal

@@ -1,4 +1,4 @@
-use Rattle.std.proofs.Common.{◌≡◌, ℕ, ◌+◌, List, map, drop}
+use Rattle.std.proofs.Common.{◌≡◌, ℕ, List, drop}
 use Rattle.rule_definitions.specs.Judgements.{or_else}
 use Rattle.rule_definitions.specs.Names.{denoted_in}
 use Rattle.rule_definitions.specs.Units.{accessible_names}

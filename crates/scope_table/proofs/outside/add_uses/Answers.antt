@@ -1,4 +1,4 @@
-use Rattle.std.proofs.Common.{refl, map, ap, ◌∙◌}
+use Rattle.std.proofs.Common.{refl, map}
 use Rattle.fortran_tree.specs.UnitViews.{use_statement}
 use Rattle.rule_definitions.specs.Units.{accessible_of, accessible_by}
 use Rattle.scope_table.proofs.Orders.{turn_list, item_drop}

@@ -1,4 +1,4 @@
-use Rattle.std.proofs.Common.{◌≡◌, ℕ, ◌+◌, List, map, drop}
+use Rattle.std.proofs.Common.{◌≡◌, map, drop}
 use Rattle.rule_definitions.specs.Names.{denoted_in}
 use Rattle.scope_table.specs.Outside.{row}
 use Rattle.scope_table.proofs.outside.found_in.Given as goal

@@ -1,4 +1,4 @@
-use Rattle.std.proofs.Common.{refl, ap, sym, drop, ◌+◌, ◌++◌}
+use Rattle.std.proofs.Common.{ap, sym, drop, ◌+◌, ◌++◌}
 use Rattle.scope_table.specs.Pending.{declared_names, entity_names}
 use Rattle.scope_table.proofs.Orders.{item_drop}
 use Rattle.scope_table.proofs.Sets.{turn_adds}

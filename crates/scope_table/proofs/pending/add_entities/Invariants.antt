@@ -1,4 +1,4 @@
-use Rattle.std.proofs.Common.{◌≡◌, ℕ, ◌+◌, ◌||◌, List, map, drop}
+use Rattle.std.proofs.Common.{◌≡◌, ℕ, ◌||◌, List, drop}
 use Rattle.rule_definitions.specs.Names.{is_among}
 use Rattle.scope_table.specs.Pending.{entity_names}
 use Rattle.scope_table.proofs.pending.add_entities.Given as goal

@@ -1,8 +1,6 @@
-use Rattle.std.proofs.Common.{◌≡◌, ◌∙◌, ap, sym, not, true, false, Bool}
 use Rattle.std.proofs.Common.{arith}
 use Rattle.std.proofs.lemmas.Grind.{common_steps}
-use Rattle.scope_table.specs.Known.{known_meaning, with_first, listed}
-use Rattle.scope_table.proofs.Tables.{added_first, kept_first, if_new, if_old}
+use Rattle.scope_table.proofs.Tables.{if_new, if_old}
 use Rattle.scope_table.proofs.known.KnownNames.add.Goals as goal
 
 pub returns-then-branch-clause-added : goal.returns-then-branch-clause-added

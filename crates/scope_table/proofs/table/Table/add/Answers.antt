@@ -1,6 +1,5 @@
-use Rattle.std.proofs.Common.{◌≡◌, ◌∙◌, ap, sym, arith, List, ◌++◌, ◌∷◌, [], map, ◌+◌}
+use Rattle.std.proofs.Common.{◌≡◌, ◌∙◌, ap, sym, arith, ◌++◌, ◌∷◌, [], map, ◌+◌}
 use Rattle.std.proofs.lemmas.Grind.{common_steps}
-use Rattle.scope_table.specs.declared.symbol.Entry.{Entry}
 use Rattle.scope_table.specs.Symbols.{entry_name}
 use Rattle.scope_table.specs.Counts.{variables_in, coarrays_in, variable_count, coarray_count}
 use Rattle.scope_table.proofs.Tables.{one_more_entry}

@@ -1,6 +1,5 @@
 use Rattle.std.proofs.Common.{◌∙◌, ap}
 use Rattle.rule_definitions.specs.Names.{denoted_in}
-use Rattle.scope_table.specs.Symbols.{entry_name}
 use Rattle.scope_table.specs.Names.{place_of}
 use Rattle.scope_table.proofs.Tables.{entry_at, no_entry}
 use Rattle.scope_table.proofs.table.Table.find.Goals as goal
