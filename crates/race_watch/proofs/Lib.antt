@@ -10,3 +10,4 @@ pub mod Firsts
 pub mod Made
 pub mod Reached
 pub mod Marking
+pub mod Fits

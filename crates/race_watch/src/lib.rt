@@ -7,6 +7,7 @@
 pub mod act;
 pub mod class;
 pub mod kept;
+pub mod laws;
 pub mod marks;
 pub mod order;
 pub mod queue;
