@@ -1,5 +1,5 @@
 -- What a call of the program owes: the status and the text that are due, and what the words, the file and the run have to do with them.
-use Rattle.std.specs.Prelude.{ℕ, ◌≡◌, ◌≤◌, ◌<◌, ◌⊎◌, ◌↔◌, List, ◌++◌, length, codes, Option, None, Some, IsNone}
+use Rattle.std.specs.Prelude.{ℕ, ◌≡◌, ◌≤◌, ◌<◌, ◌⊎◌, ◌↔◌, false, List, ◌++◌, length, codes, Option, None, Some, IsNone}
 use Rattle.std.specs.Fmt.{decimal}
 use Rattle.std.specs.Io.KnownBytes.{Appends, Keeps}
 use Rattle.caf_base.specs.declared.thin.ThinProgram.{ThinProgram}

@@ -65,5 +65,7 @@ pub fn run_program(
     parts.run_order(&mut choices)?;
     let trace = parts.trace(alloc)?;
     let held = held(alloc, &parts)?;
-    Ok(Report::new(n, trace, held, Listing::new(alloc), Listing::new(alloc)))
+    let names = Listing::new(alloc);
+    let finals = Listing::new(alloc);
+    Ok(Report::new(n, trace, held, names, finals))
 }
