@@ -1,6 +1,7 @@
 -- The cells of a place are the subscript order values of the section's elements.
 use Rattle.std.proofs.Common.{◌≡◌, refl, ap, ap₂, sym, subst, ◌∙◌, arith, ℕ, zero, suc, ◌+◌, ◌-◌, ◌*◌, ◌==◌, Bool, true, false, ◌&&◌, ◌||◌, cond, ℤ, pos, negsuc, neg_ℤ, ◌+ℤ◌, ◌-ℤ◌, ◌*ℤ◌, ◌≤ℤ◌, List, [], ◌∷◌, map, length, All, ◌⊎◌, inl, inr}
-use Rattle.std.specs.Prelude.{int_le, unwrap_or}
+use Rattle.std.specs.Prelude.{int_le, nat_le, unwrap_or}
+use Rattle.std.proofs.lemmas.Bool.{leb-true}
 use Rattle.std.specs.Ordering.{int_eq}
 use Rattle.std.specs.Int.Signed.{le_z_yes}
 use Rattle.std.proofs.lemmas.Float.{T_from_true}
@@ -13,7 +14,7 @@ use Rattle.coarray_types.specs.Places.{extent_of, AllWithin, subscript_order}
 use Rattle.coarray_types.specs.Sections.{Triplet, firsts_of, crossed, elements_of, with_dim, dims_of}
 use Rattle.coarray_types.proofs.SectionLemmas.{section_places}
 use Rattle.walk_theory.specs.Terms.{Found, found, at_fault, with_found}
-use Rattle.image_acts.specs.Places.{Subscript, single, triplet, Dimension, Place, dimension, dimensions, start_of, steps_of, place_of, offsets}
+use Rattle.image_acts.specs.Places.{apart_by, Subscript, single, triplet, Dimension, Place, dimension, dimensions, start_of, steps_of, place_of, offsets}
 use Rattle.image_acts.specs.Sections.{triplet_of, triplets_of}
 use Rattle.image_acts.proofs.Images.{left_one, right_one}
 
@@ -67,6 +68,19 @@ one_fits b s h m e =
     let same : s +ℤ (pos 0 *ℤ pos 1) ≡ s = omega (arith, ints) in
     (x.0, x.1, subst (λ i. b.0 ≤ℤ (s +ℤ (pos i *ℤ pos 1))) z (subst (λ v. b.0 ≤ℤ v) (sym same) x.0), subst (λ i. (s +ℤ (pos i *ℤ pos 1)) ≤ℤ b.1) z (subst (λ v. v ≤ℤ b.1) (sym same) x.1))
 
+-- how far apart fewer than two are doesn't matter
+fits_apart : (b : ℤ × ℤ) (f s : ℤ) (n : ℕ) → Fits b (record { first = f; count = n; stride = s }) → Fits b (record { first = f; count = n; stride = apart_by n s })
+fits_apart b f s n h = go (nat_le n 1) refl
+  where
+    go : (t : Bool) → nat_le n 1 ≡ t → Fits b (record { first = f; count = n; stride = cond t (pos 1) s })
+    go false e m c = h m c
+    go true e m c =
+        let x = h m c in
+        let few = leb-true n 1 e in
+        let z : 0 ≡ m = omega arith in
+        let same : f +ℤ (pos 0 *ℤ pos 1) ≡ f = omega (arith, ints) in
+        (x.0, x.1, subst (λ i. b.0 ≤ℤ (f +ℤ (pos i *ℤ pos 1))) z (subst (λ v. b.0 ≤ℤ v) (sym same) x.0), subst (λ i. (f +ℤ (pos i *ℤ pos 1)) ≤ℤ b.1) z (subst (λ v. v ≤ℤ b.1) (sym same) x.1))
+
 dimension_found : (b : ℤ × ℤ) (s : Subscript) (d : Dimension) → dimension b s ≡ found d → (d ≡ dimension_of (triplet_of b s) (kept s)) × Fits b (triplet_of b s)
 unfolding kept
 dimension_found b (single s) d e = let c = chosen (is_within b.0 b.1 s) (dimension_of (triplet_of b (single s)) false) d 3 e in (c.1, one_fits b s c.0)
@@ -77,7 +91,7 @@ dimension_found b (triplet f l st) d e =
     let test = (n == 0) || (is_within b.0 b.1 first && is_within b.0 b.1 (first +ℤ (pos (n - 1) *ℤ stride))) in
     let g = past (int_eq stride (pos 0)) (cond test (found (dimension_of (triplet_of b (triplet f l st)) true)) (at_fault 3)) d 4 e in
     let c = chosen test (dimension_of (triplet_of b (triplet f l st)) true) d 3 g in
-    (c.1, fits_from b first stride n c.0)
+    (c.1, fits_apart b first stride n (fits_from b first stride n c.0))
 
 -- one dimension after another
 dims_named : List (ℤ × ℤ) → List Subscript → List Dimension

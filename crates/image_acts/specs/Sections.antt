@@ -2,11 +2,11 @@
 use Rattle.std.specs.Prelude.{ℤ, pos, List, [], ◌∷◌, unwrap_or}
 use Rattle.caf_base.specs.Arithmetic.{iterations}
 use Rattle.coarray_types.specs.Sections.{Triplet}
-use Rattle.image_acts.specs.Places.{Subscript, single, triplet}
+use Rattle.image_acts.specs.Places.{Subscript, single, triplet, apart_by}
 
--- so many subscripts from the first to the last, this stride apart (9.5.3.3.2)
+-- so many subscripts from the first to the last, this stride apart (9.5.3.3.2); fewer than two aren't apart
 abbrev pub spread_over : (first last stride : ℤ) → Triplet
-spread_over first last stride = record { first = first; count = iterations first last stride; stride = stride }
+spread_over first last stride = record { first = first; count = iterations first last stride; stride = apart_by (iterations first last stride) stride }
 
 -- the subscripts of a dimension with these bounds: a missing part of a triplet is the lower bound, the upper bound, 1
 abbrev pub triplet_of : ℤ × ℤ → Subscript → Triplet
