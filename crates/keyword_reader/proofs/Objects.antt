@@ -1,6 +1,5 @@
 -- Objects and specifiers behind them.
 use Rattle.std.proofs.Common.{◌≡◌, ℕ, Bool, true, false, cond, List, [], ◌∷◌, ◌++◌, map, refl, ap}
-use Rattle.reader_theory.specs.Words.{Verdict}
 use Rattle.reader_theory.specs.Readers.{turned}
 use Rattle.fortran_tree.specs.declared.expr.Specifier.{Specifier}
 use Rattle.fortran_tree.specs.Expressions.{Specifiers, no_specifiers, more_specifiers}
@@ -8,7 +7,7 @@ use Rattle.fortran_tree.specs.ExpressionViews.{expression, specifiers}
 use Rattle.fortran_grammar.specs.Tokens.{Token}
 use Rattle.statement_reader.specs.Actions.{a_specifier}
 use Rattle.statement_reader.specs.Families.{Family}
-use Rattle.statement_reader.specs.Objects.{Choice, object, specifier, a_choice, objects_of, specifiers_of}
+use Rattle.statement_reader.specs.Objects.{object, specifier, a_choice, objects_of, specifiers_of}
 use Rattle.action_reader.proofs.Specifiers.{specifier_laws}
 use Rattle.keyword_reader.specs.declared.object.Choice.{Choice as Held}
 use Rattle.keyword_reader.specs.declared.object.Choice.TheVariants as held
