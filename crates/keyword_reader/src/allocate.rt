@@ -148,7 +148,7 @@ pub(crate) fn allocate<'a>(
     ))
 }
 
-/// DEALLOCATE (R939).
+/// DEALLOCATE (R940).
 #[tactic(auto, using(crate::proofs::Keyed::keyed_laws))]
 pub(crate) fn deallocate<'a>(
     alloc: Global,

@@ -47,7 +47,7 @@ pub(crate) fn call<'a>(
     ))
 }
 
-/// LOCK (R1178).
+/// LOCK (R1179).
 #[tactic(auto, using(crate::proofs::Keyed::keyed_laws))]
 pub(crate) fn lock<'a>(
     alloc: Global,
@@ -67,7 +67,7 @@ pub(crate) fn lock<'a>(
     ))
 }
 
-/// UNLOCK (R1180).
+/// UNLOCK (R1181).
 #[tactic(auto, using(crate::proofs::Keyed::keyed_laws))]
 pub(crate) fn unlock<'a>(
     alloc: Global,
