@@ -1,0 +1,5 @@
+pub mod Placing
+pub mod PlacedExpressions
+pub mod PlacedStatements
+pub mod PlacedPrograms
+pub mod Tokens

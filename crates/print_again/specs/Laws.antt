@@ -1,0 +1,24 @@
+-- What is proved of programs that are printed and read again.
+use Rattle.std.specs.Prelude.{ℕ, ◌≡◌, List, map}
+use Rattle.reader_theory.specs.Refusals.{Reads}
+use Rattle.fortran_tree.specs.Units.{Program}
+use Rattle.fortran_grammar.specs.Tokens.{Token}
+use Rattle.fortran_grammar.specs.Phrases.{canonical}
+use Rattle.fortran_grammar.specs.ProgramGrammar as g
+use Rattle.fortran_grammar.specs.ProgramGrammar.{Programs}
+use Rattle.fortran_grammar.specs.Laws.{tok_of}
+use Rattle.print_again.specs.Unplaced as unplaced
+
+-- two programs that the same tokens spell, but for places, are the same but for places
+abbrev pub PlacesDontMatter : Type 0
+PlacesDontMatter = (limit : ℕ) (x y : Program) (ts us : List Token) → Reads (Programs limit) ts x → Reads (Programs limit) us y → map tok_of ts ≡ map tok_of us → unplaced.program x ≡ unplaced.program y
+
+-- where some tokens spell a program, the same tokens at any other places spell one too, which is the same but for places
+abbrev pub PlacesMayChange : Type 0
+PlacesMayChange = (limit : ℕ) (x : Program) (ts us : List Token) → Reads (Programs limit) ts x → map tok_of us ≡ map tok_of ts
+    → (y : Program) × Reads (Programs limit) us y × (unplaced.program y ≡ unplaced.program x)
+
+-- and so do its canonical tokens, at any places
+abbrev pub CanonicalIsRead : Type 0
+CanonicalIsRead = (limit : ℕ) (x : Program) (ts us : List Token) → Reads (Programs limit) ts x → map tok_of us ≡ canonical (g.program x)
+    → (y : Program) × Reads (Programs limit) us y × (unplaced.program y ≡ unplaced.program x)
