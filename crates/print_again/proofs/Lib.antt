@@ -3,3 +3,7 @@ pub mod PlacedExpressions
 pub mod PlacedStatements
 pub mod PlacedPrograms
 pub mod Tokens
+pub mod Joining
+pub mod Bytes
+pub mod Rows
+pub mod Spellings
