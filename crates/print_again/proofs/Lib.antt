@@ -7,3 +7,5 @@ pub mod Joining
 pub mod Bytes
 pub mod Rows
 pub mod Spellings
+pub mod Pages
+pub mod Standing

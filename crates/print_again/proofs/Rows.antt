@@ -204,6 +204,33 @@ row_more text size wider done part m n closed ends r x p s f w =
       codes = ap codes_of grown ∙ (codes_append t more ∙ λ i. r.codes i ++ codes_placed at (1 + length r.line) x i);
     }
 
+-- no line has more than any greater number of bytes
+pub row_wide : (text : List ℕ) (size wider : ℕ) (done : List (List ℕ)) (part : List ℕ) (m : Mode) (closed : Bool) → Row text size done part m closed → size ≤ wider → Row text wider done part m closed
+row_wide text size wider done part m closed r w = record {
+  full = r.full;
+  line = r.line;
+  is = r.is;
+  short = let n = r.short in omega arith;
+  printing = r.printing;
+  printing_line = r.printing_line;
+  outs = r.outs;
+  before = r.before;
+  taken = r.taken;
+  runs = r.runs;
+  ended = r.ended;
+  context = r.context;
+  lead = r.lead;
+  body = r.body;
+  head = r.head;
+  joint = r.joint;
+  whole = r.whole;
+  plain = r.plain;
+  here = r.here;
+  ascii = r.ascii;
+  last = r.last;
+  codes = r.codes;
+}
+
 -- lines and one more
 all_more : (ls : List (List ℕ)) (l : List ℕ) → list_all (list_all is_printing) ls ≡ true → list_all is_printing l ≡ true → list_all (list_all is_printing) (ls ++ l ∷ []) ≡ true
 all_more ls l h k = list_all-append (list_all is_printing) ls (l ∷ []) ∙ and_from (list_all (list_all is_printing) ls) (list_all is_printing l && true) h (and_from (list_all is_printing l) true k refl)

@@ -2,7 +2,9 @@
 use Rattle.std.proofs.Common.{◌≡◌, ℕ, zero, suc, ◌+◌, ◌-◌, ◌*◌, ◌^◌, ◌<◌, ◌≤◌, Bool, true, false, cond, not, ◌&&◌, ◌||◌, nat_eq, nat_le, nat_lt, List, [], ◌∷◌, ◌++◌, length, map, codes, refl, ap, sym, ◌∙◌, subst, arith, append_assoc, add-one}
 use Rattle.std.specs.Prelude.{flat_map, decimal}
 use Rattle.std.specs.List.{list_all}
-use Rattle.std.specs.Str.Parse.{digits_value}
+use Rattle.std.specs.Str.Parse.{digits_value, AllDigits}
+use Rattle.std.specs.Char.{digit_value}
+use Rattle.std.proofs.lemmas.Fmt.{decimal_is_IsNumeral, length-decimal-le}
 use Rattle.std.proofs.lemmas.Bool.{and_parts, and_from, leb-true}
 use Rattle.std.proofs.lemmas.Bool.Decides.{nat_tests}
 use Rattle.std.proofs.lemmas.List.{length-append}
@@ -151,3 +153,42 @@ inked_literal x h = record {
 pub literal_some : (x : List ℕ) → 1 ≤ length (literal_text x)
 unfolding literal_text
 literal_some x = omega arith
+
+-- a number
+value_digit : (c : ℕ) → digit_value c < 10 → is_digit c ≡ true
+value_digit c h = grind (arith, nat_tests)
+
+all_digits : (ds : List ℕ) → AllDigits 10 ds → list_all is_digit ds ≡ true
+all_digits [] h = refl
+all_digits (c ∷ ds) h = and_from (is_digit c) (list_all is_digit ds) (value_digit c h.0) (all_digits ds h.1)
+
+pub record Digits (n : ℕ) : Type 0 where
+  pub digits : list_all is_digit (decimal n) ≡ true
+  pub some : 1 ≤ length (decimal n)
+  pub few : length (decimal n) ≤ 20
+  pub value : digits_value 10 (decimal n) ≡ n
+
+pub digits_of : (n : ℕ) → n ≤ 9223372036854775807 → Digits n
+digits_of n h =
+    let r = decimal_is_IsNumeral n (omega arith) in
+    record { digits = all_digits (decimal n) r.0.1; some = let s = r.0.0 in omega arith; few = length-decimal-le 20 n (omega arith) (omega arith) (omega arith); value = r.1 }
+
+suffix_plain : (k : NumberKind) → is_plain_kind k ≡ true → (list_all is_plain_byte (suffix k) ≡ true) × (length (suffix k) ≤ 64)
+suffix_plain kinds.Unstated h = (refl, omega arith)
+suffix_plain kinds.Four h = (refl, omega arith)
+suffix_plain kinds.Eight h = (refl, omega arith)
+suffix_plain (kinds.Named x) h =
+    let k = and_parts (is_name x) _ h in
+    let n = leb-true (length x) 63 (and_parts (nat_le (length x) 63) _ k.1).0 in
+    (name_plain x k.0, omega arith)
+
+pub laid_number : (n : ℕ) (k : NumberKind) → (nat_le n 9223372036854775807 && is_plain_kind k) ≡ true → Laid (number_text n k)
+laid_number n k h =
+    let p = and_parts (nat_le n 9223372036854775807) (is_plain_kind k) h in
+    let d = digits_of n (leb-true n 9223372036854775807 p.0) in
+    let s = suffix_plain k p.1 in
+    let size = length-append (decimal n) (suffix k) in
+    let some = d.some in
+    let few = d.few in
+    let more = s.1 in
+    laid_plain (number_text n k) (list_all-append is_plain_byte (decimal n) (suffix k) ∙ and_from (list_all is_plain_byte (decimal n)) (list_all is_plain_byte (suffix k)) (all_by is_digit is_plain_byte digit_plain (decimal n) d.digits) s.0) (omega arith) (omega arith)
