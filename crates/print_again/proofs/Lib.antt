@@ -9,3 +9,5 @@ pub mod Rows
 pub mod Spellings
 pub mod Pages
 pub mod Standing
+pub mod TokensAgain
+pub mod CutAgain
