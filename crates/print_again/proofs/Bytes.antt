@@ -1,15 +1,14 @@
 -- What the bytes of tokens do to a context.
-use Rattle.std.proofs.Common.{◌≡◌, ℕ, suc, ◌+◌, Bool, true, false, cond, not, ◌&&◌, ◌||◌, nat_eq, nat_le, nat_lt, List, [], ◌∷◌, ◌++◌, length, map, codes, refl, ap, sym, ◌∙◌, subst, arith, add-one}
+use Rattle.std.proofs.Common.{◌≡◌, ℕ, suc, ◌+◌, Bool, true, false, cond, not, ◌&&◌, ◌||◌, nat_eq, nat_le, nat_lt, List, [], ◌∷◌, ◌++◌, length, map, codes, refl, ap, sym, ◌∙◌, subst, arith}
 use Rattle.std.specs.Prelude.{flat_map}
 use Rattle.std.specs.List.{list_all}
 use Rattle.std.proofs.lemmas.Bool.{and_parts, and_from}
 use Rattle.std.proofs.lemmas.Bool.Decides.{nat_tests}
-use Rattle.std.proofs.lemmas.List.Folds.{list_all-append}
 use Rattle.std.proofs.lemmas.List.Sums.{fold-append}
 use Rattle.fortran_lines.specs.declared.placed_byte.PlacedByte.{PlacedByte}
 use Rattle.fortran_lines.specs.declared.context.Context.{Context}
 use Rattle.fortran_lines.specs.declared.context.Context.TheVariants.{Outside, Inside, Closed}
-use Rattle.fortran_lines.specs.PlacedBytes.{placed_from, is_blank, is_quote}
+use Rattle.fortran_lines.specs.PlacedBytes.{placed_from, is_quote}
 use Rattle.fortran_lines.specs.Contexts.{is_inside, opened, behind, context_behind}
 use Rattle.fortran_tokens.specs.Bytes as bytes
 use Rattle.fortran_tokens.specs.Bytes.{is_printing}
@@ -93,9 +92,10 @@ pub step_append : (m n o : Mode) (x y : List ℕ) → Step m x n → Step n y o 
 step_append m n o x y f g k h l e =
     let r = codes_split l x y e in
     let one = f k h r.0 r.3 in
-    let two = g (context_behind k r.0) one.1 r.1 r.4 in
-    (ap (sound k) r.2 ∙ (sound_append k r.0 r.1 ∙ and_from (sound k r.0) (sound (context_behind k r.0) r.1) one.0 two.0),
-    subst (In o) (sym (ap (context_behind k) r.2 ∙ fold-append behind k r.0 r.1)) two.1)
+    let two = g (context_behind k r.0) one.1 r.1 r.4 in (
+      ap (sound k) r.2 ∙ (sound_append k r.0 r.1 ∙ and_from (sound k r.0) (sound (context_behind k r.0) r.1) one.0 two.0),
+      subst (In o) (sym (ap (context_behind k) r.2 ∙ fold-append behind k r.0 r.1)) two.1,
+    )
 
 pub step_none : (m : Mode) → Step m [] m
 step_none m k h [] e = (refl, h)

@@ -1,13 +1,11 @@
 -- The text of a statement is cut into its tokens.
-use Rattle.std.proofs.Common.{◌≡◌, ℕ, zero, suc, ◌+◌, ◌-◌, ◌<◌, ◌≤◌, Bool, true, false, cond, not, ◌&&◌, nat_lt, List, [], ◌∷◌, ◌++◌, length, take, drop, map, get_or, refl, ap, sym, ◌∙◌, subst, arith, append_assoc, append-nil, add-one}
+use Rattle.std.proofs.Common.{◌≡◌, ℕ, ◌+◌, ◌-◌, Bool, true, false, cond, not, ◌&&◌, nat_lt, List, [], ◌∷◌, ◌++◌, length, take, drop, map, get_or, refl, ap, sym, ◌∙◌, subst, arith, append_assoc, append-nil}
 use Rattle.std.specs.Prelude.{slice_index}
 use Rattle.std.proofs.Math.Seq.{take-length}
-use Rattle.std.proofs.lemmas.Bool.{and_parts, and_from}
+use Rattle.std.proofs.lemmas.Bool.{and_parts}
 use Rattle.std.proofs.lemmas.List.{length-append, take_at, drop_at, get_or_at}
-use Rattle.fortran_tokens.specs.declared.token.Sign.{Sign}
-use Rattle.fortran_tokens.specs.declared.token.Sign.TheVariants as signs
 use Rattle.fortran_tokens.specs.declared.token.TokenKind.{TokenKind}
-use Rattle.fortran_tokens.specs.declared.token.TokenKind.TheVariants.{Name, Number, Literal, Fixed}
+use Rattle.fortran_tokens.specs.declared.token.TokenKind.TheVariants.{Fixed}
 use Rattle.fortran_tokens.specs.declared.cut.Piece.{Piece}
 use Rattle.fortran_tokens.specs.Bytes.{is_blank}
 use Rattle.fortran_tokens.specs.Cuts.{IsToken, IsCut, AreBlanks}
@@ -20,7 +18,7 @@ use Rattle.print_again.specs.Spelled.{is_plain, may_stand, depth_past}
 use Rattle.print_again.proofs.Spellings.{spelling}
 use Rattle.print_again.proofs.Pages.{gap}
 use Rattle.print_again.proofs.Standing.{spread, toks, are_plain, Spread}
-use Rattle.print_again.proofs.TokensAgain.{kind_of, Again, again, token_alone}
+use Rattle.print_again.proofs.TokensAgain.{kind_of, again, token_alone}
 
 -- the kind and the text of a token
 abbrev pub word_is : Tok → TokenKind × List ℕ

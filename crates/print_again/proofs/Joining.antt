@@ -1,20 +1,19 @@
 -- Lines that are joined, one behind the other, and what one line without a fault does.
-use Rattle.std.proofs.Common.{◌≡◌, ℕ, suc, ◌+◌, Bool, true, false, cond, not, ◌&&◌, ◌||◌, nat_eq, nat_lt, List, [], ◌∷◌, ◌++◌, length, map, Option, Some, None, refl, ap, sym, ◌∙◌, subst, arith, append_assoc, append-nil}
+use Rattle.std.proofs.Common.{◌≡◌, Bool, true, false, cond, not, ◌&&◌, ◌||◌, nat_eq, nat_lt, List, [], ◌∷◌, ◌++◌, map, Option, Some, None, refl, ap, sym, ◌∙◌, arith, append_assoc}
 use Rattle.std.specs.Prelude.{slice_get, filter}
 use Rattle.std.specs.List.{list_all, onto_first}
 use Rattle.std.proofs.lemmas.Bool.{and_parts, and_from}
 use Rattle.std.proofs.lemmas.Bool.Decides.{nat_tests}
-use Rattle.std.proofs.lemmas.List.Sums.{fold-append}
 use Rattle.fortran_lines.specs.declared.placed_byte.PlacedByte.{PlacedByte}
 use Rattle.fortran_lines.specs.declared.context.Context.{Context}
 use Rattle.fortran_lines.specs.declared.context.Context.TheVariants.{Outside, Inside, Closed}
 use Rattle.fortran_lines.specs.declared.context.Before.{Before}
 use Rattle.fortran_lines.specs.declared.context.Before.TheVariants.{Start, Continued}
 use Rattle.fortran_lines.specs.declared.fault.LineFault.TheVariants.{NotAscii}
-use Rattle.fortran_lines.specs.PlacedBytes.{is_blank, is_quote, all_blank, blank_at}
+use Rattle.fortran_lines.specs.PlacedBytes.{is_blank, all_blank, blank_at}
 use Rattle.fortran_lines.specs.Contexts.{is_inside, behind, context_behind}
-use Rattle.fortran_lines.specs.Lines.{Part, is_nothing, code_part, before_amp, behind_amp, open_quote, part_by, part_from, resumed, spaced, continued, part_of, by_next, joined, separates, cut, kept, pieces}
-use Rattle.fortran_lines.specs.Faults.{too_long, not_ascii, open_literal, faults_of_part, faults_from}
+use Rattle.fortran_lines.specs.Lines.{Part, is_nothing, code_part, before_amp, behind_amp, open_quote, part_by, part_from, continued, part_of, by_next, joined, cut, kept, pieces}
+use Rattle.fortran_lines.specs.Faults.{too_long, not_ascii, faults_of_part, faults_from}
 use Rattle.fortran_lines.proofs.LineLemmas.{before_amp-amp, before_amp-other, not_all_blank, amp_no_blank}
 
 -- so lines join behind what stands before them, and break no rule: the texts that they end, and what stands before the next line

@@ -11,3 +11,4 @@ pub mod Pages
 pub mod Standing
 pub mod TokensAgain
 pub mod CutAgain
+pub mod WordsAgain

@@ -1,5 +1,5 @@
 -- What each token that is laid does to the lines.
-use Rattle.std.proofs.Common.{◌≡◌, ℕ, zero, suc, ◌+◌, ◌-◌, ◌<◌, ◌≤◌, Bool, true, false, cond, ◌&&◌, nat_eq, nat_le, List, [], ◌∷◌, ◌++◌, length, map, codes, refl, ap, sym, ◌∙◌, subst, arith, append_assoc, append-nil, add-one}
+use Rattle.std.proofs.Common.{◌≡◌, ℕ, ◌+◌, ◌≤◌, Bool, true, false, cond, nat_eq, nat_le, List, [], ◌∷◌, ◌++◌, length, map, codes, refl, ap, sym, ◌∙◌, subst, arith, append_assoc}
 use Rattle.std.specs.Prelude.{fold, flat_map}
 use Rattle.std.specs.List.{list_all}
 use Rattle.std.proofs.lemmas.Bool.{and_parts, and_from, leb-true, eqb-true}
@@ -9,7 +9,7 @@ use Rattle.fortran_layout.specs.Spelling.{sign_text, number_text, rep_char, uncu
 use Rattle.fortran_layout.specs.Layout.{Sheet, put, fresh, Pour, poured, pour, put_literal, end_line, laid}
 use Rattle.print_again.specs.Spelled.{is_plain}
 use Rattle.print_again.proofs.Bytes.{Mode, clear, free, quoted, Step, step_append, step_blank, step_opens, step_closes, step_rep}
-use Rattle.print_again.proofs.Rows.{First, Final, Inked, Fresh, Gap, Row, row_more, row_break, row_end, row_first, row_behind, row_resumed, row_wide}
+use Rattle.print_again.proofs.Rows.{Final, Inked, Fresh, Row, row_more, row_break, row_end, row_first, row_behind, row_resumed, row_wide}
 use Rattle.print_again.proofs.Spellings.{spelling, Laid, laid_name, laid_sign, laid_number, inked_literal, literal_some, rep_char_printing, apostrophe_ends}
 
 -- what stands between two tokens: one blank, or two where a line ends between them
@@ -50,7 +50,7 @@ put_by s done part x false true e k g h =
     let w = leb-true (s.column + 1 + length x + 2) 1000 k in
     let i = h.inked in
     let row = row_more s.text s.column (s.column + 1 + length x) done part free free true true g.row (32 ∷ x) (and_from true (list_all is_printing x) refl i.printing)
-        (step_append free clear free (32 ∷ []) x step_blank i.step) (λ f. final_more x (i.last f)) (omega arith) in
+    (step_append free clear free (32 ∷ []) x step_blank i.step) (λ f. final_more x (i.last f)) (omega arith) in
     record { wide = false; begun = record { row = row; some = omega arith; room = omega arith } }
 put_by s done part x false false e k g h =
     let row = next_line s.text s.column done part x free true g.row g.room h.inked in

@@ -1,5 +1,5 @@
 -- A text as far as it is laid: the lines that are ended, and what stands in the last one.
-use Rattle.std.proofs.Common.{◌≡◌, ℕ, zero, suc, ◌+◌, ◌-◌, ◌<◌, ◌≤◌, Bool, true, false, cond, ◌&&◌, not, ◌||◌, nat_eq, List, [], ◌∷◌, ◌++◌, length, map, take, Option, Some, None, refl, ap, sym, ◌∙◌, subst, arith, append_assoc, append-nil, add-one}
+use Rattle.std.proofs.Common.{◌≡◌, ℕ, zero, suc, ◌+◌, ◌-◌, ◌≤◌, Bool, true, false, cond, ◌&&◌, not, ◌||◌, nat_eq, List, [], ◌∷◌, ◌++◌, length, map, take, None, refl, ap, sym, ◌∙◌, subst, arith, append_assoc, append-nil}
 use Rattle.std.specs.Prelude.{slice_get, slice_index, flat_map}
 use Rattle.std.specs.List.{list_all, slice_split, onto_first}
 use Rattle.std.specs.Str.Lines.{lines, lines_of_parts, strip_carriage_return}
@@ -13,15 +13,15 @@ use Rattle.fortran_lines.specs.declared.context.Context.{Context}
 use Rattle.fortran_lines.specs.declared.context.Context.TheVariants.{Outside}
 use Rattle.fortran_lines.specs.declared.context.Before.{Before}
 use Rattle.fortran_lines.specs.declared.context.Before.TheVariants.{Start, Continued}
-use Rattle.fortran_lines.specs.PlacedBytes.{placed_from, numbered, is_blank, all_blank, blank_at, physical_lines}
+use Rattle.fortran_lines.specs.PlacedBytes.{placed_from, numbered, all_blank, blank_at, physical_lines}
 use Rattle.fortran_lines.specs.Contexts.{is_inside, behind, context_behind}
 use Rattle.fortran_lines.specs.Lines.{code_part, part_of, part_from, joined, pieces, statements_of}
 use Rattle.fortran_lines.specs.Faults.{faults_from, faults_of}
-use Rattle.fortran_lines.proofs.LineLemmas.{not_all_blank, amp_no_blank}
+use Rattle.fortran_lines.proofs.LineLemmas.{not_all_blank}
 use Rattle.fortran_tokens.specs.Bytes as bytes
 use Rattle.fortran_tokens.specs.Bytes.{is_printing}
 use Rattle.print_again.proofs.Joining.{Runs, runs_none, runs_both, runs_end, runs_on, fine, sound, sound_append, code_sound, one_piece, is_ascii, none_above, Last, last_inked, ends_part, goes_part, leading, Head, head_more, head_start, head_spaced, head_resumed}
-use Rattle.print_again.proofs.Bytes.{codes_of, codes_append, codes_placed, placed_append, length_placed, ascii_placed, Mode, clear, free, quoted, In, clear_is, free_outside, Step}
+use Rattle.print_again.proofs.Bytes.{codes_of, codes_append, codes_placed, placed_append, length_placed, ascii_placed, Mode, clear, free, In, clear_is, free_outside, Step}
 
 -- Lines and line feeds.
 
@@ -419,6 +419,7 @@ fresh_blank = record { full = []; is = refl; printing = refl; outs = []; runs = 
 
 pub fresh_statements : (text : List ℕ) (done : List (List ℕ)) → Fresh text done → (faults_of text ≡ []) × (map codes_of (statements_of text) ≡ done)
 fresh_statements text done g =
-    let here : physical_lines text ≡ numbered 1 g.full ++ [] = ap physical_lines g.is ∙ (ap (numbered 1) (lines_fed g.full g.printing) ∙ sym (append-nil (numbered 1 g.full))) in
-    (ap (λ z. faults_from z Start) here ∙ g.runs.clean [],
-    ap (λ z. map codes_of (flat_map pieces (joined z Start []))) here ∙ (ap (λ z. map codes_of (flat_map pieces z)) (g.runs.joins [] ∙ append-nil g.outs) ∙ g.ended))
+    let here : physical_lines text ≡ numbered 1 g.full ++ [] = ap physical_lines g.is ∙ (ap (numbered 1) (lines_fed g.full g.printing) ∙ sym (append-nil (numbered 1 g.full))) in (
+      ap (λ z. faults_from z Start) here ∙ g.runs.clean [],
+      ap (λ z. map codes_of (flat_map pieces (joined z Start []))) here ∙ (ap (λ z. map codes_of (flat_map pieces z)) (g.runs.joins [] ∙ append-nil g.outs) ∙ g.ended),
+    )

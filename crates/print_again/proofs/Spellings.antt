@@ -1,5 +1,5 @@
 -- The spellings of tokens that a source can have: what bytes they are.
-use Rattle.std.proofs.Common.{◌≡◌, ℕ, zero, suc, ◌+◌, ◌-◌, ◌*◌, ◌^◌, ◌<◌, ◌≤◌, Bool, true, false, cond, not, ◌&&◌, ◌||◌, nat_eq, nat_le, nat_lt, List, [], ◌∷◌, ◌++◌, length, map, codes, refl, ap, sym, ◌∙◌, subst, arith, append_assoc, add-one}
+use Rattle.std.proofs.Common.{◌≡◌, ℕ, ◌<◌, ◌≤◌, Bool, true, false, cond, ◌&&◌, ◌||◌, nat_eq, nat_le, List, [], ◌∷◌, ◌++◌, length, codes, refl, ap, sym, ◌∙◌, arith}
 use Rattle.std.specs.Prelude.{flat_map, decimal}
 use Rattle.std.specs.List.{list_all}
 use Rattle.std.specs.Str.Parse.{digits_value, AllDigits}
@@ -17,9 +17,9 @@ use Rattle.fortran_tree.specs.declared.expr.NumberKind.{NumberKind}
 use Rattle.fortran_tree.specs.declared.expr.NumberKind.TheVariants as kinds
 use Rattle.fortran_grammar.specs.Tokens.{Tok, word, integer, literal, sign, over}
 use Rattle.fortran_layout.specs.Spelling.{sign_text, number_text, suffix, rep_char, literal_text}
-use Rattle.print_again.specs.Spelled.{is_plain_name, is_plain_kind, is_plain}
-use Rattle.print_again.proofs.Bytes.{Mode, clear, free, is_plain_byte, plain_printing, plain_ink, step_plain, clear_free, step_literal}
-use Rattle.print_again.proofs.Rows.{First, Final, Inked}
+use Rattle.print_again.specs.Spelled.{is_plain_name, is_plain_kind}
+use Rattle.print_again.proofs.Bytes.{free, is_plain_byte, plain_printing, plain_ink, step_plain, clear_free, step_literal}
+use Rattle.print_again.proofs.Rows.{Final, Inked}
 
 -- how a token is laid
 abbrev pub spelling : Tok → List ℕ

@@ -1,5 +1,5 @@
 -- The statements that laid tokens make.
-use Rattle.std.proofs.Common.{◌≡◌, ℕ, zero, suc, Bool, true, false, not, ◌&&◌, List, [], ◌∷◌, ◌++◌, map, ◌⊎◌, inl, inr, refl, ap, sym, ◌∙◌, subst, append_assoc, append-nil}
+use Rattle.std.proofs.Common.{◌≡◌, ℕ, Bool, true, false, ◌&&◌, List, [], ◌∷◌, ◌++◌, map, ◌⊎◌, inl, inr, refl, ap, sym, ◌∙◌, subst, append_assoc, append-nil}
 use Rattle.std.specs.Prelude.{fold}
 use Rattle.std.proofs.lemmas.Bool.{and_parts, and_from}
 use Rattle.std.proofs.lemmas.List.{map-append}
@@ -11,7 +11,7 @@ use Rattle.print_again.specs.Spelled.{is_plain, may_stand, depth_past, are_state
 use Rattle.print_again.proofs.Bytes.{codes_of}
 use Rattle.print_again.proofs.Rows.{Fresh, fresh_blank, fresh_statements}
 use Rattle.print_again.proofs.Spellings.{spelling}
-use Rattle.print_again.proofs.Pages.{gap, Begun, Behind, laid_behind, laid_first, laid_over}
+use Rattle.print_again.proofs.Pages.{gap, Begun, laid_behind, laid_first, laid_over}
 
 -- tokens, each behind one or two blanks
 abbrev pub spread : List (Bool × Tok) → List ℕ
@@ -97,27 +97,27 @@ mutual
   told_first (x ∷ ts) s done h z g = elim (next_token false 0 x ts h) [
     | inl k ↦ absurd (let e = k.1 in cc)
     | inr k ↦
-      let p = and_parts (is_plain x) (may_stand 0 x) k.0 in
-      let b = laid_first s done x z g p.0 in
-      let start : Spread (spelling x) (x ∷ []) = record { first = x; rest = []; text = sym (append-nil (spelling x)); same = refl; plain = ap (λ z. z && true) k.0 } in
-      let r = told_behind ts (laid s x) done (spelling x) (x ∷ []) (depth_past 0 x) k.1 b start refl in
-      record { parts = r.parts; fresh = r.fresh; stand = r.stand }
+        let p = and_parts (is_plain x) (may_stand 0 x) k.0 in
+        let b = laid_first s done x z g p.0 in
+        let start : Spread (spelling x) (x ∷ []) = record { first = x; rest = []; text = sym (append-nil (spelling x)); same = refl; plain = ap (λ z. z && true) k.0 } in
+        let r = told_behind ts (laid s x) done (spelling x) (x ∷ []) (depth_past 0 x) k.1 b start refl in
+        record { parts = r.parts; fresh = r.fresh; stand = r.stand }
   ]
 
   told_behind : (ts : List Tok) (s : Sheet) (done : List (List ℕ)) (part : List ℕ) (xs : List Tok) (d : ℕ) → are_statements true d ts ≡ true → Begun s done part → Spread part xs → depth_all 0 xs ≡ d → Told s done ts (xs ++ ts)
   told_behind [] s done part xs d h g f e = absurd (cc)
   told_behind (x ∷ ts) s done part xs d h g f e = elim (next_token true d x ts h) [
     | inl k ↦
-      let o = laid_over s done part g in
-      let r = told_first ts (laid s over) (done ++ part ∷ []) k.2 o.1 o.0 in
-      let told : Told s done (over ∷ ts) (xs ++ over ∷ ts) = record { parts = part ∷ r.parts; fresh = subst (Fresh (fold laid (laid s over) ts).text) (append_assoc done (part ∷ []) r.parts) r.fresh; stand = (xs, ts, f, refl, r.stand) } in
-      subst (λ z. Told s done (z ∷ ts) (xs ++ z ∷ ts)) (sym k.0) told
+        let o = laid_over s done part g in
+        let r = told_first ts (laid s over) (done ++ part ∷ []) k.2 o.1 o.0 in
+        let told : Told s done (over ∷ ts) (xs ++ over ∷ ts) = record { parts = part ∷ r.parts; fresh = subst (Fresh (fold laid (laid s over) ts).text) (append_assoc done (part ∷ []) r.parts) r.fresh; stand = (xs, ts, f, refl, r.stand) } in
+        subst (λ z. Told s done (z ∷ ts) (xs ++ z ∷ ts)) (sym k.0) told
     | inr k ↦
-      let p = and_parts (is_plain x) (may_stand d x) k.0 in
-      let b = laid_behind s done part x g p.0 in
-      let here : (is_plain x && may_stand (depth_all 0 xs) x) ≡ true = ap (λ z. is_plain x && may_stand z x) e ∙ k.0 in
-      let r = told_behind ts (laid s x) done (part ++ (gap b.wide ++ spelling x)) (xs ++ x ∷ []) (depth_past d x) k.1 b.begun (one_more part xs b.wide x f here) (depth_more 0 xs x ∙ ap (λ z. depth_past z x) e) in
-      record { parts = r.parts; fresh = r.fresh; stand = subst (Stand r.parts) (append_assoc xs (x ∷ []) ts) r.stand }
+        let p = and_parts (is_plain x) (may_stand d x) k.0 in
+        let b = laid_behind s done part x g p.0 in
+        let here : (is_plain x && may_stand (depth_all 0 xs) x) ≡ true = ap (λ z. is_plain x && may_stand z x) e ∙ k.0 in
+        let r = told_behind ts (laid s x) done (part ++ (gap b.wide ++ spelling x)) (xs ++ x ∷ []) (depth_past d x) k.1 b.begun (one_more part xs b.wide x f here) (depth_more 0 xs x ∙ ap (λ z. depth_past z x) e) in
+        record { parts = r.parts; fresh = r.fresh; stand = subst (Stand r.parts) (append_assoc xs (x ∷ []) ts) r.stand }
   ]
 
 -- the statements of a text of laid tokens

@@ -1,27 +1,24 @@
 -- The spelling of a token is cut into that token, and stands for it.
-use Rattle.std.proofs.Common.{◌≡◌, ℕ, zero, suc, ◌+◌, ◌-◌, ◌<◌, ◌≤◌, Bool, true, false, cond, not, ◌&&◌, ◌||◌, nat_eq, nat_le, nat_lt, List, [], ◌∷◌, ◌++◌, length, take, drop, map, codes, Option, Some, None, refl, ap, sym, ◌∙◌, subst, arith, append_assoc, append-nil, add-one}
+use Rattle.std.proofs.Common.{◌≡◌, ℕ, ◌+◌, ◌≤◌, Bool, true, false, cond, not, ◌&&◌, ◌||◌, nat_eq, nat_le, nat_lt, List, [], ◌∷◌, ◌++◌, length, take, drop, codes, Some, None, refl, ap, sym, ◌∙◌, subst, arith, append_assoc}
 use Rattle.std.specs.Prelude.{flat_map, decimal}
 use Rattle.std.specs.List.{list_all, prefix_len, position_or_len, take_while}
 use Rattle.std.specs.Option.{option_map}
 use Rattle.std.specs.Str.{str_to_ascii_lowercase, bytes_eq}
-use Rattle.std.specs.Str.Parse.{digits_value}
 use Rattle.std.proofs.Math.Seq.{take-length}
 use Rattle.std.proofs.lemmas.Bool.{and_parts, and_from, leb-true, le-ltb}
 use Rattle.std.proofs.lemmas.Bool.Decides.{nat_tests}
 use Rattle.std.proofs.lemmas.Slice.Eq.{bytes_eq-Decides}
 use Rattle.std.proofs.lemmas.List.{length-append, take_at, drop_at}
-use Rattle.std.proofs.lemmas.List.Folds.{list_all-append}
 use Rattle.fortran_tokens.specs.declared.token.TokenKind.{TokenKind}
 use Rattle.fortran_tokens.specs.declared.token.TokenKind.TheVariants.{Name, Number, Literal, Fixed}
-use Rattle.fortran_tokens.specs.declared.fault.Excess.{Excess}
 use Rattle.fortran_tokens.specs.declared.fault.Excess.TheVariants as excess
 use Rattle.fortran_tokens.specs.Bytes.{is_letter, is_digit, is_name_byte, is_printing}
-use Rattle.fortran_tokens.specs.Forms.{HasForm, is_empty, is_name, is_kind, is_number, is_number_rest, is_literal, is_literal_rest}
-use Rattle.fortran_tokens.specs.Cuts.{IsToken, IsLongest, excess_of, value_of}
+use Rattle.fortran_tokens.specs.Forms.{HasForm, is_empty, is_name, is_kind, is_number, is_number_rest, is_literal_rest}
+use Rattle.fortran_tokens.specs.Cuts.{IsToken, excess_of, value_of}
 use Rattle.fortran_tree.specs.declared.expr.NumberKind.{NumberKind}
 use Rattle.fortran_tree.specs.declared.expr.NumberKind.TheVariants as kinds
 use Rattle.fortran_grammar.specs.Tokens.{Tok, word, integer, literal, sign, over}
-use Rattle.fortran_layout.specs.Spelling.{sign_text, number_text, suffix, rep_char, literal_text}
+use Rattle.fortran_layout.specs.Spelling.{number_text, suffix, rep_char, literal_text}
 use Rattle.fortran_layout.proofs.SignLemmas.{signs_are_spelled}
 use Rattle.expr_reader.specs.Plain as plain
 use Rattle.expr_reader.specs.Plain.{characters, kind_behind, tok_of}

@@ -1,12 +1,15 @@
 -- What is proved of programs that are printed and read again.
-use Rattle.std.specs.Prelude.{ℕ, ◌≡◌, List, map}
+use Rattle.std.specs.Prelude.{ℕ, ◌≡◌, true, false, List, map}
 use Rattle.reader_theory.specs.Refusals.{Reads}
 use Rattle.fortran_tree.specs.Units.{Program}
-use Rattle.fortran_grammar.specs.Tokens.{Token}
+use Rattle.fortran_grammar.specs.Tokens.{Tok, Token}
 use Rattle.fortran_grammar.specs.Phrases.{canonical}
 use Rattle.fortran_grammar.specs.ProgramGrammar as g
 use Rattle.fortran_grammar.specs.ProgramGrammar.{Programs}
 use Rattle.fortran_grammar.specs.Laws.{tok_of}
+use Rattle.fortran_layout.specs.Layout.{laid_text}
+use Rattle.print_again.specs.Spelled.{are_statements}
+use Rattle.print_again.specs.Sources.{AreSourceWords}
 use Rattle.print_again.specs.Unplaced as unplaced
 
 -- two programs that the same tokens spell, but for places, are the same but for places
@@ -22,3 +25,11 @@ PlacesMayChange = (limit : ℕ) (x : Program) (ts us : List Token) → Reads (Pr
 abbrev pub CanonicalIsRead : Type 0
 CanonicalIsRead = (limit : ℕ) (x : Program) (ts us : List Token) → Reads (Programs limit) ts x → map tok_of us ≡ canonical (g.program x)
     → (y : Program) × Reads (Programs limit) us y × (unplaced.program y ≡ unplaced.program x)
+
+-- The text of laid tokens that make whole statements breaks no rule of lines, and its words are these tokens.
+abbrev pub LaidIsCut : Type 0
+LaidIsCut = (ts : List Tok) → are_statements false 0 ts ≡ true → (us : List Token) × AreSourceWords (laid_text ts) us × (map tok_of us ≡ ts)
+
+-- and it has no other words
+abbrev pub LaidIsCutOnce : Type 0
+LaidIsCutOnce = (ts : List Tok) (us : List Token) → are_statements false 0 ts ≡ true → AreSourceWords (laid_text ts) us → map tok_of us ≡ ts

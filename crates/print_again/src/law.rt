@@ -1,6 +1,6 @@
 //! Laws of printing and reading that no caller runs.
 
-ghost use Rattle.print_again.specs.Laws.{PlacesDontMatter, PlacesMayChange, CanonicalIsRead};
+ghost use Rattle.print_again.specs.Laws.{PlacesDontMatter, PlacesMayChange, CanonicalIsRead, LaidIsCut, LaidIsCutOnce};
 
 /// Where the tokens of a program stand has nothing to do with what it is: tokens at other places spell the same program but for places,
 /// and so do its canonical tokens.
@@ -8,4 +8,11 @@ pub fn places_dont_matter()
     ensures one { PlacesDontMatter }
     ensures moved { PlacesMayChange }
     ensures canonical { CanonicalIsRead }
+{}
+
+/// The text of laid tokens that make whole statements, with literals over several lines too, breaks no rule of lines; its words are these
+/// tokens, and it has no others.
+pub fn laid_is_cut_again()
+    ensures words { LaidIsCut }
+    ensures once { LaidIsCutOnce }
 {}
