@@ -12,3 +12,9 @@ pub mod Standing
 pub mod TokensAgain
 pub mod CutAgain
 pub mod WordsAgain
+pub mod Leads
+pub mod LeadsExpressions
+pub mod LeadsStatements
+pub mod LeadsPrograms
+pub mod SourceTokens
+pub mod PrintAgain

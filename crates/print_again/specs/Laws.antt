@@ -9,7 +9,8 @@ use Rattle.fortran_grammar.specs.ProgramGrammar.{Programs}
 use Rattle.fortran_grammar.specs.Laws.{tok_of}
 use Rattle.fortran_layout.specs.Layout.{laid_text}
 use Rattle.print_again.specs.Spelled.{are_statements}
-use Rattle.print_again.specs.Sources.{AreSourceWords}
+use Rattle.fortran_print.specs.Printing.{printed}
+use Rattle.print_again.specs.Sources.{AreSourceWords, IsRead}
 use Rattle.print_again.specs.Unplaced as unplaced
 
 -- two programs that the same tokens spell, but for places, are the same but for places
@@ -33,3 +34,11 @@ LaidIsCut = (ts : List Tok) → are_statements false 0 ts ≡ true → (us : Lis
 -- and it has no other words
 abbrev pub LaidIsCutOnce : Type 0
 LaidIsCutOnce = (ts : List Tok) (us : List Token) → are_statements false 0 ts ≡ true → AreSourceWords (laid_text ts) us → map tok_of us ≡ ts
+
+-- What is printed of a program that some source has is read again, as a program that is the same but for places.
+abbrev pub PrintIsRead : Type 0
+PrintIsRead = (bytes : List ℕ) (x : Program) → IsRead bytes x → (y : Program) × IsRead (printed x) y × (unplaced.program y ≡ unplaced.program x)
+
+-- and as no other
+abbrev pub PrintIsReadAsIt : Type 0
+PrintIsReadAsIt = (bytes : List ℕ) (x y : Program) → IsRead bytes x → IsRead (printed x) y → unplaced.program y ≡ unplaced.program x

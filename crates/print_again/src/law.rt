@@ -1,6 +1,6 @@
 //! Laws of printing and reading that no caller runs.
 
-ghost use Rattle.print_again.specs.Laws.{PlacesDontMatter, PlacesMayChange, CanonicalIsRead, LaidIsCut, LaidIsCutOnce};
+ghost use Rattle.print_again.specs.Laws.{PlacesDontMatter, PlacesMayChange, CanonicalIsRead, LaidIsCut, LaidIsCutOnce, PrintIsRead, PrintIsReadAsIt};
 
 /// Where the tokens of a program stand has nothing to do with what it is: tokens at other places spell the same program but for places,
 /// and so do its canonical tokens.
@@ -15,4 +15,10 @@ pub fn places_dont_matter()
 pub fn laid_is_cut_again()
     ensures words { LaidIsCut }
     ensures once { LaidIsCutOnce }
+{}
+
+/// What is printed of a program that some source has is read as a source: as one program, which is the same but for places.
+pub fn print_is_read_again()
+    ensures read { PrintIsRead }
+    ensures once { PrintIsReadAsIt }
 {}
