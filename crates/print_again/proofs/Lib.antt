@@ -18,3 +18,7 @@ pub mod LeadsStatements
 pub mod LeadsPrograms
 pub mod SourceTokens
 pub mod PrintAgain
+pub mod Emptied
+pub mod EmptiedExpressions
+pub mod EmptiedStatements
+pub mod EmptiedPrograms

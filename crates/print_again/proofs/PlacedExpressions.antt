@@ -14,7 +14,7 @@ use Rattle.print_again.specs.Unplaced as u
 use Rattle.print_again.proofs.Placing.{Placed, starts, some_token, has_token, last_has, placed_name}
 
 -- how tightly an expression binds has nothing to do with places
-rank_unplaced : (e : Expression) → g.rank (u.expression e) ≡ g.rank e
+pub rank_unplaced : (e : Expression) → g.rank (u.expression e) ≡ g.rank e
 rank_unplaced (s.number n k at) = refl
 rank_unplaced (s.logical b at) = refl
 rank_unplaced (s.designator x) = refl
@@ -32,7 +32,7 @@ keyword_unplaced s.no_arguments = refl
 keyword_unplaced (s.more_arguments None e more) = keyword_unplaced more
 keyword_unplaced (s.more_arguments (Some n) e more) = refl
 
-none_unplaced : (x : Arguments) → g.none_or_keyword (u.arguments x) ≡ g.none_or_keyword x
+pub none_unplaced : (x : Arguments) → g.none_or_keyword (u.arguments x) ≡ g.none_or_keyword x
 none_unplaced s.no_arguments = refl
 none_unplaced (s.more_arguments k e more) = keyword_unplaced (s.more_arguments k e more)
 

@@ -81,7 +81,7 @@ heading_token (s.subroutine r n ns) = last_has (has_token (g.recursion r))
 heading_token (s.function ps n ns r) = last_has (has_token (repeated g.prefix_spec ps))
 
 -- the keyword at a subprogram's END has nothing to do with places
-keyword_unplaced : (x : Heading) → g.subprogram_keyword (u.heading x) ≡ g.subprogram_keyword x
+pub keyword_unplaced : (x : Heading) → g.subprogram_keyword (u.heading x) ≡ g.subprogram_keyword x
 keyword_unplaced (s.subroutine r n ns) = refl
 keyword_unplaced (s.function ps n ns r) = refl
 

@@ -122,11 +122,11 @@ none_unplaced : (x : Option Expression) → g.is_none (option_map u.expression x
 none_unplaced None = refl
 none_unplaced (Some e) = refl
 
-initial_unplaced : (xs : List Entity) → g.no_initial (map u.entity xs) ≡ g.no_initial xs
+pub initial_unplaced : (xs : List Entity) → g.no_initial (map u.entity xs) ≡ g.no_initial xs
 initial_unplaced [] = refl
 initial_unplaced (e ∷ more) = λ i. none_unplaced e.initial i && initial_unplaced more i
 
-attribute_unplaced : (xs : List Attribute) → g.no_attribute (map u.attribute xs) ≡ g.no_attribute xs
+pub attribute_unplaced : (xs : List Attribute) → g.no_attribute (map u.attribute xs) ≡ g.no_attribute xs
 attribute_unplaced [] = refl
 attribute_unplaced (a ∷ more) = refl
 

@@ -17,6 +17,10 @@ use Rattle.print_again.specs.Unplaced as unplaced
 abbrev pub PlacesDontMatter : Type 0
 PlacesDontMatter = (limit : ℕ) (x y : Program) (ts us : List Token) → Reads (Programs limit) ts x → Reads (Programs limit) us y → map tok_of ts ≡ map tok_of us → unplaced.program x ≡ unplaced.program y
 
+-- where some tokens spell a program, the same tokens at one place spell it without its places
+abbrev pub UnplacedIsRead : Type 0
+UnplacedIsRead = (limit : ℕ) (x : Program) (ts : List Token) → Reads (Programs limit) ts x → Reads (Programs limit) (map unplaced.token ts) (unplaced.program x)
+
 -- where some tokens spell a program, the same tokens at any other places spell one too, which is the same but for places
 abbrev pub PlacesMayChange : Type 0
 PlacesMayChange = (limit : ℕ) (x : Program) (ts us : List Token) → Reads (Programs limit) ts x → map tok_of us ≡ map tok_of ts
@@ -42,3 +46,11 @@ PrintIsRead = (bytes : List ℕ) (x : Program) → IsRead bytes x → (y : Progr
 -- and as no other
 abbrev pub PrintIsReadAsIt : Type 0
 PrintIsReadAsIt = (bytes : List ℕ) (x y : Program) → IsRead bytes x → IsRead (printed x) y → unplaced.program y ≡ unplaced.program x
+
+-- Programs that are the same but for places are printed alike.
+abbrev pub PrintHasNoPlaces : Type 0
+PrintHasNoPlaces = (x y : Program) → unplaced.program x ≡ unplaced.program y → printed x ≡ printed y
+
+-- so what is printed of what was read again is the same text
+abbrev pub PrintIsFixed : Type 0
+PrintIsFixed = (bytes : List ℕ) (x y : Program) → IsRead bytes x → IsRead (printed x) y → printed y ≡ printed x

@@ -10,11 +10,16 @@ use Rattle.fortran_tree.specs.Expressions.{Expression, Designator, Expressions, 
 use Rattle.fortran_tree.specs.Statements as t
 use Rattle.fortran_tree.specs.Statements.{DeclarationTypeSpec, Bounds, Dimension, CoarraySpec, Attribute, Entity, Declaration, Format, Item, ImageSet, Allocation, ActionStatement, LoopControl, CaseRange, CaseSelector, BracketedSpecifier, Statement, Statements, ElseIfBlocks, ElseBlock, CaseBlocks}
 use Rattle.fortran_tree.specs.Units as u
+use Rattle.fortran_grammar.specs.Tokens.{Token}
 use Rattle.fortran_tree.specs.Units.{Use, Body, PrefixSpec, Heading, Procedure, Program}
 
 -- no place of a file: lines and columns count from 1
 abbrev pub nowhere : Pos
 nowhere = record { line = 0; col = 0 }
+
+-- a token at no place
+abbrev pub token : Token → Token
+token y = record { tok = y.tok; at = nowhere }
 
 abbrev pub name : Name → Name
 name n = record { text = n.text; at = nowhere }

@@ -1,11 +1,12 @@
 //! Laws of printing and reading that no caller runs.
 
-ghost use Rattle.print_again.specs.Laws.{PlacesDontMatter, PlacesMayChange, CanonicalIsRead, LaidIsCut, LaidIsCutOnce, PrintIsRead, PrintIsReadAsIt};
+ghost use Rattle.print_again.specs.Laws.{PlacesDontMatter, UnplacedIsRead, PlacesMayChange, CanonicalIsRead, LaidIsCut, LaidIsCutOnce, PrintIsRead, PrintIsReadAsIt, PrintHasNoPlaces, PrintIsFixed};
 
 /// Where the tokens of a program stand has nothing to do with what it is: tokens at other places spell the same program but for places,
-/// and so do its canonical tokens.
+/// all at one place spell the program without its places, and its canonical tokens spell it too, wherever they stand.
 pub fn places_dont_matter()
     ensures one { PlacesDontMatter }
+    ensures unplaced { UnplacedIsRead }
     ensures moved { PlacesMayChange }
     ensures canonical { CanonicalIsRead }
 {}
@@ -17,8 +18,11 @@ pub fn laid_is_cut_again()
     ensures once { LaidIsCutOnce }
 {}
 
-/// What is printed of a program that some source has is read as a source: as one program, which is the same but for places.
+/// What is printed of a program that some source has is read as a source: as one program, which is the same but for places, and is printed
+/// as the same text.
 pub fn print_is_read_again()
     ensures read { PrintIsRead }
     ensures once { PrintIsReadAsIt }
+    ensures placeless { PrintHasNoPlaces }
+    ensures fixed { PrintIsFixed }
 {}
