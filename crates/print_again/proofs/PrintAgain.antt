@@ -7,7 +7,7 @@ use Rattle.fortran_grammar.specs.ProgramGrammar as g
 use Rattle.print_again.specs.Unplaced as u
 use Rattle.print_again.specs.Spelled.{are_statements}
 use Rattle.print_again.specs.Sources.{IsRead}
-use Rattle.print_again.specs.Laws.{UnplacedIsRead, PrintIsRead, PrintIsReadAsIt, PrintHasNoPlaces, PrintIsFixed}
+use Rattle.print_again.specs.Laws.{UnplacedIsRead, PrintIsCut, PrintIsRead, PrintIsReadAsIt, PrintHasNoPlaces, PrintIsFixed}
 use Rattle.reader_theory.specs.Words.{Mark, bare, Shallow}
 use Rattle.fortran_layout.specs.Layout.{laid_text}
 use Rattle.print_again.proofs.Emptied.{unplaced}
@@ -22,9 +22,12 @@ use Rattle.print_again.proofs.WordsAgain.{laid_is_cut, laid_is_cut_once}
 source_statements : (bytes : List ℕ) (x : Program) → IsRead bytes x → are_statements false 0 (canonical (g.program x)) ≡ true
 source_statements bytes x r = let s = r.spelled in program_statements x 64 s.0 s.1 (read_fit r.are.statements r.words s.0 r.are.cut s.3)
 
+pub print_is_cut : PrintIsCut
+print_is_cut bytes x r = laid_is_cut (canonical (g.program x)) (source_statements bytes x r)
+
 pub print_is_read : PrintIsRead
 print_is_read bytes x r =
-    let c = laid_is_cut (canonical (g.program x)) (source_statements bytes x r) in
+    let c = print_is_cut bytes x r in
     let p = canonical_is_read 64 x r.words c.0 r.spelled c.2 in
     (p.0, record { words = c.0; are = c.1; spelled = p.1 }, p.2)
 

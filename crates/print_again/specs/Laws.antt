@@ -39,6 +39,10 @@ LaidIsCut = (ts : List Tok) → are_statements false 0 ts ≡ true → (us : Lis
 abbrev pub LaidIsCutOnce : Type 0
 LaidIsCutOnce = (ts : List Tok) (us : List Token) → are_statements false 0 ts ≡ true → AreSourceWords (laid_text ts) us → map tok_of us ≡ ts
 
+-- The words of what is printed of a program that some source has are its canonical tokens.
+abbrev pub PrintIsCut : Type 0
+PrintIsCut = (bytes : List ℕ) (x : Program) → IsRead bytes x → (us : List Token) × AreSourceWords (printed x) us × (map tok_of us ≡ canonical (g.program x))
+
 -- What is printed of a program that some source has is read again, as a program that is the same but for places.
 abbrev pub PrintIsRead : Type 0
 PrintIsRead = (bytes : List ℕ) (x : Program) → IsRead bytes x → (y : Program) × IsRead (printed x) y × (unplaced.program y ≡ unplaced.program x)

@@ -1,6 +1,6 @@
 //! Laws of printing and reading that no caller runs.
 
-ghost use Rattle.print_again.specs.Laws.{PlacesDontMatter, UnplacedIsRead, PlacesMayChange, CanonicalIsRead, LaidIsCut, LaidIsCutOnce, PrintIsRead, PrintIsReadAsIt, PrintHasNoPlaces, PrintIsFixed};
+ghost use Rattle.print_again.specs.Laws.{PlacesDontMatter, UnplacedIsRead, PlacesMayChange, CanonicalIsRead, LaidIsCut, LaidIsCutOnce, PrintIsCut, PrintIsRead, PrintIsReadAsIt, PrintHasNoPlaces, PrintIsFixed};
 
 /// Where the tokens of a program stand has nothing to do with what it is: tokens at other places spell the same program but for places,
 /// all at one place spell the program without its places, and its canonical tokens spell it too, wherever they stand.
@@ -18,9 +18,10 @@ pub fn laid_is_cut_again()
     ensures once { LaidIsCutOnce }
 {}
 
-/// What is printed of a program that some source has is read as a source: as one program, which is the same but for places, and is printed
+/// What is printed of a program that some source has is a source of its canonical tokens: of one program, which is the same but for places, and is printed
 /// as the same text.
 pub fn print_is_read_again()
+    ensures words { PrintIsCut }
     ensures read { PrintIsRead }
     ensures once { PrintIsReadAsIt }
     ensures placeless { PrintHasNoPlaces }
