@@ -1,12 +1,10 @@
--- Cobounds, and colons behind attributes.
-use Rattle.std.proofs.Common.{◌≡◌, ℕ, zero, suc, ◌<◌, Bool, true, false, List, [], ◌∷◌, ◌++◌, length, Option, Some, None, refl, ap, sym, ◌∙◌, arith}
+-- Cobounds, one behind the other.
+use Rattle.std.proofs.Common.{◌≡◌, ℕ, Bool, true, false, List, [], ◌∷◌, ◌++◌, Some, None, refl, ap}
 use Rattle.reader_theory.specs.Words.{Verdict, found, fault}
-use Rattle.reader_theory.specs.Readers.{joined, mapped, pair, then_by, turned}
+use Rattle.reader_theory.specs.Readers.{joined, pair, then_by, turned}
 use Rattle.fortran_tokens.specs.declared.token.Sign.TheVariants as sign
 use Rattle.fortran_tree.specs.Expressions.{Expression}
-use Rattle.fortran_tree.specs.Statements.{Attribute, Bounds}
 use Rattle.fortran_grammar.specs.Tokens.{Token}
-use Rattle.statement_reader.specs.Declarations.{a_colons}
 use Rattle.statement_reader.specs.Dimensions.{Bound, a_bound, a_sign, cobounds_of, last_lower, upper_bound}
 use Rattle.statement_reader.specs.Families.{an_expression}
 use Rattle.action_reader.proofs.Specifiers.{specifier_laws}
@@ -38,14 +36,5 @@ lower_pushed [] (e, false) = refl
 lower_pushed ((e, false) ∷ qs) q = lower_pushed qs q
 lower_pushed ((e, true) ∷ []) (f, c) = refl
 lower_pushed ((e, true) ∷ (f, c) ∷ qs) q = lower_pushed qs q
-
--- colons behind no attributes, and behind some
-pub colons_none : (xs : List Attribute) (left : ℕ) (ts : List Token) → length xs ≡ 0 → a_colons xs left ts ≡ a_colons [] left ts
-colons_none [] left ts e = refl
-colons_none (x ∷ xs) left ts e = absurd (omega arith)
-
-pub colons_some : (xs : List Attribute) (left : ℕ) (ts : List Token) → 0 < length xs → a_colons xs left ts ≡ mapped (λ z. true) (a_sign sign.Colons left) ts
-colons_some [] left ts e = absurd (omega arith)
-colons_some (x ∷ xs) left ts e = refl
 
 pub ruleset declared_laws = (specifier_laws, bound_is)

@@ -1,5 +1,5 @@
 -- One cobound more, in memory.
-use Rattle.std.proofs.Common.{◌≡◌, List, [], ◌∷◌, ◌++◌, map, Option, refl, ap, sym, ◌∙◌}
+use Rattle.std.proofs.Common.{◌≡◌, List, [], ◌∷◌, ◌++◌, map, Option, ap, sym, ◌∙◌}
 use Rattle.fortran_tree.specs.declared.declaration.Bounds.{Bounds}
 use Rattle.fortran_tree.specs.declared.expr.Expr.{Expr}
 use Rattle.fortran_tree.specs.DeclarationViews.{bounds, maybe_expression}
@@ -17,10 +17,11 @@ Made out lower done = (map bounds out ≡ cobounds_of (map bound_of done)) × (m
 
 pub made_next : (out more : List Bounds) (lower next : Option Expr) (done : List Cobound) (b : Cobound) (o : Option Bounds) → Made out lower done → (map bounds (option_items o), maybe_expression next) ≡ paired (maybe_expression lower) (bound_of b) → more ≡ out ++ option_items o → Made more next (done ++ b ∷ [])
 made_next out more lower next done b o made e grown =
-    let ds : map bound_of (done ++ b ∷ []) ≡ map bound_of done ++ bound_of b ∷ [] = map_append bound_of done (b ∷ []) in
-    ( ap (map bounds) grown
-      ∙ (map_append bounds out (option_items o)
-      ∙ (ap (λ z. z ++ map bounds (option_items o)) made.0
-      ∙ (ap (λ z. cobounds_of (map bound_of done) ++ z) (ap (λ z. z.0) e ∙ ap (λ l. (paired l (bound_of b)).0) made.1)
-      ∙ (sym (cobounds_pushed (map bound_of done) (bound_of b)) ∙ ap cobounds_of (sym ds)))))
-    , ap (λ z. z.1) e ∙ (ap (λ l. (paired l (bound_of b)).1) made.1 ∙ (sym (lower_pushed (map bound_of done) (bound_of b)) ∙ ap last_lower (sym ds))))
+    let ds : map bound_of (done ++ b ∷ []) ≡ map bound_of done ++ bound_of b ∷ [] = map_append bound_of done (b ∷ []) in (
+      ap (map bounds) grown
+          ∙ (map_append bounds out (option_items o)
+          ∙ (ap (λ z. z ++ map bounds (option_items o)) made.0
+          ∙ (ap (λ z. cobounds_of (map bound_of done) ++ z) (ap (λ z. z.0) e ∙ ap (λ l. (paired l (bound_of b)).0) made.1)
+          ∙ (sym (cobounds_pushed (map bound_of done) (bound_of b)) ∙ ap cobounds_of (sym ds))))),
+      ap (λ z. z.1) e ∙ (ap (λ l. (paired l (bound_of b)).1) made.1 ∙ (sym (lower_pushed (map bound_of done) (bound_of b)) ∙ ap last_lower (sym ds))),
+    )

@@ -1,17 +1,15 @@
 -- Readers of pieces of declarations and of the headings of functions.
 use Rattle.std.specs.Prelude.{Bool, true, false, codes, List, [], ◌∷◌, Option, Some, None}
-use Rattle.caf_base.specs.declared.place.Pos.{Pos}
 use Rattle.reader_theory.specs.Readers.{behind, both, mapped, optional, pair, two_pass}
 use Rattle.fortran_tokens.specs.declared.token.Sign.TheVariants as sign
 use Rattle.fortran_tree.specs.declared.name.Name.{Name}
 use Rattle.fortran_tree.specs.declared.declaration.Intent.{Intent}
 use Rattle.fortran_tree.specs.Expressions.{Expression}
 use Rattle.fortran_tree.specs.Statements as s
-use Rattle.fortran_tree.specs.Statements.{Attribute, Bounds, CoarraySpec, DeclarationTypeSpec, Dimension, Entity}
-use Rattle.fortran_tree.specs.Units.{PrefixSpec}
+use Rattle.fortran_tree.specs.Statements.{Attribute, Bounds, CoarraySpec, DeclarationTypeSpec, Dimension}
 use Rattle.fortran_grammar.specs.Tokens.{Token}
-use Rattle.expr_reader.specs.Tests.{a_name, followed_by, is_key, is_sign, list_of}
-use Rattle.statement_reader.specs.Declarations.{a_kind, alone, an_attribute, an_entity, an_intent, choose_alone, in_or_both, maybe_out, turned_to}
+use Rattle.expr_reader.specs.Tests.{a_name, is_key, is_sign, list_of}
+use Rattle.statement_reader.specs.Declarations.{a_kind, alone, an_intent, choose_alone, in_or_both, maybe_out, turned_to}
 use Rattle.statement_reader.specs.Dimensions.{Bound, a_coarray_spec, a_dimension, a_sign, deferred_of, explicit_of, lower_or_last, maybe_coarray_spec, maybe_dimensions, some_cobounds}
 use Rattle.statement_reader.specs.Families.{Family, an_expression, rounded, squared}
 use Rattle.statement_reader.specs.Heads.{behind_key}
@@ -87,19 +85,9 @@ in_intent = behind_key (codes "in") (turned_to in_or_both maybe_out)
 abbrev pub shape : Family (List Dimension × Option CoarraySpec)
 shape left = both pair (maybe_dimensions left) (maybe_coarray_spec left)
 
-abbrev pub initial_entity : Family Entity
-initial_entity = an_entity true
-
--- an attribute behind each comma
-abbrev pub attribute_list : Family (List Attribute)
-attribute_list left = followed_by (an_attribute left)
-
 -- a function's dummies and its result, and before them FUNCTION and its name
 abbrev pub dummies : Family (List Name × Option Name)
 dummies left = both pair (rounded names_or_none left) (maybe_result left)
-
-abbrev pub signature : Family (Name × (List Name × Option Name))
-signature left = both pair a_name (dummies left)
 
 abbrev pub keyed_signature : Family (Name × (List Name × Option Name))
 keyed_signature = behind_key (codes "function") (λ l. both pair a_name (both pair (rounded names_or_none l) (maybe_result l)))

@@ -1,5 +1,5 @@
 -- What pieces of declarations in memory stand for.
-use Rattle.std.specs.Prelude.{Bool, List, Option, map}
+use Rattle.std.specs.Prelude.{List, Option, map}
 use Rattle.std.specs.declared.alloc.Global.{Global}
 use Rattle.std.specs.declared.vec.Vec.{Vec}
 use Rattle.fortran_tree.specs.ExpressionViews.{expression}

@@ -53,10 +53,7 @@ fn declared<'a>(
 
 /// Whether `::` stands, as it must behind attributes.
 #[tactic(auto, using(crate::proofs::Declared::declared_laws))]
-fn colons<'a>(
-    words: &'a [Word],
-    attributes: &[Attribute],
-) -> Result<(bool, &'a [Word]), ReadError>
+fn colons<'a>(words: &'a [Word], attributes: &[Attribute]) -> Result<(bool, &'a [Word]), ReadError>
     ensures { Gives (λ r. (r.0, tokens_of r.1.now)) result (spec.a_colons (map view.attribute attributes.now) 0 (tokens_of words.now)) }
 {
     if attributes.is_empty() && !begins_with(words, Sign::Colons) {

@@ -1,4 +1,4 @@
-use Rattle.std.proofs.Common.{rules, arith, ◌≡◌, ◌-◌, [], ◌∷◌, ◌++◌, true, false, subst, sym, ap, ◌∙◌, length, map}
+use Rattle.std.proofs.Common.{rules, arith, ◌≡◌, ◌-◌, [], ◌∷◌, ◌++◌, true, false, ap, ◌∙◌, length, map}
 use Rattle.std.proofs.lemmas.Grind.{common_steps}
 use Rattle.reader_theory.specs.Readers.{joined}
 use Rattle.reader_theory.specs.Words.{found}
