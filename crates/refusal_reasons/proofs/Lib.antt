@@ -1,1 +1,3 @@
 pub mod Flat
+pub mod Moving
+pub mod Going
