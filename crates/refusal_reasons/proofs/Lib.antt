@@ -1,3 +1,4 @@
 pub mod Flat
 pub mod Moving
 pub mod Going
+pub mod Apart
