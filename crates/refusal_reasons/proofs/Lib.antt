@@ -2,3 +2,5 @@ pub mod Flat
 pub mod Moving
 pub mod Going
 pub mod Apart
+pub mod Fronts
+pub mod Files
