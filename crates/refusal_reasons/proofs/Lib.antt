@@ -4,3 +4,4 @@ pub mod Going
 pub mod Apart
 pub mod Fronts
 pub mod Files
+mod Tries
