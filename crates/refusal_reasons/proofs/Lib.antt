@@ -1,5 +1,6 @@
 pub mod Flat
 pub mod Moving
+pub mod Through
 pub mod Going
 pub mod Apart
 pub mod Fronts
