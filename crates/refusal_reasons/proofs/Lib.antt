@@ -5,4 +5,6 @@ pub mod Going
 pub mod Apart
 pub mod Fronts
 pub mod Files
+pub mod Endings
+pub mod Statements
 mod Tries

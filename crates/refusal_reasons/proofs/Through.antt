@@ -100,7 +100,7 @@ module _ (limit : ℕ) where
   abbrev Same : ℕ → Type 0
   Same n = (s : State) (us : List Token) → 1 ≤ length us → length us ≤ n → goes_through (rest_reader limit n s us) ≡ goes_from limit n s us
 
-  shorter : (i : Place) (us r : List Token) (b : Part) → part_reader limit i us ≡ found b r → suc (length r) ≤ length us
+  pub shorter : (i : Place) (us r : List Token) (b : Part) → part_reader limit i us ≡ found b r → suc (length r) ≤ length us
   shorter i us r b e = let t = subst (Tells (Part_at limit i) (part_reader limit i) us) e ((exact_part limit i).tells us) in
       let k = part_longer limit i b t.word t.is_word in let l = ap length t.split ∙ length-append (bare t.word) r in omega arith
 

@@ -1,5 +1,5 @@
 -- What is proved of the reason of a refusal.
-use Rattle.std.specs.Prelude.{ℕ, suc, ◌≡◌, ◌≤◌, List, [], ◌∷◌, ◌++◌, length}
+use Rattle.std.specs.Prelude.{ℕ, suc, ◌≡◌, ◌≤◌, true, List, [], ◌∷◌, ◌++◌, length}
 use Rattle.reader_theory.specs.Words.{Mark, bare, Shallow, Cause}
 use Rattle.reader_theory.specs.Refusals.{Refused}
 use Rattle.reader_theory.specs.Limits.{FirstSunk, RefusedFor, reason, shifted}
@@ -11,6 +11,7 @@ use Rattle.statement_reader.specs.Parts.{Part, Form, formed}
 use Rattle.program_reader.specs.Sequence.{State, start, Rest_of_file}
 use Rattle.program_reader.specs.Unfinished.{Parts_from, behind}
 use Rattle.refusal_reasons.specs.Reasons.{place_at}
+use Rattle.refusal_reasons.specs.Statements.{one_statement, place_in}
 
 -- the first token of a part stands at most one level further in than its place and the conditions that it stands behind, and each further token at most one more
 abbrev pub PartsAreFlat : Type 0
@@ -25,6 +26,10 @@ abbrev pub LastStatementTells : Type 0
 LastStatementTells = (limit : ℕ) (es : List Part) (w : List (Mark Token)) (ts us : List Token) (c : Cause) (x : Token) (rest : List Token)
     → Parts_from limit start es w → Shallow w → (behind start es).conditions ≡ 0 → ts ≡ bare w ++ (us ++ x ∷ rest) → Refused (Programs limit) ts c (x ∷ rest)
     → RefusedFor (Programs limit) ts (reason (shifted (length w) (place_at limit (behind start es) (us ++ x ∷ [])))) (x ∷ rest)
+
+-- for the tokens of one statement the forms of its place and the levels that are open there are enough
+abbrev pub StatementsAlone : Type 0
+StatementsAlone = (limit : ℕ) (s : State) (us : List Token) → one_statement us ≡ true → place_at limit s us ≡ place_in limit s us
 
 -- no file is refused at two places or for two reasons
 abbrev pub OneReason : Type 0
