@@ -78,7 +78,7 @@ not_inside : (f : List Token) (x y : Token) (r : List Token) → is_over x ≡ t
 not_inside f x y r o e = false≢true (sym (ap (λ b. cond b false (one_statement (y ∷ r))) o) ∙ behind_front f (x ∷ y ∷ r) e)
 
 module _ (limit : ℕ) (i : Place) (us : List Token) (b : Part) (y : Token) (r : List Token) (e : part_reader limit i us ≡ found b (y ∷ r)) (one : one_statement us ≡ true) where
-  found_there : Finds (Part_at limit i) (part_reader limit i) us b (y ∷ r)
+  pub found_there : Finds (Part_at limit i) (part_reader limit i) us b (y ∷ r)
   found_there = subst (Tells (Part_at limit i) (part_reader limit i) us) e ((exact_part limit i).tells us)
 
   -- so what leaves something of its statement is a condition

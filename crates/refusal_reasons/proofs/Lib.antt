@@ -7,4 +7,5 @@ pub mod Fronts
 pub mod Files
 pub mod Endings
 pub mod Statements
+pub mod Left
 mod Tries

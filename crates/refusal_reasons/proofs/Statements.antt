@@ -61,7 +61,7 @@ module _ (limit : ℕ) where
   here n s us = place_here (part_reader limit) forms next goes n s us
 
   -- where there is no token none is too deep
-  nothing_read : (g : Bool) (later : Part → List Token → Option ℕ) (i : Place) → place_by g [] later (part_reader limit i []) ≡ None
+  pub nothing_read : (g : Bool) (later : Part → List Token → Option ℕ) (i : Place) → place_by g [] later (part_reader limit i []) ≡ None
   nothing_read g later i = by_answer (part_reader limit i []) refl
     where
       no_sink : (r : List Token) → Sinks (Part_at limit i) (part_reader limit i) [] r → ⊥
@@ -80,7 +80,7 @@ module _ (limit : ℕ) where
       by_list [] = refl
       by_list (i ∷ is) = ap (λ z. nearer z (places (part_reader limit) next goes (here n) s is [])) (nothing_read (goes s i []) (λ b. here n (next s b)) i) ∙ by_list is
 
-  none_behind : (level n c : ℕ) → place_behind limit level n c [] ≡ None
+  pub none_behind : (level n c : ℕ) → place_behind limit level n c [] ≡ None
   none_behind level zero c = refl
   none_behind level (suc n) c = by_list (actions_behind level c)
     where

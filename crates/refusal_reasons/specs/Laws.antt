@@ -1,5 +1,5 @@
 -- What is proved of the reason of a refusal.
-use Rattle.std.specs.Prelude.{ℕ, suc, ◌≡◌, ◌≤◌, true, List, [], ◌∷◌, ◌++◌, length}
+use Rattle.std.specs.Prelude.{ℕ, suc, ◌≡◌, ◌≤◌, ◌+◌, true, List, [], ◌∷◌, ◌++◌, length}
 use Rattle.reader_theory.specs.Words.{Mark, bare, Shallow, Cause}
 use Rattle.reader_theory.specs.Refusals.{Refused}
 use Rattle.reader_theory.specs.Limits.{FirstSunk, RefusedFor, reason, shifted}
@@ -8,10 +8,11 @@ use Rattle.fortran_grammar.specs.Tokens.{Token}
 use Rattle.fortran_grammar.specs.ProgramGrammar.{Programs}
 use Rattle.expr_reader.specs.Slack.{slack}
 use Rattle.statement_reader.specs.Parts.{Part, Form, formed}
-use Rattle.program_reader.specs.Sequence.{State, start, Rest_of_file}
+use Rattle.program_reader.specs.Sequence.{State, allowed, start, Rest_of_file}
 use Rattle.program_reader.specs.Unfinished.{Parts_from, behind}
-use Rattle.refusal_reasons.specs.Reasons.{place_at}
+use Rattle.refusal_reasons.specs.Reasons.{levels_at, place_at}
 use Rattle.refusal_reasons.specs.Statements.{one_statement, place_in}
+use Rattle.refusal_reasons.specs.Left.{statement_place}
 
 -- the first token of a part stands at most one level further in than its place and the conditions that it stands behind, and each further token at most one more
 abbrev pub PartsAreFlat : Type 0
@@ -30,6 +31,10 @@ LastStatementTells = (limit : ℕ) (es : List Part) (w : List (Mark Token)) (ts 
 -- for the tokens of one statement the forms of its place and the levels that are open there are enough
 abbrev pub StatementsAlone : Type 0
 StatementsAlone = (limit : ℕ) (s : State) (us : List Token) → one_statement us ≡ true → place_at limit s us ≡ place_in limit s us
+
+-- and so the readers of its forms and the number of levels that are left
+abbrev pub LevelsLeft : Type 0
+LevelsLeft = (limit left : ℕ) (s : State) (us : List Token) → one_statement us ≡ true → levels_at s + left ≡ limit → place_in limit s us ≡ statement_place left (allowed s) us
 
 -- no file is refused at two places or for two reasons
 abbrev pub OneReason : Type 0

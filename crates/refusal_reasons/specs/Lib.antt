@@ -1,3 +1,4 @@
 pub mod Reasons
 pub mod Statements
+pub mod Left
 pub mod Laws
