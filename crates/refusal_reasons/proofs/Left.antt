@@ -16,12 +16,13 @@ use Rattle.statement_reader.proofs.Beyond.{AllDeep, deep_words}
 use Rattle.program_reader.proofs.Files.{part_longer}
 use Rattle.reader_theory.proofs.Marks.{bare_length}
 use Rattle.program_reader.specs.Sequence.{State, placed_at, allowed, action_forms}
-use Rattle.refusal_reasons.specs.Reasons.{through, levels_before}
-use Rattle.refusal_reasons.specs.Statements.{one_statement, actions_behind, one_goes, action_goes, statement_goes, nearest, place_behind, place_in}
-use Rattle.refusal_reasons.specs.Left.{forms_go, action_goes_on, form_goes, form_place, nearest_form, action_place, statement_place}
+use Rattle.refusal_reasons.specs.Reasons.{through, levels_before, place_at}
+use Rattle.refusal_reasons.specs.Statements.{one_statement}
+use Rattle.refusal_reasons.proofs.Behind.{actions_behind, one_goes, action_goes, statement_goes, nearest, place_behind, place_in}
+use Rattle.refusal_reasons.specs.Statements.{forms_go, action_goes_on, form_goes, form_place, nearest_form, action_place, statement_place}
 use Rattle.refusal_reasons.proofs.Through.{shorter}
 use Rattle.refusal_reasons.proofs.Endings.{found_there, is_condition, left_of_statement}
-use Rattle.refusal_reasons.proofs.Statements.{nothing_read, none_behind}
+use Rattle.refusal_reasons.proofs.Statements.{nothing_read, none_behind, place_of_statement}
 
 -- a condition is read only where a level is left for it
 not_deep : (w : List (Mark Token)) → 1 ≤ length w → AllDeep w → Shallow w → ⊥
@@ -140,6 +141,9 @@ placed_same : (left : ℕ) → Placed left
 placed_same zero = action_placed 0 (none_earlier Placed)
 placed_same (suc left) = action_placed (suc left) (one_earlier Placed left (placed_same left))
 
-pub place_by_left : (limit left : ℕ) (s : State) (us : List Token) → one_statement us ≡ true → (s.conditions + length s.blocks) + left ≡ limit → place_in limit s us ≡ statement_place left (allowed s) us
-place_by_left limit left s [] one e = sym (none_of_forms left (allowed s))
-place_by_left limit left s (y ∷ us) one e = all_placed left (λ l k. placed_same l) limit (length s.blocks) s.conditions (length us) (y ∷ us) e (omega arith) one (allowed s)
+place_in_left : (limit left : ℕ) (s : State) (us : List Token) → one_statement us ≡ true → (s.conditions + length s.blocks) + left ≡ limit → place_in limit s us ≡ statement_place left (allowed s) us
+place_in_left limit left s [] one e = sym (none_of_forms left (allowed s))
+place_in_left limit left s (y ∷ us) one e = all_placed left (λ l k. placed_same l) limit (length s.blocks) s.conditions (length us) (y ∷ us) e (omega arith) one (allowed s)
+
+pub place_by_left : (limit left : ℕ) (s : State) (us : List Token) → one_statement us ≡ true → (s.conditions + length s.blocks) + left ≡ limit → place_at limit s us ≡ statement_place left (allowed s) us
+place_by_left limit left s us one e = place_of_statement limit s us one ∙ place_in_left limit left s us one e

@@ -6,6 +6,7 @@ pub mod Apart
 pub mod Fronts
 pub mod Files
 pub mod Endings
+pub mod Behind
 pub mod Statements
 pub mod Left
 mod Tries

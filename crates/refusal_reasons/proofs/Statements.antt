@@ -15,7 +15,8 @@ use Rattle.statement_reader.proofs.Places.{exact_part}
 use Rattle.program_reader.specs.Sequence as q
 use Rattle.program_reader.specs.Sequence.{State, Scope, Open, forms, placed_at, allowed, action_forms, next}
 use Rattle.refusal_reasons.specs.Reasons.{through, some_through, goes_from, levels_at, levels_before, out_of_reach, goes, place_at}
-use Rattle.refusal_reasons.specs.Statements.{one_statement, actions_behind, one_goes, action_goes, statement_goes, nearest, place_behind, place_in}
+use Rattle.refusal_reasons.specs.Statements.{one_statement}
+use Rattle.refusal_reasons.proofs.Behind.{actions_behind, one_goes, action_goes, statement_goes, nearest, place_behind, place_in}
 use Rattle.refusal_reasons.proofs.Through.{shorter}
 use Rattle.refusal_reasons.proofs.Endings.{is_condition, left_of_statement}
 

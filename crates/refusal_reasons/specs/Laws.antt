@@ -11,8 +11,7 @@ use Rattle.statement_reader.specs.Parts.{Part, Form, formed}
 use Rattle.program_reader.specs.Sequence.{State, allowed, start, Rest_of_file}
 use Rattle.program_reader.specs.Unfinished.{Parts_from, behind}
 use Rattle.refusal_reasons.specs.Reasons.{levels_at, place_at}
-use Rattle.refusal_reasons.specs.Statements.{one_statement, place_in}
-use Rattle.refusal_reasons.specs.Left.{statement_place}
+use Rattle.refusal_reasons.specs.Statements.{one_statement, statement_place}
 
 -- the first token of a part stands at most one level further in than its place and the conditions that it stands behind, and each further token at most one more
 abbrev pub PartsAreFlat : Type 0
@@ -28,13 +27,9 @@ LastStatementTells = (limit : ℕ) (es : List Part) (w : List (Mark Token)) (ts 
     → Parts_from limit start es w → Shallow w → (behind start es).conditions ≡ 0 → ts ≡ bare w ++ (us ++ x ∷ rest) → Refused (Programs limit) ts c (x ∷ rest)
     → RefusedFor (Programs limit) ts (reason (shifted (length w) (place_at limit (behind start es) (us ++ x ∷ [])))) (x ∷ rest)
 
--- for the tokens of one statement the forms of its place and the levels that are open there are enough
+-- for the tokens of one statement the readers of the forms that its place allows and the number of levels that are left there are enough
 abbrev pub StatementsAlone : Type 0
-StatementsAlone = (limit : ℕ) (s : State) (us : List Token) → one_statement us ≡ true → place_at limit s us ≡ place_in limit s us
-
--- and so the readers of its forms and the number of levels that are left
-abbrev pub LevelsLeft : Type 0
-LevelsLeft = (limit left : ℕ) (s : State) (us : List Token) → one_statement us ≡ true → levels_at s + left ≡ limit → place_in limit s us ≡ statement_place left (allowed s) us
+StatementsAlone = (limit left : ℕ) (s : State) (us : List Token) → one_statement us ≡ true → levels_at s + left ≡ limit → place_at limit s us ≡ statement_place left (allowed s) us
 
 -- no file is refused at two places or for two reasons
 abbrev pub OneReason : Type 0

@@ -1,4 +1,3 @@
 pub mod Reasons
 pub mod Statements
-pub mod Left
 pub mod Laws

@@ -1,11 +1,12 @@
--- The same for the tokens of one statement, of which a part leaves something only behind the condition of a one-line IF: told by the forms of its place and the levels open there alone.
-use Rattle.std.specs.Prelude.{ℕ, zero, suc, ◌+◌, Bool, true, false, cond, ◌||◌, List, [], ◌∷◌, length, Option, None}
+-- The same for the tokens of one statement, of which a part leaves something only behind the condition of a one-line IF: by the forms of its place, each with its own reader, and the number of levels that are left.
+use Rattle.std.specs.Prelude.{ℕ, zero, suc, Bool, true, false, cond, ◌||◌, List, [], ◌∷◌, length, Option, None}
 use Rattle.reader_theory.specs.Limits.{place_by, nearer}
 use Rattle.fortran_grammar.specs.Tokens.{Token}
 use Rattle.statement_reader.specs.Heads.{is_over}
-use Rattle.statement_reader.specs.Forms.{Place, part_reader}
-use Rattle.program_reader.specs.Sequence.{State, forms, placed_at, action_forms}
-use Rattle.refusal_reasons.specs.Reasons.{levels_before, through}
+use Rattle.statement_reader.specs.Parts.{Form}
+use Rattle.statement_reader.specs.Forms.{form_reader}
+use Rattle.program_reader.specs.Sequence.{action_forms}
+use Rattle.refusal_reasons.specs.Reasons.{through}
 
 -- no token but the last ends a statement
 abbrev pub one_statement : List Token → Bool
@@ -13,34 +14,34 @@ one_statement [] = true
 one_statement (y ∷ []) = true
 one_statement (y ∷ z ∷ ts) = cond (is_over y) false (one_statement (z ∷ ts))
 
--- the forms of actions, behind so many conditions
-abbrev pub actions_behind : ℕ → ℕ → List Place
-actions_behind level conditions = placed_at level conditions action_forms
+-- one of these forms goes through the tokens
+abbrev pub forms_go : (List Token → Bool) → ℕ → List Form → List Token → Bool
+forms_go later left [] us = false
+forms_go later left (i ∷ is) us = through (λ b. later) (form_reader i left us) || forms_go later left is us
 
--- one of these forms goes through the tokens, or is read and what it leaves is gone through
-abbrev pub one_goes : (List Token → Bool) → ℕ → List Place → List Token → Bool
-one_goes later limit [] us = false
-one_goes later limit (i ∷ is) us = through (λ b. later) (part_reader limit i us) || one_goes later limit is us
+-- an action does behind a condition, before which so many levels were left
+abbrev pub action_goes_on : ℕ → List Token → Bool
+action_goes_on zero us = false
+action_goes_on (suc left) us = forms_go (action_goes_on left) left action_forms us
 
--- so an action behind so many conditions, where there are no more than n tokens
-abbrev pub action_goes : ℕ → ℕ → ℕ → ℕ → List Token → Bool
-action_goes limit level zero conditions us = false
-action_goes limit level (suc n) conditions us = one_goes (action_goes limit level n (suc conditions)) limit (actions_behind level conditions) us
+-- a form goes through the tokens
+abbrev pub form_goes : ℕ → Form → List Token → Bool
+form_goes left i us = through (λ b. action_goes_on left) (form_reader i left us)
 
--- so a form with as many levels as there are tokens
-abbrev pub statement_goes : Place → List Token → Bool
-statement_goes i us = through (λ b. action_goes (levels_before i + length us) i.level (length us) (suc i.conditions)) (part_reader (levels_before i + length us) i us)
+-- how many tokens stand before the first that is too deep: in a form that goes through all of them where as many levels are left
+abbrev pub form_place : (List Token → Option ℕ) → ℕ → Form → List Token → Option ℕ
+form_place later left i us = place_by (form_goes (length us) i us) us (λ b. later) (form_reader i left us)
 
--- the nearest place of these forms, where that of what is left behind a part is known
-abbrev pub nearest : (List Token → Option ℕ) → ℕ → List Place → List Token → Option ℕ
-nearest later limit [] us = None
-nearest later limit (i ∷ is) us = nearer (place_by (statement_goes i us) us (λ b. later) (part_reader limit i us)) (nearest later limit is us)
+-- the nearest one of these forms
+abbrev pub nearest_form : (List Token → Option ℕ) → ℕ → List Form → List Token → Option ℕ
+nearest_form later left [] us = None
+nearest_form later left (i ∷ is) us = nearer (form_place later left i us) (nearest_form later left is us)
 
-abbrev pub place_behind : ℕ → ℕ → ℕ → ℕ → List Token → Option ℕ
-place_behind limit level zero conditions us = None
-place_behind limit level (suc n) conditions us = nearest (place_behind limit level n (suc conditions)) limit (actions_behind level conditions) us
+-- so of an action behind a condition
+abbrev pub action_place : ℕ → List Token → Option ℕ
+action_place zero us = None
+action_place (suc left) us = nearest_form (action_place left) left action_forms us
 
--- how many tokens of a statement stand before the first that is too deep
-abbrev pub place_in : ℕ → State → List Token → Option ℕ
-place_in limit s [] = None
-place_in limit s (y ∷ us) = nearest (place_behind limit (length s.blocks) (length us) (suc s.conditions)) limit (forms s) (y ∷ us)
+-- so of a statement of one of these forms
+abbrev pub statement_place : ℕ → List Form → List Token → Option ℕ
+statement_place left is us = nearest_form (action_place left) left is us

@@ -1,6 +1,6 @@
 //! Laws of the reason of a refusal that no caller runs.
 
-ghost use Rattle.refusal_reasons.specs.Laws.{PartsAreFlat, RestsSinkThere, LastStatementTells, StatementsAlone, LevelsLeft, OneReason};
+ghost use Rattle.refusal_reasons.specs.Laws.{PartsAreFlat, RestsSinkThere, LastStatementTells, StatementsAlone, OneReason};
 
 /// No token of a part stands further in than its place, the conditions before it, the tokens before it and one allow; so the
 /// readers of parts tell which token is too deep first among all words that begin with some tokens, whatever their levels;
@@ -10,6 +10,5 @@ pub fn reasons_exactly()
     ensures rests { RestsSinkThere }
     ensures last { LastStatementTells }
     ensures statement { StatementsAlone }
-    ensures left { LevelsLeft }
     ensures one { OneReason }
 {}
