@@ -2,9 +2,11 @@
 use Rattle.std.specs.Prelude.{ℕ, zero, suc, ◌+◌, Bool, false, ◌||◌, List, [], ◌∷◌, length, Option, None}
 use Rattle.reader_theory.specs.Limits.{place_by, nearer}
 use Rattle.fortran_grammar.specs.Tokens.{Token}
-use Rattle.statement_reader.specs.Forms.{Place, part_reader}
+use Rattle.statement_reader.specs.Forms.{Place, form_reader, part_reader}
+use Rattle.statement_reader.specs.Parts.{Form}
 use Rattle.program_reader.specs.Sequence.{State, forms, placed_at, action_forms}
 use Rattle.refusal_reasons.specs.Reasons.{levels_before, through}
+use Rattle.refusal_reasons.specs.Statements.{form_goes}
 
 -- the forms of actions, behind so many conditions
 abbrev pub actions_behind : ℕ → ℕ → List Place
@@ -37,3 +39,22 @@ place_behind limit level (suc n) conditions us = nearest (place_behind limit lev
 abbrev pub place_in : ℕ → State → List Token → Option ℕ
 place_in limit s [] = None
 place_in limit s (y ∷ us) = nearest (place_behind limit (length s.blocks) (length us) (suc s.conditions)) limit (forms s) (y ∷ us)
+
+-- by the levels that are left
+-- how many tokens stand before the first that is too deep: in a form that goes through all of them where as many levels are left
+abbrev pub form_before : (List Token → Option ℕ) → ℕ → Form → List Token → Option ℕ
+form_before later left i us = place_by (form_goes (length us) i us) us (λ b. later) (form_reader i left us)
+
+-- the nearest one of these forms
+abbrev pub nearest_form : (List Token → Option ℕ) → ℕ → List Form → List Token → Option ℕ
+nearest_form later left [] us = None
+nearest_form later left (i ∷ is) us = nearer (form_before later left i us) (nearest_form later left is us)
+
+-- so of an action behind a condition
+abbrev pub action_before : ℕ → List Token → Option ℕ
+action_before zero us = None
+action_before (suc left) us = nearest_form (action_before left) left action_forms us
+
+-- so of a statement of one of these forms
+abbrev pub statement_before : ℕ → List Form → List Token → Option ℕ
+statement_before left is us = nearest_form (action_before left) left is us

@@ -18,8 +18,8 @@ use Rattle.reader_theory.proofs.Marks.{bare_length}
 use Rattle.program_reader.specs.Sequence.{State, placed_at, allowed, action_forms}
 use Rattle.refusal_reasons.specs.Reasons.{through, levels_before, place_at}
 use Rattle.refusal_reasons.specs.Statements.{one_statement}
-use Rattle.refusal_reasons.proofs.Behind.{actions_behind, one_goes, action_goes, statement_goes, nearest, place_behind, place_in}
-use Rattle.refusal_reasons.specs.Statements.{forms_go, action_goes_on, form_goes, form_place, nearest_form, action_place, statement_place}
+use Rattle.refusal_reasons.proofs.Behind.{actions_behind, one_goes, action_goes, statement_goes, nearest, place_behind, place_in, form_before, nearest_form, action_before, statement_before}
+use Rattle.refusal_reasons.specs.Statements.{forms_go, action_goes_on, form_goes}
 use Rattle.refusal_reasons.proofs.Through.{shorter}
 use Rattle.refusal_reasons.proofs.Endings.{found_there, is_condition, left_of_statement}
 use Rattle.refusal_reasons.proofs.Statements.{nothing_read, none_behind, place_of_statement}
@@ -46,10 +46,10 @@ level_left limit i us b y r e one = elim (cases_Bool (nat_lt (levels_before i) l
 ]
 
 -- the reader of a form by the levels that are left at its place
-reader_left : (limit left : ℕ) (i : Place) (us : List Token) → levels_before i + left ≡ limit → part_reader limit i us ≡ form_reader i.form left us
+pub reader_left : (limit left : ℕ) (i : Place) (us : List Token) → levels_before i + left ≡ limit → part_reader limit i us ≡ form_reader i.form left us
 reader_left limit left i us e = ap (λ b. cond b (sunk (begins_form i.form)) (form_reader i.form (limit - levels_before i)) us) (le-ltb limit (levels_before i) (omega arith)) ∙ ap (λ n. form_reader i.form n us) (let k : limit - levels_before i ≡ left = omega arith in k)
 
-abbrev placed : ℕ → ℕ → Form → Place
+abbrev pub placed : ℕ → ℕ → Form → Place
 placed level c i = record { form = i; level = level; conditions = c }
 
 -- Whether an action goes through.
@@ -96,54 +96,54 @@ goes_left : (level c : ℕ) (i : Form) (us : List Token) → one_statement us �
 goes_left level c i us one = through_left (length us) (λ l e. same l) ((c + level) + length us) level c (length us) i us refl (omega arith) one
 
 -- The place.
-none_left : (left : ℕ) → action_place left [] ≡ None
+none_left : (left : ℕ) → action_before left [] ≡ None
 none_left zero = refl
 none_left (suc left) = by_list action_forms
   where
-    by_list : (is : List Form) → nearest_form (action_place left) left is [] ≡ None
+    by_list : (is : List Form) → nearest_form (action_before left) left is [] ≡ None
     by_list [] = refl
-    by_list (i ∷ is) = ap (λ z. nearer z (nearest_form (action_place left) left is []))
-        (ap (place_by (form_goes 0 i []) [] (λ b. action_place left)) (sym (reader_left left left (placed 0 0 i) [] (omega arith))) ∙ nothing_read left (form_goes 0 i []) (λ b. action_place left) (placed 0 0 i)) ∙ by_list is
+    by_list (i ∷ is) = ap (λ z. nearer z (nearest_form (action_before left) left is []))
+        (ap (place_by (form_goes 0 i []) [] (λ b. action_before left)) (sym (reader_left left left (placed 0 0 i) [] (omega arith))) ∙ nothing_read left (form_goes 0 i []) (λ b. action_before left) (placed 0 0 i)) ∙ by_list is
 
-none_of_forms : (left : ℕ) (is : List Form) → statement_place left is [] ≡ None
+none_of_forms : (left : ℕ) (is : List Form) → statement_before left is [] ≡ None
 none_of_forms left [] = refl
-none_of_forms left (i ∷ is) = ap (λ z. nearer z (statement_place left is []))
-    (ap (place_by (form_goes 0 i []) [] (λ b. action_place left)) (sym (reader_left left left (placed 0 0 i) [] (omega arith))) ∙ nothing_read left (form_goes 0 i []) (λ b. action_place left) (placed 0 0 i)) ∙ none_of_forms left is
+none_of_forms left (i ∷ is) = ap (λ z. nearer z (statement_before left is []))
+    (ap (place_by (form_goes 0 i []) [] (λ b. action_before left)) (sym (reader_left left left (placed 0 0 i) [] (omega arith))) ∙ nothing_read left (form_goes 0 i []) (λ b. action_before left) (placed 0 0 i)) ∙ none_of_forms left is
 
 abbrev Placed : ℕ → Type 0
-Placed left = (limit level c n : ℕ) (us : List Token) → (c + level) + left ≡ limit → 1 ≤ length us → length us ≤ n → one_statement us ≡ true → place_behind limit level n c us ≡ action_place (suc left) us
+Placed left = (limit level c n : ℕ) (us : List Token) → (c + level) + left ≡ limit → 1 ≤ length us → length us ≤ n → one_statement us ≡ true → place_behind limit level n c us ≡ action_before (suc left) us
 
 place_left : (left : ℕ) → Earlier Placed left → (limit level c n : ℕ) (i : Form) (us : List Token) → (c + level) + left ≡ limit → length us ≤ suc n → one_statement us ≡ true
-    → place_by (statement_goes (placed level c i) us) us (λ b. place_behind limit level n (suc c)) (part_reader limit (placed level c i) us) ≡ form_place (action_place left) left i us
-place_left left earlier limit level c n i us e size one = by_answer (part_reader limit (placed level c i) us) refl ∙ ap (place_by (form_goes (length us) i us) us (λ b. action_place left)) (reader_left limit left (placed level c i) us e)
+    → place_by (statement_goes (placed level c i) us) us (λ b. place_behind limit level n (suc c)) (part_reader limit (placed level c i) us) ≡ form_before (action_before left) left i us
+place_left left earlier limit level c n i us e size one = by_answer (part_reader limit (placed level c i) us) refl ∙ ap (place_by (form_goes (length us) i us) us (λ b. action_before left)) (reader_left limit left (placed level c i) us e)
   where
-    by_left : (k : ℕ) → left ≡ k → (b : Part) (y : Token) (r : List Token) → part_reader limit (placed level c i) us ≡ found b (y ∷ r) → place_behind limit level n (suc c) (y ∷ r) ≡ action_place k (y ∷ r)
+    by_left : (k : ℕ) → left ≡ k → (b : Part) (y : Token) (r : List Token) → part_reader limit (placed level c i) us ≡ found b (y ∷ r) → place_behind limit level n (suc c) (y ∷ r) ≡ action_before k (y ∷ r)
     by_left zero is b y r h = absurd (let z = level_left limit (placed level c i) us b y r h one in omega arith)
     by_left (suc l) is b y r h = earlier l is limit level (suc c) n (y ∷ r) (omega arith) (omega arith) (let z = shorter limit (placed level c i) us (y ∷ r) b h in omega arith) (left_of_statement limit (placed level c i) us b y r h one)
 
-    by_answer : (v : Verdict Token Part) → part_reader limit (placed level c i) us ≡ v → place_by (statement_goes (placed level c i) us) us (λ b. place_behind limit level n (suc c)) v ≡ place_by (form_goes (length us) i us) us (λ b. action_place left) v
+    by_answer : (v : Verdict Token Part) → part_reader limit (placed level c i) us ≡ v → place_by (statement_goes (placed level c i) us) us (λ b. place_behind limit level n (suc c)) v ≡ place_by (form_goes (length us) i us) us (λ b. action_before left) v
     by_answer (found b []) h = ap (shifted (length us - 0)) (none_behind limit level n (suc c) ∙ sym (none_left left))
     by_answer (found b (y ∷ r)) h = ap (shifted (length us - length (y ∷ r))) (by_left left refl b y r h)
     by_answer (fault expected r) h = refl
     by_answer (fault too_deep r) h = ap (λ z. cond z (Some (length us - length r)) None) (goes_left level c i us one)
 
 all_placed : (left : ℕ) → Earlier Placed left → (limit level c n : ℕ) (us : List Token) → (c + level) + left ≡ limit → length us ≤ suc n → one_statement us ≡ true → (is : List Form)
-    → nearest (place_behind limit level n (suc c)) limit (placed_at level c is) us ≡ nearest_form (action_place left) left is us
+    → nearest (place_behind limit level n (suc c)) limit (placed_at level c is) us ≡ nearest_form (action_before left) left is us
 all_placed left earlier limit level c n us e size one [] = refl
 all_placed left earlier limit level c n us e size one (i ∷ is) = ap (λ z. nearer z (nearest (place_behind limit level n (suc c)) limit (placed_at level c is) us)) (place_left left earlier limit level c n i us e size one)
-    ∙ ap (nearer (form_place (action_place left) left i us)) (all_placed left earlier limit level c n us e size one is)
+    ∙ ap (nearer (form_before (action_before left) left i us)) (all_placed left earlier limit level c n us e size one is)
 
-action_placed : (left : ℕ) → Earlier Placed left → Placed left
-action_placed left earlier limit level c zero us e some size one = absurd (omega arith)
-action_placed left earlier limit level c (suc n) us e some size one = all_placed left earlier limit level c n us e size one action_forms
+action_befored : (left : ℕ) → Earlier Placed left → Placed left
+action_befored left earlier limit level c zero us e some size one = absurd (omega arith)
+action_befored left earlier limit level c (suc n) us e some size one = all_placed left earlier limit level c n us e size one action_forms
 
 placed_same : (left : ℕ) → Placed left
-placed_same zero = action_placed 0 (none_earlier Placed)
-placed_same (suc left) = action_placed (suc left) (one_earlier Placed left (placed_same left))
+placed_same zero = action_befored 0 (none_earlier Placed)
+placed_same (suc left) = action_befored (suc left) (one_earlier Placed left (placed_same left))
 
-place_in_left : (limit left : ℕ) (s : State) (us : List Token) → one_statement us ≡ true → (s.conditions + length s.blocks) + left ≡ limit → place_in limit s us ≡ statement_place left (allowed s) us
+place_in_left : (limit left : ℕ) (s : State) (us : List Token) → one_statement us ≡ true → (s.conditions + length s.blocks) + left ≡ limit → place_in limit s us ≡ statement_before left (allowed s) us
 place_in_left limit left s [] one e = sym (none_of_forms left (allowed s))
 place_in_left limit left s (y ∷ us) one e = all_placed left (λ l k. placed_same l) limit (length s.blocks) s.conditions (length us) (y ∷ us) e (omega arith) one (allowed s)
 
-pub place_by_left : (limit left : ℕ) (s : State) (us : List Token) → one_statement us ≡ true → (s.conditions + length s.blocks) + left ≡ limit → place_at limit s us ≡ statement_place left (allowed s) us
+pub place_by_left : (limit left : ℕ) (s : State) (us : List Token) → one_statement us ≡ true → (s.conditions + length s.blocks) + left ≡ limit → place_at limit s us ≡ statement_before left (allowed s) us
 place_by_left limit left s us one e = place_of_statement limit s us one ∙ place_in_left limit left s us one e

@@ -9,4 +9,5 @@ pub mod Endings
 pub mod Behind
 pub mod Statements
 pub mod Left
+pub mod Earliest
 mod Tries

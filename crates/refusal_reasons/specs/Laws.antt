@@ -11,7 +11,7 @@ use Rattle.statement_reader.specs.Parts.{Part, Form, formed}
 use Rattle.program_reader.specs.Sequence.{State, allowed, start, Rest_of_file}
 use Rattle.program_reader.specs.Unfinished.{Parts_from, behind}
 use Rattle.refusal_reasons.specs.Reasons.{levels_at, place_at}
-use Rattle.refusal_reasons.specs.Statements.{one_statement, statement_place}
+use Rattle.refusal_reasons.specs.Statements.{one_statement, statement_place, before}
 
 -- the first token of a part stands at most one level further in than its place and the conditions that it stands behind, and each further token at most one more
 abbrev pub PartsAreFlat : Type 0
@@ -29,7 +29,7 @@ LastStatementTells = (limit : ℕ) (es : List Part) (w : List (Mark Token)) (ts 
 
 -- for the tokens of one statement the readers of the forms that its place allows and the number of levels that are left there are enough
 abbrev pub StatementsAlone : Type 0
-StatementsAlone = (limit left : ℕ) (s : State) (us : List Token) → one_statement us ≡ true → levels_at s + left ≡ limit → place_at limit s us ≡ statement_place left (allowed s) us
+StatementsAlone = (limit left : ℕ) (s : State) (us : List Token) → one_statement us ≡ true → levels_at s + left ≡ limit → place_at limit s us ≡ before (length us) (statement_place left (allowed s) us)
 
 -- no file is refused at two places or for two reasons
 abbrev pub OneReason : Type 0

@@ -3,7 +3,7 @@ use Rattle.reader_theory.proofs.Limits.{one_refusal}
 use Rattle.refusal_reasons.proofs.Flat.{flat_form}
 use Rattle.refusal_reasons.proofs.Going.{first_of_rest}
 use Rattle.refusal_reasons.proofs.Files.{told_by_last}
-use Rattle.refusal_reasons.proofs.Left.{place_by_left}
+use Rattle.refusal_reasons.proofs.Earliest.{place_from_end}
 use Rattle.refusal_reasons.proofs.law.reasons_exactly.Goals as goal
 
 pub returns-clause-flat : goal.returns-clause-flat
@@ -16,7 +16,7 @@ pub returns-clause-last : goal.returns-clause-last
 returns-clause-last c = told_by_last
 
 pub returns-clause-statement : goal.returns-clause-statement
-returns-clause-statement c = place_by_left
+returns-clause-statement c = place_from_end
 
 pub returns-clause-one : goal.returns-clause-one
 returns-clause-one c = λ limit. one_refusal (Programs limit)
