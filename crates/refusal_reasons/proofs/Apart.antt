@@ -1,6 +1,6 @@
 -- No two parts of different forms that a place allows begin the same tokens, where each is followed, if by anything that its next place asks for, by the beginning of that; as `program_reader` has it
 -- of two whole files (its proofs/OneReading), here of the front of one and of any tokens behind it.
-use Rattle.std.proofs.Common.{◌≡◌, ℕ, zero, suc, ◌+◌, ◌≤◌, Bool, true, false, cond, codes, List, [], ◌∷◌, ◌++◌, length, Some, ◌⊎◌, inl, inr, refl, ap, sym, ◌∙◌, subst}
+use Rattle.std.proofs.Common.{◌≡◌, ℕ, zero, suc, ◌+◌, Bool, true, false, cond, codes, List, [], ◌∷◌, ◌++◌, length, Some, ◌⊎◌, inl, inr, refl, ap, sym, ◌∙◌, subst}
 use Rattle.std.proofs.lemmas.Bool.{true≢false, false≢true}
 use Rattle.caf_base.specs.declared.place.Pos.{Pos}
 use Rattle.reader_theory.specs.Words.{Mark, bare, Shallow, found}
@@ -21,7 +21,6 @@ use Rattle.statement_reader.specs.Skipping.{groups, begins_equals, assigns_first
 use Rattle.statement_reader.specs.Parts as f
 use Rattle.statement_reader.specs.Parts.{Part, Form, is_of, whole, within, line, formed}
 use Rattle.statement_reader.specs.Forms.{Place, form_reader, first_keys, begins_form, part_reader}
-use Rattle.statement_reader.specs.Laws.{Part_at}
 use Rattle.statement_reader.proofs.Eaten.{by_keys}
 use Rattle.statement_reader.proofs.Forms.{within_out, front_heads}
 use Rattle.statement_reader.proofs.Keywords.{keyword_heads}

@@ -1,5 +1,5 @@
 -- The place of a statement, told from its end.
-use Rattle.std.proofs.Common.{◌≡◌, ℕ, zero, suc, ◌+◌, ◌-◌, ◌≤◌, min, max, Bool, true, false, cond, List, [], ◌∷◌, ◌++◌, length, Option, Some, None, refl, ap, sym, ◌∙◌, subst, arith}
+use Rattle.std.proofs.Common.{◌≡◌, ℕ, zero, suc, ◌+◌, ◌-◌, ◌≤◌, min, max, Bool, true, false, cond, List, [], ◌∷◌, length, Option, Some, None, refl, ap, ◌∙◌, subst, arith}
 use Rattle.std.proofs.lemmas.List.{length-append}
 use Rattle.reader_theory.specs.Words.{bare, expected, too_deep, Verdict, found, fault}
 use Rattle.reader_theory.specs.Limits.{place_by, nearer, shifted}
@@ -13,7 +13,7 @@ use Rattle.statement_reader.proofs.Places.{exact_part}
 use Rattle.program_reader.specs.Sequence.{State, allowed, action_forms}
 use Rattle.refusal_reasons.specs.Reasons.{levels_at, place_at}
 use Rattle.refusal_reasons.specs.Statements.{one_statement, form_goes, place_from, form_place, earlier, earliest, action_place, statement_place, before}
-use Rattle.refusal_reasons.proofs.Behind.{form_before, nearest_form, action_before, statement_before}
+use Rattle.refusal_reasons.proofs.Behind.{form_before, nearest_form, action_before}
 use Rattle.refusal_reasons.proofs.Left.{placed, reader_left, place_by_left}
 
 -- no answer leaves more than there was

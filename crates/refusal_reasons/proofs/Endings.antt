@@ -1,10 +1,9 @@
 -- Each part but the condition of a one-line IF ends its statement.
-use Rattle.std.proofs.Common.{◌≡◌, ℕ, zero, suc, Bool, true, false, cond, ◌&&◌, List, [], ◌∷◌, ◌++◌, Option, Some, None, inl, inr, refl, ap, sym, ◌∙◌, subst, append_assoc}
+use Rattle.std.proofs.Common.{◌≡◌, ℕ, zero, suc, Bool, true, false, cond, ◌&&◌, List, [], ◌∷◌, ◌++◌, inl, inr, refl, ap, sym, ◌∙◌, subst, append_assoc}
 use Rattle.std.proofs.lemmas.Bool.{cases_Bool, and_parts, false≢true, true≢false}
 use Rattle.reader_theory.specs.Words.{Mark, bare, found}
 use Rattle.reader_theory.specs.Exactness.{Finds, Tells}
 use Rattle.reader_theory.proofs.Marks.{bare_append}
-use Rattle.fortran_tree.specs.Units as u
 use Rattle.fortran_grammar.specs.Tokens.{Token}
 use Rattle.fortran_grammar.specs.Phrases as p
 use Rattle.fortran_grammar.specs.Phrases.{Phrase, Words, ◌▸◌, ◌∪◌}

@@ -1,5 +1,5 @@
 -- The reason of a whole file's refusal.
-use Rattle.std.proofs.Common.{◌≡◌, ℕ, List, [], ◌∷◌, ◌++◌, length, Option, Some, None, refl, ap, sym, ◌∙◌, subst, arith, append_assoc}
+use Rattle.std.proofs.Common.{◌≡◌, ℕ, List, [], ◌∷◌, ◌++◌, length, Option, Some, None, refl, ap, sym, ◌∙◌, subst, append_assoc}
 use Rattle.reader_theory.specs.Words.{Mark, bare, Shallow, Cause}
 use Rattle.reader_theory.specs.Refusals.{Refused}
 use Rattle.reader_theory.specs.Limits.{SinksAt, FirstSunk, RefusedFor, reason, shifted}

@@ -1,11 +1,10 @@
 -- Behind whole statements that are read, each word that begins with their tokens, whatever its levels, has these statements first: so what is behind them tells which tokens are too deep.
-use Rattle.std.proofs.Common.{◌≡◌, ℕ, zero, suc, ◌+◌, ◌<◌, ◌≤◌, Bool, true, false, List, [], ◌∷◌, ◌++◌, length, Option, Some, None, inl, inr, refl, ap, sym, ◌∙◌, subst, arith, append_assoc, append-nil}
+use Rattle.std.proofs.Common.{◌≡◌, ℕ, zero, suc, ◌+◌, ◌≤◌, true, List, [], ◌∷◌, ◌++◌, length, Option, Some, None, inl, inr, refl, ap, sym, ◌∙◌, subst, arith, append_assoc}
 use Rattle.std.proofs.lemmas.Bool.{false≢true, true≢false}
 use Rattle.std.proofs.lemmas.List.{append_cancel_right, length-append}
-use Rattle.reader_theory.specs.Words.{Mark, bare, Shallow, found}
+use Rattle.reader_theory.specs.Words.{Mark, bare, Shallow}
 use Rattle.reader_theory.specs.Levels.{ShallowFor, Moved}
 use Rattle.reader_theory.specs.Limits.{SinksAt, FirstSunk, shifted}
-use Rattle.reader_theory.specs.Exactness.{judge}
 use Rattle.reader_theory.specs.Texts.{AnyOf}
 use Rattle.reader_theory.proofs.Marks.{bare_append, bare_length, shallow_append, shallow_front, shallow_back, regroup, never_stops, judge_all, judge_found}
 use Rattle.fortran_grammar.specs.Tokens.{Token}
@@ -56,8 +55,8 @@ module _ (limit : ℕ) where
       let mu = part_moved limit far i s.conditions (length s.blocks) (length u) b u h (λ z. omega arith) in
       let mv = part_moved limit far j s.conditions (length s.blocks) (length v) c v k (λ z. omega arith) in
       let is = same_form far s b c mu.moved mv.moved x y (continues_moved far (next s b) x rx) (continues_moved far (next s c) y ry)
-          (moved_shallow (Words (formed i s.conditions b) far (length s.blocks)) u mu) (moved_shallow (Words (formed j s.conditions c) far (length s.blocks)) v mv)
-          (ap (λ z. z ++ x) mu.same ∙ (same ∙ ap (λ z. z ++ y) (sym mv.same))) i j m n mu.is_word mv.is_word in
+      (moved_shallow (Words (formed i s.conditions b) far (length s.blocks)) u mu) (moved_shallow (Words (formed j s.conditions c) far (length s.blocks)) v mv)
+      (ap (λ z. z ++ x) mu.same ∙ (same ∙ ap (λ z. z ++ y) (sym mv.same))) i j m n mu.is_word mv.is_word in
       let first = (exact_part limit (placed s i)).given b u x h (never_stops x) ∙ judge_all b u x sh in
       let second = (exact_part limit (placed s i)).given c v y (subst (λ z. Words (formed z s.conditions c) limit (length s.blocks) v) (sym is) k) (never_stops y) in
       let o = judge_found v c b y x (sym second ∙ (ap (part_reader limit (placed s i)) (sym same) ∙ first)) in
@@ -100,7 +99,7 @@ module _ (limit : ℕ) where
   same_parts (b ∷ es) (c ∷ fs) s w all r (u, v, hb, hr, split) sh z (i, j, hc, k, cut) e =
       let flat = subst Shallow split sh in
       let o = one_part s b c u i (bare v ++ r) (bare j) hb hc (shallow_front u v flat) (goes_on (next s b) es v r hr z) (follows (next s c) fs j k)
-          (regroup u v r ∙ (ap (λ y. bare y ++ r) (sym split) ∙ (sym e ∙ (ap bare cut ∙ bare_append i j)))) in
+      (regroup u v r ∙ (ap (λ y. bare y ++ r) (sym split) ∙ (sym e ∙ (ap bare cut ∙ bare_append i j)))) in
       let m = same_parts es fs (next s b) v j r hr (shallow_back u v flat) z (subst (λ d. Rest_of_file limit (next s d) fs j) (sym o.same_part) k) (sym o.same_rest) in
       record {
         left = m.left;
@@ -136,8 +135,7 @@ module _ (limit : ℕ) (s : State) (es : List Part) (w : List (Mark Token)) (us 
   sinks_back d (fs, f, g, v, m, word, here, flat, deep, l) =
       let c = same_parts limit es fs s w ((f ++ m ∷ g) ++ v) (us ++ bare v) h sh z word (bare_append (f ++ m ∷ g) v ∙ (ap (λ y. y ++ bare v) (sym here) ∙ append_assoc (bare w) us (bare v))) in
       let k = deep_behind f (g ++ v) c.word c.rest m (sym (append_assoc f (m ∷ g) v) ∙ c.splits) c.shallow deep in
-      let split : bare w ++ us ≡ bare w ++ bare (k.0 ++ m ∷ g) = here ∙ (ap (λ y. bare (y ++ m ∷ g)) k.1 ∙ (ap bare (append_assoc c.word k.0 (m ∷ g)) ∙ (bare_append c.word (k.0 ++ m ∷ g) ∙ ap (λ y. y ++ bare (k.0 ++ m ∷ g)) c.same))) in
-      (
+      let split : bare w ++ us ≡ bare w ++ bare (k.0 ++ m ∷ g) = here ∙ (ap (λ y. bare (y ++ m ∷ g)) k.1 ∙ (ap bare (append_assoc c.word k.0 (m ∷ g)) ∙ (bare_append c.word (k.0 ++ m ∷ g) ∙ ap (λ y. y ++ bare (k.0 ++ m ∷ g)) c.same))) in (
         length k.0,
         (let size = ap length k.1 ∙ length-append c.word k.0 in let same = sym (bare_length c.word) ∙ (ap length c.same ∙ bare_length w) in omega arith),
         (c.left, k.0, g, v, m, subst (λ y. Rest_of_file limit (behind s es) c.left y) (k.2 ∙ sym (append_assoc k.0 (m ∷ g) v)) c.is_rest, cancel_front (bare w) us (bare (k.0 ++ m ∷ g)) split, shallow_back c.word k.0 (subst Shallow k.1 flat), deep, refl),
@@ -145,8 +143,7 @@ module _ (limit : ℕ) (s : State) (es : List Part) (w : List (Mark Token)) (us 
 
   sinks_on : (e : ℕ) → SinksAt (λ fs v. Rest_of_file limit (behind s es) fs v) us e → SinksAt (λ fs v. Rest_of_file limit s fs v) (bare w ++ us) (length w + e)
   sinks_on e (fs, f, g, v, m, word, here, flat, deep, l) =
-      let joins : w ++ ((f ++ m ∷ g) ++ v) ≡ ((w ++ f) ++ m ∷ g) ++ v = sym (append_assoc w (f ++ m ∷ g) v) ∙ ap (λ y. y ++ v) (sym (append_assoc w f (m ∷ g))) in
-      (
+      let joins : w ++ ((f ++ m ∷ g) ++ v) ≡ ((w ++ f) ++ m ∷ g) ++ v = sym (append_assoc w (f ++ m ∷ g) v) ∙ ap (λ y. y ++ v) (sym (append_assoc w f (m ∷ g))) in (
         es ++ fs,
         w ++ f,
         g,

@@ -1,5 +1,5 @@
 -- Where the first token too deep stands in the rest of a file, of all words that begin with some tokens.
-use Rattle.std.proofs.Common.{◌≡◌, ℕ, ◌≤◌, Bool, true, false, List, [], ◌∷◌, ◌++◌, length, Option, Some, None, ap, sym, ◌∙◌, subst, arith}
+use Rattle.std.proofs.Common.{◌≡◌, ℕ, true, false, List, [], ◌++◌, length, ap, ◌∙◌, arith}
 use Rattle.std.proofs.lemmas.List.{length-append}
 use Rattle.reader_theory.specs.Words.{Mark, bare, Verdict, found, fault}
 use Rattle.reader_theory.specs.Refusals.{Answers}

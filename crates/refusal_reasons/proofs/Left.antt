@@ -1,7 +1,7 @@
 -- The place told by the levels that are left.
-use Rattle.std.proofs.Common.{◌≡◌, ℕ, zero, suc, ◌+◌, ◌-◌, ◌<◌, ◌≤◌, Bool, true, false, cond, ◌||◌, List, [], ◌∷◌, ◌++◌, length, nat_lt, codes, Option, Some, None, inl, inr, refl, ap, sym, ◌∙◌, subst, arith}
+use Rattle.std.proofs.Common.{◌≡◌, ℕ, zero, suc, ◌+◌, ◌-◌, ◌≤◌, true, cond, ◌||◌, List, [], ◌∷◌, length, nat_lt, codes, Some, None, inl, inr, refl, ap, sym, ◌∙◌, subst, arith}
 use Rattle.std.proofs.lemmas.Bool.{cases_Bool, false≢true, true≢false, le-ltb, ltb-true, ltb-false}
-use Rattle.reader_theory.specs.Words.{Mark, bare, Shallow, expected, too_deep, Verdict, found, fault}
+use Rattle.reader_theory.specs.Words.{Mark, Shallow, expected, too_deep, Verdict, found, fault}
 use Rattle.reader_theory.specs.Limits.{place_by, nearer, shifted}
 use Rattle.reader_theory.specs.Readers.{sunk}
 use Rattle.fortran_grammar.specs.Tokens.{Token}
@@ -18,7 +18,7 @@ use Rattle.reader_theory.proofs.Marks.{bare_length}
 use Rattle.program_reader.specs.Sequence.{State, placed_at, allowed, action_forms}
 use Rattle.refusal_reasons.specs.Reasons.{through, levels_before, place_at}
 use Rattle.refusal_reasons.specs.Statements.{one_statement}
-use Rattle.refusal_reasons.proofs.Behind.{actions_behind, one_goes, action_goes, statement_goes, nearest, place_behind, place_in, form_before, nearest_form, action_before, statement_before}
+use Rattle.refusal_reasons.proofs.Behind.{one_goes, action_goes, statement_goes, nearest, place_behind, place_in, form_before, nearest_form, action_before, statement_before}
 use Rattle.refusal_reasons.specs.Statements.{forms_go, action_goes_on, form_goes}
 use Rattle.refusal_reasons.proofs.Through.{shorter}
 use Rattle.refusal_reasons.proofs.Endings.{found_there, is_condition, left_of_statement}

@@ -1,13 +1,13 @@
 -- Whether the rest of a file goes through some tokens, told form by form, is what the best of the forms' answers says.
-use Rattle.std.proofs.Common.{◌≡◌, ℕ, zero, suc, ◌<◌, ◌≤◌, Bool, true, false, cond, ◌||◌, List, [], ◌∷◌, ◌++◌, length, nat_lt, refl, ap, sym, ◌∙◌, subst, arith}
-use Rattle.std.proofs.lemmas.Bool.{cases_Bool, ltb-true, ltb-false}
+use Rattle.std.proofs.Common.{◌≡◌, ℕ, zero, suc, ◌≤◌, Bool, true, false, cond, ◌||◌, List, [], ◌∷◌, ◌++◌, length, nat_lt, refl, ap, sym, ◌∙◌, subst, arith}
+use Rattle.std.proofs.lemmas.Bool.{ltb-true, ltb-false}
 use Rattle.std.proofs.lemmas.List.{length-append}
-use Rattle.reader_theory.specs.Words.{Mark, bare, Cause, Verdict, found, fault}
-use Rattle.reader_theory.specs.Refusals.{Answers, Refused}
+use Rattle.reader_theory.specs.Words.{bare, Cause, Verdict, found, fault}
+use Rattle.reader_theory.specs.Refusals.{Answers}
 use Rattle.reader_theory.specs.Limits.{is_empty, goes_through}
-use Rattle.reader_theory.specs.Readers.{joined, then_by, more_of, ended, best, worse, further}
+use Rattle.reader_theory.specs.Readers.{joined, then_by, more_of, ended, best, worse}
 use Rattle.reader_theory.specs.Exactness.{Tells}
-use Rattle.reader_theory.specs.Texts.{one_form, tries, tries_or_end, from_here}
+use Rattle.reader_theory.specs.Texts.{one_form, tries, tries_or_end}
 use Rattle.fortran_grammar.specs.Tokens.{Token}
 use Rattle.statement_reader.specs.Parts.{Part}
 use Rattle.statement_reader.specs.Forms.{Place, part_reader}

@@ -4,7 +4,6 @@ use Rattle.reader_theory.specs.Words.{Verdict, found, fault}
 use Rattle.reader_theory.specs.Limits.{is_empty}
 use Rattle.reader_theory.specs.Texts.{place_here}
 use Rattle.fortran_grammar.specs.Tokens.{Token}
-use Rattle.statement_reader.specs.Parts as f
 use Rattle.statement_reader.specs.Parts.{Part}
 use Rattle.statement_reader.specs.Forms.{Place, part_reader}
 use Rattle.program_reader.specs.Sequence.{State, forms, next}
