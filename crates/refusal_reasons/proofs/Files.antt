@@ -49,7 +49,7 @@ module _ (limit : ℕ) where
       let place = statement_place left (allowed s) front in
       let all : levels_at s + left ≡ limit = omega arith in
       let size : length w + length front ≡ length ts - length rest =
-          (let i = ap length split ∙ length-append (bare w) (us ++ x ∷ rest) in let j = length-append us (x ∷ rest) in let k = length-append us (x ∷ []) in let l = bare_length w in omega arith) in
+      (let i = ap length split ∙ length-append (bare w) (us ++ x ∷ rest) in let j = length-append us (x ∷ rest) in let k = length-append us (x ∷ []) in let l = bare_length w in omega arith) in
       let same : shifted (length w) (place_at limit s front) ≡ before (length ts - length rest) place =
-          ap (shifted (length w)) (place_from_end limit left s front one all) ∙ (shifted_from (length w) (length front) place (place_within left (allowed s) front) ∙ ap (λ n. before n place) size) in
+      ap (shifted (length w)) (place_from_end limit left s front one all) ∙ (shifted_from (length w) (length front) place (place_within left (allowed s) front) ∙ ap (λ n. before n place) size) in
       subst (λ o. RefusedFor (Programs limit) ts (reason o) (x ∷ rest)) same (told_by_last es w ts us c x rest h sh z split r)
