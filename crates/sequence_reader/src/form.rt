@@ -1,0 +1,106 @@
+//! The forms of parts, each with its reader.
+
+ghost use Rattle.expr_reader.specs.Results.{Gives};
+ghost use Rattle.expr_reader.specs.Words.{tokens_of};
+ghost use Rattle.statement_reader.specs.Forms as forms;
+ghost use Rattle.part_reader.specs.Views as parts;
+ghost use Rattle.sequence_reader.specs.Views as view;
+
+use expr_reader::error::ReadError;
+use expr_reader::word::Word;
+use part_reader::act::assignment;
+use part_reader::choice::case;
+use part_reader::ending::{
+    contains, end_critical, end_do, end_function, end_if, end_program, end_select, end_subroutine,
+    implicit_none, otherwise, program,
+};
+use part_reader::head::{condition, else_if, if_then, select_case};
+use part_reader::part::Part;
+use part_reader::team::{critical, end_team};
+use part_reader::unit::{subroutine, usage};
+use std::alloc::Global;
+
+/// A form of parts: statements that are spelled alike.
+#[derive(Clone, Copy)]
+pub enum Form {
+    Program,
+    Use,
+    Implicit,
+    Declaration,
+    Assignment,
+    /// An action that begins with a keyword.
+    Keyword,
+    /// IF with its condition, before an action.
+    Condition,
+    IfThen,
+    ElseIf,
+    Else,
+    EndIf,
+    Do,
+    /// DO behind the name of its construct.
+    NamedDo,
+    EndDo,
+    Select,
+    Case,
+    EndSelect,
+    Critical,
+    EndCritical,
+    Team,
+    EndTeam,
+    Contains,
+    Subroutine,
+    Function,
+    EndSubroutine,
+    EndFunction,
+    EndProgram,
+}
+
+/// A statement of a form that stands between constructs.
+fn read_plain<'a>(
+    form: Form,
+    alloc: Global,
+    words: &'a [Word],
+    left: u32,
+) -> Result<(Part, &'a [Word]), ReadError>
+    ensures { Gives (λ r. (parts.part r.0, tokens_of r.1.now)) result (forms.form_reader (view.form form) left (tokens_of words.now)) }
+{
+    match form {
+        Form::Program => program(words),
+        Form::Use => usage(alloc, words, left),
+        Form::Implicit => implicit_none(words),
+        Form::Assignment => assignment(alloc, words, left),
+        Form::Contains => contains(words),
+        Form::Subroutine => subroutine(alloc, words, left),
+        Form::EndSubroutine => end_subroutine(words),
+        Form::EndFunction => end_function(words),
+        Form::EndProgram => end_program(words),
+        _ => Err(ReadError::Memory),
+    }
+}
+
+/// A part of this form, where so many levels may still be opened. Declarations, actions that begin with a keyword, DO, CHANGE TEAM and FUNCTION
+/// aren't read yet: there is no memory for them.
+pub fn read_form<'a>(
+    form: Form,
+    alloc: Global,
+    words: &'a [Word],
+    left: u32,
+) -> Result<(Part, &'a [Word]), ReadError>
+    ensures { Gives (λ r. (parts.part r.0, tokens_of r.1.now)) result (forms.form_reader (view.form form) left (tokens_of words.now)) }
+{
+    match form {
+        Form::Condition => condition(alloc, words, left),
+        Form::IfThen => if_then(alloc, words, left),
+        Form::ElseIf => else_if(alloc, words, left),
+        Form::Else => otherwise(words),
+        Form::EndIf => end_if(words),
+        Form::EndDo => end_do(words),
+        Form::Select => select_case(alloc, words, left),
+        Form::Case => case(alloc, words, left),
+        Form::EndSelect => end_select(words),
+        Form::Critical => critical(alloc, words, left),
+        Form::EndCritical => end_critical(words),
+        Form::EndTeam => end_team(alloc, words, left),
+        _ => read_plain(form, alloc, words, left),
+    }
+}

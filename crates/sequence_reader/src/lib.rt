@@ -1,0 +1,7 @@
+//! The parts of a whole file read from its words, one behind the other (ISO/IEC 1539-1:2018, 5.1 and clause 11).
+//! It stands on `part_reader`, whose functions read a part of each form, and on `program_reader`, whose specs/Sequence says which forms a place
+//! allows and which place stands behind a part.
+#![tactic(auto)]
+
+pub mod form;
+pub mod state;
