@@ -1,5 +1,5 @@
 -- A form more at a place.
-use Rattle.std.proofs.Common.{◌≡◌, ℕ, zero, suc, ◌+◌, ◌-◌, ◌<◌, ◌≤◌, Bool, true, false, cond, nat_lt, List, [], ◌∷◌, ◌++◌, map, reverse, take, length, Option, Some, None, ◌⊎◌, inl, inr, refl, ap, sym, ◌∙◌, subst, arith}
+use Rattle.std.proofs.Common.{◌≡◌, ℕ, zero, suc, ◌+◌, ◌-◌, ◌<◌, ◌≤◌, Bool, true, false, cond, nat_lt, List, [], ◌∷◌, ◌++◌, map, reverse, take, get_or, length, Option, Some, None, ◌⊎◌, inl, inr, refl, ap, sym, ◌∙◌, subst, arith}
 use Rattle.std.proofs.lemmas.Bool.{le-ltb}
 use Rattle.std.proofs.lemmas.List.{length-append, length-reverse}
 use Rattle.reader_theory.specs.Words.{Cause, expected, Verdict, found, fault}
@@ -8,6 +8,9 @@ use Rattle.fortran_grammar.specs.Tokens.{Token}
 use Rattle.expr_reader.specs.Tests.{is_word}
 use Rattle.expr_reader.specs.Results.{cause_of}
 use Rattle.expr_reader.specs.declared.error.Stop.{Stop}
+use Rattle.expr_reader.specs.declared.error.Cause.TheVariants as causes
+use Rattle.expr_reader.specs.declared.word.Word.{Word}
+use Rattle.expr_reader.specs.Words.{tokens_of}
 use Rattle.statement_reader.specs.Parts as f
 use Rattle.statement_reader.specs.Parts.{Part, Form, is_of}
 use Rattle.statement_reader.specs.Forms.{form_reader, begins_form, part_reader}
@@ -15,7 +18,8 @@ use Rattle.action_reader.specs.Beginnings.{begins}
 use Rattle.program_reader.specs.Sequence.{State, allowed, next}
 use Rattle.sequence_reader.specs.declared.state.Construct.{Construct}
 use Rattle.sequence_reader.specs.declared.state.State.{State as Held}
-use Rattle.sequence_reader.specs.Views.{construct, blocks, state}
+use Rattle.sequence_reader.specs.declared.form.Form.{Form as HeldForm}
+use Rattle.sequence_reader.specs.Views.{construct, blocks, state, form}
 use Rattle.sequence_reader.specs.Answers.{Answer, read, stopped, stop_of, better, placed, goes, follow, gathered, value, Among, Came, Comes, Enough, Tries, depth}
 use Rattle.sequence_reader.proofs.Better.{better_grouped, better_turned}
 use Rattle.sequence_reader.proofs.Gathering.{shorter, gathered_more}
@@ -31,6 +35,10 @@ open_depth h = ap (λ n. h.conditions + n) (mapped_length (reverse h.blocks.item
 -- where not too many levels are open a form is read with those that are left
 shallow_reader : (s : State) (i : Form) (ts : List Token) → depth s ≤ 64 → part_reader 64 (placed s i) ts ≡ form_reader i (64 - depth s) ts
 shallow_reader s i ts h = ap (λ b. cond b (sunk (begins_form i)) (form_reader i (64 - depth s)) ts) (le-ltb 64 (depth s) h)
+
+tokens_length : (ws : List Word) → length (tokens_of ws) ≡ length ws
+tokens_length [] = refl
+tokens_length (x ∷ ws) = ap suc (tokens_length ws)
 
 pub reads_here : (h : Held) (i : Form) (ts : List Token) → h.conditions + length h.blocks.items ≤ 64 → part_reader 64 (placed (state h) i) ts ≡ form_reader i (64 - (h.conditions + length h.blocks.items)) ts
 reads_here h i ts l = shallow_reader (state h) i ts (subst (λ n. n ≤ 64) (sym (open_depth h)) l) ∙ ap (λ n. form_reader i (64 - n) ts) (open_depth h)
@@ -63,43 +71,43 @@ module _ {X : Type 0} (look : X → Part × List Token) (s : State) (ts : List T
   stops_too was e stop new r h l k c = record { came = c; makes = λ n _. more_fault n was e stop new (ap (follow 64 n s) h ∙ ap (stopped (cause_of stop.cause)) l) k }
 
   -- a condition before what is no word
-  pub stops_behind : (was : Option X) (e stop new : Stop) (b : Part) (r : List Token) → part_reader 64 (placed s i) ts ≡ found b r → is_of f.condition_form b ≡ true → begins is_word r ≡ false → stop_of stop ≡ stopped expected (length r) → stop_of new ≡ better (stop_of e) (stop_of stop) → Comes look 64 s ts was
+  pub stops_behind : (was : Option X) (e new : Stop) (b : Part) (ws : List Word) → part_reader 64 (placed s i) ts ≡ found b (tokens_of ws) → is_of f.condition_form b ≡ true → begins is_word (tokens_of ws) ≡ false → stop_of new ≡ better (stop_of e) (stopped expected (length ws)) → Comes look 64 s ts was
       → Tries look 64 s ts (λ n. better (value look 64 n s was e) (answer n)) was new
-  stops_behind was e stop new b r h is_c un same k c = record {
+  stops_behind was e new b ws h is_c un k c = record {
     came = c;
-    makes = λ n l. let short = shorter 64 (placed s i) ts b r h in
-        more_fault n was e stop new (ap (follow 64 n s) h ∙ (condition_stops 64 n s b r is_c un (omega arith) ∙ sym same)) k;
+    makes = λ n l. let short = shorter 64 (placed s i) ts b (tokens_of ws) h in
+        more_fault n was e (record { cause = causes.Expected; left = length ws }) new (ap (follow 64 n s) h ∙ (condition_stops 64 n s b (tokens_of ws) is_c un (omega arith) ∙ ap (stopped expected) (tokens_length ws))) k;
   }
 
   -- a form that reads a part: the first one
-  pub first_read : (x : X) (e : Stop) → Among i (allowed s) → part_reader 64 (placed s i) ts ≡ found (look x).0 (look x).1 → (is_of f.condition_form (look x).0 ≡ true → begins is_word (look x).1 ≡ true)
-      → Tries look 64 s ts (λ n. better (value look 64 n s None e) (answer n)) (Some x) e
-  first_read x e m h w = record {
+  pub first_read : (was : Option X) (x : X) (e : Stop) → was ≡ None → Among i (allowed s) → part_reader 64 (placed s i) ts ≡ found (look x).0 (look x).1 → (is_of f.condition_form (look x).0 ≡ true → begins is_word (look x).1 ≡ true)
+      → Tries look 64 s ts (λ n. better (value look 64 n s was e) (answer n)) (Some x) e
+  first_read was x e none m h w = subst (λ z. Tries look 64 s ts (λ n. better (value look 64 n s z e) (answer n)) (Some x) e) (sym none) (record {
     came = record { form = i; may = m; reads = h; word = w };
     makes = λ n _. sym (ap (better (stop_of e)) (ap (follow 64 n s) h) ∙ better_turned (cause_of e.cause) e.left (goes 64 n s (look x).0 (look x).1));
-  }
+  })
 
   -- behind the condition of a one-line IF, whose place it takes
-  pub other_read : (o x : X) (e : Stop) → Among i (allowed s) → part_reader 64 (placed s i) ts ≡ found (look x).0 (look x).1 → (is_of f.condition_form (look x).0 ≡ true → begins is_word (look x).1 ≡ true) → Came 64 s ts (look o).0 (look o).1 → is_of f.condition_form (look o).0 ≡ true
-      → Tries look 64 s ts (λ n. better (value look 64 n s (Some o) e) (answer n)) (Some x) e
-  other_read o x e m h w c is_c = record {
+  pub other_read : (was : Option X) (o x : X) (e : Stop) → was ≡ Some o → Among i (allowed s) → part_reader 64 (placed s i) ts ≡ found (look x).0 (look x).1 → (is_of f.condition_form (look x).0 ≡ true → begins is_word (look x).1 ≡ true) → Comes look 64 s ts was → is_of f.condition_form (look o).0 ≡ true
+      → Tries look 64 s ts (λ n. better (value look 64 n s was e) (answer n)) (Some x) e
+  other_read was o x e same m h w c is_c = subst (λ z. Tries look 64 s ts (λ n. better (value look 64 n s z e) (answer n)) (Some x) e) (sym same) (record {
     came = record { form = i; may = m; reads = h; word = w };
     makes = λ n l. sym (
         ap (better (better (goes 64 n s (look o).0 (look o).1) (stop_of e))) (ap (follow 64 n s) h)
         ∙ (swapped (goes 64 n s (look o).0 (look o).1) (goes 64 n s (look x).0 (look x).1) e
-        ∙ ap (λ v. better v (stop_of e)) (second_taken 64 n s ts l (look o).0 (look x).0 (look o).1 (look x).1 c (record { form = i; may = m; reads = h; word = w }) is_c)));
-  }
+        ∙ ap (λ v. better v (stop_of e)) (second_taken 64 n s ts l (look o).0 (look x).0 (look o).1 (look x).1 (subst (Comes look 64 s ts) same c) (record { form = i; may = m; reads = h; word = w }) is_c)));
+  })
 
   -- behind another part, which stays
-  pub also_read : (o : X) (e : Stop) (b : Part) (r : List Token) → Among i (allowed s) → part_reader 64 (placed s i) ts ≡ found b r → (is_of f.condition_form b ≡ true → begins is_word r ≡ true) → Came 64 s ts (look o).0 (look o).1 → is_of f.condition_form (look o).0 ≡ false
-      → Tries look 64 s ts (λ n. better (value look 64 n s (Some o) e) (answer n)) (Some o) e
-  also_read o e b r m h w c un = record {
-    came = c;
+  pub also_read : (was : Option X) (o : X) (e : Stop) (b : Part) (r : List Token) → was ≡ Some o → Among i (allowed s) → part_reader 64 (placed s i) ts ≡ found b r → (is_of f.condition_form b ≡ true → begins is_word r ≡ true) → Comes look 64 s ts was → is_of f.condition_form (look o).0 ≡ false
+      → Tries look 64 s ts (λ n. better (value look 64 n s was e) (answer n)) (Some o) e
+  also_read was o e b r same m h w c un = subst (λ z. Tries look 64 s ts (λ n. better (value look 64 n s z e) (answer n)) (Some o) e) (sym same) (record {
+    came = subst (Comes look 64 s ts) same c;
     makes = λ n l. sym (
         ap (better (better (goes 64 n s (look o).0 (look o).1) (stop_of e))) (ap (follow 64 n s) h)
         ∙ (swapped (goes 64 n s (look o).0 (look o).1) (goes 64 n s b r) e
-        ∙ ap (λ v. better v (stop_of e)) (first_kept 64 n s ts l (look o).0 b (look o).1 r c (record { form = i; may = m; reads = h; word = w }) un)));
-  }
+        ∙ ap (λ v. better v (stop_of e)) (first_kept 64 n s ts l (look o).0 b (look o).1 r (subst (Comes look 64 s ts) same c) (record { form = i; may = m; reads = h; word = w }) un)));
+  })
 
 -- several forms
 pub begun : {X : Type 0} (look : X → Part × List Token) (s : State) (ts : List Token) (was : Option X) (e : Stop) → Comes look 64 s ts was → Tries look 64 s ts (λ n. gathered 64 n s ts (value look 64 n s was e) []) was e
@@ -128,3 +136,14 @@ among_first (k ∷ is) js i (inr m) = inr (among_first is js i m)
 pub among_later : (is js : List Form) (i : Form) → Among i js → Among i (is ++ js)
 among_later [] js i m = m
 among_later (k ∷ is) js i m = inr (among_later is js i m)
+
+-- the forms of a slice
+pub among_at : (xs : List HeldForm) (k : ℕ) (d : HeldForm) → k < length xs → Among (form (get_or xs k d)) (map form xs)
+among_at [] k d h = absurd (omega arith)
+among_at (x ∷ xs) zero d h = inl refl
+among_at (x ∷ xs) (suc k) d h = inr (among_at xs k d (omega arith))
+
+pub forms_more : (xs : List HeldForm) (k : ℕ) (d : HeldForm) → k < length xs → map form (take (suc k) xs) ≡ map form (take k xs) ++ form (get_or xs k d) ∷ []
+forms_more [] k d h = absurd (omega arith)
+forms_more (x ∷ xs) zero d h = refl
+forms_more (x ∷ xs) (suc k) d h = ap (λ is. form x ∷ is) (forms_more xs k d (omega arith))

@@ -4,4 +4,5 @@
 #![tactic(auto)]
 
 pub mod form;
+pub mod place;
 pub mod state;
