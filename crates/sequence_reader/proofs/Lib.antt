@@ -5,3 +5,4 @@ pub mod Gathering
 pub mod Conditions
 pub mod Depths
 pub mod Turns
+pub mod Advances

@@ -36,7 +36,7 @@ open_depth h = ap (λ n. h.conditions + n) (mapped_length (reverse h.blocks.item
 shallow_reader : (s : State) (i : Form) (ts : List Token) → depth s ≤ 64 → part_reader 64 (placed s i) ts ≡ form_reader i (64 - depth s) ts
 shallow_reader s i ts h = ap (λ b. cond b (sunk (begins_form i)) (form_reader i (64 - depth s)) ts) (le-ltb 64 (depth s) h)
 
-tokens_length : (ws : List Word) → length (tokens_of ws) ≡ length ws
+pub tokens_length : (ws : List Word) → length (tokens_of ws) ≡ length ws
 tokens_length [] = refl
 tokens_length (x ∷ ws) = ap suc (tokens_length ws)
 
@@ -147,3 +147,16 @@ pub forms_more : (xs : List HeldForm) (k : ℕ) (d : HeldForm) → k < length xs
 forms_more [] k d h = absurd (omega arith)
 forms_more (x ∷ xs) zero d h = refl
 forms_more (x ∷ xs) (suc k) d h = ap (λ is. form x ∷ is) (forms_more xs k d (omega arith))
+
+-- all forms of a place, in three slices
+pub all_tried : {X : Type 0} (look : X → Part × List Token) (s : State) (ws : List Word) (is js ks every : List Form) (one two three : Option X) (d e g : Stop) → is ++ (js ++ ks) ≡ every
+    → Tries look 64 s (tokens_of ws) (λ n. gathered 64 n s (tokens_of ws) (stopped expected (length ws)) is) one d
+    → Tries look 64 s (tokens_of ws) (λ n. gathered 64 n s (tokens_of ws) (value look 64 n s one d) js) two e
+    → Tries look 64 s (tokens_of ws) (λ n. gathered 64 n s (tokens_of ws) (value look 64 n s two e) ks) three g
+    → Tries look 64 s (tokens_of ws) (λ n. gathered 64 n s (tokens_of ws) (stopped expected (length (tokens_of ws))) every) three g
+all_tried look s ws is js ks every one two three d e g all h k l =
+    let ts = tokens_of ws in
+    let later = several_more look s ts js ks (λ n. value look 64 n s one d) two three e g k l in
+    let whole = several_more look s ts is (js ++ ks) (λ n. stopped expected (length ws)) one three d g h later in
+    subst (λ z. Tries look 64 s ts (λ n. gathered 64 n s ts (stopped expected (length ts)) z) three g) all
+    (subst (λ m. Tries look 64 s ts (λ n. gathered 64 n s ts (stopped expected m) (is ++ (js ++ ks))) three g) (sym (tokens_length ws)) whole)

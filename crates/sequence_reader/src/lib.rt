@@ -5,4 +5,5 @@
 
 pub mod form;
 pub mod place;
+pub mod sequence;
 pub mod state;

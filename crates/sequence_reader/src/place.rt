@@ -205,5 +205,6 @@ pub fn best<'a>(
     };
     let tried = attempts(alloc, state, own, words, tried)?;
     let tried = attempts(alloc, state, early, words, tried)?;
-    attempts(alloc, state, statements, words, tried)
+    let tried = attempts(alloc, state, statements, words, tried)?;
+    Ok(tried)
 }
