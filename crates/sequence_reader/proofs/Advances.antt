@@ -98,11 +98,11 @@ ends_early s bs e new every r t k =
     r.is ∙ (ap (λ z. better (behind_parts bs z) (stop_of e)) (end_answered 64 r.fuel s ∙ ap (λ b. cond b (read []) (stopped expected 0)) t) ∙ (ap (λ z. better z (stop_of e)) (parts_stopped bs expected 0) ∙ (better_turned expected 0 (stop_of e) ∙ sym k)))
 
 -- the answer is the theory's
-found_of : (ts : List Token) (es : List Part) (v : Verdict Token (List Part)) → Answers (λ gs w. Rest_of_file 64 start gs w) ts v → answer_of v ≡ read es → v ≡ found es []
+pub found_of : (ts : List Token) (es : List Part) (v : Verdict Token (List Part)) → Answers (λ gs w. Rest_of_file 64 start gs w) ts v → answer_of v ≡ read es → v ≡ found es []
 found_of ts es (found gs r) h e = ap (λ z. found gs z) h.0 ∙ ap (λ z. found z []) (let k : gs ≡ es = cc in k)
 found_of ts es (fault c r) h e = absurd (cc)
 
-stands_of : (st : Stop) (v : Verdict Token (List Part)) → answer_of v ≡ stop_of st → Stands st v
+pub stands_of : (st : Stop) (v : Verdict Token (List Part)) → answer_of v ≡ stop_of st → Stands st v
 stands_of st (found gs r) e = absurd (cc)
 stands_of st (fault c r) e = (r, ap (λ z. fault z r) (let k : c ≡ cause_of st.cause = cc in k), (let k : length r ≡ st.left = cc in k))
 

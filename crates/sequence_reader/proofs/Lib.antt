@@ -6,3 +6,4 @@ pub mod Conditions
 pub mod Depths
 pub mod Turns
 pub mod Advances
+pub mod Walks

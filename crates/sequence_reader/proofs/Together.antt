@@ -267,6 +267,7 @@ module _ (s : State) where
     where
       apart : (i j : Form) → cls i ≡ cls j → shared i ≡ false → i ≡ j
       apart i j e k = sym (own_class i k) ∙ (e ∙ own_class j (sym (shared_class j) ∙ (ap shared (sym e) ∙ (shared_class i ∙ k))))
+
 -- headings between procedures
 abbrev subroutine_ts : Pos → List Token → List Token
 subroutine_ts at v = record { tok = t.word (codes "subroutine"); at = at } ∷ v

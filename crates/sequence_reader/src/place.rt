@@ -97,13 +97,11 @@ fn attempt<'a>(
     requires depth { state.now.conditions + length state.now.blocks.items ≤ 64 }
     requires may { answers.Among (view.form form) (sequence.allowed (view.state state.now)) }
     requires came { answers.Comes (λ q. (parts.part q.0, tokens_of q.1.now)) 64 (view.state state.now) (tokens_of words.now) before.found }
-    ensures {
-        let s = view.state state.now in
+    ensures { let s = view.state state.now in
         let ts = tokens_of words.now in
         MatchResult result
         (λ t. answers.Tries (λ q. (parts.part q.0, tokens_of q.1.now)) 64 s ts (λ n. answers.better (answers.value (λ q. (parts.part q.0, tokens_of q.1.now)) 64 n s before.entry.found before.entry.fault) (answers.follow 64 n s (forms.part_reader 64 (answers.placed s (view.form form)) ts))) t.found t.fault)
-        (λ e. e ≡ ReadError.Memory)
-    }
+        (λ e. e ≡ ReadError.Memory) }
 {
     let Tried { found, fault } = before;
     let (part, rest) = match read_here(form, alloc, state, words) {
@@ -161,13 +159,11 @@ fn attempts<'a>(
     requires depth { state.now.conditions + length state.now.blocks.items ≤ 64 }
     requires may { answers.Part_of (map view.form forms.now) (sequence.allowed (view.state state.now)) }
     requires came { answers.Comes (λ q. (parts.part q.0, tokens_of q.1.now)) 64 (view.state state.now) (tokens_of words.now) before.found }
-    ensures {
-        let s = view.state state.now in
+    ensures { let s = view.state state.now in
         let ts = tokens_of words.now in
         MatchResult result
         (λ t. answers.Tries (λ q. (parts.part q.0, tokens_of q.1.now)) 64 s ts (λ n. answers.gathered 64 n s ts (answers.value (λ q. (parts.part q.0, tokens_of q.1.now)) 64 n s before.entry.found before.entry.fault) (map view.form forms.now)) t.found t.fault)
-        (λ e. e ≡ ReadError.Memory)
-    }
+        (λ e. e ≡ ReadError.Memory) }
 {
     let mut tried = before;
     for form in forms {
@@ -177,19 +173,13 @@ fn attempts<'a>(
 }
 
 /// Tries the forms that the place allows.
-pub fn best<'a>(
-    alloc: Global,
-    state: &State,
-    words: &'a [Word],
-) -> Result<Tried<'a>, ReadError>
+pub fn best<'a>(alloc: Global, state: &State, words: &'a [Word]) -> Result<Tried<'a>, ReadError>
     requires { state.now.conditions + length state.now.blocks.items ≤ 64 }
-    ensures {
-        let s = view.state state.now in
+    ensures { let s = view.state state.now in
         let ts = tokens_of words.now in
         MatchResult result
         (λ t. answers.Tries (λ q. (parts.part q.0, tokens_of q.1.now)) 64 s ts (λ n. answers.gathered 64 n s ts (answers.stopped expected (length ts)) (sequence.allowed s)) t.found t.fault)
-        (λ e. e ≡ ReadError.Memory)
-    }
+        (λ e. e ≡ ReadError.Memory) }
 {
     let Allowed {
         own,

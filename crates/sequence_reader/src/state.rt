@@ -6,11 +6,11 @@ ghost use Rattle.fortran_tree.specs.UnitViews as units;
 ghost use Rattle.part_reader.specs.Views as parts;
 ghost use Rattle.sequence_reader.specs.Views as view;
 
+use crate::form::Form;
 use caf_base::place::Pos;
 use expr_reader::error::ReadError;
-use part_reader::part::Part;
 use fortran_tree::unit::Heading;
-use crate::form::Form;
+use part_reader::part::Part;
 use std::alloc::Global;
 
 /// How far a program unit has come.
@@ -268,12 +268,7 @@ fn early(stage: Stage) -> &'static [Form]
     ensures { map view.form result.now ++ sequence.statement_forms ≡ sequence.stage_forms (view.stage stage) }
 {
     match stage {
-        Stage::Starting => &[
-            Form::Program,
-            Form::Use,
-            Form::Implicit,
-            Form::Declaration,
-        ],
+        Stage::Starting => &[Form::Program, Form::Use, Form::Implicit, Form::Declaration],
         Stage::InUses => &[Form::Use, Form::Implicit, Form::Declaration],
         Stage::Opening => &[Form::Implicit, Form::Declaration],
         Stage::InDeclarations => &[Form::Declaration],

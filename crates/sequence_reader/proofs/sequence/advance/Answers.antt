@@ -9,6 +9,8 @@ use Rattle.statement_reader.specs.Parts.{Part}
 use Rattle.sequence_reader.specs.Answers as answers
 use Rattle.sequence_reader.specs.Views as view
 use Rattle.sequence_reader.proofs.Advances.{all_stop, one_goes, goes_shorter, goes_fitting, held_more}
+use Rattle.sequence_reader.specs.Halts as halts
+use Rattle.sequence_reader.proofs.Walks.{walk_on}
 use Rattle.sequence_reader.proofs.Turns.{tokens_length, held_depth, depth_held}
 use Rattle.sequence_reader.proofs.sequence.advance.Goals as goal
 
@@ -35,5 +37,13 @@ returns-clause-goes c =
     let s = view.state c.args.progress.now.state in
     let items : c.push.new.self.items ≡ c.args.progress.now.parts.items ++ c.in-Some.part ∷ [] = search rules in
     λ every r. subst (λ z. answers.Reached 64 every z (map held.part c.push.new.self.items) c.further-progress.result (tokens_of c.in-Some.rest.now)) (sym c.in-Ok.ensures)
-        (subst (λ z. answers.Reached 64 every (next s (held.part c.in-Some.part)) z c.further-progress.result (tokens_of c.in-Some.rest.now)) (sym (ap (map held.part) items ∙ held_more c.args.progress.now.parts.items c.in-Some.part))
-        (one_goes seen s c.in_ok-tried.tried.found c.in_ok-tried.tried.fault (map held.part c.args.progress.now.parts.items) c.args.progress.now.fault every c.args.words.now c.further-progress.result (c.in-Some.part, c.in-Some.rest) c.requires.some c.in_ok-tried.ensures r c.in-Some.is c.further-progress.ensures))
+    (subst (λ z. answers.Reached 64 every (next s (held.part c.in-Some.part)) z c.further-progress.result (tokens_of c.in-Some.rest.now)) (sym (ap (map held.part) items ∙ held_more c.args.progress.now.parts.items c.in-Some.part))
+    (one_goes seen s c.in_ok-tried.tried.found c.in_ok-tried.tried.fault (map held.part c.args.progress.now.parts.items) c.args.progress.now.fault every c.args.words.now c.further-progress.result (c.in-Some.part, c.in-Some.rest) c.requires.some c.in_ok-tried.ensures r c.in-Some.is c.further-progress.ensures))
+
+pub returns-clause-walks : goal.returns-clause-walks
+returns-clause-walks c =
+    let s = view.state c.args.progress.now.state in
+    let items : c.push.new.self.items ≡ c.args.progress.now.parts.items ++ c.in-Some.part ∷ [] = search rules in
+    λ every w. subst (λ z. halts.Walked 64 every z (map held.part c.push.new.self.items) (tokens_of c.in-Some.rest.now)) (sym c.in-Ok.ensures)
+    (subst (λ z. halts.Walked 64 every (next s (held.part c.in-Some.part)) z (tokens_of c.in-Some.rest.now)) (sym (ap (map held.part) items ∙ held_more c.args.progress.now.parts.items c.in-Some.part))
+    (walk_on seen every s (map held.part c.args.progress.now.parts.items) (tokens_of c.args.words.now) _ c.in_ok-tried.tried.found c.in_ok-tried.tried.fault (c.in-Some.part, c.in-Some.rest) c.in_ok-tried.ensures c.in-Some.is w))
