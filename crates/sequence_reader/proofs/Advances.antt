@@ -1,6 +1,6 @@
 -- A part more of a file, and its end.
-use Rattle.std.proofs.Common.{◌≡◌, ℕ, zero, suc, ◌+◌, ◌<◌, ◌≤◌, Bool, true, false, cond, List, [], ◌∷◌, ◌++◌, map, length, Option, Some, None, Result, Ok, Err, MatchResult, refl, ap, sym, ◌∙◌, subst, arith, append-nil}
-use Rattle.reader_theory.specs.Words.{Cause, expected, Verdict, found, fault}
+use Rattle.std.proofs.Common.{◌≡◌, ℕ, zero, suc, ◌<◌, ◌≤◌, true, false, cond, List, [], ◌∷◌, ◌++◌, map, length, Option, Some, None, Result, Ok, Err, MatchResult, refl, ap, sym, ◌∙◌, subst, arith, append-nil}
+use Rattle.reader_theory.specs.Words.{expected, Verdict, found, fault}
 use Rattle.reader_theory.specs.Refusals.{Answers}
 use Rattle.fortran_grammar.specs.Tokens.{Token}
 use Rattle.expr_reader.specs.Results.{Gives, Fails, Stands, cause_of}
@@ -10,13 +10,12 @@ use Rattle.expr_reader.specs.declared.error.Cause.TheVariants as causes
 use Rattle.expr_reader.specs.declared.error.ReadError.{ReadError}
 use Rattle.expr_reader.specs.declared.error.ReadError.TheVariants as errors
 use Rattle.expr_reader.specs.declared.word.Word.{Word}
-use Rattle.statement_reader.specs.Parts.{Part, Form}
-use Rattle.statement_reader.specs.Forms.{part_reader}
+use Rattle.statement_reader.specs.Parts.{Part}
 use Rattle.program_reader.specs.Sequence.{State, start, allowed, next, may_end, Rest_of_file, rest_reader}
 use Rattle.program_reader.proofs.Files.{file_answered}
 use Rattle.part_reader.specs.Views as views
 use Rattle.part_reader.specs.declared.part.Part.{Part as Held}
-use Rattle.sequence_reader.specs.Answers.{Answer, read, stopped, answer_of, stop_of, better, behind_part, behind_parts, placed, goes, gathered, value, Came, Comes, Enough, Tries, Reached, Ends, depth}
+use Rattle.sequence_reader.specs.Answers.{Answer, read, stopped, answer_of, stop_of, better, behind_part, behind_parts, placed, gathered, value, Came, Comes, Tries, Reached, Ends, depth}
 use Rattle.sequence_reader.proofs.Better.{better_grouped, better_turned, last_expected, parts_better, parts_more, parts_read, parts_stopped}
 use Rattle.sequence_reader.proofs.Gathering.{shorter, place_gathered, end_answered, rest_within}
 use Rattle.sequence_reader.proofs.Depths.{depth_kept}

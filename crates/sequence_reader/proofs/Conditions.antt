@@ -1,8 +1,8 @@
 -- Behind the condition of a one-line IF an action stands; where IF with THEN is read from the same tokens, none does.
-use Rattle.std.proofs.Common.{◌≡◌, ℕ, zero, suc, ◌+◌, ◌-◌, ◌<◌, ◌≤◌, Bool, true, false, cond, nat_lt, codes, List, [], ◌∷◌, length, ◌⊎◌, inl, inr, refl, ap, sym, ◌∙◌, subst, arith}
+use Rattle.std.proofs.Common.{◌≡◌, ℕ, zero, suc, ◌+◌, ◌-◌, ◌≤◌, Bool, true, false, cond, nat_lt, codes, List, [], ◌∷◌, length, inl, inr, refl, ap, sym, ◌∙◌, subst, arith}
 use Rattle.std.proofs.lemmas.Bool.{cases_Bool, true≢false, false≢true}
 use Rattle.caf_base.specs.declared.place.Pos.{Pos}
-use Rattle.reader_theory.specs.Words.{Mark, Cause, expected, too_deep, Verdict, found, fault}
+use Rattle.reader_theory.specs.Words.{Mark, expected, too_deep, found, fault}
 use Rattle.reader_theory.specs.Readers.{sunk}
 use Rattle.fortran_grammar.specs.Tokens as t
 use Rattle.fortran_grammar.specs.Tokens.{Tok, Token}
@@ -11,15 +11,14 @@ use Rattle.expr_reader.specs.Reading.{tier}
 use Rattle.expr_reader.specs.Tests.{is_word}
 use Rattle.statement_reader.specs.Parts as f
 use Rattle.statement_reader.specs.Parts.{Part, Form, is_of, formed}
-use Rattle.statement_reader.specs.Forms.{Place, form_reader, first_keys, begins_form, part_reader}
+use Rattle.statement_reader.specs.Forms.{form_reader, first_keys, begins_form, part_reader}
 use Rattle.statement_reader.proofs.Eaten.{by_keys}
 use Rattle.action_reader.specs.Beginnings.{begins}
 use Rattle.program_reader.specs.Sequence as q
 use Rattle.program_reader.specs.Sequence.{State, action_forms, allowed, next, rest_reader}
 use Rattle.program_reader.proofs.Steps.{In}
-use Rattle.sequence_reader.specs.Answers.{Answer, read, stopped, answer_of, better, behind_part, placed, goes, follow, gathered, Among, Came}
+use Rattle.sequence_reader.specs.Answers.{Answer, stopped, answer_of, better, behind_part, placed, goes, follow, Among, Came}
 use Rattle.sequence_reader.proofs.Better.{Late, late_stop, late_better, late_part, late_loses, late_loses_first, better_same, Within, part_within}
-use Rattle.sequence_reader.proofs.Together as together
 use Rattle.sequence_reader.proofs.Together.{is_condition, then_behind, found_word, Beside, same, then_first, condition_first, beside}
 use Rattle.sequence_reader.proofs.Gathering.{not_begun, place_gathered, end_answered, rest_within, shorter}
 

@@ -1,5 +1,5 @@
 -- No more levels are open than may be: a part that opens one is read only where one is left.
-use Rattle.std.proofs.Common.{◌≡◌, ℕ, zero, suc, ◌+◌, ◌<◌, ◌≤◌, Bool, true, false, codes, List, [], ◌∷◌, length, ◌⊎◌, inl, inr, refl, ap, sym, ◌∙◌, subst, arith, nat_lt, ltb-true, ltb-false}
+use Rattle.std.proofs.Common.{◌≡◌, ℕ, suc, ◌+◌, ◌<◌, ◌≤◌, Bool, true, false, codes, List, [], ◌∷◌, length, inl, inr, refl, sym, ◌∙◌, arith, nat_lt, ltb-true, ltb-false}
 use Rattle.std.proofs.lemmas.Bool.{cases_Bool, true≢false, false≢true}
 use Rattle.reader_theory.specs.Words.{Mark, Shallow, bare, found}
 use Rattle.fortran_grammar.specs.Tokens.{Token}
@@ -9,11 +9,9 @@ use Rattle.fortran_grammar.specs.ExpressionGrammar as g
 use Rattle.fortran_grammar.specs.ActionGrammar as a
 use Rattle.fortran_grammar.specs.StatementGrammar as c
 use Rattle.caf_base.specs.declared.place.Pos.{Pos}
-use Rattle.fortran_tree.specs.Units as units
 use Rattle.statement_reader.specs.Parts as f
 use Rattle.statement_reader.specs.Parts.{Part, Form, is_of, whole, formed}
-use Rattle.statement_reader.specs.Forms.{Place, part_reader}
-use Rattle.statement_reader.specs.Laws.{Part_at}
+use Rattle.statement_reader.specs.Forms.{part_reader}
 use Rattle.statement_reader.proofs.Beyond.{AllDeep, deep_words}
 use Rattle.statement_reader.proofs.Forms.{within_out}
 use Rattle.program_reader.specs.Sequence as q

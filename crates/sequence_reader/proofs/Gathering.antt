@@ -1,12 +1,12 @@
 -- What a place answers is the better of what its forms answer, one behind the other.
-use Rattle.std.proofs.Common.{◌≡◌, ℕ, zero, suc, ◌+◌, ◌-◌, ◌<◌, ◌≤◌, Bool, true, false, cond, nat_lt, List, [], ◌∷◌, ◌++◌, length, ◌⊎◌, inl, inr, refl, ap, sym, ◌∙◌, subst, arith}
+use Rattle.std.proofs.Common.{◌≡◌, ℕ, zero, suc, ◌≤◌, true, false, cond, List, [], ◌∷◌, ◌++◌, length, inl, inr, refl, ap, sym, ◌∙◌, subst, arith}
 use Rattle.std.proofs.lemmas.Bool.{cases_Bool, true≢false, false≢true}
 use Rattle.std.proofs.lemmas.List.{length-append}
 use Rattle.reader_theory.specs.Words.{Mark, bare, Cause, expected, too_deep, Verdict, found, fault}
 use Rattle.reader_theory.specs.Refusals.{Reads, Refused, Answers}
-use Rattle.reader_theory.specs.Readers.{best, joined, then_by, more_of}
-use Rattle.reader_theory.specs.Exactness.{Heads, Tells}
-use Rattle.reader_theory.specs.Texts.{AnyOf, tries, tries_or_end, from_here, one_form}
+use Rattle.reader_theory.specs.Readers.{then_by, more_of}
+use Rattle.reader_theory.specs.Exactness.{Tells}
+use Rattle.reader_theory.specs.Texts.{tries, tries_or_end, one_form}
 use Rattle.fortran_grammar.specs.Tokens.{Token}
 use Rattle.statement_reader.specs.Parts.{Part, Form}
 use Rattle.statement_reader.specs.Forms.{Place, begins_form, part_reader}
@@ -16,8 +16,8 @@ use Rattle.program_reader.specs.Sequence as q
 use Rattle.program_reader.specs.Sequence.{State, Scope, Open, forms, placed_at, allowed, next, may_end, is_over, allowed_behind, Rest_of_file, rest_reader}
 use Rattle.program_reader.proofs.Files.{part_longer, file_answered}
 use Rattle.program_reader.proofs.Steps.{which}
-use Rattle.sequence_reader.specs.Answers.{Answer, read, stopped, answer_of, better, behind_part, placed, goes, follow, gathered}
-use Rattle.sequence_reader.proofs.Better.{Within, better_grouped, better_turned, first_expected, last_expected, within_better, part_within, answer_best, answer_joined}
+use Rattle.sequence_reader.specs.Answers.{Answer, read, stopped, answer_of, better, placed, follow, gathered}
+use Rattle.sequence_reader.proofs.Better.{Within, better_grouped, first_expected, last_expected, within_better, part_within, answer_best, answer_joined}
 use Rattle.sequence_reader.proofs.Together.{heads_at, found_word}
 
 -- a part has a token

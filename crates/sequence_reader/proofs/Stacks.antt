@@ -1,7 +1,6 @@
 -- Stacks of open constructs: in memory the innermost stands last, in the theory first.
-use Rattle.std.proofs.Common.{◌≡◌, ℕ, ◌+◌, List, [], ◌∷◌, ◌++◌, map, reverse, length, Option, None, Some, refl, ap, sym, ◌∙◌, arith}
+use Rattle.std.proofs.Common.{◌≡◌, List, [], ◌∷◌, ◌++◌, map, length, refl, ap, arith}
 use Rattle.std.proofs.lemmas.List.{reverse-append}
-use Rattle.program_reader.specs.Sequence.{Open, without_first}
 use Rattle.sequence_reader.specs.declared.state.Construct.{Construct}
 use Rattle.sequence_reader.specs.Views.{construct, blocks}
 

@@ -1,11 +1,11 @@
 -- Which forms that a place allows read one text: one at most, but for the condition of a one-line IF beside IF with THEN.
-use Rattle.std.proofs.Common.{◌≡◌, ℕ, zero, suc, ◌+◌, ◌-◌, ◌≤◌, Bool, true, false, cond, codes, List, [], ◌∷◌, ◌++◌, length, Some, ◌⊎◌, inl, inr, refl, ap, sym, ◌∙◌, subst}
+use Rattle.std.proofs.Common.{◌≡◌, ℕ, zero, suc, ◌+◌, Bool, true, false, cond, codes, List, [], ◌∷◌, ◌++◌, length, Some, ◌⊎◌, inl, inr, refl, ap, sym, ◌∙◌, subst}
 use Rattle.std.proofs.lemmas.Bool.{true≢false, false≢true}
 use Rattle.caf_base.specs.declared.place.Pos.{Pos}
-use Rattle.reader_theory.specs.Words.{Mark, bare, Shallow, Cause, expected, too_deep, Verdict, found, fault}
+use Rattle.reader_theory.specs.Words.{Mark, bare, Shallow, found}
 use Rattle.reader_theory.specs.Levels.{mark}
 use Rattle.reader_theory.specs.Exactness.{Heads, Tells, Finds}
-use Rattle.reader_theory.proofs.Marks.{bare_append, regroup}
+use Rattle.reader_theory.proofs.Marks.{regroup}
 use Rattle.fortran_tree.specs.Statements as st
 use Rattle.fortran_tree.specs.declared.unit.Recursion.TheVariants as recursions
 use Rattle.fortran_tree.specs.Units as units

@@ -1,8 +1,8 @@
 -- A form more at a place.
-use Rattle.std.proofs.Common.{◌≡◌, ℕ, zero, suc, ◌+◌, ◌-◌, ◌<◌, ◌≤◌, Bool, true, false, cond, nat_lt, List, [], ◌∷◌, ◌++◌, map, reverse, take, get_or, length, Option, Some, None, ◌⊎◌, inl, inr, refl, ap, sym, ◌∙◌, subst, arith}
+use Rattle.std.proofs.Common.{◌≡◌, ℕ, zero, suc, ◌+◌, ◌-◌, ◌<◌, ◌≤◌, true, false, cond, List, [], ◌∷◌, ◌++◌, map, reverse, take, get_or, length, Option, Some, None, inl, inr, refl, ap, sym, ◌∙◌, subst, arith}
 use Rattle.std.proofs.lemmas.Bool.{le-ltb}
-use Rattle.std.proofs.lemmas.List.{length-append, length-reverse}
-use Rattle.reader_theory.specs.Words.{Cause, expected, Verdict, found, fault}
+use Rattle.std.proofs.lemmas.List.{length-reverse}
+use Rattle.reader_theory.specs.Words.{expected, found, fault}
 use Rattle.reader_theory.specs.Readers.{sunk}
 use Rattle.fortran_grammar.specs.Tokens.{Token}
 use Rattle.expr_reader.specs.Tests.{is_word}
@@ -15,15 +15,15 @@ use Rattle.statement_reader.specs.Parts as f
 use Rattle.statement_reader.specs.Parts.{Part, Form, is_of}
 use Rattle.statement_reader.specs.Forms.{form_reader, begins_form, part_reader}
 use Rattle.action_reader.specs.Beginnings.{begins}
-use Rattle.program_reader.specs.Sequence.{State, allowed, next}
+use Rattle.program_reader.specs.Sequence.{State, allowed}
 use Rattle.sequence_reader.specs.declared.state.Construct.{Construct}
 use Rattle.sequence_reader.specs.declared.state.State.{State as Held}
 use Rattle.sequence_reader.specs.declared.form.Form.{Form as HeldForm}
-use Rattle.sequence_reader.specs.Views.{construct, blocks, state, form}
-use Rattle.sequence_reader.specs.Answers.{Answer, read, stopped, stop_of, better, placed, goes, follow, gathered, value, Among, Came, Comes, Enough, Tries, depth}
+use Rattle.sequence_reader.specs.Views.{construct, state, form}
+use Rattle.sequence_reader.specs.Answers.{Answer, stopped, stop_of, better, placed, goes, follow, gathered, value, Among, Comes, Tries, depth}
 use Rattle.sequence_reader.proofs.Better.{better_grouped, better_turned}
 use Rattle.sequence_reader.proofs.Gathering.{shorter, gathered_more}
-use Rattle.sequence_reader.proofs.Conditions.{condition_stops, first_kept, second_taken, has_form}
+use Rattle.sequence_reader.proofs.Conditions.{condition_stops, first_kept, second_taken}
 
 mapped_length : (os : List Construct) → length (map construct os) ≡ length os
 mapped_length [] = refl

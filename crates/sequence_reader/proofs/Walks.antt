@@ -1,23 +1,23 @@
 -- The parts read so far are the words of the text up to their place.
-use Rattle.std.proofs.Common.{◌≡◌, ℕ, zero, suc, ◌+◌, ◌≤◌, Bool, true, false, List, [], ◌∷◌, ◌++◌, length, Option, Some, None, Result, Ok, Err, MatchResult, ◌⊎◌, inl, inr, refl, ap, sym, ◌∙◌, subst, arith, append_assoc, append-nil}
+use Rattle.std.proofs.Common.{◌≡◌, ℕ, false, List, [], ◌∷◌, ◌++◌, length, Option, Some, Result, Ok, Err, MatchResult, inl, inr, refl, ap, sym, ◌∙◌, subst, arith, append_assoc, append-nil}
 use Rattle.caf_base.specs.declared.place.Pos.{Pos}
-use Rattle.reader_theory.specs.Words.{Mark, bare, Shallow, found}
+use Rattle.reader_theory.specs.Words.{Mark, bare, found}
 use Rattle.reader_theory.specs.Texts.{AnyOf}
-use Rattle.reader_theory.proofs.Marks.{bare_append, shallow_append, regroup}
+use Rattle.reader_theory.proofs.Marks.{shallow_append, regroup}
 use Rattle.fortran_grammar.specs.Tokens.{Token}
 use Rattle.fortran_grammar.specs.Phrases.{Words}
-use Rattle.expr_reader.specs.Results.{Fails, Stands}
+use Rattle.expr_reader.specs.Results.{Fails}
 use Rattle.expr_reader.specs.declared.error.Stop.{Stop}
 use Rattle.expr_reader.specs.declared.error.ReadError.{ReadError}
 use Rattle.expr_reader.specs.declared.error.ReadError.TheVariants as errors
 use Rattle.statement_reader.specs.Parts.{Part, Form, formed}
 use Rattle.statement_reader.specs.Laws.{Part_at}
-use Rattle.program_reader.specs.Sequence.{State, start, forms, placed_at, allowed, next, may_end, rest_reader}
+use Rattle.program_reader.specs.Sequence.{State, start, forms, placed_at, allowed, next, may_end}
 use Rattle.program_reader.specs.Unfinished.{Parts_from, behind, innermost, first_place, Unfinished}
 use Rattle.program_reader.proofs.Files.{file_answered}
 use Rattle.sequence_reader.specs.declared.sequence.Halt.{Halt}
 use Rattle.sequence_reader.specs.declared.sequence.Halt.TheVariants as halts
-use Rattle.sequence_reader.specs.Answers.{Answer, read, answer_of, stop_of, placed, Among, Came, Comes, Tries, Ends}
+use Rattle.sequence_reader.specs.Answers.{Answer, read, answer_of, placed, Among, Came, Comes, Tries, Ends}
 use Rattle.sequence_reader.specs.Halts.{Walked, file_answer, Halts, Halts_as, plain, halted}
 use Rattle.sequence_reader.proofs.Together.{found_word}
 use Rattle.sequence_reader.proofs.Advances.{found_of, stands_of}

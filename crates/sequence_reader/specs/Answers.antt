@@ -1,6 +1,6 @@
 -- What a text of parts is answered, its faults by their place alone; what several forms at a place answer together.
-use Rattle.std.specs.Prelude.{ℕ, suc, ◌≡◌, ◌+◌, Bool, true, false, cond, nat_lt, ◌≤◌, ◌⊎◌, List, [], ◌∷◌, length, Option, Some, None}
-use Rattle.reader_theory.specs.Words.{Cause, expected, too_deep, Verdict, found, fault}
+use Rattle.std.specs.Prelude.{ℕ, suc, ◌≡◌, ◌+◌, true, cond, nat_lt, ◌≤◌, ◌⊎◌, List, [], ◌∷◌, length, Option, Some, None}
+use Rattle.reader_theory.specs.Words.{Cause, Verdict, found, fault}
 use Rattle.reader_theory.specs.Readers.{worse}
 use Rattle.fortran_grammar.specs.Tokens.{Token}
 use Rattle.expr_reader.specs.Tests.{is_word}

@@ -1,5 +1,5 @@
 -- Why a file isn't read, and where a file is refused that ends too early.
-use Rattle.std.specs.Prelude.{ℕ, ◌≡◌, List, [], ◌∷◌, ◌++◌, length}
+use Rattle.std.specs.Prelude.{ℕ, ◌≡◌, List, ◌++◌, length}
 use Rattle.reader_theory.specs.Words.{Mark, bare, Shallow, Verdict}
 use Rattle.fortran_grammar.specs.Tokens.{Token}
 use Rattle.expr_reader.specs.Results.{Stands}

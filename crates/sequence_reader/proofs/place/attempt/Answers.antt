@@ -1,18 +1,14 @@
-use Rattle.std.proofs.Common.{rules, arith, ◌≡◌, ◌≤◌, ◌+◌, ℕ, suc, true, false, List, [], ◌∷◌, length, Bor, refl, ap, sym, ◌∙◌}
+use Rattle.std.proofs.Common.{rules, arith, ◌≡◌, true, false, List, Bor, sym, ◌∙◌}
 use Rattle.std.proofs.lemmas.Grind.{common_steps}
 use Rattle.fortran_grammar.specs.Tokens.{Token}
-use Rattle.reader_theory.specs.Words.{expected, found, fault}
-use Rattle.expr_reader.specs.Results as results
 use Rattle.expr_reader.specs.Tests.{is_word}
 use Rattle.expr_reader.specs.Words.{tokens_of}
 use Rattle.expr_reader.specs.declared.word.Word.{Word}
 use Rattle.part_reader.specs.Views as parts
 use Rattle.part_reader.specs.declared.part.Part.{Part as Held}
-use Rattle.statement_reader.specs.Forms as forms
 use Rattle.statement_reader.specs.Parts as f
 use Rattle.statement_reader.specs.Parts.{Part}
 use Rattle.action_reader.specs.Beginnings.{begins}
-use Rattle.sequence_reader.specs.Answers as answers
 use Rattle.sequence_reader.specs.Views as view
 use Rattle.sequence_reader.proofs.Turns as turns
 use Rattle.sequence_reader.proofs.place.attempt.Goals as goal

@@ -1,4 +1,4 @@
-use Rattle.std.proofs.Common.{◌≡◌, ◌++◌, List, length, map, Bor, subst}
+use Rattle.std.proofs.Common.{◌++◌, List, map, Bor, subst}
 use Rattle.fortran_grammar.specs.Tokens.{Token}
 use Rattle.expr_reader.specs.Words.{tokens_of}
 use Rattle.expr_reader.specs.declared.word.Word.{Word}

@@ -1,4 +1,4 @@
-use Rattle.std.proofs.Common.{rules, arith, ◌≡◌, ◌≤◌, ◌+◌, List, [], length, map, Vec, Global, sym, subst}
+use Rattle.std.proofs.Common.{rules, arith, ◌≡◌, ◌≤◌, List, length, map, Vec, Global, sym, subst}
 use Rattle.std.proofs.lemmas.Grind.{common_steps}
 use Rattle.expr_reader.specs.Words.{tokens_of}
 use Rattle.expr_reader.specs.declared.error.Cause.TheVariants as causes

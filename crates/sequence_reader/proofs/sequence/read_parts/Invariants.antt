@@ -1,4 +1,4 @@
-use Rattle.std.proofs.Common.{◌≡◌, ◌≤◌, ◌+◌, [], length, map}
+use Rattle.std.proofs.Common.{◌≤◌, ◌+◌, length, map}
 use Rattle.expr_reader.specs.Words.{tokens_of}
 use Rattle.part_reader.specs.Views as held
 use Rattle.sequence_reader.specs.Answers as answers
