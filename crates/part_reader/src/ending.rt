@@ -86,7 +86,7 @@ pub fn contains(words: &[Word]) -> Result<(Part, &[Word]), ReadError>
     Ok((Part::Contains, rest))
 }
 
-/// IMPLICIT NONE (R866).
+/// IMPLICIT NONE (R863).
 #[tactic(auto, using(action_reader::proofs::Keys::key_laws))]
 pub fn implicit_none(words: &[Word]) -> Result<(Part, &[Word]), ReadError>
     ensures { Gives (λ r. (view.part r.0, tokens_of r.1.now)) result (forms.form_reader f.implicit_form 0 (tokens_of words.now)) }
