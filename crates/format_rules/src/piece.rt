@@ -34,11 +34,7 @@ fn is_quote(byte: u8) -> bool
 fn lower(byte: u8) -> u8
     ensures { result ≡ rules.lower byte }
 {
-    if b'A' <= byte && byte <= b'Z' {
-        byte + 32
-    } else {
-        byte
-    }
+    byte.to_ascii_lowercase()
 }
 
 /// Whether a piece is this sign.
