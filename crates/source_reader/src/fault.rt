@@ -4,6 +4,8 @@ ghost use Rattle.std.specs.Prelude.{◌≡◌};
 ghost use Rattle.source_reader.specs.Refusals as spec;
 
 use caf_base::place::Pos;
+use fortran_lines::fault::LineFault;
+use fortran_tokens::fault::TokenFault;
 use thiserror::Error;
 
 /// What is wrong in a source, and its place.
@@ -69,5 +71,27 @@ pub fn at(fault: ReadFault) -> Pos
         | ReadFault::Expected { at }
         | ReadFault::BlockNotClosed { at }
         | ReadFault::TooDeep { at } => at,
+    }
+}
+
+/// A fault of the lines as one of the source.
+pub(crate) fn of_line(fault: LineFault) -> ReadFault
+    ensures { result ≡ spec.of_line fault }
+{
+    match fault {
+        LineFault::NotAscii { at } => ReadFault::NotAscii { at },
+        LineFault::LineTooLong { at } => ReadFault::LineTooLong { at },
+        LineFault::DanglingContinuation { at } => ReadFault::DanglingContinuation { at },
+        LineFault::OpenLiteral { at } => ReadFault::OpenLiteral { at },
+    }
+}
+
+/// A fault of the tokens as one of the source.
+pub(crate) fn of_token(fault: TokenFault) -> ReadFault
+    ensures { result ≡ spec.of_token fault }
+{
+    match fault {
+        TokenFault::BadCharacter { at } => ReadFault::BadCharacter { at },
+        TokenFault::NumberTooWide { at } => ReadFault::NumberTooWide { at },
     }
 }
