@@ -1,0 +1,26 @@
+use Rattle.std.proofs.Common.{◌≡◌, List, ◌∷◌, refl, ap, sym, ◌∙◌, subst}
+use Rattle.fortran_tree.specs.ExpressionViews.{expression}
+use Rattle.fortran_tree.specs.ActionViews.{action_statement}
+use Rattle.fortran_tree.specs.StatementViews.{statement, statement_list, case_selector}
+use Rattle.statement_reader.specs.Parts as f
+use Rattle.statement_reader.specs.Parts.{Part}
+use Rattle.program_reader.specs.Sequence.{to_else, to_case}
+use Rattle.program_reader.specs.Nesting.{statement_parts, statements_parts}
+use Rattle.program_tree.specs.declared.construct.Construct.{Construct}
+use Rattle.program_tree.specs.declared.construct.Construct.TheVariants as k
+use Rattle.program_tree.specs.Blocks.{construct_front, opens, open_of}
+use Rattle.program_tree.proofs.Places.{clear_close, clear_line, some_open, fits}
+use Rattle.program_tree.proofs.Moves.{on_ok, on_three, ended, divided, acted, then_else_if, then_else, then_case}
+use Rattle.program_tree.proofs.block.Block.end_if.Goals as goal
+
+pub leave-construct-requires : goal.leave-construct-requires
+leave-construct-requires c = let part = f.end_if_part c.args.at in some_open c.args.self.now part refl (clear_close c.args.self.now part refl refl c.requires) c.requires
+
+pub returns : goal.returns
+returns c =
+    let part = f.end_if_part c.args.at in
+    let at = c.leave-construct in
+    on_ok c.push.result c.push.ensures.statements (λ pushed.
+    ended c.args.self.now at.new.self c.push.new.self part at.result.0 (clear_close c.args.self.now part refl refl c.requires) at.ensures.front at.ensures.opens at.ensures.begun c.push.ensures.begun
+    c.in_ok-whole.whole (λ es. ap (λ v. construct_front at.result.0 (statements_parts (statement_list v.items) (part ∷ es))) (sym at.ensures.body) ∙ c.in_ok-whole.ensures es)
+    pushed c.push.ensures.frames (λ s. refl))

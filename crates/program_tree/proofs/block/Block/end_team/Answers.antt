@@ -1,0 +1,23 @@
+use Rattle.std.proofs.Common.{◌≡◌, List, ◌∷◌, refl, ap, sym, ◌∙◌, subst}
+use Rattle.fortran_tree.specs.ExpressionViews.{expression}
+use Rattle.fortran_tree.specs.StatementViews.{statement, statement_list, case_selector, bracketed_specifier}
+use Rattle.statement_reader.specs.Parts as f
+use Rattle.statement_reader.specs.Parts.{Part}
+use Rattle.program_reader.specs.Sequence.{to_else, to_case}
+use Rattle.program_reader.specs.Nesting.{statements_parts}
+use Rattle.program_tree.specs.Blocks.{construct_front}
+use Rattle.program_tree.proofs.Places.{clear_close, clear_line, some_open}
+use Rattle.program_tree.proofs.Moves.{on_ok, ended, divided}
+use Rattle.program_tree.proofs.block.Block.end_team.Goals as goal
+
+pub leave-construct-requires : goal.leave-construct-requires
+leave-construct-requires c = let part = f.end_team_part (bracketed_specifier c.args.specifier) c.args.end in some_open c.args.self.now part refl (clear_close c.args.self.now part refl refl c.requires) c.requires
+
+pub returns : goal.returns
+returns c =
+    let part = f.end_team_part (bracketed_specifier c.args.specifier) c.args.end in
+    let at = c.leave-construct in
+    on_ok c.push.result c.push.ensures.statements (λ pushed.
+    ended c.args.self.now at.new.self c.push.new.self part at.result.0 (clear_close c.args.self.now part refl refl c.requires) at.ensures.front at.ensures.opens at.ensures.begun c.push.ensures.begun
+    c.whole_team.result (λ es. ap (λ v. construct_front at.result.0 (statements_parts (statement_list v.items) (part ∷ es))) (sym at.ensures.body) ∙ c.whole_team.ensures es)
+    pushed c.push.ensures.frames (λ s. refl))

