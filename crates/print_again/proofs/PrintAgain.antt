@@ -6,7 +6,7 @@ use Rattle.fortran_grammar.specs.Phrases.{canonical}
 use Rattle.fortran_grammar.specs.ProgramGrammar as g
 use Rattle.print_again.specs.Unplaced as u
 use Rattle.print_again.specs.Spelled.{are_statements}
-use Rattle.print_again.specs.Sources.{IsRead}
+use Rattle.source_reader.specs.Sources.{IsRead}
 use Rattle.print_again.specs.Laws.{UnplacedIsRead, PrintIsCut, PrintIsRead, PrintIsReadAsIt, PrintHasNoPlaces, PrintIsFixed}
 use Rattle.reader_theory.specs.Words.{Mark, bare, Shallow}
 use Rattle.fortran_layout.specs.Layout.{laid_text}

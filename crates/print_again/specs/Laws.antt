@@ -10,7 +10,7 @@ use Rattle.fortran_grammar.specs.Laws.{tok_of}
 use Rattle.fortran_layout.specs.Layout.{laid_text}
 use Rattle.print_again.specs.Spelled.{are_statements}
 use Rattle.fortran_print.specs.Printing.{printed}
-use Rattle.print_again.specs.Sources.{AreSourceWords, IsRead}
+use Rattle.source_reader.specs.Sources.{AreSourceWords, IsRead}
 use Rattle.print_again.specs.Unplaced as unplaced
 
 -- two programs that the same tokens spell, but for places, are the same but for places

@@ -1,4 +1,3 @@
 pub mod Unplaced
 pub mod Laws
 pub mod Spelled
-pub mod Sources
