@@ -129,10 +129,19 @@ assigned vars d = None
 abbrev pub assignment_of : List ThinVariable → Designator → Expression → Found ThinAct
 assignment_of vars d x = then (λ i. made_of (acts.Assign i) (sum_of vars x)) (built_at (place_of (e.designator d)) (assigned vars d))
 
+-- the one value that is printed without a format
+abbrev pub printed : s.Format → List s.Item → Option Expression
+printed s.free (s.value x ∷ []) = Some x
+printed f is = None
+
+abbrev pub print_of : List ThinVariable → Option Expression → Pos → Found ThinAct
+print_of vars None at = not_built at
+print_of vars (Some x) at = made_of acts.Print (sum_of vars x)
+
 -- an action (10.2.1, 12.6.1): an assignment to a variable, or a print of one sum without a format
 abbrev pub act_of : List ThinVariable → ActionStatement → Pos → Found ThinAct
 act_of vars (s.assignment d x) at = assignment_of vars d x
-act_of vars (s.print s.free (s.value x ∷ [])) at = made_of acts.Print (sum_of vars x)
+act_of vars (s.print f is) at = print_of vars (printed f is) at
 act_of vars a at = not_built at
 
 -- the image of the condition `this_image() == NUMBER`

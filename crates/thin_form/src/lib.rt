@@ -5,6 +5,7 @@
 //! The definitions are in specs/ThinForms, over the plain tree.
 #![tactic(auto)]
 
+mod action;
 pub mod fault;
 mod names;
 mod sum;
