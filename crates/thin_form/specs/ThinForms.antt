@@ -145,8 +145,12 @@ act_of vars (s.print f is) at = print_of vars (printed f is) at
 act_of vars a at = not_built at
 
 -- the image of the condition `this_image() == NUMBER`
+abbrev pub compared : Operator → Expression → Expression → Option ℕ
+compared operators.Equal x y = cond (is_this_image x) (number_of y) None
+compared o x y = None
+
 abbrev pub image_of : Expression → Option ℕ
-image_of (e.binary operators.Equal x y at) = cond (is_this_image x) (number_of y) None
+image_of (e.binary o x y at) = compared o x y
 image_of x = None
 
 -- an action behind a condition
@@ -167,8 +171,12 @@ line_of a at = at.line
 abbrev pub on_line : ℕ → ThinForm → ThinStatement
 on_line n form = record { line = n; form = form }
 
+abbrev pub placed_form : List ThinVariable → ActionStatement → Pos → Found ThinStatement
+placed_form vars a at = made_of (on_line (line_of a at)) (form_of vars a at)
+
+-- no construct is built
 abbrev pub statement_of : List ThinVariable → Statement → Found ThinStatement
-statement_of vars (s.action a at) = made_of (on_line (line_of a at)) (form_of vars a at)
+statement_of vars (s.action a at) = placed_form vars a at
 statement_of vars x = not_built (place_of_statement x)
 
 -- a statement, where an image makes few enough moves for it, those before it and END: 262,000
@@ -191,10 +199,14 @@ is_plain_type (s.integer None) = true
 is_plain_type x = false
 
 -- no coshape, or the coshape `[*]`
+abbrev pub is_plain_cobounds : List s.Bounds → Option Expression → Bool
+is_plain_cobounds [] None = true
+is_plain_cobounds xs last = false
+
 abbrev pub is_plain_coshape : Option CoarraySpec → Bool
 is_plain_coshape None = true
-is_plain_coshape (Some (s.explicit_coshape [] None)) = true
-is_plain_coshape c = false
+is_plain_coshape (Some (s.explicit_coshape xs last)) = is_plain_cobounds xs last
+is_plain_coshape (Some (s.deferred_coshape n)) = false
 
 abbrev pub is_nothing : {X : Type 0} → List X → Bool
 is_nothing [] = true
@@ -210,10 +222,13 @@ is_plain_declaration d = is_plain_type d.type_spec && (is_nothing d.attributes &
 abbrev pub variable_of : Entity → ThinVariable
 variable_of x = record { name = x.name.text; is_coarray = is_some x.coshape }
 
--- the variables and these; a name that is declared already isn't built
+-- the variables and one more; a name that is declared already isn't built
+abbrev pub with_entity : List ThinVariable → Entity → Found (List ThinVariable)
+with_entity vars x = cond (is_some (declared_index vars x.name.text)) (not_built x.name.at) (Ok (vars ++ variable_of x ∷ []))
+
 abbrev pub with_entities : List ThinVariable → List Entity → Found (List ThinVariable)
 with_entities vars [] = Ok vars
-with_entities vars (x ∷ xs) = cond (is_some (declared_index vars x.name.text)) (not_built x.name.at) (with_entities (vars ++ variable_of x ∷ []) xs)
+with_entities vars (x ∷ xs) = then (λ more. with_entities more xs) (with_entity vars x)
 
 -- the variables and those of a declaration (8.2), which is told at its first token where anything of it isn't built
 abbrev pub with_declaration : List ThinVariable → Declaration → Found (List ThinVariable)
@@ -230,9 +245,12 @@ head_fault None (x ∷ uses) implicit = Some x.at
 head_fault None [] implicit = implicit
 
 -- what isn't built behind the statements: CONTAINS, told at what follows it, since the tree has no place for the statement; a name behind END
+abbrev pub behind_contains : List Procedure → End → Option Pos
+behind_contains [] end = Some end.at
+behind_contains (p ∷ ps) end = Some p.at
+
 abbrev pub tail_fault : Option (List Procedure) → End → Option Pos
-tail_fault (Some (p ∷ ps)) end = Some p.at
-tail_fault (Some []) end = Some end.at
+tail_fault (Some ps) end = behind_contains ps end
 tail_fault None end = option_map (λ n. end.at) end.name
 
 -- what is found, where no place before it isn't built
@@ -244,8 +262,11 @@ unless (Some at) found = not_built at
 abbrev pub program_of : ℕ → List ThinVariable → List ThinStatement → ThinProgram
 program_of n vars ss = record { declared = vars; statements = ss; end_line = n }
 
+-- the variables and the statements of a body
+abbrev pub body_of : u.Body → Found (List ThinVariable × List ThinStatement)
+body_of b = then (λ vars. made_of (λ ss. (vars, ss)) (statements_of vars 0 b.statements)) (with_declarations [] b.declarations)
+
 -- the thin program that a program is, or the first place of what isn't built
 abbrev pub thin_of : Program → Found ThinProgram
 thin_of p = unless (head_fault p.name p.uses p.body.implicit_none)
-    (then (λ vars. then (λ ss. unless (tail_fault p.procedures p.end) (Ok (program_of p.end.at.line vars ss))) (statements_of vars 0 p.body.statements))
-    (with_declarations [] p.body.declarations))
+    (then (λ r. unless (tail_fault p.procedures p.end) (Ok (program_of p.end.at.line r.0 r.1))) (body_of p.body))

@@ -6,8 +6,14 @@
 #![tactic(auto)]
 
 mod action;
+mod declaration;
 pub mod fault;
 mod names;
+pub mod program;
+mod statement;
 mod sum;
 mod term;
 mod variables;
+
+pub use fault::NotBuilt;
+pub use program::thin;

@@ -138,11 +138,7 @@ fn joined(
 
 /// The sum that an expression is, or the place of the first term of it that isn't built.
 #[tactic(auto, using(crate::proofs::Chains::sum_laws))]
-pub fn sum(
-    alloc: Global,
-    variables: &Variables,
-    expr: &Expr,
-) -> Result<ThinSum, Refusal<NotBuilt>>
+pub fn sum(alloc: Global, variables: &Variables, expr: &Expr) -> Result<ThinSum, Refusal<NotBuilt>>
     ensures sum { IfOk result (λ s. spec.sum_of variables.now (view.expression expr.now) ≡ Ok s) }
     ensures refused { IfErr result (Refuses (spec.sum_of variables.now (view.expression expr.now))) }
 {

@@ -38,10 +38,7 @@ fn literal(value: u64, kind: &NumberKind) -> Option<u32>
 {
     match kind {
         NumberKind::Unstated if value <= GREATEST => Some(value as u32),
-        NumberKind::Unstated
-        | NumberKind::Four
-        | NumberKind::Eight
-        | NumberKind::Named(_) => None,
+        NumberKind::Unstated | NumberKind::Four | NumberKind::Eight | NumberKind::Named(_) => None,
     }
 }
 

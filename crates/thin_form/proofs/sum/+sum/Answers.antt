@@ -3,8 +3,8 @@ use Rattle.std.specs.Prelude.{◌&&◌, is_some, Ok, IfOk, IfErr}
 use Rattle.fortran_tree.specs.ExpressionViews as view
 use Rattle.fortran_tree.specs.ExpressionViews.{expression_binary}
 use Rattle.thin_form.specs.Answers.{Refuses}
-use Rattle.thin_form.specs.Chains.{are_signs, added}
-use Rattle.thin_form.specs.ThinForms.{sign_of, sum_of, summed, placed_term}
+use Rattle.thin_form.specs.Chains.{are_signs}
+use Rattle.thin_form.specs.ThinForms.{sign_of, sum_of}
 use Rattle.thin_form.proofs.Chains.{chain_refused, chain_other, chain_of_parts}
 use Rattle.thin_form.proofs.sum.+sum.Goals as goal
 

@@ -1,4 +1,4 @@
-use Rattle.std.proofs.Common.{rules, arith, ◌≡◌, ◌∙◌, ap, sym, length, [], ◌∷◌, ◌++◌, true, false, length-append}
+use Rattle.std.proofs.Common.{arith, ◌≡◌, ◌∙◌, ap, sym, length, [], ◌∷◌, ◌++◌, length-append}
 use Rattle.std.proofs.lemmas.Grind.{common_steps}
 use Rattle.caf_base.specs.declared.thin.ThinVariable.{ThinVariable}
 use Rattle.thin_form.proofs.Finding.{more_names, new_name}
@@ -18,6 +18,6 @@ invariant_of-self-then-new c =
     let counted = c.len.ensures in
     let size = ap length pushed ∙ length-append c.self.inside.listed.items (variable ∷ []) in (
       more_names c.self.inside.names c.add.new.self c.self.inside.listed.items c.push.new.self.items c.in_ok-copy.field-0 c.in_ok-kept.kept c.args.is_coarray c.in_ok-new.new
-      c.self.invariant.0 c.if-new.true c.in_ok-new.ensures.names (c.in_ok-copy.ensures ∙ sym c.in_ok-kept.ensures) pushed,
+          c.self.invariant.0 c.if-new.true c.in_ok-new.ensures.names (c.in_ok-copy.ensures ∙ sym c.in_ok-kept.ensures) pushed,
       omega arith,
     )

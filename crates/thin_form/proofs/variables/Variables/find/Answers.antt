@@ -1,4 +1,4 @@
-use Rattle.std.proofs.Common.{rules, arith, ◌<◌, ◌^◌, length, Some, None, sym, refl}
+use Rattle.std.proofs.Common.{rules, arith, ◌<◌, ◌^◌, Some, None, sym, refl}
 use Rattle.thin_form.proofs.Finding.{found_variable, index_within}
 use Rattle.thin_form.proofs.variables.Variables.find.Goals as goal
 

@@ -1,4 +1,4 @@
-use Rattle.std.proofs.Common.{◌≡◌, Some, None, ap, sym, ◌∙◌, rules}
+use Rattle.std.proofs.Common.{◌≡◌, Some, None, ap, ◌∙◌, rules}
 use Rattle.std.specs.Prelude.{slice_get}
 use Rattle.std.proofs.lemmas.Option.{gets}
 use Rattle.caf_base.specs.Thin.{is_coarray_at}
