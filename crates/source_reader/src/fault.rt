@@ -1,0 +1,73 @@
+//! Why a source isn't read.
+
+ghost use Rattle.std.specs.Prelude.{◌≡◌};
+ghost use Rattle.source_reader.specs.Refusals as spec;
+
+use caf_base::place::Pos;
+use thiserror::Error;
+
+/// What is wrong in a source, and its place.
+#[derive(Clone, Copy, Debug, Error)]
+pub enum ReadFault {
+    /// A byte above 127 outside comments.
+    #[error("NotAscii at {}:{}", .at.line, .at.col)]
+    NotAscii { at: Pos },
+    /// A line of more than 1,000 bytes, at column 1,001.
+    #[error("LineTooLong at {}:{}", .at.line, .at.col)]
+    LineTooLong { at: Pos },
+    /// A continuation with no line left, at its `&`.
+    #[error("DanglingContinuation at {}:{}", .at.line, .at.col)]
+    DanglingContinuation { at: Pos },
+    /// A literal that is neither closed on its line nor continued, at its opening quote.
+    #[error("OpenLiteral at {}:{}", .at.line, .at.col)]
+    OpenLiteral { at: Pos },
+    /// A byte that begins no token, the 64th character of a name, or what may not stand in a literal.
+    #[error("BadCharacter at {}:{}", .at.line, .at.col)]
+    BadCharacter { at: Pos },
+    /// An integer literal above 9,223,372,036,854,775,807, at its first digit.
+    #[error("NumberTooWide at {}:{}", .at.line, .at.col)]
+    NumberTooWide { at: Pos },
+    /// A token with which no statement that the grammar allows there goes on, or just past the statement where more was needed.
+    #[error("Expected at {}:{}", .at.line, .at.col)]
+    Expected { at: Pos },
+    /// A construct that is open where the file ends, at its first token: the innermost one.
+    #[error("BlockNotClosed at {}:{}", .at.line, .at.col)]
+    BlockNotClosed { at: Pos },
+    /// More than 64 levels are open, at the first token of the 65th.
+    #[error("TooDeep at {}:{}", .at.line, .at.col)]
+    TooDeep { at: Pos },
+}
+
+/// The number under which a refusal is told, from 1 (docs/REFUSALS.md).
+pub fn number(fault: ReadFault) -> u32
+    ensures { result ≡ spec.number fault }
+{
+    match fault {
+        ReadFault::NotAscii { .. } => 1,
+        ReadFault::LineTooLong { .. } => 2,
+        ReadFault::DanglingContinuation { .. } => 3,
+        ReadFault::OpenLiteral { .. } => 4,
+        ReadFault::BadCharacter { .. } => 5,
+        ReadFault::NumberTooWide { .. } => 6,
+        ReadFault::Expected { .. } => 7,
+        ReadFault::BlockNotClosed { .. } => 8,
+        ReadFault::TooDeep { .. } => 9,
+    }
+}
+
+/// Where the fault is.
+pub fn at(fault: ReadFault) -> Pos
+    ensures { result ≡ spec.place fault }
+{
+    match fault {
+        ReadFault::NotAscii { at }
+        | ReadFault::LineTooLong { at }
+        | ReadFault::DanglingContinuation { at }
+        | ReadFault::OpenLiteral { at }
+        | ReadFault::BadCharacter { at }
+        | ReadFault::NumberTooWide { at }
+        | ReadFault::Expected { at }
+        | ReadFault::BlockNotClosed { at }
+        | ReadFault::TooDeep { at } => at,
+    }
+}
