@@ -165,7 +165,7 @@ read_bytes bytes x n seed status text report read t = record {
   known = t.known;
   refused = λ s. (let h = t.refused s in
       let is : IsRefusedAs bytes 10 h.0 = inr (record { tree = x; read = read; thin = h.1; number = refl }) in
-      (refused_none bytes 10 h.0 is, record { number = 10; at = h.0; refused = is; text = h.2 }));
+      (refused_none bytes 10 h.0 is, record { number = 10; at = h.0; refused = is; said = h.2 }));
   run = λ r. (let h = t.run r in (h.0, record { tree = x; read = read; thin = h.1 }));
   reported = t.reported;
   ran = ran_bytes bytes x n seed report read t.ran;
@@ -174,4 +174,4 @@ read_bytes bytes x n seed status text report read t = record {
 -- a source that the reader refuses
 pub misread_bytes : (bytes : List ℕ) (f : ReadFault) (r n seed status : ℕ) (at : Pos) (text : List ℕ) (report : Option Report) → IsRefused bytes f → r ≡ number f → at ≡ place f → status ≡ 3 → text ≡ refusal_text r at → report ≡ None → BytesDue bytes n seed status text report
 misread_bytes bytes f r n seed status at text report is nr pl s t e =
-    refused_bytes bytes n seed status text report (record { number = r; at = at; refused = inl (record { fault = f; refused = is; number = nr; place = pl }); text = t }) s e
+    refused_bytes bytes n seed status text report (record { number = r; at = at; refused = inl (record { fault = f; refused = is; number = nr; place = pl }); said = t }) s e

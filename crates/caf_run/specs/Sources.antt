@@ -43,4 +43,4 @@ pub record IsRefusal (bytes : List ℕ) (text : List ℕ) : Type 0 where
   pub number : ℕ
   pub at : Pos
   pub refused : IsRefusedAs bytes number at
-  pub text : text ≡ refusal_text number at
+  pub said : text ≡ refusal_text number at
