@@ -19,7 +19,6 @@ use Rattle.caf_run.specs.declared.words.Way.TheVariants.{Order}
 use Rattle.caf_run.specs.Words.{Word, IsRun, UsageIs, Means, IsRunAt, place_of_file, count_of_images, seed_of}
 use Rattle.caf_run.specs.Reading.{HasBytesIfTold, HasBytes, HasNothingLeft, IsLonger}
 use Rattle.caf_run.specs.Dues.{usage_text, IsRunStatus, IsNoProgram, IsDue, RanTree, TreeDue, RanBytes, BytesDue, RanFile, FileDue, ReportClause, RunClause}
-use Rattle.caf_run.specs.Runs.{IsReportOf}
 use Rattle.caf_run.specs.Sources.{StandsFor, IsRefusedAs, IsRefusal, refusal_text}
 use Rattle.caf_run.proofs.Usages.{usage_invalid}
 use Rattle.caf_run.proofs.Settled.{not_run, whole_has, longer_has, fault_settles, whole_settles, longer_settles, one_file}
@@ -129,32 +128,7 @@ last_word words number n seed name (file, valid, last) h =
 pub images_within : (words : List Word) (number n seed : ℕ) → IsRunAt words number n seed → (1 ≤ n) × (n ≤ 64)
 images_within words number n seed (file, valid, last) = valid.images
 
--- a program that is no thin one
-pub refused_tree : (x : Program) (n seed status : ℕ) (text : List ℕ) (report : Option Report) (at : Pos) → thin_of x ≡ not_built at → status ≡ 3 → text ≡ refusal_text 10 at → report ≡ None → TreeDue x n seed status text report
-refused_tree x n seed status text report at found s t r = record {
-  known = inr s;
-  refused = λ _. (at, found, t);
-  run = λ h. absurd (not_run status h (inr (inl s)));
-  reported = subst (λ v. ReportClause v status text) (sym r) (inr (inl s));
-  ran = subst (RanTree x n seed) (sym r) tt;
-}
-
-run_status : (status : ℕ) (text : List ℕ) (r : Report) → ReportClause (Some r) status text → IsRunStatus status
-run_status status text r clause = clause.0
-
--- a program that is a thin one, which was run
-pub run_tree : (x : Program) (n seed status : ℕ) (text : List ℕ) (report : Option Report) (p : ThinProgram) (r : Report) → thin_of x ≡ Ok p → report ≡ Some r → ReportClause report status text → IsReportOf p n seed r → TreeDue x n seed status text report
-run_tree x n seed status text report p r found e clause of =
-    let clause' = subst (λ v. ReportClause v status text) e clause in
-    let known = run_status status text r clause' in
-    record {
-      known = inl known;
-      refused = λ s. absurd (not_run status known (inr (inl s)));
-      run = λ _. (p, found);
-      reported = clause;
-      ran = subst (RanTree x n seed) (sym e) (p, found, of);
-    }
-
+-- the report of a source that is read
 ran_bytes : (bytes : List ℕ) (x : Program) (n seed : ℕ) (report : Option Report) → IsRead bytes x → RanTree x n seed report → RanBytes bytes n seed report
 ran_bytes bytes x n seed None read ran = tt
 ran_bytes bytes x n seed (Some r) read (p, found, of) = (p, record { tree = x; read = read; thin = found }, of)
