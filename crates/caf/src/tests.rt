@@ -200,7 +200,8 @@ fn undeclared_name(rt: HostRuntime) {
 #[test]
 fn another_spelling(rt: HostRuntime) {
     let words = ["run", "-n", "4", "--order", "0", "a.f90"];
-    let file = b"INTEGER :: X[*]   ! one cell\nx = this_&\n &image()\nsync all; if (this_image() == 1) print *, x[4]\nend\n";
+    let file =
+        b"INTEGER :: X[*]   ! one cell\nx = this_&\n &image()\nsync all; if (this_image() == 1) print *, x[4]\nend\n";
     says(&rt, rt.alloc(), &words, file, WHOLE, 0, "1: 4\n");
 }
 
@@ -208,7 +209,8 @@ fn another_spelling(rt: HostRuntime) {
 #[test]
 fn further_spellings(rt: HostRuntime) {
     let words = ["run", "-n", "1", "--order", "0", "a.f90"];
-    let names = b"integer print, end\nprint = 2\nend = print + 3 - print\nprint *, end\nend program\n";
+    let names =
+        b"integer print, end\nprint = 2\nend = print + 3 - print\nprint *, end\nend program\n";
     says(&rt, rt.alloc(), &words, names, WHOLE, 0, "1: 3\n");
     let later = b"integer :: x[*]\nif (this_image() == 1) &\n print *, x[2]\nend\n";
     says(
@@ -231,7 +233,10 @@ fn misread(rt: HostRuntime) {
         ("refused 3 at 1:10\n", b"sync all &"),
         ("refused 4 at 1:10\n", b"print *, 'abc\nend"),
         ("refused 5 at 1:11\n", b"print *, 1.5\nend\n"),
-        ("refused 6 at 1:10\n", b"print *, 9223372036854775808\nend\n"),
+        (
+            "refused 6 at 1:10\n",
+            b"print *, 9223372036854775808\nend\n",
+        ),
         ("refused 7 at 1:1\n", b""),
         ("refused 7 at 2:8\n", b"integer :: a\na = 1 +\nend\n"),
         ("refused 8 at 1:1\n", b"sync all\n"),
@@ -265,7 +270,10 @@ fn not_built(rt: HostRuntime) {
         ("refused 10 at 1:1\n", b"integer, save :: a\nend\n"),
         ("refused 10 at 1:1\n", b"integer :: a = 1\nend\n"),
         ("refused 10 at 1:1\n", b"integer :: this_image\nend\n"),
-        ("refused 10 at 2:3\n", b"integer :: a\n  logical :: b\nend\n"),
+        (
+            "refused 10 at 2:3\n",
+            b"integer :: a\n  logical :: b\nend\n",
+        ),
         ("refused 10 at 1:1\n", b"implicit none\nend\n"),
         ("refused 10 at 1:1\n", b"use iso_fortran_env\nend\n"),
         ("refused 10 at 1:9\n", b"program p\nend\n"),
@@ -309,17 +317,17 @@ fn unknown_file(rt: HostRuntime) {
     says(&rt, rt.alloc(), &words, b"end\n", WHOLE, 10, "read fault\n");
 }
 
-// A file of the most bytes is read by 257 calls behind its begin, one longer by 257 too: what is listed from the 259th on changes nothing.
+// A file of the most bytes is read by 17 calls behind its begin, one longer by 17 too: what is listed from the nineteenth on changes nothing.
 #[test]
 fn too_long_file(rt: HostRuntime) {
     let words = ["run", "-n", "1", "--order", "0", "a.f90"];
     let behind = Pace {
         read: 4096,
         write: 4096,
-        broken: &[259],
+        broken: &[19],
         failing: &[2],
     };
-    let mut file = vec![in rt.alloc(); b'\n'; 1_048_573].expect(&rt, "memory");
+    let mut file = vec![in rt.alloc(); b'\n'; 65_533].expect(&rt, "memory");
     file.extend_from_slice(b"end").expect(&rt, "memory");
     says(&rt, rt.alloc(), &words, file.as_slice(), behind, 0, "");
     file.push(b'\n').expect(&rt, "memory");

@@ -37,7 +37,7 @@ fault_settles files file bytes faults faults' (inl rose) has = rose
 fault_settles files file bytes faults faults' (inr none) has = absurd (told_has files file bytes has none)
 
 -- bytes that were read settle the status
-bytes_settle : (bytes : List ℕ) (n seed status : ℕ) (text : List ℕ) (report : Option Report) → length bytes ≤ 1048576 → BytesDue bytes n seed status text report → Settle bytes status
+bytes_settle : (bytes : List ℕ) (n seed status : ℕ) (text : List ℕ) (report : Option Report) → length bytes ≤ 65536 → BytesDue bytes n seed status text report → Settle bytes status
 bytes_settle bytes n seed status text report few b = record {
   too_long = (λ s. absurd (elim b.known [ inl r ↦ not_run status r (inr (inr (inr s))) | inr k ↦ omega arith ]), λ long. absurd (omega arith));
   refused = (λ s. (few, (b.refused s).0), λ h. elim b.known [ inl r ↦ absurd (h.1 (b.run r).0 (b.run r).1) | inr s ↦ s ]);
@@ -49,7 +49,7 @@ same_bytes : (files : Option Files) (file : Word) (bytes told : List ℕ) → Ha
 same_bytes None file bytes told whole has = absurd has
 same_bytes (Some fs) file bytes told whole has = cc
 
-pub whole_settles : (files : Option Files) (file : Word) (bytes told : List ℕ) (n seed status : ℕ) (text : List ℕ) (report : Option Report) → HasBytesIfTold files file bytes → HasBytes files file told → length bytes ≤ 1048576 → BytesDue bytes n seed status text report → Settle told status
+pub whole_settles : (files : Option Files) (file : Word) (bytes told : List ℕ) (n seed status : ℕ) (text : List ℕ) (report : Option Report) → HasBytesIfTold files file bytes → HasBytes files file told → length bytes ≤ 65536 → BytesDue bytes n seed status text report → Settle told status
 whole_settles files file bytes told n seed status text report whole has few b =
     subst (λ v. Settle v status) (same_bytes files file bytes told whole has) (bytes_settle bytes n seed status text report few b)
 
@@ -60,9 +60,9 @@ long_bytes (Some fs) file told limit longer has =
     let same : longer.0 ≡ told = cc (longer.1, has) in
     subst (λ v. limit < length v) same longer.2
 
-pub longer_settles : (files : Option Files) (file : Word) (told : List ℕ) (status : ℕ) → IsLonger files file 1048576 → HasBytes files file told → status ≡ 13 → Settle told status
+pub longer_settles : (files : Option Files) (file : Word) (told : List ℕ) (status : ℕ) → IsLonger files file 65536 → HasBytes files file told → status ≡ 13 → Settle told status
 longer_settles files file told status longer has s =
-    let long : 1048576 < length told = long_bytes files file told 1048576 longer has in
+    let long : 65536 < length told = long_bytes files file told 65536 longer has in
     record {
       too_long = (λ _. long, λ _. s);
       refused = (λ k. absurd (omega arith), λ h. absurd (omega (arith, h.0)));

@@ -47,7 +47,7 @@ ran_file files file n seed bytes None whole ran = tt
 ran_file files file n seed bytes (Some r) whole (p, reads, of) = (bytes, p, whole, reads, of)
 
 -- a file that was read whole
-pub whole_file : (files : Option Files) (file : Word) (n seed : ℕ) (left' : Option (List ℕ)) (faults faults' : ℕ) (bytes : List ℕ) (status : ℕ) (text : List ℕ) (report : Option Report) → HasBytesIfTold files file bytes → length bytes ≤ 1048576 → HasNothingLeft files left' → BytesDue bytes n seed status text report → FileDue files file n seed left' faults faults' status text report
+pub whole_file : (files : Option Files) (file : Word) (n seed : ℕ) (left' : Option (List ℕ)) (faults faults' : ℕ) (bytes : List ℕ) (status : ℕ) (text : List ℕ) (report : Option Report) → HasBytesIfTold files file bytes → length bytes ≤ 65536 → HasNothingLeft files left' → BytesDue bytes n seed status text report → FileDue files file n seed left' faults faults' status text report
 whole_file files file n seed left' faults faults' bytes status text report whole few nothing b = record {
   usage = λ s. other (inl s);
   refused = λ s. (bytes, whole, (b.refused s).0, (b.refused s).1);

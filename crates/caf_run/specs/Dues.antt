@@ -55,13 +55,13 @@ InputClause files left status = IsRunStatus status ⊎ (status ≡ 3) → HasNot
 -- Causes: a read fault comes only where the count of faults rose or the files haven't the name, and only a longer file is too long.
 pub record CausesClause (words : List Word) (files : Option Files) (faults faults' status : ℕ) (text : List ℕ) : Type 0 where
   pub read_fault : status ≡ 10 → (file : Word) × NamesFile words file × MayNotBegin files file faults faults' × (text ≡ codes "read fault\n")
-  pub too_long : status ≡ 13 → (file : Word) × NamesFile words file × IsLonger files file 1048576 × (text ≡ codes "too long\n")
+  pub too_long : status ≡ 13 → (file : Word) × NamesFile words file × IsLonger files file 65536 × (text ≡ codes "too long\n")
 
--- the bytes settle the status: 13 exactly where they are more than 1,048,576, else 3 exactly where they are no thin program, that of a run exactly where they are one
+-- the bytes settle the status: 13 exactly where they are more than 65,536, else 3 exactly where they are no thin program, that of a run exactly where they are one
 pub record Settle (bytes : List ℕ) (status : ℕ) : Type 0 where
-  pub too_long : (status ≡ 13) ↔ (1048576 < length bytes)
-  pub refused : (status ≡ 3) ↔ ((length bytes ≤ 1048576) × IsNoProgram bytes)
-  pub run : IsRunStatus status ↔ ((length bytes ≤ 1048576) × (p : ThinProgram) × StandsFor bytes p)
+  pub too_long : (status ≡ 13) ↔ (65536 < length bytes)
+  pub refused : (status ≡ 3) ↔ ((length bytes ≤ 65536) × IsNoProgram bytes)
+  pub run : IsRunStatus status ↔ ((length bytes ≤ 65536) × (p : ThinProgram) × StandsFor bytes p)
 
 -- Exactness: where the files are told, 10 is due where they haven't the name; where they have it, its bytes settle the status, or 10 stands in its place after a rise of the count of faults.
 pub record ExactClause (words : List Word) (files : Option Files) (faults faults' status : ℕ) : Type 0 where
@@ -105,10 +105,10 @@ IsAnswer words files left' faults faults' written written' sink_faults sink_faul
     IsDone words files left' faults faults' written written' sink_faults sink_faults' answered report
     ⊎ ((answered ≡ 12) × IsNone report × Keeps written written')
 
--- Completeness: valid words, a thin program of at most 1,048,576 bytes and no rise of either count of faults give a report and exactly the status of its end, or want of memory.
+-- Completeness: valid words, a thin program of at most 65,536 bytes and no rise of either count of faults give a report and exactly the status of its end, or want of memory.
 abbrev pub CompletenessClause : List Word → Option Files → ℕ → ℕ → ℕ → ℕ → ℕ → Option Report → Type 0
 CompletenessClause words files faults faults' sink_faults sink_faults' answered report =
-    (file : Word) (bytes : List ℕ) (p : ThinProgram) → NamesFile words file → HasBytes files file bytes → length bytes ≤ 1048576 → StandsFor bytes p
+    (file : Word) (bytes : List ℕ) (p : ThinProgram) → NamesFile words file → HasBytes files file bytes → length bytes ≤ 65536 → StandsFor bytes p
     → (Rose faults faults' → ⊥) → (Rose sink_faults sink_faults' → ⊥) → ((r : Report) × (report ≡ Some r) × (answered ≡ status_of r.end)) ⊎ (answered ≡ 12)
 
 -- with a report, the bytes are a thin program, and the report is of its run
@@ -148,7 +148,7 @@ pub record FileDue (files : Option Files) (file : Word) (n seed : ℕ) (left' : 
   pub refused : status ≡ 3 → (bytes : List ℕ) × HasBytesIfTold files file bytes × IsNoProgram bytes × IsRefusal bytes text
   pub input : InputClause files left' status
   pub read_fault : status ≡ 10 → MayNotBegin files file faults faults' × (text ≡ codes "read fault\n")
-  pub too_long : status ≡ 13 → IsLonger files file 1048576 × (text ≡ codes "too long\n")
+  pub too_long : status ≡ 13 → IsLonger files file 65536 × (text ≡ codes "too long\n")
   pub absent : HaveNot files file → status ≡ 10
   pub settled : (bytes : List ℕ) → HasBytes files file bytes → Settle bytes status ⊎ ((status ≡ 10) × Rose faults faults')
   pub reported : ReportClause report status text

@@ -16,9 +16,9 @@ use crate::reading::{ReadEnd, read_file};
 use crate::running::run_program;
 use crate::words::{Command, Input, Way, words_of};
 use caf_base::outside::Source;
-use caf_base::refusal::{NoMemory, Refusal};
 use caf_base::place::Pos;
-use caf_base::thin::ThinProgram;
+use caf_base::refusal::{NoMemory, Refusal};
+use caf_base::thin::{THIN_SOURCE_BYTES, ThinProgram};
 use caf_report::report::{Report, Shown};
 use caf_text::push_number;
 use fortran_tree::unit::Program;
@@ -26,9 +26,6 @@ use source_reader::fault::{at, number};
 use source_reader::source::read;
 use std::alloc::Global;
 use thin_form::program::thin;
-
-/// The most bytes of a source.
-const SOURCE_BYTES: usize = 1_048_576;
 
 /// The status and the text that are due, and the report where a run was made.
 #[derive(Drop)]
@@ -118,7 +115,7 @@ fn tree_due(alloc: Global, tree: Program, n: u32, seed: u32) -> Result<Due, NoMe
 // What is due for the bytes of a file.
 fn bytes_due(alloc: Global, bytes: &[u8], n: u32, seed: u32) -> Result<Due, NoMemory>
     requires images { (1 ≤ n) × (n ≤ 64) }
-    requires short { length bytes.now ≤ 1048576 }
+    requires short { length bytes.now ≤ 65536 }
     ensures { IfOk result (λ d. BytesDue bytes.now n seed d.status d.text.items d.report) }
 {
     match read(alloc, bytes) {
@@ -141,7 +138,7 @@ fn file_due<S: Source>(
     ensures later { S.faults source.old ≤ S.faults source.new }
     ensures due { IfOk result (λ d. FileDue (S.files source.old) name.now n seed (S.left source.new) (S.faults source.old) (S.faults source.new) d.status d.text.items d.report) }
 {
-    match read_file(alloc, source, name, SOURCE_BYTES) {
+    match read_file(alloc, source, name, THIN_SOURCE_BYTES) {
         Ok(bytes) => bytes_due(alloc, bytes.as_slice(), n, seed),
         Err(ReadEnd::Fault) => said(alloc, 10, b"read fault\n"),
         Err(ReadEnd::TooLong) => said(alloc, 13, b"too long\n"),

@@ -179,7 +179,7 @@ abbrev pub statement_of : List ThinVariable → Statement → Found ThinStatemen
 statement_of vars (s.action a at) = placed_form vars a at
 statement_of vars x = not_built (place_of_statement x)
 
--- a statement, where an image makes few enough moves for it, those before it and END: 262,000
+-- A statement, where an image makes few enough moves for it, those before it and END: 262,000. In a source of at most 65,536 bytes they are always few enough, since a statement of 13 moves has 4 bytes at least; so long as no longer one is read, this refuses nothing.
 abbrev pub few_moves : ℕ → Pos → ThinStatement → Found ThinStatement
 few_moves before at t = cond (nat_le (before + form_moves t.form) 261992) (Ok t) (not_built at)
 
