@@ -25,8 +25,8 @@ complete_of : (words : List Word) (files : Option Files) (left' : Option (List �
     → ((r : Report) × (report ≡ Some r) × (status ≡ status_of r.end)) ⊎ (status ≡ 12)
 complete_of words files left' faults faults' status text report due file bytes p named has few stands still =
     elim (due.exact.settled file bytes named has) [
-    | inl settle ↦ inl (report_there status text report due.reported (settle.run.1 (few, p, stands)))
-    | inr rose ↦ absurd (still rose.1)
+      | inl settle ↦ inl (report_there status text report due.reported (settle.run.1 (few, p, stands)))
+      | inr rose ↦ absurd (still rose.1)
     ]
 
 pub returns-in-Ok-write_all-clause-complete : goal.returns-in-Ok-write_all-clause-complete
