@@ -1,7 +1,7 @@
 -- What the end of a part tells.
 use Rattle.std.proofs.Common.{◌≡◌, ℕ, zero, suc, ◌-◌, ◌<◌, ◌≤◌, Bool, true, false, cond, ◌||◌, List, [], ◌∷◌, map, length, nat_eq, Option, Some, None, Result, Ok, Err, refl, ap, sym, ◌∙◌, subst, arith}
 use Rattle.std.proofs.lemmas.Bool.{eqb-false, ne_eqb}
-use Rattle.reader_theory.specs.Words.{Verdict, found, fault}
+use Rattle.reader_theory.specs.Words.{found, fault}
 use Rattle.reader_theory.specs.Limits.{is_empty}
 use Rattle.fortran_grammar.specs.Tokens.{Token}
 use Rattle.expr_reader.specs.Results.{cause_of, Stands}
