@@ -6,3 +6,5 @@
 pub mod block;
 pub mod construct;
 pub mod law;
+pub mod next;
+pub mod unit;
