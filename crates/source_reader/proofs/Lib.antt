@@ -1,2 +1,3 @@
 pub mod OneAnswer
 pub mod Lengths
+pub mod Wholes

@@ -1,5 +1,5 @@
 -- How a source is refused: lines are judged first, over the whole file, then tokens, statement by statement, then statements.
-use Rattle.std.specs.Prelude.{ℕ, ◌≡◌, ◌<◌, List, [], ◌∷◌, ◌⊎◌, Some, length, slice_get}
+use Rattle.std.specs.Prelude.{ℕ, List, ◌⊎◌}
 use Rattle.caf_base.specs.declared.place.Pos.{Pos}
 use Rattle.fortran_lines.specs.declared.fault.LineFault.{LineFault}
 use Rattle.fortran_lines.specs.declared.fault.LineFault.TheVariants as lines
@@ -8,10 +8,9 @@ use Rattle.fortran_lines.specs.Faults.{faults_of, IsFirst}
 use Rattle.fortran_tokens.specs.declared.fault.TokenFault.{TokenFault}
 use Rattle.fortran_tokens.specs.declared.fault.TokenFault.TheVariants as tokens
 use Rattle.token_words.specs.Words.{IsFirstRefused}
-use Rattle.reader_theory.specs.Limits.{RefusedFor, no_word, level_at}
 use Rattle.fortran_grammar.specs.Tokens.{Token}
-use Rattle.fortran_grammar.specs.ProgramGrammar.{Sources}
-use Rattle.program_reader.specs.Unfinished.{Unfinished, No_statement}
+use Rattle.program_reader.specs.Unfinished.{No_statement}
+use Rattle.file_reader.specs.Refusals.{IsExpectedAt, IsOpenAt, IsTooDeepAt}
 use Rattle.source_reader.specs.declared.fault.ReadFault.{ReadFault}
 use Rattle.source_reader.specs.declared.fault.ReadFault.TheVariants.{NotAscii, LineTooLong, DanglingContinuation, OpenLiteral, BadCharacter, NumberTooWide, Expected, BlockNotClosed, TooDeep}
 use Rattle.source_reader.specs.Sources.{AreStatements, AreSourceWords}
@@ -56,28 +55,6 @@ pub record IsTokenFault (bytes : List ℕ) (f : TokenFault) : Type 0 where
   pub statements : List Stmt
   pub are : AreStatements bytes statements
   pub first : IsFirstRefused statements f
-
--- No program begins with the words up to and with this token, whatever its levels; the end of a statement is a token, just past its last one. Where there is no word at all, the beginning of the file.
-pub record IsExpectedAt (ts : List Token) (at : Pos) : Type 0 where
-  pub token : Token
-  pub rest : List Token
-  pub refused : RefusedFor Sources ts no_word (token ∷ rest)
-  pub place : at ≡ token.at
-
--- There are words, and programs go on from them, but none ends there; the innermost construct that is open stands at this place.
-pub record IsOpenAt (ts : List Token) (at : Pos) : Type 0 where
-  pub some : 0 < length ts
-  pub refused : RefusedFor Sources ts no_word []
-  pub unfinished : Unfinished 64 ts at
-
--- Programs go on with the token at which the words are refused, but each has a level too deep by then; the first of those levels begins at this token.
-pub record IsTooDeepAt (ts : List Token) (at : Pos) : Type 0 where
-  pub before : ℕ
-  pub token : Token
-  pub rest : List Token
-  pub refused : RefusedFor Sources ts (level_at before) rest
-  pub stands : slice_get ts before ≡ Some token
-  pub place : at ≡ token.at
 
 -- how the words of a source are refused
 abbrev pub AreRefused : List Token → ReadFault → Type 0

@@ -1,9 +1,13 @@
 //! Why a source isn't read.
 
-ghost use Rattle.std.specs.Prelude.{◌≡◌};
+ghost use Rattle.std.specs.Prelude.{◌≡◌, ℕ, List};
+ghost use Rattle.fortran_grammar.specs.Tokens.{Token};
+ghost use Rattle.file_reader.specs.Refusals as words;
+ghost use Rattle.source_reader.specs.Sources.{AreSourceWords};
 ghost use Rattle.source_reader.specs.Refusals as spec;
 
 use caf_base::place::Pos;
+use file_reader::fault::FileFault;
 use fortran_lines::fault::LineFault;
 use fortran_tokens::fault::TokenFault;
 use thiserror::Error;
@@ -93,5 +97,16 @@ pub(crate) fn of_token(fault: TokenFault) -> ReadFault
     match fault {
         TokenFault::BadCharacter { at } => ReadFault::BadCharacter { at },
         TokenFault::NumberTooWide { at } => ReadFault::NumberTooWide { at },
+    }
+}
+
+/// A fault of the words as one of the source.
+pub(crate) fn of_words(fault: FileFault) -> ReadFault
+    ensures { (bytes : List ℕ) (ts : List Token) → AreSourceWords bytes ts → words.AreRefused ts fault → spec.IsRefused bytes result }
+{
+    match fault {
+        FileFault::Expected { at } => ReadFault::Expected { at },
+        FileFault::NotClosed { at } => ReadFault::BlockNotClosed { at },
+        FileFault::TooDeep { at } => ReadFault::TooDeep { at },
     }
 }

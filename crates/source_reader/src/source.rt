@@ -1,20 +1,27 @@
 //! The reader of sources.
 
-ghost use Rattle.std.specs.Prelude.{◌<◌, length, IfOk, IfErr};
+ghost use Rattle.std.specs.Prelude.{◌<◌, length, map, IfOk, IfErr};
 ghost use Rattle.expr_reader.specs.Words.{tokens_of};
 ghost use Rattle.fortran_lines.specs.Causes.{IfCause};
 ghost use Rattle.fortran_tree.specs.UnitViews.{program};
-ghost use Rattle.source_reader.specs.Sources.{AreSourceWords, AreStatements, IsRead};
+ghost use Rattle.part_reader.specs.Views as held;
+ghost use Rattle.source_reader.specs.Sources.{AreSourceWords, AreStatements, AreParts, IsRead};
 ghost use Rattle.source_reader.specs.Refusals.{IsRefused};
 
-use crate::fault::{ReadFault, of_line, of_token};
+use crate::fault::{ReadFault, of_line, of_token, of_words};
 use caf_base::refusal::Refusal;
 use expr_reader::word::Word;
+use file_reader::file::file_parts;
 use fortran_lines::join::join_lines;
 use fortran_lines::stmt::Stmt;
 use fortran_tree::unit::Program;
+use part_reader::part::Part;
+use program_tree::unit::program_of;
 use std::alloc::Global;
 use token_words::words;
+
+/// So many words are more than memory holds.
+const MOST_WORDS: usize = 4_294_967_295;
 
 /// The statements that the lines of a source join to.
 fn statements(alloc: Global, bytes: &[u8]) -> Result<Vec<Stmt>, Refusal<ReadFault>>
@@ -40,6 +47,24 @@ pub fn source_words(alloc: Global, bytes: &[u8]) -> Result<Vec<Word>, Refusal<Re
         Ok(words) => Ok(words),
         Err(Refusal::NoMemory) => Err(Refusal::NoMemory),
         Err(Refusal::Cause(fault)) => Err(Refusal::Cause(of_token(fault))),
+    }
+}
+
+/// The parts of a source, which spell the one program that its bytes stand for.
+fn source_parts(alloc: Global, bytes: &[u8]) -> Result<Vec<Part>, Refusal<ReadFault>>
+    requires { length bytes.now < 4294967295 }
+    ensures parts { IfOk result (λ parts. AreParts bytes.now (map held.part parts.items)) }
+    ensures refused { IfErr result (λ refusal. IfCause refusal (λ fault. IsRefused bytes.now fault)) }
+{
+    let words = source_words(alloc, bytes)?;
+    if words.len() >= MOST_WORDS {
+        drop(words);
+        return Err(Refusal::NoMemory);
+    }
+    match file_parts(alloc, words.as_slice()) {
+        Ok(parts) => Ok(parts),
+        Err(Refusal::NoMemory) => Err(Refusal::NoMemory),
+        Err(Refusal::Cause(fault)) => Err(Refusal::Cause(of_words(fault))),
     }
 }
 
