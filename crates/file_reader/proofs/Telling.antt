@@ -1,11 +1,11 @@
 -- The statement that fails tells the reason.
-use Rattle.std.proofs.Common.{◌≡◌, ℕ, zero, suc, ◌+◌, ◌-◌, ◌<◌, ◌≤◌, Bool, true, false, not, cond, ◌&&◌, List, [], ◌∷◌, ◌++◌, length, map, reverse, take, drop, get_or, slice_get, Option, Some, None, inl, inr, refl, ap, sym, ◌∙◌, subst, arith, append_assoc, append-nil}
+use Rattle.std.proofs.Common.{◌≡◌, ◌⊎◌, ℕ, zero, suc, ◌+◌, ◌-◌, ◌<◌, ◌≤◌, Bool, true, false, not, cond, ◌&&◌, List, [], ◌∷◌, ◌++◌, length, map, reverse, take, drop, get_or, slice_get, Option, Some, None, Result, Ok, Err, IfErr, inl, inr, refl, ap, sym, ◌∙◌, subst, arith, append_assoc, append-nil}
 use Rattle.std.proofs.lemmas.Bool.{cases_Bool, and_parts, and_from, false≢true}
 use Rattle.std.proofs.lemmas.List.{length-reverse}
 use Rattle.reader_theory.specs.Words.{Mark, bare, Cause, expected, too_deep, fault}
 use Rattle.reader_theory.specs.Texts.{AnyOf}
 use Rattle.reader_theory.specs.Refusals.{Begins, Refused, StopsAt}
-use Rattle.reader_theory.specs.Limits.{RefusedFor, SinksAt, level_at, shifted, reason}
+use Rattle.reader_theory.specs.Limits.{RefusedFor, FirstSunk, SinksAt, level_at, shifted, reason}
 use Rattle.reader_theory.proofs.Fronts.{begins_front}
 use Rattle.reader_theory.proofs.Marks.{bare_append, bare_length, same_front}
 use Rattle.fortran_grammar.specs.Tokens.{Token}
@@ -59,6 +59,10 @@ begins_read ts errors.Memory h l whole some b = refl
 begins_read ts (errors.Stopped st) h l whole some b =
     absurd (no_stop ts h.0 (cause_of st.cause) (fault_refused 64 ts (cause_of st.cause) h.0 h.1) (subst (λ n. 0 < n) (sym h.2) (l whole some)) b)
 
+pub memory_alone : {X : Type 0} (ws : List Word) (v : Result X ReadError) → IfErr v (λ e. Fails e (file_answer (tokens_of ws))) → IfErr v (λ e. Stops_before (tokens_of ws) e) → whole_statements (tokens_of ws) ≡ true → 0 < length ws → Begins Sources (tokens_of ws) → IfErr v (λ e. e ≡ errors.Memory)
+memory_alone ws (Ok x) h l whole some b = tt
+memory_alone ws (Err e) h l whole some b = begins_read (tokens_of ws) e h l whole (subst (λ n. 0 < n) (sym (tokens_length ws)) some) b
+
 -- behind whole statements stands no condition of a one-line IF
 behind_whole : (s : State) (b : Part) → is_of f.condition_form b ≡ false → (next s b).conditions ≡ 0
 behind_whole s (f.condition_part x at) e = absurd (let z = e in cc)
@@ -101,13 +105,13 @@ one_alone [] x h = refl
 one_alone (y ∷ []) x h = one_more y x [] (and_parts (not (is_over y)) true h).0 refl
 one_alone (y ∷ z ∷ us) x h = let k = and_parts (not (is_over y)) (no_end (z ∷ us)) h in one_more y z (us ++ x ∷ []) k.0 (one_alone (z ∷ us) x k.1)
 
-record Cut (ws : List Word) (b m : ℕ) : Type 0 where
-  word : Word
-  rest : List Word
-  from : drop m ws ≡ word ∷ rest
-  statement : take (suc m - b) (drop b ws) ≡ drop b (take m ws) ++ word ∷ []
-  whole : ws ≡ take b ws ++ (drop b (take m ws) ++ word ∷ rest)
-  before : take b (take m ws) ≡ take b ws
+pub record Cut (ws : List Word) (b m : ℕ) : Type 0 where
+  pub word : Word
+  pub rest : List Word
+  pub from : drop m ws ≡ word ∷ rest
+  pub statement : take (suc m - b) (drop b ws) ≡ drop b (take m ws) ++ word ∷ []
+  pub whole : ws ≡ take b ws ++ (drop b (take m ws) ++ word ∷ rest)
+  pub before : take b (take m ws) ≡ take b ws
 
 cut : (ws : List Word) (b m : ℕ) → b ≤ m → m < length ws → Cut ws b m
 cut [] b m h l = absurd (omega arith)
@@ -132,19 +136,19 @@ taken_length [] (suc n) h = absurd (omega arith)
 taken_length (w ∷ ws) (suc n) h = ap suc (taken_length ws n (omega arith))
 
 module _ (ws : List Word) (st : Stop) (h : Stands st (file_answer (tokens_of ws))) (some : 0 < st.left) (b m : ℕ) (at : m + st.left ≡ length ws) (low : b ≤ m) where
-  there : Cut ws b m
+  pub there : Cut ws b m
   there = cut ws b m low (omega arith)
 
-  abbrev inside : List Token
+  abbrev pub inside : List Token
   inside = tokens_of (drop b (take m ws))
 
-  abbrev earlier : List Token
+  abbrev pub earlier : List Token
   earlier = tokens_of (take b ws)
 
-  abbrev x : Token
+  abbrev pub x : Token
   x = token_of there.word
 
-  abbrev r : List Token
+  abbrev pub r : List Token
   r = tokens_of there.rest
 
   split : tokens_of ws ≡ earlier ++ (inside ++ x ∷ r)
@@ -195,10 +199,11 @@ sunk_inside front d (a, f, g, v, m, is, e, shallow, deep, n) =
 
 pub number_inside : (ts r : List Token) (d : ℕ) → RefusedFor Sources ts (level_at d) r → d < length ts
 number_inside ts [] d h = absurd (let e = h.stops.0 in cc)
-number_inside ts (x ∷ r) d h =
-    let low = sunk_inside (h.front ++ x ∷ []) d h.stops.1 in
-    let one = both_lengths h.front (x ∷ []) in
-    let two = ap length h.split ∙ both_lengths h.front (x ∷ r) in
+number_inside ts (y ∷ more) d h =
+    let first : FirstSunk Sources (h.front ++ y ∷ []) (Some d) = h.stops.1 in
+    let low = sunk_inside (h.front ++ y ∷ []) d first.0 in
+    let one = both_lengths h.front (y ∷ []) in
+    let two = ap length h.split ∙ both_lengths h.front (y ∷ more) in
     omega arith
 
 -- a token by its number
