@@ -43,7 +43,7 @@ use Rattle.sequence_reader.specs.declared.state.Construct.{Construct}
 use Rattle.sequence_reader.specs.declared.state.State.{State as Held}
 use Rattle.sequence_reader.specs.declared.form.Form.{Form as HeldForm}
 use Rattle.file_reader.specs.Refusals.{IsTooDeepAt}
-use Rattle.file_reader.proofs.Refusing.{tokens_length, refused, rest_there, both_lengths}
+use Rattle.file_reader.proofs.Refusing.{tokens_length, refused, left_fits, rest_there, both_lengths}
 
 -- whole statements with which programs begin are read
 goes_no_further : (ts front : List Token) (c : Cause) (y : Token) (r : List Token) → Begins Sources ts → ts ≡ front ++ y ∷ r → StopsAt Sources front c (y ∷ r) → ⊥
@@ -232,3 +232,33 @@ pub place_told : (h : Held) (us : List Token) (left : ℕ) (is : List HeldForm) 
 place_told h us left is o d l one all e =
     let size : levels_at (view.state h) + left ≡ 64 = let z = levels_held h in omega arith in
     place_from_end 64 left (view.state h) us one size ∙ ap (before (length us)) (sym (e ∙ ap (λ z. statement_place left z us) all))
+
+-- The last statement that is begun, and what stands before it.
+module _ (ws : List Word) (st : Stop) (h : Stands st (file_answer (tokens_of ws))) (some : 0 < st.left) (b : ℕ) (front : List Word) (size : length front ≡ length ws - st.left) (is : front ≡ take (length ws - st.left) ws) (low : b ≤ length front) where
+  fits : (length ws - st.left) + st.left ≡ length ws
+  fits = let k = left_fits ws st h in omega arith
+
+  under : b ≤ length ws - st.left
+  under = subst (λ n. b ≤ n) size low
+
+  pub begins_early : (early : List Word) → early ≡ take b ws → Begins Sources (tokens_of early)
+  begins_early early e = subst (λ z. Begins Sources (tokens_of z)) (sym e) (earlier_begins ws st h some b (length ws - st.left) fits under)
+
+  module _ (more statement : List Word) (behind_is : more ≡ drop b ws) (taken : statement ≡ take (length front + 1 - b) more) where
+    count : length front + 1 - b ≡ suc (length ws - st.left) - b
+    count = let k = size in omega arith
+
+    cut_is : statement ≡ take (suc (length ws - st.left) - b) (drop b ws)
+    cut_is = taken ∙ (ap (λ n. take n more) count ∙ ap (λ z. take (suc (length ws - st.left) - b) z) behind_is)
+
+    pub one_begun : no_end (tokens_of (drop b front)) ≡ true → one_statement (tokens_of statement) ≡ true
+    one_begun e = subst (λ z. one_statement (tokens_of z) ≡ true) (sym cut_is) (one_there ws st h some b (length ws - st.left) fits under (subst (λ z. no_end (tokens_of (drop b z)) ≡ true) is e))
+
+    pub told_begun : (s : State) (from o : Option ℕ) (early : List Word) → early ≡ take b ws → Leads_to (tokens_of early) s → whole_statements (tokens_of (take b front)) ≡ true
+        → place_at 64 s (tokens_of statement) ≡ before (length (tokens_of statement)) from → o ≡ shifted b (before (length statement) from) → RefusedFor Sources (tokens_of ws) (reason o) (tokens_of (drop (length ws - st.left) ws))
+    told_begun s from o early e leads whole at n =
+        let there = subst (λ z. Leads_to (tokens_of z) s) e leads in
+        let all : whole_statements (tokens_of (take b ws)) ≡ true = subst (λ z. whole_statements z ≡ true) (earlier_is ws st h some b (length ws - st.left) fits under) (subst (λ z. whole_statements (tokens_of (take b z)) ≡ true) is whole) in
+        let place = subst (λ z. place_at 64 s (tokens_of z) ≡ before (length (tokens_of statement)) from) cut_is at in
+        let same : shifted b (before (length (tokens_of statement)) from) ≡ o = ap (λ k. shifted b (before k from)) (tokens_length statement) ∙ sym n in
+        subst (λ z. RefusedFor Sources (tokens_of ws) (reason z) (tokens_of (drop (length ws - st.left) ws))) same (tells ws st h some b (length ws - st.left) fits under s (before (length (tokens_of statement)) from) there all place)

@@ -1,4 +1,4 @@
-use Rattle.std.proofs.Common.{IfErr, ◌≡◌, ◌<◌, Result, Ok, Err, length}
+use Rattle.std.proofs.Common.{rules, IfErr, ◌≡◌, ◌<◌, Result, Ok, Err, length}
 use Rattle.expr_reader.specs.Results.{Fails}
 use Rattle.expr_reader.specs.Words.{tokens_of}
 use Rattle.sequence_reader.specs.Halts as halts
@@ -6,4 +6,4 @@ use Rattle.file_reader.proofs.Telling.{memory_alone}
 use Rattle.file_reader.proofs.reason.place_of_statement.Goals as goal
 
 pub returns-clause-memory : goal.returns-clause-memory
-returns-clause-memory c = memory_alone c.args.words.now c.place_behind.result c.place_behind.ensures.stops c.place_behind.ensures.late c.requires.whole c.if-is_empty.false c.requires.begins
+returns-clause-memory c = memory_alone c.args.words.now c.place_behind.result c.place_behind.ensures.stops c.place_behind.ensures.late c.requires.whole (search rules) c.requires.begins
