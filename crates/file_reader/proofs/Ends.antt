@@ -1,5 +1,5 @@
 -- The last end of a statement among some words.
-use Rattle.std.proofs.Common.{◌≡◌, ℕ, zero, suc, ◌-◌, ◌<◌, Bool, true, false, not, ◌&&◌, List, [], ◌∷◌, length, take, drop, get_or, Option, Some, None, refl, ap, sym, ◌∙◌, subst, arith}
+use Rattle.std.proofs.Common.{◌≡◌, ℕ, zero, suc, ◌<◌, true, false, not, List, [], ◌∷◌, length, take, drop, get_or, refl, arith}
 use Rattle.std.proofs.lemmas.Bool.{and_from, not_from_false}
 use Rattle.expr_reader.specs.Words.{token_of, tokens_of}
 use Rattle.expr_reader.specs.declared.word.Word.{Word}

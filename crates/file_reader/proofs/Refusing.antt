@@ -1,14 +1,13 @@
 -- The fault of the reader of files is the refusal of the words.
-use Rattle.std.proofs.Common.{◌≡◌, ℕ, zero, suc, ◌+◌, ◌-◌, ◌<◌, ◌≤◌, true, List, [], ◌∷◌, ◌++◌, length, drop, inl, inr, refl, ap, sym, ◌∙◌, subst, arith}
+use Rattle.std.proofs.Common.{◌≡◌, suc, ◌+◌, ◌-◌, ◌<◌, ◌≤◌, List, [], ◌∷◌, ◌++◌, length, drop, refl, ap, sym, ◌∙◌, subst, arith}
 use Rattle.caf_base.specs.declared.place.Pos.{Pos}
-use Rattle.reader_theory.specs.Words.{Cause, expected, too_deep, fault}
 use Rattle.reader_theory.specs.Refusals.{Refused}
 use Rattle.reader_theory.specs.Limits.{RefusedFor, no_word}
 use Rattle.reader_theory.proofs.Limits.{refused_at_end}
 use Rattle.fortran_grammar.specs.Tokens.{Token}
-use Rattle.fortran_grammar.specs.ProgramGrammar.{Programs, Sources}
+use Rattle.fortran_grammar.specs.ProgramGrammar.{Sources}
 use Rattle.expr_reader.specs.Results.{cause_of, Stands}
-use Rattle.expr_reader.specs.Words.{token_of, tokens_of}
+use Rattle.expr_reader.specs.Words.{tokens_of}
 use Rattle.expr_reader.specs.declared.error.Stop.{Stop}
 use Rattle.expr_reader.specs.declared.word.Word.{Word}
 use Rattle.program_reader.specs.Unfinished.{Unfinished, first_place}

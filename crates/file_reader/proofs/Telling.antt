@@ -1,8 +1,8 @@
 -- The statement that fails tells the reason.
-use Rattle.std.proofs.Common.{◌≡◌, ◌⊎◌, ℕ, zero, suc, ◌+◌, ◌-◌, ◌<◌, ◌≤◌, Bool, true, false, not, cond, ◌&&◌, List, [], ◌∷◌, ◌++◌, length, map, reverse, take, drop, get_or, slice_get, Option, Some, None, Result, Ok, Err, IfErr, inl, inr, refl, ap, sym, ◌∙◌, subst, arith, append_assoc, append-nil}
-use Rattle.std.proofs.lemmas.Bool.{cases_Bool, and_parts, and_from, false≢true}
+use Rattle.std.proofs.Common.{◌≡◌, ◌⊎◌, ℕ, zero, suc, ◌+◌, ◌-◌, ◌<◌, ◌≤◌, Bool, true, false, not, cond, List, [], ◌∷◌, ◌++◌, length, map, reverse, take, drop, slice_get, Option, Some, Result, Ok, Err, IfErr, inl, inr, refl, ap, sym, ◌∙◌, subst, arith, append_assoc, append-nil}
+use Rattle.std.proofs.lemmas.Bool.{cases_Bool, and_parts, false≢true}
 use Rattle.std.proofs.lemmas.List.{length-reverse}
-use Rattle.reader_theory.specs.Words.{Mark, bare, Cause, expected, too_deep, fault}
+use Rattle.reader_theory.specs.Words.{Mark, bare, Cause, expected, too_deep}
 use Rattle.reader_theory.specs.Texts.{AnyOf}
 use Rattle.reader_theory.specs.Refusals.{Begins, Refused, StopsAt}
 use Rattle.reader_theory.specs.Limits.{RefusedFor, FirstSunk, SinksAt, level_at, shifted, reason}
@@ -10,7 +10,7 @@ use Rattle.reader_theory.proofs.Fronts.{begins_front}
 use Rattle.reader_theory.proofs.Marks.{bare_append, bare_length, same_front}
 use Rattle.fortran_grammar.specs.Tokens.{Token}
 use Rattle.fortran_grammar.specs.Phrases.{Words}
-use Rattle.fortran_grammar.specs.ProgramGrammar.{Programs, Sources}
+use Rattle.fortran_grammar.specs.ProgramGrammar.{Sources}
 use Rattle.expr_reader.specs.Results.{cause_of, Stands, Fails}
 use Rattle.expr_reader.specs.Words.{token_of, tokens_of}
 use Rattle.expr_reader.specs.declared.error.Stop.{Stop}
@@ -21,14 +21,14 @@ use Rattle.statement_reader.specs.Heads.{is_over}
 use Rattle.statement_reader.specs.Parts as f
 use Rattle.statement_reader.specs.Parts.{Part, Form, is_of, formed}
 use Rattle.statement_reader.specs.Laws.{Part_at}
-use Rattle.program_reader.specs.Sequence.{State, start, forms, placed_at, next}
+use Rattle.program_reader.specs.Sequence.{State, start, placed_at, next}
 use Rattle.program_reader.specs.Unfinished.{Parts_from, behind, first_place}
 use Rattle.program_reader.proofs.Files.{part_longer}
 use Rattle.program_reader.proofs.Programs.{fault_refused}
 use Rattle.refusal_reasons.specs.Reasons.{place_at}
 use Rattle.refusal_reasons.specs.Statements.{one_statement}
 use Rattle.refusal_reasons.proofs.Files.{told_by_last}
-use Rattle.sequence_reader.specs.Halts.{file_answer, Walked, Leads_to}
+use Rattle.sequence_reader.specs.Halts.{file_answer, Leads_to}
 use Rattle.sequence_reader.specs.Statements.{whole_statements, Stops_before}
 use Rattle.sequence_reader.proofs.Closed.{condition_open}
 use Rattle.sequence_reader.proofs.Late.{whole_rest}

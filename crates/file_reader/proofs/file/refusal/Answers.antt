@@ -1,4 +1,4 @@
-use Rattle.std.proofs.Common.{◌<◌, length, sym, subst}
+use Rattle.std.proofs.Common.{◌<◌, sym, subst}
 use Rattle.expr_reader.specs.Words.{tokens_of}
 use Rattle.sequence_reader.specs.Halts as halts
 use Rattle.file_reader.proofs.Refusing.{tokens_length, open_there}

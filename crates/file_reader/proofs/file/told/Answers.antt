@@ -1,4 +1,4 @@
-use Rattle.std.proofs.Common.{arith, ◌≤◌, ◌<◌, Some, None, inr, length, drop, ◌-◌, subst}
+use Rattle.std.proofs.Common.{arith, inr, length, drop, ◌-◌, subst}
 use Rattle.expr_reader.specs.Words.{tokens_of}
 use Rattle.fortran_grammar.specs.ProgramGrammar.{Sources}
 use Rattle.reader_theory.specs.Limits.{RefusedFor, reason}

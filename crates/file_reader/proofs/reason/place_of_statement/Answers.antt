@@ -1,7 +1,4 @@
-use Rattle.std.proofs.Common.{rules, IfErr, ◌≡◌, ◌<◌, Result, Ok, Err, length}
-use Rattle.expr_reader.specs.Results.{Fails}
-use Rattle.expr_reader.specs.Words.{tokens_of}
-use Rattle.sequence_reader.specs.Halts as halts
+use Rattle.std.proofs.Common.{rules}
 use Rattle.file_reader.proofs.Telling.{memory_alone}
 use Rattle.file_reader.proofs.reason.place_of_statement.Goals as goal
 

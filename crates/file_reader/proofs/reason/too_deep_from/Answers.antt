@@ -1,4 +1,4 @@
-use Rattle.std.proofs.Common.{rules, arith, ◌≡◌, ◌-◌, ◌+◌, length, map, sym, ap, ◌∙◌}
+use Rattle.std.proofs.Common.{rules, ◌-◌, ◌+◌, length}
 use Rattle.expr_reader.specs.Words.{tokens_of}
 use Rattle.file_reader.proofs.Telling.{place_told}
 use Rattle.file_reader.proofs.reason.too_deep_from.Goals as goal
