@@ -1,5 +1,5 @@
 -- Statements from which on one level more is open.
-use Rattle.std.proofs.Common.{◌≡◌, ℕ, zero, suc, ◌-◌, ◌<◌, Bool, true, false, cond, codes, List, [], ◌∷◌, refl, ap, sym, ◌∙◌, arith}
+use Rattle.std.proofs.Common.{◌≡◌, ℕ, zero, suc, ◌-◌, ◌<◌, Bool, true, false, cond, codes, List, [], ◌∷◌, refl, ap, ◌∙◌, arith}
 use Rattle.reader_theory.specs.Words.{Verdict, found, fault, expected, too_deep}
 use Rattle.reader_theory.specs.Readers.{then_by, joined, behind, both, first, second, pair, sunk, token, turned}
 use Rattle.caf_base.specs.declared.place.Pos.{Pos}

@@ -11,11 +11,11 @@ use Rattle.expr_reader.specs.declared.error.ReadError.{ReadError}
 use Rattle.expr_reader.specs.declared.error.ReadError.TheVariants as errors
 use Rattle.expr_reader.specs.Tests.{is_key, is_sign, is_word, a_name, list_of}
 use Rattle.statement_reader.specs.Actions.{Assigned, a_specifier}
-use Rattle.statement_reader.specs.Families.{Family, an_expression, is_one_of, rounded}
+use Rattle.statement_reader.specs.Families.{Family, an_expression, is_one_of}
 use Rattle.statement_reader.specs.Forms.{a_do}
-use Rattle.statement_reader.specs.Heads.{a_joined, behind_key, deepened, located, step_part}
+use Rattle.statement_reader.specs.Heads.{a_joined, deepened, located, step_part}
 use Rattle.statement_reader.specs.Lines.{a_case_range, at_most_of}
-use Rattle.statement_reader.specs.Units.{maybe_dummies, maybe_only, maybe_result, names_or_none}
+use Rattle.statement_reader.specs.Units.{maybe_dummies, maybe_only}
 use Rattle.action_reader.specs.Beginnings.{one}
 
 abbrev pub deep_one : (Token → Bool) → Family (Unit {0})
@@ -64,14 +64,3 @@ signature left = both pair a_name (maybe_dummies left)
 -- why a text can't be read where no level is left, of so many tokens
 abbrev pub no_level : Bool → ℕ → ReadError
 no_level b n = errors.Stopped (record { cause = cond b causes.TooDeep causes.Expected; left = n })
-
--- KIND and `=`
-abbrev pub begins_kind : List Token → Bool
-begins_kind ts = two_pass (is_key (codes "kind")) (is_sign sign.Assign) ts
-
--- a function's dummies and its result, and before them FUNCTION and its name
-abbrev pub dummies : Family (List Name × Option Name)
-dummies left = both pair (rounded names_or_none left) (maybe_result left)
-
-abbrev pub function_signature : Family (Name × (List Name × Option Name))
-function_signature = behind_key (codes "function") (λ l. both pair a_name (both pair (rounded names_or_none l) (maybe_result l)))

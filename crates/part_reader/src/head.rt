@@ -38,7 +38,7 @@ pub(crate) fn deep_key<'a>(
 }
 
 /// Where no level is left: why what may begin here, or may not, can't be read.
-fn no_level(words: &[Word], begins: bool) -> ReadError
+pub(crate) fn no_level(words: &[Word], begins: bool) -> ReadError
     ensures { result ≡ levels.no_level begins (length words.now) }
 {
     if begins {

@@ -1,15 +1,16 @@
 //! Laws of the walk, in the words of the standard. Each is the contract of a function that does nothing.
 
 ghost use Rattle.std.specs.Prelude.{◌≡◌, ℕ, ℤ, true, false, List, [], ◌∷◌, Some, min};
-ghost use Rattle.trace_theory.specs.Machines.{goes, asks, Comes};
+ghost use Rattle.trace_theory.specs.Machines.{goes, asks, Comes, ComesToRest};
 ghost use Rattle.caf_base.specs.declared.value.Kind.{Kind};
 ghost use Rattle.caf_events.specs.declared.ask.Ask.TheVariants.{ErrorStop};
 ghost use Rattle.walk_theory.specs.Syntax.{Steps};
-ghost use Rattle.walk_theory.specs.Walks.{Task, to, at_parts, step};
+ghost use Rattle.walk_theory.specs.Walks.{Config, Task, to, at_parts, step};
 ghost use Rattle.walk_theory.specs.Evaluation.{leaves, outcome};
 ghost use Rattle.walk_theory.specs.Iterations.{IsCounted};
 ghost use Rattle.checked_tree.specs.declared.data.Local.{Local};
 ghost use Rattle.checked_tree.specs.Expressions as t;
+ghost use Rattle.checked_tree.specs.Statements as checked;
 ghost use Rattle.caf_base.specs.Arithmetic.{iterations};
 ghost use Rattle.image_acts.specs.Statuses.{most_iterations};
 ghost use Rattle.image_acts.specs.Acts.{Act, Scope, here, variable, begin_iterations};
@@ -22,6 +23,12 @@ ghost use Rattle.tree_meaning.specs.Expressions.{expression};
 ghost use Rattle.tree_meaning.specs.Settling.{is_accepted, settling};
 ghost use Rattle.tree_meaning.specs.Values.{variables, value_of, Leaves};
 ghost use Rattle.tree_meaning.specs.DoLoops.{iterations_left, do_loop};
+ghost use Rattle.tree_meaning.specs.Start.{walk_step};
+
+/// Each configuration of a program's walk comes to an ask or ends, whatever it has computed: between two asks an image does finitely much.
+pub fn law_walk_comes_to_an_ask_or_ends()
+    ensures { (p : checked.Program) (limit : ℕ) (c : Config Act Core) → ComesToRest (walk_step p limit) c }
+{}
 
 /// A DO construct's loop has an iteration count (ISO/IEC 1539-1:2018, 11.1.7.4): its body is begun where an iteration is left, and each iteration takes
 /// one away.

@@ -1,0 +1,4 @@
+pub mod Unplaced
+pub mod Laws
+pub mod Spelled
+pub mod Sources

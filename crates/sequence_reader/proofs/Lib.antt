@@ -1,0 +1,11 @@
+pub mod Stacks
+pub mod Better
+pub mod Together
+pub mod Gathering
+pub mod Conditions
+pub mod Depths
+pub mod Closed
+pub mod Late
+pub mod Turns
+pub mod Advances
+pub mod Walks

@@ -1,0 +1,214 @@
+//! The parts of a whole file, one behind the other.
+
+ghost use Rattle.std.specs.Prelude.{◌≡◌, ◌≤◌, ◌<◌, ◌+◌, List, [], length, map, IfOk, IfErr, MatchResult};
+ghost use Rattle.expr_reader.specs.Results.{Gives, Fails};
+ghost use Rattle.expr_reader.specs.Words.{tokens_of};
+ghost use Rattle.part_reader.specs.Views as held;
+ghost use Rattle.fortran_grammar.specs.Tokens.{Token};
+ghost use Rattle.program_reader.specs.Sequence as theory;
+ghost use Rattle.program_reader.specs.Unfinished as unfinished;
+ghost use Rattle.reader_theory.specs.Words.{found};
+ghost use Rattle.sequence_reader.specs.Answers as answers;
+ghost use Rattle.sequence_reader.specs.Halts as halts;
+ghost use Rattle.sequence_reader.specs.Statements as statements;
+ghost use Rattle.sequence_reader.specs.Views as view;
+
+use crate::place::{best, further};
+use crate::state::{Scope, State, innermost, may_end, place_of, start, step};
+use caf_base::place::Pos;
+use expr_reader::error::{Cause, ReadError, Stop};
+use expr_reader::word::Word;
+use part_reader::part::Part;
+use std::alloc::Global;
+
+/// The parts read so far, the place behind them, and the furthest fault so far of forms that aren't read.
+#[derive(Drop)]
+struct Progress {
+    state: State,
+    parts: Vec<Part>,
+    fault: Stop,
+}
+
+/// Reads a part more.
+fn advance<'a>(
+    alloc: Global,
+    progress: &mut Progress,
+    words: &'a [Word],
+) -> Result<&'a [Word], ReadError>
+    requires depth { progress.old.state.conditions + length progress.old.state.blocks.items ≤ 64 }
+    requires some { 0 < length words.now }
+    ensures depth { IfOk result (λ r. progress.new.state.conditions + length progress.new.state.blocks.items ≤ 64) }
+    ensures shorter { IfOk result (λ r. length r.now < length words.now) }
+    ensures goes { (every : answers.Answer) → answers.Reached 64 every (view.state progress.old.state) (map held.part progress.old.parts.items) progress.old.fault (tokens_of words.now)
+        → MatchResult result
+        (λ r. answers.Reached 64 every (view.state progress.new.state) (map held.part progress.new.parts.items) progress.new.fault (tokens_of r.now))
+        (λ e. answers.Ends e every) }
+    ensures walks { (every : List Token) → halts.Walked 64 every (view.state progress.old.state) (map held.part progress.old.parts.items) (tokens_of words.now)
+        → IfOk result (λ r. halts.Walked 64 every (view.state progress.new.state) (map held.part progress.new.parts.items) (tokens_of r.now)) }
+    ensures late { (every : List Token) → statements.On_the_way every (tokens_of words.now) progress.old.fault
+        → MatchResult result (λ r. statements.On_the_way every (tokens_of r.now) progress.new.fault) (λ e. statements.Stops_before every e) }
+{
+    let tried = best(alloc, &progress.state, words)?;
+    progress.fault = further(progress.fault, tried.fault);
+    let found = tried.found;
+    let Some((part, rest)) = found else {
+        return Err(ReadError::Stopped(progress.fault));
+    };
+    match step(&mut progress.state, &part) {
+        Ok(()) => {}
+        Err(e) => {
+            drop(part);
+            return Err(e);
+        }
+    }
+    progress.parts.push(part)?;
+    Ok(rest)
+}
+
+/// Why a file isn't read.
+#[derive(Drop)]
+pub enum Halt {
+    Memory,
+    /// No file goes on with this word, or the 65th level begins at it. Of whole statements there is always a word left.
+    Stopped(Stop),
+    /// The words are whole statements, and more were needed: what is open innermost, a construct, a procedure or the main program, begins here.
+    Unfinished { stop: Stop, at: Pos },
+}
+
+/// The place of the first word; of an empty file its beginning.
+fn first_place(words: &[Word]) -> Pos
+    ensures { result ≡ unfinished.first_place (tokens_of words.now) }
+{
+    match words.split_first() {
+        Some((first, _)) => first.at,
+        None => Pos { line: 1, col: 1 },
+    }
+}
+
+/// Where what is open innermost begins.
+fn open_place(state: &State, words: &[Word]) -> Pos
+    ensures { result ≡ unfinished.innermost (view.scope state.now.scope) (view.blocks state.now.blocks.items) (unfinished.first_place (tokens_of words.now)) }
+{
+    match innermost(state) {
+        Some(construct) => place_of(construct),
+        None => match state.scope {
+            Scope::MainProgram(_) => first_place(words),
+            Scope::Between => first_place(words),
+            Scope::InSubroutine { at, .. } => at,
+            Scope::InFunction { at, .. } => at,
+            Scope::Over => first_place(words),
+        },
+    }
+}
+
+/// Where reading stops before the end of the words no more is known.
+fn halted(e: ReadError) -> Halt
+    ensures { result ≡ halts.halted e }
+{
+    match e {
+        ReadError::Memory => Halt::Memory,
+        ReadError::Stopped(stop) => Halt::Stopped(stop),
+    }
+}
+
+/// The parts, where the file may end behind them.
+fn finished(progress: Progress, words: &[Word]) -> Result<Vec<Part>, Halt>
+    ensures { (every : answers.Answer) → answers.Reached 64 every (view.state progress.state) (map held.part progress.parts.items) progress.fault []
+        → halts.Walked 64 (tokens_of words.now) (view.state progress.state) (map held.part progress.parts.items) []
+        → MatchResult result (λ v. every ≡ answers.read (map held.part v.items)) (λ e. halts.Halts_as e every (tokens_of words.now)) }
+{
+    let Progress {
+        state,
+        parts,
+        fault,
+    } = progress;
+    let ends = may_end(&state);
+    let at = open_place(&state, words);
+    drop(state);
+    if ends {
+        return Ok(parts);
+    }
+    drop(parts);
+    let end = Stop {
+        cause: Cause::Expected,
+        left: 0,
+    };
+    Err(Halt::Unfinished {
+        stop: further(fault, end),
+        at,
+    })
+}
+
+/// Reads parts up to the last word.
+fn walk(alloc: Global, words: &[Word]) -> Result<Progress, ReadError>
+    ensures depth { IfOk result (λ p. p.state.conditions + length p.state.blocks.items ≤ 64) }
+    ensures goes { MatchResult result
+        (λ p. answers.Reached 64 (answers.answer_of (halts.file_answer (tokens_of words.now))) (view.state p.state) (map held.part p.parts.items) p.fault [])
+        (λ e. answers.Ends e (answers.answer_of (halts.file_answer (tokens_of words.now)))) }
+    ensures walks { IfOk result (λ p. halts.Walked 64 (tokens_of words.now) (view.state p.state) (map held.part p.parts.items) []) }
+    ensures late { IfErr result (λ e. statements.Stops_before (tokens_of words.now) e) }
+{
+    let mut progress = Progress {
+        state: start(alloc),
+        parts: Vec::new(alloc),
+        fault: Stop {
+            cause: Cause::Expected,
+            left: words.len(),
+        },
+    };
+    let mut rest = words;
+    while !rest.is_empty() {
+        rest = match advance(alloc, &mut progress, rest) {
+            Ok(behind) => behind,
+            Err(e) => {
+                drop(progress);
+                return Err(e);
+            }
+        };
+    }
+    Ok(progress)
+}
+
+/// The parts of a file, whose words these are (ISO/IEC 1539-1:2018, R501), in their order. Reading stops at the first word with which no
+/// file goes on, or at which the 65th level begins; where the file ends too early, it is told what is open.
+pub fn read_parts(alloc: Global, words: &[Word]) -> Result<Vec<Part>, Halt>
+    ensures { MatchResult result (λ v. halts.file_answer (tokens_of words.now) ≡ found (map held.part v.items) []) (λ e. halts.Halts e (tokens_of words.now)) }
+{
+    match walk(alloc, words) {
+        Ok(progress) => finished(progress, words),
+        Err(e) => Err(halted(e)),
+    }
+}
+
+/// The place behind these words, where they are whole parts that may begin a file; else where and why reading stops.
+pub fn place_behind(alloc: Global, words: &[Word]) -> Result<State, ReadError>
+    ensures depth { IfOk result (λ s. s.conditions + length s.blocks.items ≤ 64) }
+    ensures leads { IfOk result (λ s. halts.Leads_to (tokens_of words.now) (view.state s)) }
+    ensures stops { IfErr result (λ e. Fails e (halts.file_answer (tokens_of words.now))) }
+    ensures late { IfErr result (λ e. statements.Stops_before (tokens_of words.now) e) }
+{
+    let Progress { state, parts, .. } = walk(alloc, words)?;
+    drop(parts);
+    Ok(state)
+}
+
+/// Why a file isn't read, without what is open at its end.
+fn plain(halt: Halt) -> ReadError
+    ensures { result ≡ halts.plain halt }
+{
+    match halt {
+        Halt::Memory => ReadError::Memory,
+        Halt::Stopped(stop) => ReadError::Stopped(stop),
+        Halt::Unfinished { stop, .. } => ReadError::Stopped(stop),
+    }
+}
+
+/// The parts of a file, or where and why reading stops: the theory's answer.
+pub fn parts(alloc: Global, words: &[Word]) -> Result<Vec<Part>, ReadError>
+    ensures { Gives (λ v. (map held.part v.items, [])) result (theory.rest_reader 64 (length (tokens_of words.now)) theory.start (tokens_of words.now)) }
+{
+    match read_parts(alloc, words) {
+        Ok(parts) => Ok(parts),
+        Err(halt) => Err(plain(halt)),
+    }
+}
