@@ -1,2 +1,5 @@
-pub mod OneAnswer
 pub mod Lengths
+pub mod OneFault
+pub mod OneAnswer
+pub mod Whole
+pub mod Reading
