@@ -1,8 +1,8 @@
 -- The words of a source are refused at one place, and for one reason.
-use Rattle.std.proofs.Common.{◌≡◌, ℕ, ◌<◌, List, [], ◌∷◌, ◌++◌, inl, inr, refl, ap, sym, ◌∙◌, subst, arith, append_assoc, length, nat_lt, ltb-true, ltb-false}
+use Rattle.std.proofs.Common.{◌≡◌, ◌<◌, List, [], ◌∷◌, ◌++◌, inl, inr, ap, sym, ◌∙◌, subst, arith, append_assoc, length, nat_lt, ltb-true, ltb-false}
 use Rattle.std.proofs.lemmas.Bool.{cases_Bool}
 use Rattle.reader_theory.specs.Words.{Language, Cause, expected, too_deep}
-use Rattle.reader_theory.specs.Refusals.{Begins, Opens, StopsAt, Refused}
+use Rattle.reader_theory.specs.Refusals.{Begins, Opens, Refused}
 use Rattle.reader_theory.specs.Limits.{RefusedFor, no_word}
 use Rattle.reader_theory.proofs.Marks.{same_front}
 use Rattle.reader_theory.proofs.Best.{longer_front}
@@ -56,6 +56,7 @@ module _ {T A : Type 0} (L : Language T A) where
 
   -- they have one reason
   pub not_both_reasons : (ts : List T) (x y : T) (r s : List T) → Refused L ts expected (x ∷ r) → Refused L ts too_deep (y ∷ s) → ⊥
+  unfolding at_fault
   not_both_reasons ts x y r s h k =
       let same = one_place ts (x ∷ r) (y ∷ s) (at_fault ts expected x r h) (at_fault ts too_deep y s k) in
       let token : x ≡ y = (let z = same.0 in cc) in
