@@ -2,18 +2,18 @@
 use Rattle.std.proofs.Common.{◌≡◌, suc, ◌+◌, ◌-◌, ◌<◌, ◌≤◌, List, [], ◌∷◌, ◌++◌, length, drop, refl, ap, sym, ◌∙◌, subst, arith}
 use Rattle.caf_base.specs.declared.place.Pos.{Pos}
 use Rattle.reader_theory.specs.Refusals.{Refused}
+use Rattle.reader_theory.specs.Limits.{RefusedFor, no_word}
 use Rattle.reader_theory.proofs.Limits.{refused_at_end}
 use Rattle.fortran_grammar.specs.Tokens.{Token}
 use Rattle.fortran_grammar.specs.ProgramGrammar.{Sources}
 use Rattle.expr_reader.specs.Results.{cause_of, Stands}
 use Rattle.expr_reader.specs.Words.{tokens_of}
-use Rattle.expr_reader.specs.declared.error.Cause.TheVariants as causes
 use Rattle.expr_reader.specs.declared.error.Stop.{Stop}
 use Rattle.expr_reader.specs.declared.word.Word.{Word}
 use Rattle.program_reader.specs.Unfinished.{Unfinished, first_place}
 use Rattle.program_reader.proofs.Programs.{fault_refused}
 use Rattle.sequence_reader.specs.Halts.{file_answer}
-use Rattle.file_reader.specs.Refusals.{IsExpectedAt, IsTooDeepAt, IsOpenAt}
+use Rattle.file_reader.specs.Refusals.{IsExpectedAt, IsOpenAt}
 
 pub tokens_length : (ws : List Word) → length (tokens_of ws) ≡ length ws
 tokens_length [] = refl
@@ -51,19 +51,11 @@ module _ (ws : List Word) (st : Stop) (h : Stands st (file_answer (tokens_of ws)
     first : (x : Token) × (rest : List Token) × (h.0 ≡ x ∷ rest) × (at ≡ x.at)
     first = by_rest h.0 refl (subst (λ n. 0 < n) (sym h.2) some)
 
-    pub expected_there : st.cause ≡ causes.Expected → IsExpectedAt (tokens_of ws) at
-    expected_there c = record {
+    pub expected_there : RefusedFor Sources (tokens_of ws) no_word (tokens_of (drop (length ws - st.left) ws)) → IsExpectedAt (tokens_of ws) at
+    expected_there why = record {
       token = first.0;
       rest = first.1;
-      refused = subst (λ z. Refused Sources (tokens_of ws) z (first.0 ∷ first.1)) (ap cause_of c) (subst (Refused Sources (tokens_of ws) (cause_of st.cause)) first.2 refused);
-      place = first.3;
-    }
-
-    pub too_deep_there : st.cause ≡ causes.TooDeep → IsTooDeepAt (tokens_of ws) at
-    too_deep_there c = record {
-      token = first.0;
-      rest = first.1;
-      refused = subst (λ z. Refused Sources (tokens_of ws) z (first.0 ∷ first.1)) (ap cause_of c) (subst (Refused Sources (tokens_of ws) (cause_of st.cause)) first.2 refused);
+      refused = subst (RefusedFor Sources (tokens_of ws) no_word) (rest_there ∙ first.2) why;
       place = first.3;
     }
 

@@ -4,6 +4,8 @@ ghost use Rattle.std.specs.Prelude.{◌≡◌, ◌<◌, ◌≤◌, ◌-◌, true
 ghost use Rattle.expr_reader.specs.Results.{Stands};
 ghost use Rattle.expr_reader.specs.Words.{tokens_of};
 ghost use Rattle.fortran_lines.specs.Causes.{IfCause};
+ghost use Rattle.fortran_grammar.specs.ProgramGrammar.{Sources};
+ghost use Rattle.reader_theory.specs.Limits.{RefusedFor, reason};
 ghost use Rattle.reader_theory.specs.Words.{found};
 ghost use Rattle.part_reader.specs.Views as held;
 ghost use Rattle.program_reader.specs.Sequence.{rest_reader, start};
@@ -13,9 +15,10 @@ ghost use Rattle.sequence_reader.specs.Statements.{whole_statements};
 ghost use Rattle.file_reader.specs.Refusals.{AreRefused};
 
 use crate::fault::FileFault;
+use crate::reason::sunk_word;
 use caf_base::place::Pos;
 use caf_base::refusal::Refusal;
-use expr_reader::error::{Cause, Stop};
+use expr_reader::error::Stop;
 use expr_reader::word::Word;
 use part_reader::part::Part;
 use sequence_reader::sequence::{Halt, read_parts};
@@ -33,30 +36,38 @@ fn place_from(words: &[Word], left: usize) -> Pos
     }
 }
 
-/// The fault at a word.
-fn at_word(words: &[Word], stop: Stop) -> FileFault
+/// The fault at a word: the place of the first that is too deep, if there is one.
+fn told(words: &[Word], stop: Stop, sunk: Option<usize>) -> FileFault
     requires some { 0 < stop.left }
     requires stands { Stands stop (halts.file_answer (tokens_of words.now)) }
+    requires refused { RefusedFor Sources (tokens_of words.now) (reason sunk) (tokens_of (drop (length words.now - stop.left) words.now)) }
     ensures { AreRefused (tokens_of words.now) result }
 {
-    let at = place_from(words, stop.left);
-    match stop.cause {
-        Cause::Expected => FileFault::Expected { at },
-        Cause::TooDeep => FileFault::TooDeep { at },
+    match sunk {
+        None => FileFault::Expected {
+            at: place_from(words, stop.left),
+        },
+        Some(before) => FileFault::TooDeep {
+            at: place_from(words, words.len() - before),
+        },
     }
 }
 
 /// Why words aren't read.
-fn refusal(halt: Halt, words: &[Word]) -> Refusal<FileFault>
+fn refusal(alloc: Global, halt: Halt, words: &[Word]) -> Refusal<FileFault>
     requires whole { whole_statements (tokens_of words.now) ≡ true }
     requires some { 0 < length words.now }
+    requires fits { length words.now < 4294967295 }
     requires halts { halts.Halts halt (tokens_of words.now) }
     ensures { IfCause result (λ fault. AreRefused (tokens_of words.now) fault) }
 {
     match halt {
         Halt::Memory => Refusal::NoMemory,
-        Halt::Stopped(stop) => Refusal::Cause(at_word(words, stop)),
         Halt::Unfinished { at, .. } => Refusal::Cause(FileFault::NotClosed { at }),
+        Halt::Stopped(stop) => match sunk_word(alloc, words, stop) {
+            Ok(sunk) => Refusal::Cause(told(words, stop, sunk)),
+            Err(_) => Refusal::NoMemory,
+        },
     }
 }
 
@@ -78,6 +89,6 @@ pub fn file_parts(alloc: Global, words: &[Word]) -> Result<Vec<Part>, Refusal<Fi
     }
     match read_parts(alloc, words) {
         Ok(parts) => Ok(parts),
-        Err(halt) => Err(refusal(halt, words)),
+        Err(halt) => Err(refusal(alloc, halt, words)),
     }
 }

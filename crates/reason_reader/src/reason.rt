@@ -1,6 +1,6 @@
 //! The first word of a statement at which a level too deep is open.
 
-ghost use Rattle.std.specs.Prelude.{◌≡◌, ◌<◌, ◌+◌, length, map, MatchResult};
+ghost use Rattle.std.specs.Prelude.{◌≡◌, length, map, MatchResult};
 ghost use Rattle.expr_reader.specs.Words.{tokens_of};
 ghost use Rattle.refusal_reasons.specs.Statements as statements;
 ghost use Rattle.reason_reader.specs.Ends.{fits, goes_behind};
@@ -115,8 +115,8 @@ fn action_place<R: ReadsForms>(
 }
 
 /// Where a statement of one of these forms comes to a level too deep first, of all forms that go on with these words, whatever their levels: the
-/// number of words from there on, or none where none does. `left` is how many levels may be opened at the statement's place, the last word the one at
-/// which the statement fails.
+/// number of words from there on, or none where none does. `left` is how many levels may be opened at the statement's place; the last word is the one
+/// at which the statement fails. A form is read once more with as many levels as there are words, so readers go as deep as the words nest.
 #[tactic(auto, using(crate::proofs::Ends::place_laws))]
 pub fn statement_place<R: ReadsForms>(
     names: &[R::Name],

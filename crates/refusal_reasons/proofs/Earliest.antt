@@ -26,7 +26,7 @@ no_more i left us v e = by_answer v (subst (λ z. Tells (Part_at left (placed 0 
     by_answer (fault too_deep r) t = let l = ap length t.split ∙ length-append (bare t.front) r in omega arith
 
 -- the place is one of these tokens, or just behind them
-abbrev Within : ℕ → Option ℕ → Type 0
+abbrev pub Within : ℕ → Option ℕ → Type 0
 Within n None = Unit {0}
 Within n (Some k) = k ≤ n
 
@@ -86,3 +86,10 @@ behind_same (suc left) us = all_same left (behind_same left) us action_forms
 
 pub place_from_end : (limit left : ℕ) (s : State) (us : List Token) → one_statement us ≡ true → levels_at s + left ≡ limit → place_at limit s us ≡ before (length us) (statement_place left (allowed s) us)
 place_from_end limit left s us one e = place_by_left limit left s us one e ∙ (all_same left (behind_same left) us (allowed s)).is
+
+pub place_within : (left : ℕ) (is : List Form) (us : List Token) → Within (length us) (statement_place left is us)
+place_within left is us = (all_same left (behind_same left) us is).within
+
+pub shifted_from : (m n : ℕ) (o : Option ℕ) → Within n o → shifted m (before n o) ≡ before (m + n) o
+shifted_from m n None h = refl
+shifted_from m n (Some k) h = ap Some (omega arith)

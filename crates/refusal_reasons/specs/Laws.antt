@@ -1,5 +1,5 @@
 -- What is proved of the reason of a refusal.
-use Rattle.std.specs.Prelude.{ℕ, suc, ◌≡◌, ◌≤◌, ◌+◌, true, List, [], ◌∷◌, ◌++◌, length}
+use Rattle.std.specs.Prelude.{ℕ, suc, ◌≡◌, ◌≤◌, ◌+◌, ◌-◌, true, List, [], ◌∷◌, ◌++◌, length}
 use Rattle.reader_theory.specs.Words.{Mark, bare, Shallow, Cause}
 use Rattle.reader_theory.specs.Refusals.{Refused}
 use Rattle.reader_theory.specs.Limits.{FirstSunk, RefusedFor, reason, shifted}
@@ -30,6 +30,13 @@ LastStatementTells = (limit : ℕ) (es : List Part) (w : List (Mark Token)) (ts 
 -- for the tokens of one statement the readers of the forms that its place allows and the number of levels that are left there are enough
 abbrev pub StatementsAlone : Type 0
 StatementsAlone = (limit left : ℕ) (s : State) (us : List Token) → one_statement us ≡ true → levels_at s + left ≡ limit → place_at limit s us ≡ before (length us) (statement_place left (allowed s) us)
+
+-- and so they tell the reason of the file's refusal
+abbrev pub StatementTells : Type 0
+StatementTells = (limit left : ℕ) (es : List Part) (w : List (Mark Token)) (ts us : List Token) (c : Cause) (x : Token) (rest : List Token)
+    → Parts_from limit start es w → Shallow w → (behind start es).conditions ≡ 0 → one_statement (us ++ x ∷ []) ≡ true → length (behind start es).blocks + left ≡ limit
+    → ts ≡ bare w ++ (us ++ x ∷ rest) → Refused (Programs limit) ts c (x ∷ rest)
+    → RefusedFor (Programs limit) ts (reason (before (length ts - length rest) (statement_place left (allowed (behind start es)) (us ++ x ∷ [])))) (x ∷ rest)
 
 -- no file is refused at two places or for two reasons
 abbrev pub OneReason : Type 0

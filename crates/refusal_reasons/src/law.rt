@@ -1,6 +1,6 @@
 //! Laws of the reason of a refusal that no caller runs.
 
-ghost use Rattle.refusal_reasons.specs.Laws.{PartsAreFlat, RestsSinkThere, LastStatementTells, StatementsAlone, OneReason};
+ghost use Rattle.refusal_reasons.specs.Laws.{PartsAreFlat, RestsSinkThere, LastStatementTells, StatementsAlone, StatementTells, OneReason};
 
 /// No token of a part stands further in than its place, the conditions before it, the tokens before it and one allow; so the
 /// readers of parts tell which token is too deep first among all words that begin with some tokens, whatever their levels;
@@ -10,5 +10,6 @@ pub fn reasons_exactly()
     ensures rests { RestsSinkThere }
     ensures last { LastStatementTells }
     ensures statement { StatementsAlone }
+    ensures told { StatementTells }
     ensures one { OneReason }
 {}

@@ -2,7 +2,7 @@ use Rattle.fortran_grammar.specs.ProgramGrammar.{Programs}
 use Rattle.reader_theory.proofs.Limits.{one_refusal}
 use Rattle.refusal_reasons.proofs.Flat.{flat_form}
 use Rattle.refusal_reasons.proofs.Going.{first_of_rest}
-use Rattle.refusal_reasons.proofs.Files.{told_by_last}
+use Rattle.refusal_reasons.proofs.Files.{told_by_last, told_by_statement}
 use Rattle.refusal_reasons.proofs.Earliest.{place_from_end}
 use Rattle.refusal_reasons.proofs.law.reasons_exactly.Goals as goal
 
@@ -17,6 +17,9 @@ returns-clause-last c = told_by_last
 
 pub returns-clause-statement : goal.returns-clause-statement
 returns-clause-statement c = place_from_end
+
+pub returns-clause-told : goal.returns-clause-told
+returns-clause-told c = λ limit left. told_by_statement limit left
 
 pub returns-clause-one : goal.returns-clause-one
 returns-clause-one c = λ limit. one_refusal (Programs limit)
