@@ -1,5 +1,4 @@
 pub mod Lengths
-pub mod OneFault
 pub mod OneAnswer
 pub mod Whole
 pub mod Reading

@@ -1,7 +1,7 @@
 -- A source has one answer at most.
 use Rattle.std.proofs.Common.{◌≡◌, ℕ, ◌<◌, List, [], ◌∷◌, ◌++◌, ◌⊎◌, inl, inr, refl, ap, sym, ◌∙◌, subst, arith, length, map}
 use Rattle.std.proofs.Math.Nat.{ℕ_set}
-use Rattle.std.specs.Prelude.{Contains}
+use Rattle.std.specs.Prelude.{Contains, Some, slice_get}
 use Rattle.caf_base.specs.declared.place.Pos.{Pos}
 use Rattle.fortran_lines.specs.declared.fault.LineFault.{LineFault}
 use Rattle.fortran_lines.specs.declared.fault.LineFault.TheVariants as lines
@@ -17,10 +17,10 @@ use Rattle.fortran_tokens.proofs.OneAnswer as statements
 use Rattle.token_words.specs.Words.{AreWords, IsFirstRefused}
 use Rattle.token_words.proofs.Sources.{words_once, never_both}
 use Rattle.reader_theory.specs.Refusals.{Reads}
-use Rattle.reader_theory.specs.Words.{expected, too_deep}
-use Rattle.reader_theory.specs.Limits.{no_word}
+use Rattle.reader_theory.specs.Words.{expected}
+use Rattle.reader_theory.specs.Limits.{no_word, level_at}
 use Rattle.reader_theory.proofs.Fronts.{not_both}
-use Rattle.reader_theory.proofs.Limits.{not_read}
+use Rattle.reader_theory.proofs.Limits.{not_read, one_refusal}
 use Rattle.fortran_tree.specs.Units.{Program}
 use Rattle.fortran_grammar.specs.Tokens.{Token}
 use Rattle.fortran_grammar.specs.ProgramGrammar.{Sources}
@@ -30,7 +30,6 @@ use Rattle.source_reader.specs.declared.fault.ReadFault.TheVariants.{NotAscii, L
 use Rattle.source_reader.specs.Sources.{AreStatements, AreSourceWords, IsRead}
 use Rattle.program_reader.specs.Unfinished.{No_statement}
 use Rattle.source_reader.specs.Laws.{IsSame}
-use Rattle.source_reader.proofs.OneFault.{one_token, not_at_end, not_both_reasons}
 use Rattle.file_reader.specs.Refusals.{IsExpectedAt, IsOpenAt, IsTooDeepAt}
 use Rattle.source_reader.specs.Refusals.{number, IsTokenFault, AreRefused, WordsAreRefused, IsRefused, of_line, of_token}
 
@@ -126,9 +125,9 @@ not_nothing x h = not_both Sources [] expected [] x (fault_refused 64 [] expecte
 
 not_words : (ts : List Token) (x : Program) (f : ReadFault) → Reads Sources ts x → AreRefused ts f → ⊥
 not_words ts x (Expected at) h (inl (none, first)) = not_nothing x (subst (λ z. Reads Sources z x) none h)
-not_words ts x (Expected at) h (inr k) = not_both Sources ts expected (k.token ∷ k.rest) x k.refused h
+not_words ts x (Expected at) h (inr k) = not_read Sources ts no_word (k.token ∷ k.rest) x k.refused h
 not_words ts x (BlockNotClosed at) h k = not_read Sources ts no_word [] x k.refused h
-not_words ts x (TooDeep at) h k = not_both Sources ts too_deep (k.token ∷ k.rest) x k.refused h
+not_words ts x (TooDeep at) h k = not_read Sources ts (level_at k.before) k.rest x k.refused h
 not_words ts x f h k = k
 
 pub read_not_refused : (bytes : List ℕ) (x : Program) (f : ReadFault) → IsRead bytes x → IsRefused bytes f → ⊥
@@ -147,11 +146,7 @@ no_rest ts at e k = by_front k.refused.front (sym e ∙ k.refused.split)
     by_front (t ∷ front) e = absurd (cc)
 
 no_token : (ts : List Token) (at : Pos) → ts ≡ [] → IsTooDeepAt ts at → ⊥
-no_token ts at e k = by_front k.refused.front (sym e ∙ k.refused.split)
-  where
-    by_front : (front : List Token) → [] ≡ front ++ k.token ∷ k.rest → ⊥
-    by_front [] e = absurd (cc)
-    by_front (t ∷ front) e = absurd (cc)
+no_token ts at e k = absurd (let none : slice_get [] k.before ≡ Some k.token = subst (λ z. slice_get z k.before ≡ Some k.token) e k.stands in cc)
 
 not_some : (ts : List Token) → ts ≡ [] → 0 < length ts → ⊥
 not_some ts e h = absurd (let none = ap length e in omega arith)
@@ -169,25 +164,29 @@ module _ (ts : List Token) where
   expected_once at (Expected there) (inl (none, p)) (inr k) = absurd (no_rest ts there none k)
   expected_once at (Expected there) (inr h) (inl (none, p)) = absurd (no_rest ts at none h)
   expected_once at (Expected there) (inr h) (inr k) =
-      let token = one_token Sources ts expected expected h.token k.token h.rest k.rest h.refused k.refused in
+      let both = one_refusal Sources ts (h.token ∷ h.rest) (k.token ∷ k.rest) no_word no_word h.refused k.refused in
+      let token : h.token ≡ k.token = (let z = both.1 in cc) in
       same (ap Expected (h.place ∙ (ap (λ z. z.at) token ∙ sym k.place)))
   expected_once at (BlockNotClosed there) (inl (none, p)) k = absurd (not_some ts none k.some)
-  expected_once at (BlockNotClosed there) (inr h) k = absurd (not_at_end Sources ts expected h.token h.rest h.refused k.refused)
+  expected_once at (BlockNotClosed there) (inr h) k = absurd (let both = one_refusal Sources ts (h.token ∷ h.rest) [] no_word no_word h.refused k.refused in let z = both.1 in cc)
   expected_once at (TooDeep there) (inl (none, p)) k = absurd (no_token ts there none k)
-  expected_once at (TooDeep there) (inr h) k = absurd (not_both_reasons Sources ts h.token k.token h.rest k.rest h.refused k.refused)
+  expected_once at (TooDeep there) (inr h) k = absurd (let both = one_refusal Sources ts (h.token ∷ h.rest) k.rest no_word (level_at k.before) h.refused k.refused in let z = both.0 in cc)
   expected_once at g h k = absurd k
 
   unclosed_once : (at : Pos) (g : ReadFault) → IsOpenAt ts at → AreRefused ts g → IsSame (BlockNotClosed at) g
   unclosed_once at (Expected there) h k = back (expected_once there (BlockNotClosed at) k h)
   unclosed_once at (BlockNotClosed there) h k = (refl, λ n. absurd (n refl))
-  unclosed_once at (TooDeep there) h k = absurd (not_at_end Sources ts too_deep k.token k.rest k.refused h.refused)
+  unclosed_once at (TooDeep there) h k = absurd (let both = one_refusal Sources ts [] k.rest no_word (level_at k.before) h.refused k.refused in let z = both.0 in cc)
   unclosed_once at g h k = absurd k
 
   deep_once : (at : Pos) (g : ReadFault) → IsTooDeepAt ts at → AreRefused ts g → IsSame (TooDeep at) g
   deep_once at (Expected there) h k = back (expected_once there (TooDeep at) k h)
   deep_once at (BlockNotClosed there) h k = back (unclosed_once there (TooDeep at) k h)
   deep_once at (TooDeep there) h k =
-      let token = one_token Sources ts too_deep too_deep h.token k.token h.rest k.rest h.refused k.refused in
+      let both = one_refusal Sources ts h.rest k.rest (level_at h.before) (level_at k.before) h.refused k.refused in
+      let place : h.before ≡ k.before = (let z = both.0 in cc) in
+      let found : Some h.token ≡ Some k.token = sym h.stands ∙ (ap (slice_get ts) place ∙ k.stands) in
+      let token : h.token ≡ k.token = cc in
       same (ap TooDeep (h.place ∙ (ap (λ z. z.at) token ∙ sym k.place)))
   deep_once at g h k = absurd k
 
