@@ -1,5 +1,5 @@
 -- The parts of a tree stand before those behind it: there are no fewer.
-use Rattle.std.proofs.Common.{◌≡◌, ℕ, suc, ◌≤◌, ◌<◌, List, [], ◌∷◌, Option, Some, None, length, map, refl, ap, arith}
+use Rattle.std.proofs.Common.{◌≡◌, ◌≤◌, ◌<◌, List, [], ◌∷◌, Option, Some, None, length, ap, arith}
 use Rattle.std.proofs.lemmas.List.{length-map}
 use Rattle.caf_base.specs.declared.place.Pos.{Pos}
 use Rattle.fortran_tree.specs.declared.unit.Heading.{Heading}

@@ -1,3 +1,4 @@
-pub mod OneAnswer
 pub mod Lengths
-pub mod Wholes
+pub mod OneAnswer
+pub mod Whole
+pub mod Reading

@@ -1,5 +1,5 @@
 -- How a source is refused: lines are judged first, over the whole file, then tokens, statement by statement, then statements.
-use Rattle.std.specs.Prelude.{ℕ, List, ◌⊎◌}
+use Rattle.std.specs.Prelude.{ℕ, List}
 use Rattle.caf_base.specs.declared.place.Pos.{Pos}
 use Rattle.fortran_lines.specs.declared.fault.LineFault.{LineFault}
 use Rattle.fortran_lines.specs.declared.fault.LineFault.TheVariants as lines
@@ -9,8 +9,9 @@ use Rattle.fortran_tokens.specs.declared.fault.TokenFault.{TokenFault}
 use Rattle.fortran_tokens.specs.declared.fault.TokenFault.TheVariants as tokens
 use Rattle.token_words.specs.Words.{IsFirstRefused}
 use Rattle.fortran_grammar.specs.Tokens.{Token}
-use Rattle.program_reader.specs.Unfinished.{No_statement}
-use Rattle.file_reader.specs.Refusals.{IsExpectedAt, IsOpenAt, IsTooDeepAt}
+use Rattle.file_reader.specs.declared.fault.FileFault.{FileFault}
+use Rattle.file_reader.specs.declared.fault.FileFault.TheVariants as files
+use Rattle.file_reader.specs.Refusals as words
 use Rattle.source_reader.specs.declared.fault.ReadFault.{ReadFault}
 use Rattle.source_reader.specs.declared.fault.ReadFault.TheVariants.{NotAscii, LineTooLong, DanglingContinuation, OpenLiteral, BadCharacter, NumberTooWide, Expected, BlockNotClosed, TooDeep}
 use Rattle.source_reader.specs.Sources.{AreStatements, AreSourceWords}
@@ -39,7 +40,7 @@ place (Expected at) = at
 place (BlockNotClosed at) = at
 place (TooDeep at) = at
 
--- a fault of the lines, and of the tokens, as one of the source
+-- a fault of the lines, of the tokens, and of the words as one of the source
 abbrev pub of_line : LineFault → ReadFault
 of_line (lines.NotAscii at) = NotAscii at
 of_line (lines.LineTooLong at) = LineTooLong at
@@ -50,6 +51,11 @@ abbrev pub of_token : TokenFault → ReadFault
 of_token (tokens.BadCharacter at) = BadCharacter at
 of_token (tokens.NumberTooWide at) = NumberTooWide at
 
+abbrev pub of_file : FileFault → ReadFault
+of_file (files.Expected at) = Expected at
+of_file (files.NotClosed at) = BlockNotClosed at
+of_file (files.TooDeep at) = TooDeep at
+
 -- no line breaks a rule, and this is wrong in the first statement that can't be cut into tokens
 pub record IsTokenFault (bytes : List ℕ) (f : TokenFault) : Type 0 where
   pub statements : List Stmt
@@ -58,9 +64,9 @@ pub record IsTokenFault (bytes : List ℕ) (f : TokenFault) : Type 0 where
 
 -- how the words of a source are refused
 abbrev pub AreRefused : List Token → ReadFault → Type 0
-AreRefused ts (Expected at) = No_statement ts at ⊎ IsExpectedAt ts at
-AreRefused ts (BlockNotClosed at) = IsOpenAt ts at
-AreRefused ts (TooDeep at) = IsTooDeepAt ts at
+AreRefused ts (Expected at) = words.AreRefused ts (files.Expected at)
+AreRefused ts (BlockNotClosed at) = words.AreRefused ts (files.NotClosed at)
+AreRefused ts (TooDeep at) = words.AreRefused ts (files.TooDeep at)
 AreRefused ts f = ⊥
 
 -- so are words of this source

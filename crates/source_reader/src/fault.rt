@@ -7,7 +7,7 @@ ghost use Rattle.source_reader.specs.Sources.{AreSourceWords};
 ghost use Rattle.source_reader.specs.Refusals as spec;
 
 use caf_base::place::Pos;
-use file_reader::fault::FileFault;
+use file_reader::FileFault;
 use fortran_lines::fault::LineFault;
 use fortran_tokens::fault::TokenFault;
 use thiserror::Error;
@@ -101,8 +101,8 @@ pub(crate) fn of_token(fault: TokenFault) -> ReadFault
 }
 
 /// A fault of the words as one of the source.
-pub(crate) fn of_words(fault: FileFault) -> ReadFault
-    ensures { (bytes : List ℕ) (ts : List Token) → AreSourceWords bytes ts → words.AreRefused ts fault → spec.IsRefused bytes result }
+pub(crate) fn of_file(fault: FileFault) -> ReadFault
+    ensures { result ≡ spec.of_file fault }
 {
     match fault {
         FileFault::Expected { at } => ReadFault::Expected { at },

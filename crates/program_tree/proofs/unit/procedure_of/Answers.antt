@@ -1,4 +1,4 @@
-use Rattle.std.proofs.Common.{◌≡◌, ◌∷◌, [], ap, sym, ◌∙◌, subst}
+use Rattle.std.proofs.Common.{◌∷◌, [], ap, sym, ◌∙◌, subst}
 use Rattle.fortran_tree.specs.UnitViews as units
 use Rattle.statement_reader.specs.Parts as f
 use Rattle.program_reader.specs.Nesting.{body_parts}

@@ -1,4 +1,4 @@
-use Rattle.std.proofs.Common.{◌≡◌, ◌∷◌, [], map, ap, sym, ◌∙◌, subst}
+use Rattle.std.proofs.Common.{◌≡◌, ◌∷◌, map, ap, sym, ◌∙◌, subst}
 use Rattle.fortran_tree.specs.UnitViews as units
 use Rattle.part_reader.specs.Views.{part}
 use Rattle.part_reader.specs.declared.part.Part.TheVariants as parts
@@ -27,12 +27,13 @@ loop-heading-preserved c =
     let at = c.in-Some.at in
     let taken : view.left c.loop-heading.rest ≡ parts.Heading h at ∷ view.left c.heading.new.self = (let a = c.in-Some.ensures in let b = c.in-Some.heading-is in let d = c.in-Some.at-is in cc) in
     let found = c.loop-heading.found.items in
-    let now = view.parts c.procedure_of.new.rest in
-    (c.loop-heading.invariant.0
-    ∙ (ap (procedure_parts (map units.procedure found)) (ap (map part) taken ∙ c.in_ok-procedure_of.ensures.front)
-    ∙ (sym (one_procedure found c.in_ok-procedure_of.field-0 now)
-    ∙ ap (λ z. procedure_parts (map units.procedure z) now) (sym c.in_ok-push.ensures.items))),
-    c.in_ok-procedure_of.ensures.follow)
+    let now = view.parts c.procedure_of.new.rest in (
+      c.loop-heading.invariant.0
+          ∙ (ap (procedure_parts (map units.procedure found)) (ap (map part) taken ∙ c.in_ok-procedure_of.ensures.front)
+          ∙ (sym (one_procedure found c.in_ok-procedure_of.field-0 now)
+          ∙ ap (λ z. procedure_parts (map units.procedure z) now) (sym c.in_ok-push.ensures.items))),
+      c.in_ok-procedure_of.ensures.follow,
+    )
 
 pub returns-clause-ends : goal.returns-clause-ends
 returns-clause-ends c =

@@ -1,4 +1,4 @@
-use Rattle.std.proofs.Common.{◌≡◌, [], ap, sym, ◌∙◌, subst, map}
+use Rattle.std.proofs.Common.{[], ap, sym, ◌∙◌, subst, map}
 use Rattle.fortran_tree.specs.StatementViews.{statement_list}
 use Rattle.part_reader.specs.Views.{part}
 use Rattle.program_reader.specs.Nesting.{statements_parts}
