@@ -1,17 +1,14 @@
 -- What a source is read as.
-use Rattle.std.specs.Prelude.{ℕ, ◌≡◌, List, [], map, length}
+use Rattle.std.specs.Prelude.{ℕ, ◌≡◌, List, [], map}
 use Rattle.fortran_lines.specs.declared.stmt.Stmt.{Stmt}
 use Rattle.fortran_lines.specs.Lines.{statements_of}
 use Rattle.fortran_lines.specs.Faults.{faults_of}
 use Rattle.fortran_lines.specs.Statements.{placed_bytes}
 use Rattle.token_words.specs.Words.{AreWords}
 use Rattle.reader_theory.specs.Refusals.{Reads}
-use Rattle.reader_theory.specs.Words.{found}
 use Rattle.fortran_tree.specs.Units.{Program}
 use Rattle.fortran_grammar.specs.Tokens.{Token}
 use Rattle.fortran_grammar.specs.ProgramGrammar.{Sources}
-use Rattle.statement_reader.specs.Parts.{Part}
-use Rattle.program_reader.specs.Sequence.{start, rest_reader}
 
 -- these are the statements that the lines of a file join to, and no line breaks a rule
 pub record AreStatements (bytes : List ℕ) (ss : List Stmt) : Type 0 where
@@ -29,9 +26,3 @@ pub record IsRead (bytes : List ℕ) (x : Program) : Type 0 where
   pub words : List Token
   pub are : AreSourceWords bytes words
   pub spelled : Reads Sources words x
-
--- these are the parts that the words of a source are read as
-pub record AreParts (bytes : List ℕ) (es : List Part) : Type 0 where
-  pub words : List Token
-  pub are : AreSourceWords bytes words
-  pub read : rest_reader 64 (length words) start words ≡ found es []

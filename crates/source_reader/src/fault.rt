@@ -1,9 +1,6 @@
 //! Why a source isn't read.
 
-ghost use Rattle.std.specs.Prelude.{◌≡◌, ℕ, List};
-ghost use Rattle.fortran_grammar.specs.Tokens.{Token};
-ghost use Rattle.file_reader.specs.Refusals as words;
-ghost use Rattle.source_reader.specs.Sources.{AreSourceWords};
+ghost use Rattle.std.specs.Prelude.{◌≡◌};
 ghost use Rattle.source_reader.specs.Refusals as spec;
 
 use caf_base::place::Pos;

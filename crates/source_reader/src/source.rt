@@ -23,9 +23,6 @@ use program_tree::unit::program_of;
 use std::alloc::Global;
 use token_words::words;
 
-/// So many words are more than memory holds.
-const MOST_WORDS: usize = 4_294_967_295;
-
 /// The statements that the lines of a source join to.
 fn statements(alloc: Global, bytes: &[u8]) -> Result<Vec<Stmt>, Refusal<ReadFault>>
     requires { length bytes.now < 4294967295 }
