@@ -1,0 +1,197 @@
+-- What is planned is what the definitions say that an entry makes.
+use Rattle.std.proofs.Common.{◌≡◌, ◌⊎◌, ℕ, zero, suc, ◌+◌, ◌-◌, ◌<◌, ◌≤◌, ◌^◌, Bool, true, false, ◌&&◌, ◌||◌, not, nat_eq, cond, List, [], ◌∷◌, ◌++◌, inl, inr, length, map, take, refl, ap, sym, ◌∙◌, subst, arith, IsTrue}
+use Rattle.std.specs.Prelude.{ℤ, pos, filter_map, slice_get, Option, Some, None}
+use Rattle.std.specs.List.{range_with_len}
+use Rattle.std.specs.Ordering.{int_eq}
+use Rattle.std.proofs.lemmas.Bool.{cases_Bool, eq-eqb, and_parts}
+use Rattle.std.proofs.lemmas.List.{append-nil}
+use Rattle.caf_base.specs.declared.place.ImageNo.{ImageNo}
+use Rattle.caf_base.specs.declared.place.TeamNo.{TeamNo}
+use Rattle.caf_events.specs.declared.ask.Ask.TheVariants as asks
+use Rattle.caf_events.specs.declared.reply.Reply.{Reply}
+use Rattle.caf_events.specs.declared.round.Arriving.{Arriving}
+use Rattle.caf_events.specs.declared.round.Arriving.TheVariants as arrivings
+use Rattle.caf_events.specs.declared.round.RoundKind.{RoundKind}
+use Rattle.caf_events.specs.declared.round.RoundKind.TheVariants as kinds
+use Rattle.caf_events.specs.declared.event.Entry.{Entry}
+use Rattle.object_rules.specs.Kinds.{same_kind}
+use Rattle.object_rules.specs.Scans.{or_else}
+use Rattle.object_rules.specs.Happenings.{Happening, arrives, control, happens, happened, kind_of, numbers_of}
+use Rattle.object_rules.specs.TeamRounds.{arrivals, Opening, opening_of, joins_round, Missed, missed_by, has_closed}
+use Rattle.object_rules.specs.FormedTeams.{FormArg, formed, is_bad_form}
+use Rattle.object_rules.specs.BoardTeams.{closes_now, is_form, is_form_kind, form_args, round_of, teams_made, made_in_team, made_by, teams_after, members_at}
+use Rattle.object_rules.specs.BoardRules.{board_ready, board_reply, joined_or_clash}
+use Rattle.object_rules.proofs.Growing.{opening_more}
+use Rattle.failure_status.specs.Endings.{end_of}
+use Rattle.team_round.specs.TeamStates.{missed_status, closing_at}
+use Rattle.team_round.proofs.Arriving.{joins_here}
+use Rattle.team_round.proofs.Telling.{joins_none}
+use Rattle.team_round.proofs.Making.{happened_some, made_none}
+use Rattle.object_rules.proofs.Growing.{or_else_none}
+use Rattle.team_tree.specs.declared.arg.FormArg.{FormArg as GivenArg}
+use Rattle.team_tree.specs.Args.{plain_arg, plain_args}
+use Rattle.team_tree.specs.Orders.{given_by, in_order}
+use Rattle.control_board.specs.declared.forming.Given.{Given}
+use Rattle.control_board.specs.declared.forming.Formation.{Formation}
+use Rattle.control_board.specs.declared.parts.Parts.{Parts}
+use Rattle.control_board.specs.Boards.{IsBoard, MakesFor, Ends, team_with, made_by_one, bad_of, args_in, args_of, plain_given, given_at, given_with, made_at, made_over, bad_now, is_bad_round, due}
+use Rattle.control_board.proofs.Forms.{AreForms, forms_none, round_args, there}
+use Rattle.control_board.proofs.Made.{arrival_makes}
+use Rattle.control_board.proofs.Bad.{bad_none}
+use Rattle.control_board.proofs.Members.{get_there, member_there, teams_count}
+
+-- ---- the arguments in the order of the members
+pub plain_order : (ms : List ImageNo) (as_ : List GivenArg) → plain_args (in_order ms as_) ≡ args_of as_ (numbers_of ms)
+plain_order [] as_ = refl
+plain_order (m ∷ ms) as_ = by (given_by as_ m.0) refl (plain_order ms as_)
+  where
+    by : (o : Option GivenArg) → given_by as_ m.0 ≡ o → plain_args (in_order ms as_) ≡ args_of as_ (numbers_of ms) → plain_args (in_order (m ∷ ms) as_) ≡ args_of as_ (numbers_of (m ∷ ms))
+    by None q i = rw q i
+    by (Some a) q i = rw q (ap (λ l. plain_arg a ∷ l) i)
+
+-- ---- the status of a close
+pub status_stopped : (m : Missed) (status : ℤ) (test : Bool) → status ≡ missed_status m → test ≡ int_eq status (pos 6000) → test ≡ m.stopped
+status_stopped m status test e t = go m.stopped m.failed refl refl
+  where
+    go : (a b : Bool) → m.stopped ≡ a → m.failed ≡ b → test ≡ m.stopped
+    go true b s f = let w : status ≡ pos 6000 = e ∙ rw s refl in t ∙ ap (λ z. int_eq z (pos 6000)) w ∙ sym s
+    go false true s f = let w : status ≡ pos 6001 = e ∙ rw (s, f) refl in t ∙ ap (λ z. int_eq z (pos 6000)) w ∙ sym s
+    go false false s f = let w : status ≡ pos 0 = e ∙ rw (s, f) refl in t ∙ ap (λ z. int_eq z (pos 6000)) w ∙ sym s
+
+pub status_failed : (m : Missed) (status : ℤ) (test : Bool) → status ≡ missed_status m → m.stopped ≡ false → test ≡ int_eq status (pos 6001) → test ≡ m.failed
+status_failed m status test e s t = go m.failed refl
+  where
+    go : (b : Bool) → m.failed ≡ b → test ≡ m.failed
+    go true f = let w : status ≡ pos 6001 = e ∙ rw (s, f) refl in t ∙ ap (λ z. int_eq z (pos 6001)) w ∙ sym f
+    go false f = let w : status ≡ pos 0 = e ∙ rw (s, f) refl in t ∙ ap (λ z. int_eq z (pos 6001)) w ∙ sym f
+
+pub closing_some : (ms : List ℕ) (t r : ℕ) (before after : List Happening) (status : ℤ) → Some status ≡ closing_at ms t before after r → (closes_now t ms before after r ≡ true) × (status ≡ missed_status (missed_by ms after))
+closing_some ms t r before after status e = elim (cases_Bool (closes_now t ms before after r)) [
+  | inl y ↦ (y, (let w : Some status ≡ Some (missed_status (missed_by ms after)) = e ∙ rw y refl in cc))
+  | inr n ↦ absurd (let w : Some status ≡ None = e ∙ rw n refl in cc)
+]
+
+pub closing_none : (ms : List ℕ) (t r : ℕ) (before after : List Happening) → None ≡ closing_at ms t before after r → closes_now t ms before after r ≡ false
+closing_none ms t r before after e = elim (cases_Bool (closes_now t ms before after r)) [
+  | inl y ↦ absurd (let w : None ≡ Some (missed_status (missed_by ms after)) = e ∙ rw y refl in cc)
+  | inr n ↦ n
+]
+
+-- ---- what a round makes that closes
+module _ (t r : ℕ) (ms : List ℕ) (h : List Entry) (e : Entry) (args : List GivenArg) where
+  abbrev missed : Missed
+  missed = missed_by ms (happened control (h ++ e ∷ []))
+
+  pub formed_at : closes_now t ms (happened control h) (happened control (h ++ e ∷ [])) r ≡ true → is_form (opening_of t r (happened control (h ++ e ∷ []))) ≡ true → form_args (round_of control t r ms (h ++ e ∷ [])) ≡ args_of args ms
+      → map (team_with t r) (formed missed.stopped missed.failed (args_of args ms)) ≡ made_at t r ms h e
+  formed_at c f a = rw (c, f, a) refl
+
+  pub bad_at : closes_now t ms (happened control h) (happened control (h ++ e ∷ [])) r ≡ true → is_form (opening_of t r (happened control (h ++ e ∷ []))) ≡ true → form_args (round_of control t r ms (h ++ e ∷ [])) ≡ args_of args ms
+      → (not missed.stopped && (not missed.failed && is_bad_form (args_of args ms))) ≡ bad_now t r ms h e
+  bad_at c f a = rw (c, f, a) refl
+
+pub made_not : (t r : ℕ) (ms : List ℕ) (h : List Entry) (e : Entry) → closes_now t ms (happened control h) (happened control (h ++ e ∷ [])) r ≡ false → ([] ≡ made_at t r ms h e) × (false ≡ bad_now t r ms h e)
+made_not t r ms h e n = (rw n refl, rw n refl)
+
+or_other : (a b : Bool) → b ≡ false → (a && b) ≡ false
+or_other true b e = e
+or_other false b e = refl
+
+cond_same : {A : Type 0} (b : Bool) (x : A) → cond b x x ≡ x
+cond_same true x = refl
+cond_same false x = refl
+
+pub made_other : (t r : ℕ) (ms : List ℕ) (h : List Entry) (e : Entry) → is_form (opening_of t r (happened control (h ++ e ∷ []))) ≡ false → ([] ≡ made_at t r ms h e) × (false ≡ bad_now t r ms h e)
+made_other t r ms h e f =
+    (sym (ap (λ l. cond (closes_now t ms (happened control h) (happened control (h ++ e ∷ [])) r) l []) (let q : teams_made t r ms (h ++ e ∷ []) ≡ [] = rw f refl in q) ∙ cond_same (closes_now t ms (happened control h) (happened control (h ++ e ∷ [])) r) []),
+    sym (or_other (closes_now t ms (happened control h) (happened control (h ++ e ∷ [])) r) (is_bad_round t r ms (h ++ e ∷ [])) (rw f refl)))
+
+-- ---- an arrival: it clashes, or it is of the kind of its round
+form_same : (k l : RoundKind) → same_kind k l ≡ true → is_form_kind l ≡ is_form_kind k
+form_same kinds.Sync kinds.Sync e = refl
+form_same kinds.Form kinds.Form e = refl
+form_same kinds.Change kinds.Change e = refl
+form_same kinds.End kinds.End e = refl
+form_same (kinds.Allocate a) (kinds.Allocate b) e = refl
+form_same (kinds.Deallocate a) (kinds.Deallocate b) e = refl
+form_same (kinds.Collective op root kind count) (kinds.Collective op' root' kind' count') e = refl
+form_same k l e = absurd (cc)
+
+module _ (n : ℕ) (h : List Entry) (i : ImageNo) (team : TeamNo) (arriving : Arriving) (stamp line : ℕ) where
+  abbrev here : ℕ
+  here = suc (arrivals team.0 i.0 (happened control h))
+
+  abbrev pub Stands : Type 0
+  Stands =
+      (happens control i.0 line (asks.Arrive team arriving) (board_reply n h i.0 (asks.Arrive team arriving)) ≡ Some (arrives team.0 i.0 (kind_of arriving) line))
+      × (is_form (opening_of team.0 here (happened control (h ++ due n h i (asks.Arrive team arriving) stamp line ∷ []))) ≡ is_form_kind (kind_of arriving))
+
+  opened : (o : Option Opening) → opening_of team.0 here (happened control h) ≡ o → happens control i.0 line (asks.Arrive team arriving) (board_reply n h i.0 (asks.Arrive team arriving)) ≡ Some (arrives team.0 i.0 (kind_of arriving) line)
+      → opening_of team.0 here (happened control (h ++ due n h i (asks.Arrive team arriving) stamp line ∷ [])) ≡ or_else o (Some (record { kind = kind_of arriving; image = i.0; line = line }))
+  opened o q is =
+      ap (opening_of team.0 here) (happened_some control h (due n h i (asks.Arrive team arriving) stamp line) (arrives team.0 i.0 (kind_of arriving) line) is)
+      ∙ opening_more team.0 here (happened control h) (arrives team.0 i.0 (kind_of arriving) line)
+      ∙ ap (λ x. or_else x (joins_round team.0 here (happened control h) (arrives team.0 i.0 (kind_of arriving) line))) q
+      ∙ ap (or_else o) (joins_here team.0 i.0 (kind_of arriving) line (happened control h) here refl)
+
+  by_opening : (o : Option Opening) → opening_of team.0 here (happened control h) ≡ o → (happens control i.0 line (asks.Arrive team arriving) (board_reply n h i.0 (asks.Arrive team arriving)) ≡ None) ⊎ Stands
+  by_opening None q =
+      let reply : happens control i.0 line (asks.Arrive team arriving) (board_reply n h i.0 (asks.Arrive team arriving)) ≡ Some (arrives team.0 i.0 (kind_of arriving) line) = rw q refl in
+      inr (reply, ap is_form (opened None q reply))
+  by_opening (Some o) q = elim (cases_Bool (same_kind (kind_of arriving) o.kind)) [
+    | inl y ↦ (
+        let reply : happens control i.0 line (asks.Arrive team arriving) (board_reply n h i.0 (asks.Arrive team arriving)) ≡ Some (arrives team.0 i.0 (kind_of arriving) line) = rw (q, y) refl in
+        inr (reply, ap is_form (opened (Some o) q reply) ∙ form_same (kind_of arriving) o.kind y))
+    | inr z ↦ inl (rw (q, z) refl)
+  ]
+
+  pub arrival_stands : (happens control i.0 line (asks.Arrive team arriving) (board_reply n h i.0 (asks.Arrive team arriving)) ≡ None) ⊎ Stands
+  arrival_stands = by_opening (opening_of team.0 here (happened control h)) refl
+
+-- an arrival that clashes makes nothing
+module _ (n : ℕ) (h : List Entry) (p : Parts) (b : IsBoard n h p) (i : ImageNo) (team : TeamNo) (arriving : Arriving) where
+  pub makes_nothing : (stamp line : ℕ) → happens control i.0 line (asks.Arrive team arriving) (board_reply n h i.0 (asks.Arrive team arriving)) ≡ None
+      → (made_by 1 (teams_after n h) h (due n h i (asks.Arrive team arriving) stamp line) ≡ []) × (false ≡ bad_now team.0 (suc (arrivals team.0 i.0 (happened control h))) (members_at (teams_after n h) team.0) h (due n h i (asks.Arrive team arriving) stamp line))
+  makes_nothing stamp line q =
+      (made_none h (due n h i (asks.Arrive team arriving) stamp line) q 1 (teams_after n h), sym (bad_none team.0 (suc (arrivals team.0 i.0 (happened control h))) (members_at (teams_after n h) team.0) h (due n h i (asks.Arrive team arriving) stamp line) q))
+
+  pub makes_round : (stamp line : ℕ) → 0 < team.0 → team.0 ≤ length p.teams.teams → happens control i.0 line (asks.Arrive team arriving) (board_reply n h i.0 (asks.Arrive team arriving)) ≡ Some (arrives team.0 i.0 (kind_of arriving) line)
+      → made_by 1 (teams_after n h) h (due n h i (asks.Arrive team arriving) stamp line) ≡ made_at team.0 (suc (arrivals team.0 i.0 (happened control h))) (members_at (teams_after n h) team.0) h (due n h i (asks.Arrive team arriving) stamp line)
+  makes_round stamp line low high is =
+      let c = teams_count n h p b in
+      let x = get_there (teams_after n h) (team.0 - 1) (omega arith) in
+      arrival_makes h (due n h i (asks.Arrive team arriving) stamp line) team.0 i.0 (kind_of arriving) line is (teams_after n h) x.0 low x.1
+
+  -- no arrival at FORM TEAM makes a team
+  pub makes_none : is_form_kind (kind_of arriving) ≡ false → 0 < team.0 → team.0 ≤ length p.teams.teams → MakesFor n h i team arriving None
+  makes_none f low high = record {
+    made = λ stamp line. elim (arrival_stands n h i team arriving stamp line) [
+      | inl q ↦ (makes_nothing stamp line q).0
+      | inr q ↦ makes_round stamp line low high q.0 ∙ sym (made_other team.0 (suc (arrivals team.0 i.0 (happened control h))) (members_at (teams_after n h) team.0) h (due n h i (asks.Arrive team arriving) stamp line) (q.1 ∙ f)).0
+    ];
+    bad = λ stamp line. elim (arrival_stands n h i team arriving stamp line) [
+      | inl q ↦ (makes_nothing stamp line q).1
+      | inr q ↦ (made_other team.0 (suc (arrivals team.0 i.0 (happened control h))) (members_at (teams_after n h) team.0) h (due n h i (asks.Arrive team arriving) stamp line) (q.1 ∙ f)).1
+    ];
+  }
+
+pub not_form : (i : ImageNo) (arriving : Arriving) → given_at i arriving ≡ None → is_form_kind (kind_of arriving) ≡ false
+not_form i (arrivings.Form number new_index) e = absurd (cc)
+not_form i arrivings.Sync e = refl
+not_form i arrivings.Change e = refl
+not_form i arrivings.End e = refl
+not_form i (arrivings.Allocate list) e = refl
+not_form i (arrivings.Deallocate list) e = refl
+
+pub is_given : (i : ImageNo) (arriving : Arriving) (a : GivenArg) → given_at i arriving ≡ Some a → (arriving ≡ arrivings.Form a.number a.new_index) × (a.image ≡ i)
+is_given i (arrivings.Form number new_index) a e = let w : record { image = i; number = number; new_index = new_index } ≡ a = cc in (ap (λ (z : GivenArg). arrivings.Form z.number z.new_index) w, sym (ap (λ (z : GivenArg). z.image) w))
+is_given i arrivings.Sync a e = absurd (cc)
+is_given i arrivings.Change a e = absurd (cc)
+is_given i arrivings.End a e = absurd (cc)
+is_given i (arrivings.Allocate list) a e = absurd (cc)
+is_given i (arrivings.Deallocate list) a e = absurd (cc)
+
+-- ---- an end
+pub opening_end : (t r i : ℕ) (failed : Bool) (h : List Entry) (e : Entry) → Ends e i failed → opening_of t r (happened control (h ++ e ∷ [])) ≡ opening_of t r (happened control h)
+opening_end t r i failed h e ends =
+    ap (opening_of t r) (happened_some control h e (end_of i failed) ends) ∙ opening_more t r (happened control h) (end_of i failed) ∙ ap (or_else (opening_of t r (happened control h))) (joins_none t r i failed (happened control h)) ∙ or_else_none (opening_of t r (happened control h))
