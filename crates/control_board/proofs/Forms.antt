@@ -1,6 +1,6 @@
 -- What images gave at FORM TEAM, with one more entry.
-use Rattle.std.proofs.Common.{◌≡◌, ℕ, zero, suc, ◌+◌, ◌-◌, ◌<◌, ◌≤◌, Bool, true, false, ◌&&◌, nat_eq, cond, List, [], ◌∷◌, ◌++◌, inl, inr, refl, ap, sym, ◌∙◌, subst, arith}
-use Rattle.std.specs.Prelude.{Option, Some, None, filter_map}
+use Rattle.std.proofs.Common.{◌≡◌, ℕ, zero, suc, ◌+◌, ◌-◌, ◌<◌, ◌≤◌, Bool, true, false, ◌&&◌, nat_eq, cond, List, [], ◌∷◌, ◌++◌, inl, inr, length, take, refl, ap, sym, ◌∙◌, subst, arith}
+use Rattle.std.specs.Prelude.{Option, Some, None, filter_map, slice_index_or}
 use Rattle.std.proofs.lemmas.Bool.{cases_Bool, cases_eq, eq-eqb, ne_eqb}
 use Rattle.caf_base.specs.declared.place.ImageNo.{ImageNo}
 use Rattle.caf_base.specs.declared.place.TeamNo.{TeamNo}
@@ -222,3 +222,15 @@ round_args gs h are t r low ms = compose (λ m. nth_arrival control t m r h) (λ
 -- the same with what an arrival gives now
 pub args_with : (gs : List Given) (t r : ℕ) (team : TeamNo) (a : GivenArg) → team.0 ≡ t → args_in gs t r ++ a ∷ [] ≡ args_in (gs ++ record { team = team; round = r; arg = a } ∷ []) t r
 args_with gs t r team a same = sym (args_more gs (record { team = team; round = r; arg = a }) t r ∙ rw (eq-eqb team.0 t same, eq-eqb r r refl) refl)
+
+-- one further
+take_more : {A : Type 0} (xs : List A) (k : ℕ) (d : A) → k < length xs → take (k + 1) xs ≡ take k xs ++ slice_index_or xs k d ∷ []
+take_more [] k d h = absurd (omega arith)
+take_more (m ∷ ms) zero d h = refl
+take_more (m ∷ ms) (suc k) d h = let e : suc k + 1 ≡ suc (k + 1) = omega arith in ap (λ j. take j (m ∷ ms)) e ∙ ap (λ l. m ∷ l) (take_more ms k d (omega arith))
+
+pub args_next : (gs : List Given) (k : ℕ) (d : Given) (t r : ℕ) (was now : List GivenArg) (test : Bool) → k < length gs → was ≡ args_in (take k gs) t r → test ≡ (nat_eq (slice_index_or gs k d).team.0 t && nat_eq (slice_index_or gs k d).round r)
+    → now ≡ was ++ cond test ((slice_index_or gs k d).arg ∷ []) [] → now ≡ args_in (take (k + 1) gs) t r
+args_next gs k d t r was now test low is tested goes =
+    goes ∙ ap (λ l. l ++ cond test ((slice_index_or gs k d).arg ∷ []) []) is ∙ ap (λ c. args_in (take k gs) t r ++ cond c ((slice_index_or gs k d).arg ∷ []) []) tested
+    ∙ sym (ap (λ l. args_in l t r) (take_more gs k d low) ∙ args_more (take k gs) (slice_index_or gs k d) t r)

@@ -19,11 +19,12 @@ use Rattle.object_rules.specs.Scans.{or_else}
 use Rattle.object_rules.specs.Happenings.{Happening, arrives, control, happens, happened, kind_of, numbers_of}
 use Rattle.object_rules.specs.TeamRounds.{arrivals, Opening, opening_of, joins_round, Missed, missed_by, has_closed}
 use Rattle.object_rules.specs.FormedTeams.{FormArg, formed, is_bad_form}
-use Rattle.object_rules.specs.BoardTeams.{closes_now, is_form, is_form_kind, form_args, round_of, teams_made, made_in_team, made_by, teams_after, members_at}
+use Rattle.object_rules.specs.BoardTeams.{closes_now, is_form, is_form_kind, arrives_there, form_args, round_of, teams_made, made_in_team, made_by, teams_after, members_at}
 use Rattle.object_rules.specs.BoardRules.{board_ready, board_reply, joined_or_clash}
 use Rattle.object_rules.proofs.Growing.{opening_more}
 use Rattle.failure_status.specs.Endings.{end_of}
-use Rattle.team_round.specs.TeamStates.{missed_status, closing_at}
+use Rattle.team_round.specs.TeamStates.{missed_status, closing_at, told_arrival}
+use Rattle.team_round.specs.declared.round.Arrival.TheVariants as arrived
 use Rattle.team_round.proofs.Arriving.{joins_here}
 use Rattle.team_round.proofs.Telling.{joins_none}
 use Rattle.team_round.proofs.Making.{happened_some, made_none}
@@ -34,10 +35,12 @@ use Rattle.team_tree.specs.Orders.{given_by, in_order}
 use Rattle.control_board.specs.declared.forming.Given.{Given}
 use Rattle.control_board.specs.declared.forming.Formation.{Formation}
 use Rattle.control_board.specs.declared.parts.Parts.{Parts}
-use Rattle.control_board.specs.Boards.{IsBoard, MakesFor, Ends, team_with, made_by_one, bad_of, args_in, args_of, plain_given, given_at, given_with, made_at, made_over, bad_now, is_bad_round, due}
-use Rattle.control_board.proofs.Forms.{AreForms, forms_none, round_args, there}
+use Rattle.control_board.specs.Boards.{IsBoard, IsFormed, MakesFor, Ends, team_with, made_by_one, bad_of, args_in, args_of, plain_given, given_at, given_with, made_at, made_over, bad_now, is_bad_round, due}
+use Rattle.control_board.proofs.Forms.{AreForms, forms_none, forms_arrival, args_with, round_args}
 use Rattle.control_board.proofs.Made.{arrival_makes}
 use Rattle.control_board.proofs.Bad.{bad_none}
+use Rattle.control_board.proofs.Arrivals.{told_is}
+use Rattle.control_board.proofs.Steps.{joined_number, end_arrives}
 use Rattle.control_board.proofs.Members.{get_there, member_there, teams_count}
 
 -- ---- the arguments in the order of the members
@@ -195,3 +198,93 @@ is_given i (arrivings.Deallocate list) a e = absurd (cc)
 pub opening_end : (t r i : ℕ) (failed : Bool) (h : List Entry) (e : Entry) → Ends e i failed → opening_of t r (happened control (h ++ e ∷ [])) ≡ opening_of t r (happened control h)
 opening_end t r i failed h e ends =
     ap (opening_of t r) (happened_some control h e (end_of i failed) ends) ∙ opening_more t r (happened control h) (end_of i failed) ∙ ap (or_else (opening_of t r (happened control h))) (joins_none t r i failed (happened control h)) ∙ or_else_none (opening_of t r (happened control h))
+
+-- ---- the round that an arrival at FORM TEAM joins
+module _ (n : ℕ) (h : List Entry) (p : Parts) (b : IsBoard n h p) (team : TeamNo) (round : ℕ) (arg : GivenArg) (e : Entry) (image : e.image ≡ arg.image) (ask : e.event.ask ≡ asks.Arrive team (arrivings.Form arg.number arg.new_index))
+    (is : happens control e.image.0 e.event.line e.event.ask e.event.reply ≡ Some (arrives team.0 arg.image.0 kinds.Form e.event.line)) (number : round ≡ arrivals team.0 arg.image.0 (happened control h) + 1)
+    (form : is_form (opening_of team.0 round (happened control (h ++ e ∷ []))) ≡ true) where
+  now_is : happened control (h ++ e ∷ []) ≡ happened control h ++ arrives team.0 arg.image.0 kinds.Form e.event.line ∷ []
+  now_is = happened_some control h e (arrives team.0 arg.image.0 kinds.Form e.event.line) is
+
+  args_are : form_args (round_of control team.0 round (members_at (teams_after n h) team.0) (h ++ e ∷ [])) ≡ args_of (args_in p.forms.items team.0 round ++ arg ∷ []) (members_at (teams_after n h) team.0)
+  args_are =
+      let next : round ≡ suc (arrivals team.0 arg.image.0 (happened control h)) = omega (arith, number) in
+      subst (λ r. form_args (round_of control team.0 r (members_at (teams_after n h) team.0) (h ++ e ∷ [])) ≡ args_of (args_in p.forms.items team.0 r ++ arg ∷ []) (members_at (teams_after n h) team.0)) (sym next)
+      (round_args _ (h ++ e ∷ []) (forms_arrival p.forms.items h e arg.image team kinds.Form e.event.line is b.forms (arrivings.Form arg.number arg.new_index) image ask) team.0 (suc (arrivals team.0 arg.image.0 (happened control h))) (omega arith) (members_at (teams_after n h) team.0)
+      ∙ ap (λ l. args_of l (members_at (teams_after n h) team.0)) (sym (args_with p.forms.items team.0 (suc (arrivals team.0 arg.image.0 (happened control h))) team arg refl)))
+
+  pub joined_some : (status : ℤ) (o : Option Formation) → Some status ≡ closing_at (members_at (teams_after n h) team.0) team.0 (happened control h) (happened control h ++ arrives team.0 arg.image.0 kinds.Form e.event.line ∷ []) (arrivals team.0 arg.image.0 (happened control h) + 1)
+      → IsFormed p team round status (args_in p.forms.items team.0 round ++ arg ∷ []) o
+      → (made_by_one o ≡ made_at team.0 round (members_at (teams_after n h) team.0) h e) × (bad_of o ≡ bad_now team.0 round (members_at (teams_after n h) team.0) h e)
+  joined_some status o closes formed_by =
+      let ms = members_at (teams_after n h) team.0 in
+      let c = closing_some ms team.0 (arrivals team.0 arg.image.0 (happened control h) + 1) (happened control h) _ status closes in
+      let closed : closes_now team.0 ms (happened control h) (happened control (h ++ e ∷ [])) round ≡ true = ap (λ a. closes_now team.0 ms (happened control h) a round) now_is ∙ ap (closes_now team.0 ms (happened control h) _) number ∙ c.0 in
+      let st : status ≡ missed_status (missed_by ms (happened control (h ++ e ∷ []))) = c.1 ∙ ap (λ a. missed_status (missed_by ms a)) (sym now_is) in
+      let f = formed_by n h (missed_by ms (happened control (h ++ e ∷ []))) b st in
+      (f.0 ∙ formed_at team.0 round ms h e (args_in p.forms.items team.0 round ++ arg ∷ []) closed form args_are, f.1 ∙ bad_at team.0 round ms h e (args_in p.forms.items team.0 round ++ arg ∷ []) closed form args_are)
+
+  pub joined_none : None ≡ closing_at (members_at (teams_after n h) team.0) team.0 (happened control h) (happened control h ++ arrives team.0 arg.image.0 kinds.Form e.event.line ∷ []) (arrivals team.0 arg.image.0 (happened control h) + 1)
+      → ([] ≡ made_at team.0 round (members_at (teams_after n h) team.0) h e) × (false ≡ bad_now team.0 round (members_at (teams_after n h) team.0) h e)
+  joined_none closes =
+      let ms = members_at (teams_after n h) team.0 in
+      made_not team.0 round ms h e (ap (λ a. closes_now team.0 ms (happened control h) a round) now_is ∙ ap (closes_now team.0 ms (happened control h) _) number ∙ closing_none ms team.0 (arrivals team.0 arg.image.0 (happened control h) + 1) (happened control h) _ closes)
+
+-- ---- what comes of the arrival
+module _ (n : ℕ) (h : List Entry) (p : Parts) (b : IsBoard n h p) (i : ImageNo) (team : TeamNo) (arriving : Arriving) (low : 0 < team.0) (high : team.0 ≤ length p.teams.teams) where
+  -- it clashes
+  pub clash_makes : (j : ImageNo) (l : ℕ) → arrived.Clash j l ≡ told_arrival same_kind (kind_of arriving) (arrivals team.0 i.0 (happened control h) + 1) (opening_of team.0 (arrivals team.0 i.0 (happened control h) + 1) (happened control h)) → MakesFor n h i team arriving None
+  clash_makes j l q =
+      let none : (line : ℕ) → happens control i.0 line (asks.Arrive team arriving) (board_reply n h i.0 (asks.Arrive team arriving)) ≡ None = (λ line. ap (happens control i.0 line (asks.Arrive team arriving)) (sym (told_is control h i.0 team.0 (kind_of arriving) (arrived.Clash j l) q))) in
+      record { made = λ stamp line. (makes_nothing n h p b i team arriving stamp line (none line)).0; bad = λ stamp line. (makes_nothing n h p b i team arriving stamp line (none line)).1 }
+
+  -- it joins a round
+  module _ (round : ℕ) (q : arrived.Joined round ≡ told_arrival same_kind (kind_of arriving) (arrivals team.0 i.0 (happened control h) + 1) (opening_of team.0 (arrivals team.0 i.0 (happened control h) + 1) (happened control h))) where
+    pub joins_as : (line : ℕ) → happens control i.0 line (asks.Arrive team arriving) (board_reply n h i.0 (asks.Arrive team arriving)) ≡ Some (arrives team.0 i.0 (kind_of arriving) line)
+    joins_as line = ap (happens control i.0 line (asks.Arrive team arriving)) (sym (told_is control h i.0 team.0 (kind_of arriving) (arrived.Joined round) q))
+
+    pub joins_number : round ≡ arrivals team.0 i.0 (happened control h) + 1
+    joins_number = joined_number same_kind (kind_of arriving) _ (opening_of team.0 (arrivals team.0 i.0 (happened control h) + 1) (happened control h)) round q
+
+    next_is : round ≡ suc (arrivals team.0 i.0 (happened control h))
+    next_is = let k = joins_number in omega (arith, k)
+
+    pub joins_form : (stamp line : ℕ) → is_form (opening_of team.0 round (happened control (h ++ due n h i (asks.Arrive team arriving) stamp line ∷ []))) ≡ is_form_kind (kind_of arriving)
+    joins_form stamp line = elim (arrival_stands n h i team arriving stamp line) [
+      | inl z ↦ absurd (let w : None ≡ Some (arrives team.0 i.0 (kind_of arriving) line) = sym z ∙ joins_as line in cc)
+      | inr s ↦ ap (λ r. is_form (opening_of team.0 r (happened control (h ++ due n h i (asks.Arrive team arriving) stamp line ∷ [])))) next_is ∙ s.1
+    ]
+
+    pub joined_makes : (o : Option Formation) → ((stamp line : ℕ) → (made_by_one o ≡ made_at team.0 round (members_at (teams_after n h) team.0) h (due n h i (asks.Arrive team arriving) stamp line)) × (bad_of o ≡ bad_now team.0 round (members_at (teams_after n h) team.0) h (due n h i (asks.Arrive team arriving) stamp line)))
+        → MakesFor n h i team arriving o
+    joined_makes o f = record {
+      made = λ stamp line. makes_round n h p b i team arriving stamp line low high (joins_as line)
+          ∙ ap (λ r. made_at team.0 r (members_at (teams_after n h) team.0) h (due n h i (asks.Arrive team arriving) stamp line)) (sym next_is) ∙ sym (f stamp line).0;
+      bad = λ stamp line. (f stamp line).1 ∙ ap (λ r. bad_now team.0 r (members_at (teams_after n h) team.0) h (due n h i (asks.Arrive team arriving) stamp line)) next_is;
+    }
+
+-- ---- the rounds that an end closes
+module _ (n : ℕ) (h : List Entry) (p : Parts) (b : IsBoard n h p) (team : TeamNo) (round i : ℕ) (failed : Bool) (first : 0 < round) (e : Entry) (ends : Ends e i failed) where
+  end_now : happened control (h ++ e ∷ []) ≡ happened control h ++ end_of i failed ∷ []
+  end_now = happened_some control h e (end_of i failed) ends
+
+  end_args : form_args (round_of control team.0 round (members_at (teams_after n h) team.0) (h ++ e ∷ [])) ≡ args_of (args_in p.forms.items team.0 round) (members_at (teams_after n h) team.0)
+  end_args = round_args p.forms.items (h ++ e ∷ []) (forms_none p.forms.items h e (λ t m. ap (arrives_there t m) ends ∙ end_arrives t m i failed) b.forms) team.0 round first (members_at (teams_after n h) team.0)
+
+  pub end_some : (status : ℤ) (o : Option Formation) → is_form (opening_of team.0 round (happened control h)) ≡ true → Some status ≡ closing_at (members_at (teams_after n h) team.0) team.0 (happened control h) (happened control h ++ end_of i failed ∷ []) round
+      → IsFormed p team round status (args_in p.forms.items team.0 round) o → made_by_one o ≡ made_at team.0 round (members_at (teams_after n h) team.0) h e
+  end_some status o form closes formed_by =
+      let ms = members_at (teams_after n h) team.0 in
+      let c = closing_some ms team.0 round (happened control h) _ status closes in
+      let closed : closes_now team.0 ms (happened control h) (happened control (h ++ e ∷ [])) round ≡ true = ap (λ a. closes_now team.0 ms (happened control h) a round) end_now ∙ c.0 in
+      let st : status ≡ missed_status (missed_by ms (happened control (h ++ e ∷ []))) = c.1 ∙ ap (λ a. missed_status (missed_by ms a)) (sym end_now) in
+      let f = formed_by n h (missed_by ms (happened control (h ++ e ∷ []))) b st in
+      f.0 ∙ formed_at team.0 round ms h e (args_in p.forms.items team.0 round) closed (ap is_form (opening_end team.0 round i failed h e ends) ∙ form) end_args
+
+  pub end_none : None ≡ closing_at (members_at (teams_after n h) team.0) team.0 (happened control h) (happened control h ++ end_of i failed ∷ []) round → [] ≡ made_at team.0 round (members_at (teams_after n h) team.0) h e
+  end_none closes =
+      let ms = members_at (teams_after n h) team.0 in
+      (made_not team.0 round ms h e (ap (λ a. closes_now team.0 ms (happened control h) a round) end_now ∙ closing_none ms team.0 round (happened control h) _ closes)).0
+
+  pub end_other : is_form (opening_of team.0 round (happened control h)) ≡ false → [] ≡ made_at team.0 round (members_at (teams_after n h) team.0) h e
+  end_other form = (made_other team.0 round (members_at (teams_after n h) team.0) h e (ap is_form (opening_end team.0 round i failed h e ends) ∙ form)).0

@@ -103,7 +103,7 @@ module _ (p q : Parts) (i : ImageNo) (a : Ask) (line : ℕ) where
       → (n : ℕ) (h : List Entry) (stamp : ℕ) → TellsSyncs n p.pairs (happened images h) → TellsSyncs n q.pairs (happened images (h ++ entry_by i a (board_reply n h i.0 a) stamp line ∷ []))
   pairs_hear x is told n h stamp t = subst (TellsSyncs n q.pairs) (sym (happened_some images h (entry_by i a (board_reply n h i.0 a) stamp line) x (is (board_reply n h i.0 a)))) (told n (happened images h) t)
 
-joined_number : (same : RoundKind → RoundKind → Bool) (kind : RoundKind) (k : ℕ) (o : Option Opening) (r : ℕ) → arrived.Joined r ≡ told_arrival same kind k o → r ≡ k
+pub joined_number : (same : RoundKind → RoundKind → Bool) (kind : RoundKind) (k : ℕ) (o : Option Opening) (r : ℕ) → arrived.Joined r ≡ told_arrival same kind k o → r ≡ k
 joined_number same kind k None r e = cc
 joined_number same kind k (Some o) r e = elim (cases_Bool (same o.kind kind)) [
   | inl t ↦ (let w : arrived.Joined r ≡ arrived.Joined k = e ∙ rw t refl in cc)
@@ -114,7 +114,7 @@ clash_forms : (gs : List Given) (t : TeamNo) (o : Option GivenArg) (j : ImageNo)
 clash_forms gs t None j l = refl
 clash_forms gs t (Some x) j l = refl
 
-end_arrives : (t m i : ℕ) (failed : Bool) → is_arrival t m (end_of i failed) ≡ false
+pub end_arrives : (t m i : ℕ) (failed : Bool) → is_arrival t m (end_of i failed) ≡ false
 end_arrives t m i true = refl
 end_arrives t m i false = refl
 

@@ -1,0 +1,45 @@
+use Rattle.std.proofs.Common.{rules, ◌≡◌, ℕ, suc, ◌+◌, ◌-◌, ◌<◌, ◌≤◌, true, false, ◌&&◌, not, cond, List, [], ◌∷◌, ◌++◌, length, map, take, refl, ap, sym, ◌∙◌, subst, arith, to_z, of_z, w32, append_assoc}
+use Rattle.std.specs.Prelude.{IfOk, pos, Some, None, slice_get, slice_index_or}
+use Rattle.object_rules.specs.Happenings.{control, happened, numbers_of}
+use Rattle.object_rules.specs.TeamRounds.{opening_of}
+use Rattle.object_rules.specs.BoardTeams.{teams_after, members_at, is_form}
+use Rattle.team_round.specs.TeamStates.{closing_at}
+use Rattle.failure_status.specs.Endings.{end_of}
+use Rattle.control_board.specs.Boards.{IsFormed, args_in}
+use Rattle.control_board.proofs.Collecting.{ok_map}
+use Rattle.control_board.proofs.Keeping.{can_close, in_rounds, joined_is}
+use Rattle.control_board.proofs.Members.{get_there, rounds_members, rounds_count, teams_count}
+use Rattle.control_board.proofs.Plans.{end_some, end_none, end_other}
+use Rattle.control_board.proofs.planning.plan_round.Goals as goal
+
+pub is_form_round-requires-clause-team : goal.is_form_round-requires-clause-team
+is_form_round-requires-clause-team c =
+    let k = c.requires.image in
+    let rc = rounds_count k.images k.history c.args.parts.now k.board false in
+    let tc = teams_count k.images k.history c.args.parts.now k.board in
+    let low : 0 < c.args.team.0 = c.requires.team.0 in
+    let top : c.args.team.0 ≤ length c.args.parts.now.teams.teams = c.requires.team.1 in
+    let high : c.args.team.0 ≤ length c.args.parts.now.control.teams = omega arith in
+    (low, high)
+
+pub closing_by_end-requires-clause-team : goal.closing_by_end-requires-clause-team
+closing_by_end-requires-clause-team c =
+    let k = c.requires.image in
+    let rc = rounds_count k.images k.history c.args.parts.now k.board false in
+    let tc = teams_count k.images k.history c.args.parts.now k.board in
+    let low : 0 < c.args.team.0 = c.requires.team.0 in
+    let top : c.args.team.0 ≤ length c.args.parts.now.teams.teams = c.requires.team.1 in
+    let high : c.args.team.0 ≤ length c.args.parts.now.control.teams = omega arith in
+    (low, high)
+
+pub closing_by_end-requires-clause-state : goal.closing_by_end-requires-clause-state
+closing_by_end-requires-clause-state c = let k = c.requires.image in can_close k.images k.history c.args.parts.now k.board c.args.image.0 k.image false k.few (c.args.team.0 - 1)
+
+pub returns-then-not-is_form_round-clause-made : goal.returns-then-not-is_form_round-clause-made
+returns-then-not-is_form_round-clause-made c n h e b ends = ?
+
+pub returns-in-Some-clause-made : goal.returns-in-Some-clause-made
+returns-in-Some-clause-made c = ?
+
+pub returns-in-None-clause-made : goal.returns-in-None-clause-made
+returns-in-None-clause-made c n h e b ends = ?
