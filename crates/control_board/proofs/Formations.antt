@@ -1,5 +1,5 @@
 -- The teams of formations, one after the other.
-use Rattle.std.proofs.Common.{◌≡◌, ℕ, zero, suc, ◌+◌, ◌-◌, ◌^◌, ◌<◌, ◌≤◌, List, [], ◌∷◌, ◌++◌, length, map, replicate, take, refl, ap, sym, ◌∙◌, subst, arith, append_assoc, length-append}
+use Rattle.std.proofs.Common.{◌≡◌, ◌⊎◌, inl, inr, ℕ, zero, suc, ◌+◌, ◌-◌, ◌^◌, ◌<◌, ◌≤◌, List, [], ◌∷◌, ◌++◌, length, map, replicate, take, refl, ap, sym, ◌∙◌, subst, arith, append_assoc, length-append}
 use Rattle.std.specs.Prelude.{Some, None, Option, slice_get, slice_index_or}
 use Rattle.std.specs.Global.{Vec}
 use Rattle.std.proofs.lemmas.List.{append-nil, length-map}
@@ -88,3 +88,16 @@ members_more before now fs k d low was copied =
     copied ∙ ap (λ l. l ++ map (λ (m : MadeMembers). m.images.items) f.plan.teams.items) was
     ∙ ap (λ l. images_of_teams (all_made (take k fs)) ++ l) (images_made f.plan.parent.0 f.round f.plan.teams.items)
     ∙ sym (ap (λ l. images_of_teams (all_made l)) (take_more fs k d low) ∙ ap images_of_teams (made_last (take k fs) f) ∙ map_append (λ (x : Team). images_from x.members) (all_made (take k fs)) (made_of f))
+
+-- one formation more
+last_of : (fs : List Formation) (f g : Formation) (k : ℕ) → slice_get (fs ++ f ∷ []) k ≡ Some g → (slice_get fs k ≡ Some g) ⊎ (f ≡ g)
+last_of [] f g zero e = inr (cc)
+last_of [] f g (suc k) e = absurd (cc)
+last_of (x ∷ xs) f g zero e = inl e
+last_of (x ∷ xs) f g (suc k) e = last_of xs f g k e
+
+pub few_last : (fs : List Formation) (f : Formation) → AllFew fs → AreFew f.plan.teams.items → AllFew (fs ++ f ∷ [])
+few_last fs f all few k g at = elim (last_of fs f g k at) [
+  | inl a ↦ all k g a
+  | inr e ↦ subst (λ (x : Formation). AreFew x.plan.teams.items) e few
+]

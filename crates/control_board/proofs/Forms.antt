@@ -229,8 +229,16 @@ take_more [] k d h = absurd (omega arith)
 take_more (m ∷ ms) zero d h = refl
 take_more (m ∷ ms) (suc k) d h = let e : suc k + 1 ≡ suc (k + 1) = omega arith in ap (λ j. take j (m ∷ ms)) e ∙ ap (λ l. m ∷ l) (take_more ms k d (omega arith))
 
-pub args_next : (gs : List Given) (k : ℕ) (d : Given) (t r : ℕ) (was now : List GivenArg) (test : Bool) → k < length gs → was ≡ args_in (take k gs) t r → test ≡ (nat_eq (slice_index_or gs k d).team.0 t && nat_eq (slice_index_or gs k d).round r)
+args_next : (gs : List Given) (k : ℕ) (d : Given) (t r : ℕ) (was now : List GivenArg) (test : Bool) → k < length gs → was ≡ args_in (take k gs) t r → test ≡ (nat_eq (slice_index_or gs k d).team.0 t && nat_eq (slice_index_or gs k d).round r)
     → now ≡ was ++ cond test ((slice_index_or gs k d).arg ∷ []) [] → now ≡ args_in (take (k + 1) gs) t r
 args_next gs k d t r was now test low is tested goes =
     goes ∙ ap (λ l. l ++ cond test ((slice_index_or gs k d).arg ∷ []) []) is ∙ ap (λ c. args_in (take k gs) t r ++ cond c ((slice_index_or gs k d).arg ∷ []) []) tested
     ∙ sym (ap (λ l. args_in l t r) (take_more gs k d low) ∙ args_more (take k gs) (slice_index_or gs k d) t r)
+
+pub args_then : (gs : List Given) (k : ℕ) (d : Given) (t r : ℕ) (was now : List GivenArg) (test : Bool) → k < length gs → was ≡ args_in (take k gs) t r → test ≡ (nat_eq (slice_index_or gs k d).team.0 t && nat_eq (slice_index_or gs k d).round r) → test ≡ true
+    → now ≡ was ++ (slice_index_or gs k d).arg ∷ [] → now ≡ args_in (take (k + 1) gs) t r
+args_then gs k d t r was now test low is tested y goes = args_next gs k d t r was now test low is tested (goes ∙ ap (λ c. was ++ cond c ((slice_index_or gs k d).arg ∷ []) []) (sym y))
+
+pub args_else : (gs : List Given) (k : ℕ) (d : Given) (t r : ℕ) (was now : List GivenArg) (test : Bool) → k < length gs → was ≡ args_in (take k gs) t r → test ≡ (nat_eq (slice_index_or gs k d).team.0 t && nat_eq (slice_index_or gs k d).round r) → test ≡ false
+    → now ≡ was → now ≡ args_in (take (k + 1) gs) t r
+args_else gs k d t r was now test low is tested z goes = args_next gs k d t r was now test low is tested (goes ∙ sym (append_none was) ∙ ap (λ c. was ++ cond c ((slice_index_or gs k d).arg ∷ []) []) (sym z))

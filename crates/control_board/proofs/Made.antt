@@ -50,6 +50,15 @@ range_split a (suc j) k =
 pub range_last : (a k : ℕ) → range_with_len a (k + 1) ≡ range_with_len a k ++ (a + k) ∷ []
 range_last a k = range_split a k 1
 
+-- the next round of those after a place
+pub over_next : (t : ℕ) (ms : List ℕ) (h : List Entry) (e : Entry) (from r : ℕ) → from ≤ r → made_over t ms h e (range_with_len (from + 1) (r - from)) ++ made_at t (r + 1) ms h e ≡ made_over t ms h e (range_with_len (from + 1) (r + 1 - from))
+over_next t ms h e from r low =
+    let k : r - from + 1 ≡ r + 1 - from = omega arith in
+    let q : from + 1 + (r - from) ≡ r + 1 = omega arith in
+    ap (λ l. made_over t ms h e (range_with_len (from + 1) (r - from)) ++ l) (sym (append-nil (made_at t (r + 1) ms h e)) ∙ ap (λ j. made_over t ms h e (j ∷ [])) (sym q))
+    ∙ sym (over_append t ms h e (range_with_len (from + 1) (r - from)) ((from + 1 + (r - from)) ∷ []))
+    ∙ ap (made_over t ms h e) (sym (range_last (from + 1) (r - from))) ∙ ap (λ j. made_over t ms h e (range_with_len (from + 1) j)) k
+
 over_cut : (t : ℕ) (ms : List ℕ) (h : List Entry) (e : Entry) (j k : ℕ) → ((r : ℕ) → j < r → made_at t r ms h e ≡ []) → j ≤ k → made_over t ms h e (range_with_len 1 k) ≡ made_over t ms h e (range_with_len 1 j)
 over_cut t ms h e j k f l =
     let s : j + (k - j) ≡ k = omega arith in

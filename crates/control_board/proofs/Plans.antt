@@ -23,7 +23,7 @@ use Rattle.object_rules.specs.BoardTeams.{closes_now, is_form, is_form_kind, arr
 use Rattle.object_rules.specs.BoardRules.{board_ready, board_reply, joined_or_clash}
 use Rattle.object_rules.proofs.Growing.{opening_more}
 use Rattle.failure_status.specs.Endings.{end_of}
-use Rattle.team_round.specs.TeamStates.{missed_status, closing_at, told_arrival}
+use Rattle.team_round.specs.TeamStates.{missed_status, closing_at, told_arrival, kind_told}
 use Rattle.team_round.specs.declared.round.Arrival.TheVariants as arrived
 use Rattle.team_round.proofs.Arriving.{joins_here}
 use Rattle.team_round.proofs.Telling.{joins_none}
@@ -288,3 +288,12 @@ module _ (n : ℕ) (h : List Entry) (p : Parts) (b : IsBoard n h p) (team : Team
 
   pub end_other : is_form (opening_of team.0 round (happened control h)) ≡ false → [] ≡ made_at team.0 round (members_at (teams_after n h) team.0) h e
   end_other form = (made_other team.0 round (members_at (teams_after n h) team.0) h e (ap is_form (opening_end team.0 round i failed h e ends) ∙ form)).0
+
+-- ---- the kind that is kept of a round
+pub form_some : (o : Option Opening) (k : RoundKind) → kind_told o ≡ Some k → is_form_kind k ≡ is_form o
+form_some None k e = absurd (cc)
+form_some (Some o) k e = let w : o.kind ≡ k = cc in ap is_form_kind (sym w)
+
+pub form_none : (o : Option Opening) → kind_told o ≡ None → false ≡ is_form o
+form_none None e = refl
+form_none (Some o) e = absurd (cc)

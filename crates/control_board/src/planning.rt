@@ -12,7 +12,7 @@ ghost use Rattle.caf_events.specs.declared.event.Entry.{Entry};
 ghost use Rattle.object_rules.specs.Happenings.{control, happened};
 ghost use Rattle.object_rules.specs.TeamRounds.{opening_of};
 ghost use Rattle.object_rules.specs.BoardRules.{board_ready};
-ghost use Rattle.object_rules.specs.BoardTeams.{is_form};
+ghost use Rattle.object_rules.specs.BoardTeams.{is_form, is_form_kind as is_form_kind_by};
 ghost use Rattle.team_round.specs.TeamStates.{TeamState};
 ghost use Rattle.control_board.specs.Boards.{IsBoard, Asked, CanEndNow, AllFew, made_by_one, bad_of, is_few, all_made, is_end_ask, IsFormed, IsJoined, MakesAt, EndsRound, EndsTeam, EndsAll, IsStocked, Planned, HasGrown, TeamsRoom, PlanFits, IsEnacted};
 
@@ -121,6 +121,16 @@ fn plan_arrival(
     }
 }
 
+// Whether it is the kind of FORM TEAM.
+fn is_form_kind(kind: &RoundKind) -> bool
+    ensures { result ≡ is_form_kind_by kind.now }
+{
+    match kind {
+        RoundKind::Form => true,
+        _ => false,
+    }
+}
+
 // Whether the round of the team is one of FORM TEAM.
 fn is_form_round(parts: &Parts, team: TeamNo, round: u64) -> bool
     requires team { (0 < team.0) × (team.0 ≤ length parts.now.control.teams) }
@@ -128,8 +138,8 @@ fn is_form_round(parts: &Parts, team: TeamNo, round: u64) -> bool
     ensures { (n : ℕ) (h : List Entry) → IsBoard n h parts.now → result ≡ is_form (opening_of team.0 round (happened control h)) }
 {
     match parts.control.kind(team, round) {
-        Some(RoundKind::Form) => true,
-        _ => false,
+        Some(kind) => is_form_kind(kind),
+        None => false,
     }
 }
 

@@ -4,7 +4,7 @@ use Rattle.std.specs.Global.{Vec}
 use Rattle.team_tree.specs.declared.arg.FormArg.{FormArg}
 use Rattle.std.proofs.lemmas.List.{append-nil}
 use Rattle.control_board.specs.Boards.{args_in}
-use Rattle.control_board.proofs.Forms.{args_next}
+use Rattle.control_board.proofs.Forms.{args_then, args_else}
 use Rattle.control_board.proofs.forming.args_for.Goals as goal
 use Rattle.control_board.proofs.forming.args_for.Goals.{then-is_of+in_ok-push, else-is_of}
 
@@ -14,8 +14,8 @@ loop-given-preserved c =
     let was = c.loop-given.invariant ∙ ap (λ l. args_in (take c.loop-given.given-index l) c.args.team.0 c.args.round) (sym c.deref-given-items.ensures.value) in
     subst (λ l. c.if-is_of.args.items ≡ args_in (take (c.loop-given.given-index + 1) l) c.args.team.0 c.args.round) c.deref-given-items.ensures.value
     (elim c.if-is_of.branch [
-      | then-is_of+in_ok-push w ↦ args_next gs c.loop-given.given-index _ c.args.team.0 c.args.round c.loop-given.args.items c.if-is_of.args.items c.is_of.result c.loop-given-test.true was c.is_of.ensures
-          (ap (λ (v : Vec FormArg). v.items) w.args-is ∙ w.in_ok-push.ensures.items ∙ ap (λ t. c.loop-given.args.items ++ cond t (_ ∷ []) []) (sym w.if-is_of.true))
-      | else-is_of w ↦ args_next gs c.loop-given.given-index _ c.args.team.0 c.args.round c.loop-given.args.items c.if-is_of.args.items c.is_of.result c.loop-given-test.true was c.is_of.ensures
-          (ap (λ (v : Vec FormArg). v.items) w.args-is ∙ sym (ap (λ t. c.loop-given.args.items ++ cond t (_ ∷ []) []) w.if-is_of.false ∙ append-nil c.loop-given.args.items))
+      | then-is_of+in_ok-push w ↦ args_then gs c.loop-given.given-index _ c.args.team.0 c.args.round c.loop-given.args.items c.if-is_of.args.items c.is_of.result c.loop-given-test.true was c.is_of.ensures w.if-is_of.true
+          (ap (λ (v : Vec FormArg). v.items) w.args-is ∙ w.in_ok-push.ensures.items)
+      | else-is_of w ↦ args_else gs c.loop-given.given-index _ c.args.team.0 c.args.round c.loop-given.args.items c.if-is_of.args.items c.is_of.result c.loop-given-test.true was c.is_of.ensures w.if-is_of.false
+          (ap (λ (v : Vec FormArg). v.items) w.args-is)
     ])

@@ -3,7 +3,8 @@ use Rattle.std.specs.Prelude.{pos, Some, None, slice_get, slice_index_or}
 use Rattle.std.specs.Ordering.{int_eq}
 use Rattle.object_rules.specs.FormedTeams.{formed, is_bad_form}
 use Rattle.object_rules.specs.BoardTeams.{teams_after, members_at}
-use Rattle.team_tree.specs.Args.{plain_args}
+use Rattle.caf_base.specs.declared.place.TeamNo.{TeamNo}
+use Rattle.team_tree.specs.Args.{plain_args, plain_teams}
 use Rattle.team_tree.specs.KnownTeams.{team_of}
 use Rattle.team_tree.specs.Orders.{in_order}
 use Rattle.control_board.specs.Boards.{team_with, args_of}
@@ -26,9 +27,9 @@ returns-clause-formed c n h m b e =
     let a : plain_args (in_order (team_of c.args.parts.now.teams.teams c.args.team.0).members c.args.args.now) ≡ args_of c.args.args.now (members_at (teams_after n h) c.args.team.0) =
     plain_order ks c.args.args.now ∙ ap (args_of c.args.args.now) (known_there n h c.args.parts.now b c.args.team.0 c.requires.0 c.requires.1) in
     (
-      ap (λ (t : _). map (team_with t.0 c.args.round) _) c.in_ok-plan.ensures.parent
-          ∙ ap (map (team_with c.args.team.0 c.args.round)) (c.in_ok-plan.ensures.teams ∙ ap (λ k. formed false k _) f ∙ ap (formed false m.failed) a)
+      ap (λ (t : TeamNo). map (team_with t.0 c.args.round) (plain_teams c.in_ok-plan.plan.teams.items)) c.in_ok-plan.ensures.parent
+          ∙ ap (map (team_with c.args.team.0 c.args.round)) (c.in_ok-plan.ensures.teams ∙ ap (λ k. formed false k (plain_args (in_order (team_of c.args.parts.now.teams.teams c.args.team.0).members c.args.args.now))) f ∙ ap (formed false m.failed) a)
           ∙ ap (λ k. map (team_with c.args.team.0 c.args.round) (formed k m.failed (args_of c.args.args.now (members_at (teams_after n h) c.args.team.0)))) (sym s),
-      c.in_ok-plan.ensures.bad ∙ ap (λ k. not k && _) f ∙ ap (λ l. not m.failed && is_bad_form l) a
+      c.in_ok-plan.ensures.bad ∙ ap (λ k. not k && is_bad_form (plain_args (in_order (team_of c.args.parts.now.teams.teams c.args.team.0).members c.args.args.now))) f ∙ ap (λ l. not m.failed && is_bad_form l) a
           ∙ ap (λ k. not k && (not m.failed && is_bad_form (args_of c.args.args.now (members_at (teams_after n h) c.args.team.0)))) (sym s),
     )

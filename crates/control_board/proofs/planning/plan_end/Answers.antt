@@ -1,0 +1,33 @@
+use Rattle.std.proofs.Common.{rules, ◌≡◌, ℕ, suc, ◌+◌, ◌-◌, ◌<◌, ◌≤◌, true, false, ◌&&◌, not, cond, List, [], ◌∷◌, ◌++◌, length, map, take, refl, ap, sym, ◌∙◌, subst, arith, to_z, of_z, w32, append_assoc}
+use Rattle.std.specs.Prelude.{IfOk, pos, Some, None, slice_get, slice_index_or}
+use Rattle.object_rules.specs.Happenings.{control, happened, numbers_of}
+use Rattle.object_rules.specs.TeamRounds.{opening_of}
+use Rattle.object_rules.specs.BoardTeams.{teams_after, members_at, is_form}
+use Rattle.team_round.specs.TeamStates.{closing_at}
+use Rattle.failure_status.specs.Endings.{end_of}
+use Rattle.control_board.specs.Boards.{IsFormed, args_in}
+use Rattle.control_board.proofs.Collecting.{ok_map}
+use Rattle.control_board.proofs.Keeping.{can_close, in_rounds, joined_is}
+use Rattle.control_board.proofs.Members.{get_there, rounds_members, rounds_count, teams_count}
+use Rattle.object_rules.specs.BoardTeams.{made_by}
+use Rattle.control_board.specs.Boards.{all_made}
+use Rattle.control_board.proofs.Made.{by_more}
+use Rattle.control_board.proofs.planning.plan_end.Goals as goal
+
+pub loop-t-preserved : goal.loop-t-preserved
+loop-t-preserved c =
+    let i = c.loop-t.invariant in
+    let low = c.loop-t-test.true in
+    (
+      c.in_ok-plan_team.ensures.few,
+      λ n h e b ends. (
+          let tc = teams_count n h c.args.parts.now b in
+          let end = c.len-t-end.ensures in
+          let high : c.loop-t.t < length (teams_after n h) = omega arith in
+          by_more (teams_after n h) c.loop-t.t h e high
+          ∙ ap (λ l. l ++ _) (i.1 n h e b ends)
+          ∙ sym (c.in_ok-plan_team.ensures.made n h e b ends)),
+    )
+
+pub returns-clause-made : goal.returns-clause-made
+returns-clause-made c n h e b ends = ?

@@ -1,0 +1,56 @@
+use Rattle.std.proofs.Common.{rules, ◌≡◌, ℕ, suc, ◌+◌, ◌-◌, ◌<◌, ◌≤◌, true, false, ◌&&◌, not, cond, List, [], ◌∷◌, ◌++◌, length, map, take, refl, ap, sym, ◌∙◌, subst, arith, to_z, of_z, w32, append_assoc}
+use Rattle.std.specs.Prelude.{IfOk, pos, Some, None, slice_get, slice_index_or}
+use Rattle.object_rules.specs.Happenings.{control, happened, numbers_of}
+use Rattle.object_rules.specs.TeamRounds.{opening_of}
+use Rattle.object_rules.specs.BoardTeams.{teams_after, members_at, is_form}
+use Rattle.team_round.specs.TeamStates.{closing_at}
+use Rattle.failure_status.specs.Endings.{end_of}
+use Rattle.control_board.specs.Boards.{IsFormed, args_in}
+use Rattle.control_board.proofs.Collecting.{ok_map}
+use Rattle.control_board.proofs.Keeping.{can_close, in_rounds, joined_is}
+use Rattle.control_board.proofs.Members.{get_there, rounds_members, rounds_count, teams_count}
+use Rattle.object_rules.specs.BoardTeams.{made_in_team}
+use Rattle.std.specs.List.{range_with_len}
+use Rattle.control_board.specs.Boards.{all_made, made_by_one, made_over}
+use Rattle.control_board.proofs.Made.{over_next, team_ends}
+use Rattle.control_board.proofs.planning.plan_team.Goals as goal
+
+pub joined-from-requires-clause-team : goal.joined-from-requires-clause-team
+joined-from-requires-clause-team c =
+    let k = c.requires.image in
+    let rc = rounds_count k.images k.history c.args.parts.now k.board false in
+    let tc = teams_count k.images k.history c.args.parts.now k.board in
+    let low : 0 < c.args.team.0 = c.requires.team.0 in
+    let top : c.args.team.0 ≤ length c.args.parts.now.teams.teams = c.requires.team.1 in
+    let high : c.args.team.0 ≤ length c.args.parts.now.control.teams = omega arith in
+    (low, high)
+
+pub joined-from-requires-clause-image : goal.joined-from-requires-clause-image
+joined-from-requires-clause-image c x at = let k = c.requires.image in in_rounds k.images k.history c.args.parts.now k.board c.args.image.0 k.image false c.args.team.0 x at
+
+pub count-round-end-requires : goal.count-round-end-requires
+count-round-end-requires c =
+    let k = c.requires.image in
+    let rc = rounds_count k.images k.history c.args.parts.now k.board false in
+    let tc = teams_count k.images k.history c.args.parts.now k.board in
+    let low : 0 < c.args.team.0 = c.requires.team.0 in
+    let top : c.args.team.0 ≤ length c.args.parts.now.teams.teams = c.requires.team.1 in
+    let high : c.args.team.0 ≤ length c.args.parts.now.control.teams = omega arith in
+    (low, high)
+
+pub loop-round-preserved : goal.loop-round-preserved
+loop-round-preserved c =
+    let i = c.loop-round.invariant in
+    let low = i.1 in
+    (
+      c.in_ok-add_made.ensures.few i.0,
+      omega arith,
+      λ n h e b ends. c.in_ok-add_made.ensures.made
+          ∙ ap (λ l. l ++ made_by_one c.in_ok-made.made) (i.2 n h e b ends)
+          ∙ append_assoc (all_made c.args.formations.now.items) (made_over c.args.team.0 (members_at (teams_after n h) c.args.team.0) h e (range_with_len (c.joined-from.result + 1) (c.loop-round.round - c.joined-from.result))) (made_by_one c.in_ok-made.made)
+          ∙ ap (λ l. all_made c.args.formations.now.items ++ (made_over c.args.team.0 (members_at (teams_after n h) c.args.team.0) h e (range_with_len (c.joined-from.result + 1) (c.loop-round.round - c.joined-from.result)) ++ l)) (c.in_ok-made.ensures.made n h e b ends)
+          ∙ ap (λ l. all_made c.args.formations.now.items ++ l) (over_next c.args.team.0 (members_at (teams_after n h) c.args.team.0) h e c.joined-from.result c.loop-round.round low),
+    )
+
+pub returns-clause-made : goal.returns-clause-made
+returns-clause-made c n h e b ends = ?
