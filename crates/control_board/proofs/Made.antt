@@ -259,3 +259,9 @@ by_images n t [] h e q = refl
 by_images n t (x ∷ xs) h e q =
     let s = and_parts (list_all (is_image n) x.members) (are_images n xs) q in
     images_append n (made_in_team t x.members h e) (made_by (suc t) xs h e) (rounds_images n t x.members (h ++ e ∷ []) _ s.0) (by_images n (suc t) xs h e s.1)
+
+pub take_all : (ts : List Team) (k : ℕ) → length ts ≤ k → take k ts ≡ ts
+take_all [] zero l = refl
+take_all [] (suc k) l = refl
+take_all (x ∷ xs) zero l = absurd (omega arith)
+take_all (x ∷ xs) (suc k) l = ap (λ q. x ∷ q) (take_all xs k (omega arith))

@@ -3,7 +3,7 @@ use Rattle.std.specs.Prelude.{IfOk, pos, Some, None, slice_get, slice_index_or}
 use Rattle.object_rules.specs.Happenings.{control, happened, numbers_of}
 use Rattle.object_rules.specs.TeamRounds.{opening_of}
 use Rattle.object_rules.specs.BoardTeams.{teams_after, members_at, is_form}
-use Rattle.team_round.specs.TeamStates.{closing_at}
+use Rattle.team_round.specs.TeamStates.{closing_at, Tells}
 use Rattle.failure_status.specs.Endings.{end_of}
 use Rattle.control_board.specs.Boards.{IsFormed, args_in}
 use Rattle.control_board.proofs.Collecting.{ok_map}
@@ -53,4 +53,23 @@ loop-round-preserved c =
     )
 
 pub returns-clause-made : goal.returns-clause-made
-returns-clause-made c n h e b ends = ?
+returns-clause-made c n h e b ends =
+    let k = c.requires.image in
+    let rc = rounds_count k.images k.history c.args.parts.now k.board false in
+    let tc = teams_count k.images k.history c.args.parts.now k.board in
+    let low : 0 < c.args.team.0 = c.requires.team.0 in
+    let top : c.args.team.0 ≤ length c.args.parts.now.teams.teams = c.requires.team.1 in
+    let high : c.args.team.0 ≤ length c.args.parts.now.control.teams = omega arith in
+    let x = get_there c.args.parts.now.control.teams (c.args.team.0 - 1) (omega arith) in
+    let number : suc (c.args.team.0 - 1) ≡ c.args.team.0 = omega arith in
+    let told = subst (λ u. Tells u x.0 (happened control h)) number ((b.rounds false).told (c.args.team.0 - 1) x.0 x.1) in
+    let from = c.joined-from.ensures n (happened control h) (b.rounds false) in
+    let count = c.count-round-end.ensures x.0 x.1 in
+    let few = told.few c.args.image.0 in
+    let past = c.loop-round-test.false in
+    let near = c.loop-round.auto.round in
+    let far = c.loop-round.auto.round-end in
+    let same : c.loop-round.round - c.joined-from.result ≡ length x.0.rounds - c.joined-from.result = omega arith in
+    c.loop-round.invariant.2 n h e b ends
+    ∙ ap (λ l. all_made c.args.formations.now.items ++ made_over c.args.team.0 (members_at (teams_after n h) c.args.team.0) h e (range_with_len (c.joined-from.result + 1) l)) same
+    ∙ ap (λ l. all_made c.args.formations.now.items ++ l) (sym (team_ends c.args.team.0 (members_at (teams_after n h) c.args.team.0) h e c.args.image.0 c.args.failed c.joined-from.result (length x.0.rounds) ends from told.few))
