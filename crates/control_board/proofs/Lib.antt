@@ -15,3 +15,4 @@ pub mod Enacting
 pub mod Formations
 pub mod Starting
 pub mod Plans
+pub mod Growing

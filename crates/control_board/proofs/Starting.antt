@@ -1,14 +1,14 @@
 -- What the board keeps at the start of a run.
-use Rattle.std.proofs.Common.{◌≡◌, ℕ, zero, suc, ◌+◌, ◌-◌, ◌<◌, ◌≤◌, true, ◌&&◌, List, [], ◌∷◌, length, replicate, refl, ap, sym, ◌∙◌, arith}
-use Rattle.std.specs.Prelude.{slice_index_or}
-use Rattle.std.specs.List.{list_all, range_with_len}
-use Rattle.object_rules.specs.Happenings.{numbers_of}
-use Rattle.object_rules.specs.BoardTeams.{teams_after}
+use Rattle.std.proofs.Common.{◌≡◌, ℕ, zero, suc, ◌+◌, ◌-◌, ◌<◌, ◌≤◌, true, false, ◌&&◌, List, [], ◌∷◌, length, replicate, refl, ap, sym, ◌∙◌, arith}
+use Rattle.std.specs.Prelude.{slice_index_or, Option, Some, None}
+use Rattle.std.specs.List.{list_any, list_all, range_with_len}
+use Rattle.object_rules.specs.Happenings.{control, happened, numbers_of}
+use Rattle.object_rules.specs.BoardTeams.{teams_after, closing}
 use Rattle.object_rules.specs.BoardRules.{is_image}
 use Rattle.team_round.specs.TeamStates.{images_to}
 use Rattle.team_round.proofs.NewTeams.{all_within}
 use Rattle.control_board.specs.Values.{BroughtState, no_values}
-use Rattle.control_board.specs.Boards.{values_in, table_of, are_images}
+use Rattle.control_board.specs.Boards.{values_in, table_of, are_images, was_bad}
 use Rattle.control_board.proofs.Members.{numbers_images}
 use Rattle.control_board.proofs.Collecting.{images_all}
 
@@ -29,3 +29,11 @@ and_true b e = rw e refl
 
 pub first_members : (n : ℕ) → are_images n (teams_after n []) ≡ true
 first_members n = and_true (list_all (is_image n) (range_with_len 1 n)) (ap (list_all (is_image n)) (sym (numbers_images (range_with_len 1 n))) ∙ images_all n (images_to n) (all_within n n (images_to n) refl refl))
+
+no_one : (ms : List ℕ) → list_any (λ (m : ℕ). false) ms ≡ false
+no_one [] = refl
+no_one (m ∷ ms) = no_one ms
+
+-- no round has closed
+pub none_bad : (t r : ℕ) (ms : List ℕ) → was_bad t r ms (closing control t r ms []) ≡ false
+none_bad t r ms = rw (no_one ms) refl

@@ -303,6 +303,9 @@ pub(crate) fn end_plan(
 pub(crate) fn make_room_for_teams(alloc: Global, parts: &mut Parts, team: TeamNo) -> Result<(), NoMemory>
     requires { (0 < team.0) × (team.0 ≤ length parts.old.control.teams) × (team.0 ≤ length parts.old.collective.teams) }
     ensures grown { HasGrown parts.old parts.new }
+    ensures forms { parts.new.forms ≡ parts.old.forms }
+    ensures bad { parts.new.bad ≡ parts.old.bad }
+    ensures plan { parts.new.plan ≡ parts.old.plan }
     ensures round { OnOk result ((x : TeamState) → slice_get parts.new.control.teams (team.0 - 1) ≡ Some x → 0 < x.room) }
     ensures room { OnOk result (TeamsRoom parts.new (length parts.old.plan.control.items)) }
 {
