@@ -152,12 +152,12 @@ bad_end t r ms h e i failed ends =
     elim (cases_Bool (list_any (λ m. has_stopped m (happened control (h ++ e ∷ []))) ms)) [
       | inl s ↦ last_false _ (is_bad_round t r ms (h ++ e ∷ [])) (last_false (is_form (opening_of t r (happened control (h ++ e ∷ [])))) _ (rw s refl))
       | inr s ↦ elim (cases_Bool (list_any (λ m. has_failed m (happened control (h ++ e ∷ []))) ms)) [
-          | inl f ↦ last_false _ (is_bad_round t r ms (h ++ e ∷ [])) (last_false (is_form (opening_of t r (happened control (h ++ e ∷ [])))) _ (last_false (not (list_any (λ m. has_stopped m (happened control (h ++ e ∷ []))) ms)) _ (rw f refl)))
-          | inr f ↦ (
-              let same : has_closed ms t r (happened control (h ++ e ∷ [])) ≡ has_closed ms t r (happened control h) =
-              ap (has_closed ms t r) now ∙ closed_as t r i failed (happened control h) ms (ap (λ hs. list_any (λ m. has_stopped m hs) ms) (sym now) ∙ s) (ap (λ hs. list_any (λ m. has_failed m hs) ms) (sym now) ∙ f) in
-              ap (λ c. not (has_closed ms t r (happened control h)) && c && is_bad_round t r ms (h ++ e ∷ [])) same ∙ never (has_closed ms t r (happened control h)) (is_bad_round t r ms (h ++ e ∷ [])))
-        ]
+        | inl f ↦ last_false _ (is_bad_round t r ms (h ++ e ∷ [])) (last_false (is_form (opening_of t r (happened control (h ++ e ∷ [])))) _ (last_false (not (list_any (λ m. has_stopped m (happened control (h ++ e ∷ []))) ms)) _ (rw f refl)))
+        | inr f ↦ (
+            let same : has_closed ms t r (happened control (h ++ e ∷ [])) ≡ has_closed ms t r (happened control h) =
+            ap (has_closed ms t r) now ∙ closed_as t r i failed (happened control h) ms (ap (λ hs. list_any (λ m. has_stopped m hs) ms) (sym now) ∙ s) (ap (λ hs. list_any (λ m. has_failed m hs) ms) (sym now) ∙ f) in
+            ap (λ c. not (has_closed ms t r (happened control h)) && c && is_bad_round t r ms (h ++ e ∷ [])) same ∙ never (has_closed ms t r (happened control h)) (is_bad_round t r ms (h ++ e ∷ [])))
+      ]
     ]
 
 -- ---- the list with a round more
@@ -204,10 +204,10 @@ module _ (bs : List BadRound) (h : List Entry) (e : Entry) (team : TeamNo) (i : 
   listed_arrival b q t r = elim (cases_eq team.0 t) [
     | inr a ↦ apart b t r (λ x y. a x)
     | inl a ↦ elim (cases_eq here r) [
-        | inr c ↦ apart b t r (λ x y. c y)
-        | inl c ↦ subst (λ u. is_listed (listed_with bs team (arrived.Joined here) b) u r ≡ (is_listed bs u r || bad_now u r (ms u) h e)) a
-            (subst (λ u. is_listed (listed_with bs team (arrived.Joined here) b) team.0 u ≡ (is_listed bs team.0 u || bad_now team.0 u (ms team.0) h e)) c (listed_here b ∙ ap (λ z. is_listed bs team.0 here || z) q))
-      ]
+      | inr c ↦ apart b t r (λ x y. c y)
+      | inl c ↦ subst (λ u. is_listed (listed_with bs team (arrived.Joined here) b) u r ≡ (is_listed bs u r || bad_now u r (ms u) h e)) a
+          (subst (λ u. is_listed (listed_with bs team (arrived.Joined here) b) team.0 u ≡ (is_listed bs team.0 u || bad_now team.0 u (ms team.0) h e)) c (listed_here b ∙ ap (λ z. is_listed bs team.0 here || z) q))
+    ]
   ]
     where
       apart : (b : Bool) (t r : ℕ) → (team.0 ≡ t → here ≡ r → ⊥) → is_listed (listed_with bs team (arrived.Joined here) b) t r ≡ (is_listed bs t r || bad_now t r (ms t) h e)

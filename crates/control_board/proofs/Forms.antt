@@ -63,19 +63,19 @@ nth_more t m r [] e low = elim (cases_Bool (there t m e)) [
 ]
 nth_more t m r (x ∷ xs) e low = elim (cases_Bool (there t m x)) [
   | inl y ↦ elim (cases_eq r 1) [
-      | inl one ↦ rw (y, eq-eqb r 1 one) refl
-      | inr more ↦ (
-          let ne : (r ≡ 1 → ⊥) = more in
-          let c = counted t m x xs true y in
-          let l : 0 < r - 1 = omega arith in
-          let i = nth_more t m (r - 1) xs e l in
-          let s = shifted r (arrivals t m (happened control xs)) l in
-          let f : nth_arrival control t m r ((x ∷ xs) ++ e ∷ []) ≡ nth_arrival control t m (r - 1) (xs ++ e ∷ []) = rw (y, ne_eqb r 1 more) refl in
-          let g : nth_arrival control t m r (x ∷ xs) ≡ nth_arrival control t m (r - 1) xs = rw (y, ne_eqb r 1 more) refl in
-          f ∙ i ∙ ap (λ b. or_else (nth_arrival control t m (r - 1) xs) (cond (there t m e && b) (Some e) None)) s
-          ∙ ap (λ k. or_else (nth_arrival control t m (r - 1) xs) (cond (there t m e && nat_eq r (suc k)) (Some e) None)) (sym c)
-          ∙ ap (λ o. or_else o (this_one t m r (x ∷ xs) e)) (sym g))
-    ]
+    | inl one ↦ rw (y, eq-eqb r 1 one) refl
+    | inr more ↦ (
+        let ne : (r ≡ 1 → ⊥) = more in
+        let c = counted t m x xs true y in
+        let l : 0 < r - 1 = omega arith in
+        let i = nth_more t m (r - 1) xs e l in
+        let s = shifted r (arrivals t m (happened control xs)) l in
+        let f : nth_arrival control t m r ((x ∷ xs) ++ e ∷ []) ≡ nth_arrival control t m (r - 1) (xs ++ e ∷ []) = rw (y, ne_eqb r 1 more) refl in
+        let g : nth_arrival control t m r (x ∷ xs) ≡ nth_arrival control t m (r - 1) xs = rw (y, ne_eqb r 1 more) refl in
+        f ∙ i ∙ ap (λ b. or_else (nth_arrival control t m (r - 1) xs) (cond (there t m e && b) (Some e) None)) s
+        ∙ ap (λ k. or_else (nth_arrival control t m (r - 1) xs) (cond (there t m e && nat_eq r (suc k)) (Some e) None)) (sym c)
+        ∙ ap (λ o. or_else o (this_one t m r (x ∷ xs) e)) (sym g))
+  ]
   | inr n ↦ (
       let c = counted t m x xs false n in
       let k : arrivals t m (happened control (x ∷ xs)) ≡ arrivals t m (happened control xs) = omega arith in
@@ -148,11 +148,11 @@ module _ (gs : List Given) (h : List Entry) (e : Entry) (i : ImageNo) (team : Te
   no_other t r m n = elim (cases_eq team.0 t) [
     | inr a ↦ rw (ne_eqb team.0 t a) refl
     | inl a ↦ elim (cases_eq i.0 m) [
-        | inr b ↦ rw (eq-eqb team.0 t a, ne_eqb i.0 m b) refl
-        | inl b ↦ (
-            let ne : nat_eq r (suc (arrivals t m (happened control h))) ≡ false = ne_eqb r (suc (arrivals t m (happened control h))) (λ q. n a b (ap (λ u. suc (arrivals u i.0 (happened control h))) a ∙ ap (λ u. suc (arrivals t u (happened control h))) b ∙ sym q)) in
-            rw (eq-eqb team.0 t a, eq-eqb i.0 m b, ne) refl)
-      ]
+      | inr b ↦ rw (eq-eqb team.0 t a, ne_eqb i.0 m b) refl
+      | inl b ↦ (
+          let ne : nat_eq r (suc (arrivals t m (happened control h))) ≡ false = ne_eqb r (suc (arrivals t m (happened control h))) (λ q. n a b (ap (λ u. suc (arrivals u i.0 (happened control h))) a ∙ ap (λ u. suc (arrivals t u (happened control h))) b ∙ sym q)) in
+          rw (eq-eqb team.0 t a, eq-eqb i.0 m b, ne) refl)
+    ]
   ]
 
   -- what is given with it
@@ -171,9 +171,9 @@ module _ (gs : List Given) (h : List Entry) (e : Entry) (i : ImageNo) (team : Te
       parts e = elim (cases_eq team.0 t) [
         | inr a ↦ absurd (let w : false ≡ true = sym (rw (ne_eqb team.0 t a) refl) ∙ e in cc)
         | inl a ↦ elim (cases_eq here r) [
-            | inr b ↦ absurd (let w : false ≡ true = sym (rw (eq-eqb team.0 t a, ne_eqb here r b) refl) ∙ e in cc)
-            | inl b ↦ (a, b)
-          ]
+          | inr b ↦ absurd (let w : false ≡ true = sym (rw (eq-eqb team.0 t a, ne_eqb here r b) refl) ∙ e in cc)
+          | inl b ↦ (a, b)
+        ]
       ]
 
   new_given : (a : GivenArg) → a.image ≡ i → given_by (args_in (gs ++ record { team = team; round = here; arg = a } ∷ []) team.0 here) i.0 ≡ Some a
@@ -185,12 +185,12 @@ module _ (gs : List Given) (h : List Entry) (e : Entry) (i : ImageNo) (team : Te
   by_place P x y t r m low = elim (cases_eq team.0 t) [
     | inr a ↦ y t r m low (λ p q s. a p)
     | inl a ↦ elim (cases_eq i.0 m) [
-        | inr b ↦ y t r m low (λ p q s. b q)
-        | inl b ↦ elim (cases_eq here r) [
-            | inr c ↦ y t r m low (λ p q s. c s)
-            | inl c ↦ subst (λ u. P u r m) a (subst (λ u. P team.0 u m) c (subst (P team.0 here) b x))
-          ]
+      | inr b ↦ y t r m low (λ p q s. b q)
+      | inl b ↦ elim (cases_eq here r) [
+        | inr c ↦ y t r m low (λ p q s. c s)
+        | inl c ↦ subst (λ u. P u r m) a (subst (λ u. P team.0 u m) c (subst (P team.0 here) b x))
       ]
+    ]
   ]
 
   pub forms_arrival : (arriving : Arriving) → e.image ≡ i → e.event.ask ≡ asks.Arrive team arriving → AreForms (given_with gs team (given_at i arriving) (arrived.Joined here)) (h ++ e ∷ [])

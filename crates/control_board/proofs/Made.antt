@@ -204,9 +204,9 @@ nth_image : (t m r : ℕ) (h : List Entry) (e : Entry) → nth_arrival control t
 nth_image t m r [] e q = absurd (cc)
 nth_image t m r (x ∷ xs) e q = elim (cases_Bool (there t m x)) [
   | inl y ↦ elim (cases_Bool (nat_eq r 1)) [
-      | inl one ↦ (let s : Some x ≡ Some e = sym (rw (y, one) refl) ∙ q in ap (λ (z : Entry). z.image.0) (let w : e ≡ x = cc in w) ∙ there_image t m x y)
-      | inr more ↦ nth_image t m (r - 1) xs e (sym (rw (y, more) refl) ∙ q)
-    ]
+    | inl one ↦ (let s : Some x ≡ Some e = sym (rw (y, one) refl) ∙ q in ap (λ (z : Entry). z.image.0) (let w : e ≡ x = cc in w) ∙ there_image t m x y)
+    | inr more ↦ nth_image t m (r - 1) xs e (sym (rw (y, more) refl) ∙ q)
+  ]
   | inr n ↦ nth_image t m r xs e (sym (rw n refl) ∙ q)
 ]
 

@@ -105,9 +105,10 @@ cond_same true x = refl
 cond_same false x = refl
 
 pub made_other : (t r : ℕ) (ms : List ℕ) (h : List Entry) (e : Entry) → is_form (opening_of t r (happened control (h ++ e ∷ []))) ≡ false → ([] ≡ made_at t r ms h e) × (false ≡ bad_now t r ms h e)
-made_other t r ms h e f =
-    (sym (ap (λ l. cond (closes_now t ms (happened control h) (happened control (h ++ e ∷ [])) r) l []) (let q : teams_made t r ms (h ++ e ∷ []) ≡ [] = rw f refl in q) ∙ cond_same (closes_now t ms (happened control h) (happened control (h ++ e ∷ [])) r) []),
-    sym (or_other (closes_now t ms (happened control h) (happened control (h ++ e ∷ [])) r) (is_bad_round t r ms (h ++ e ∷ [])) (rw f refl)))
+made_other t r ms h e f = (
+  sym (ap (λ l. cond (closes_now t ms (happened control h) (happened control (h ++ e ∷ [])) r) l []) (let q : teams_made t r ms (h ++ e ∷ []) ≡ [] = rw f refl in q) ∙ cond_same (closes_now t ms (happened control h) (happened control (h ++ e ∷ [])) r) []),
+  sym (or_other (closes_now t ms (happened control h) (happened control (h ++ e ∷ [])) r) (is_bad_round t r ms (h ++ e ∷ [])) (rw f refl)),
+)
 
 -- ---- an arrival: it clashes, or it is of the kind of its round
 form_same : (k l : RoundKind) → same_kind k l ≡ true → is_form_kind l ≡ is_form_kind k

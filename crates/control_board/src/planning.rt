@@ -58,9 +58,7 @@ fn formation_of(
     if is_stopped(status) {
         return Ok(None);
     }
-    let plan = parts
-        .teams
-        .plan_form(alloc, team, args, is_failed(status))?;
+    let plan = parts.teams.plan_form(alloc, team, args, is_failed(status))?;
     Ok(Some(Formation { round, plan }))
 }
 
@@ -300,7 +298,11 @@ pub(crate) fn end_plan(
 }
 
 // Makes room for the teams of the plan, and for a round of the team.
-pub(crate) fn make_room_for_teams(alloc: Global, parts: &mut Parts, team: TeamNo) -> Result<(), NoMemory>
+pub(crate) fn make_room_for_teams(
+    alloc: Global,
+    parts: &mut Parts,
+    team: TeamNo,
+) -> Result<(), NoMemory>
     requires { (0 < team.0) × (team.0 ≤ length parts.old.control.teams) × (team.0 ≤ length parts.old.collective.teams) }
     ensures grown { HasGrown parts.old parts.new }
     ensures forms { parts.new.forms ≡ parts.old.forms }

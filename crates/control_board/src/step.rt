@@ -111,9 +111,7 @@ fn arrive(parts: &mut Parts, image: ImageNo, team: TeamNo, arriving: Arriving, l
     let nothing = Plan::none(*parts.births.allocator());
     let plan = mem::replace(&mut parts.plan, nothing);
     let form = form_of(image, &arriving);
-    let arrival = parts
-        .control
-        .arrive(team, image, kind_from(arriving), line);
+    let arrival = parts.control.arrive(team, image, kind_from(arriving), line);
     keep_given(&mut parts.forms, team, form, arrival);
     keep_bad(&mut parts.bad, team, arrival, plan.bad);
     enact(parts, plan);

@@ -46,8 +46,7 @@ loop-formation-preserved c =
     let cap = c.add_births.ensures.capacity in
     let i3 = i.3 in
     let i4 = i.4 in
-    let i5 = i.5 in
-    (
+    let i5 = i.5 in (
       append_assoc c.loop-formation.yielded (c.in-Some.formation ∷ []) c.next.new.self.rest.items ∙ at,
       c.enact.ensures.teams ∙ ap (λ l. l ++ map (child_of f.plan.parent.0) f.plan.teams.items) i.1 ∙ append_assoc c.args.teams.now.teams (all_known (all_made c.loop-formation.yielded)) (map (child_of f.plan.parent.0) f.plan.teams.items)
           ∙ ap (λ l. c.args.teams.now.teams ++ (all_known (all_made c.loop-formation.yielded) ++ l)) (made_children f)

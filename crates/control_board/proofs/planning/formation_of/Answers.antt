@@ -25,8 +25,7 @@ returns-clause-formed c n h m b e =
     let f : c.is_failed.result ≡ m.failed = status_failed m c.args.status c.is_failed.result e s (c.is_failed.ensures ∙ ap (λ z. int_eq z (pos 6001)) e32) in
     let ks = (team_of c.args.parts.now.teams.teams c.args.team.0).members in
     let a : plain_args (in_order (team_of c.args.parts.now.teams.teams c.args.team.0).members c.args.args.now) ≡ args_of c.args.args.now (members_at (teams_after n h) c.args.team.0) =
-    plain_order ks c.args.args.now ∙ ap (args_of c.args.args.now) (known_there n h c.args.parts.now b c.args.team.0 c.requires.0 c.requires.1) in
-    (
+    plain_order ks c.args.args.now ∙ ap (args_of c.args.args.now) (known_there n h c.args.parts.now b c.args.team.0 c.requires.0 c.requires.1) in (
       ap (λ (t : TeamNo). map (team_with t.0 c.args.round) (plain_teams c.in_ok-plan.plan.teams.items)) c.in_ok-plan.ensures.parent
           ∙ ap (map (team_with c.args.team.0 c.args.round)) (c.in_ok-plan.ensures.teams ∙ ap (λ k. formed false k (plain_args (in_order (team_of c.args.parts.now.teams.teams c.args.team.0).members c.args.args.now))) f ∙ ap (formed false m.failed) a)
           ∙ ap (λ k. map (team_with c.args.team.0 c.args.round) (formed k m.failed (args_of c.args.args.now (members_at (teams_after n h) c.args.team.0)))) (sym s),

@@ -17,8 +17,7 @@ use Rattle.control_board.proofs.planning.plan_end.Goals as goal
 pub loop-t-preserved : goal.loop-t-preserved
 loop-t-preserved c =
     let i = c.loop-t.invariant in
-    let low = c.loop-t-test.true in
-    (
+    let low = c.loop-t-test.true in (
       c.in_ok-plan_team.ensures.few,
       λ n h e b ends. (
           let tc = teams_count n h c.args.parts.now b in

@@ -41,8 +41,7 @@ count-round-end-requires c =
 pub loop-round-preserved : goal.loop-round-preserved
 loop-round-preserved c =
     let i = c.loop-round.invariant in
-    let low = i.1 in
-    (
+    let low = i.1 in (
       c.in_ok-add_made.ensures.few i.0,
       omega arith,
       λ n h e b ends. c.in_ok-add_made.ensures.made
