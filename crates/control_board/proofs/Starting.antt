@@ -1,8 +1,10 @@
 -- What the board keeps at the start of a run.
-use Rattle.std.proofs.Common.{◌≡◌, ℕ, zero, suc, ◌+◌, ◌-◌, ◌<◌, ◌≤◌, true, false, ◌&&◌, List, [], ◌∷◌, length, replicate, refl, ap, sym, ◌∙◌, arith}
+use Rattle.std.proofs.Common.{◌≡◌, ℕ, zero, suc, ◌+◌, ◌-◌, ◌<◌, ◌≤◌, Bool, true, false, ◌&&◌, ◌||◌, cond, nat_le, List, [], ◌∷◌, length, replicate, refl, ap, sym, ◌∙◌, arith}
 use Rattle.std.specs.Prelude.{slice_index_or, Option, Some, None}
+use Rattle.std.proofs.lemmas.Bool.{leb-true}
 use Rattle.std.specs.List.{list_any, list_all, range_with_len}
-use Rattle.object_rules.specs.Happenings.{control, happened, numbers_of}
+use Rattle.object_rules.specs.Happenings.{control, has_ended, numbers_of}
+use Rattle.object_rules.specs.TeamRounds.{has_arrived, has_closed}
 use Rattle.object_rules.specs.BoardTeams.{teams_after, closing}
 use Rattle.object_rules.specs.BoardRules.{is_image}
 use Rattle.team_round.specs.TeamStates.{images_to}
@@ -30,10 +32,21 @@ and_true b e = rw e refl
 pub first_members : (n : ℕ) → are_images n (teams_after n []) ≡ true
 first_members n = and_true (list_all (is_image n) (range_with_len 1 n)) (ap (list_all (is_image n)) (sym (numbers_images (range_with_len 1 n))) ∙ images_all n (images_to n) (all_within n n (images_to n) refl refl))
 
-no_one : (ms : List ℕ) → list_any (λ (m : ℕ). false) ms ≡ false
-no_one [] = refl
-no_one (m ∷ ms) = no_one ms
+not_yet : (r : ℕ) (b : Bool) → nat_le r 0 ≡ b → 0 < r → nat_le r 0 ≡ false
+not_yet r true e low = absurd (let l = leb-true r 0 e in omega arith)
+not_yet r false e low = e
+
+no_one : (t r : ℕ) (ms : List ℕ) → 0 < r → list_any (λ m. has_arrived t r m []) ms ≡ false
+no_one t r [] low = refl
+no_one t r (m ∷ ms) low = ap (λ b. b || list_any (λ k. has_arrived t r k []) ms) (not_yet r (nat_le r 0) refl low) ∙ no_one t r ms low
 
 -- no round has closed
-pub none_bad : (t r : ℕ) (ms : List ℕ) → was_bad t r ms (closing control t r ms []) ≡ false
-none_bad t r ms = rw (no_one ms) refl
+pub none_bad : (t r : ℕ) (ms : List ℕ) → 0 < r → was_bad t r ms (closing control t r ms []) ≡ false
+none_bad t r ms low = by (has_closed ms t r []) (none ms)
+  where
+    none : (ms : List ℕ) → has_closed ms t r [] ≡ false
+    none ms = ap (λ a. a && list_all (λ m. has_arrived t r m [] || has_ended m []) ms) (no_one t r ms low)
+
+    by : (b : Bool) → b ≡ false → was_bad t r ms (cond b (Some []) None) ≡ false
+    by true e = absurd (cc)
+    by false e = refl
