@@ -1,6 +1,6 @@
 -- Rounds of FORM TEAM that closed with a bad argument, with one more entry.
-use Rattle.std.proofs.Common.{◌≡◌, ℕ, zero, suc, ◌+◌, ◌-◌, ◌<◌, ◌≤◌, Bool, true, false, ◌&&◌, ◌||◌, not, nat_eq, nat_le, cond, List, [], ◌∷◌, ◌++◌, inl, inr, length, refl, ap, sym, ◌∙◌, subst, arith, append_assoc}
-use Rattle.std.specs.Prelude.{ℤ, Option, Some, None, slice_get}
+use Rattle.std.proofs.Common.{◌≡◌, ℕ, suc, Bool, true, false, ◌&&◌, ◌||◌, not, nat_eq, nat_le, List, [], ◌∷◌, ◌++◌, inl, inr, refl, ap, sym, ◌∙◌, subst, arith, append_assoc}
+use Rattle.std.specs.Prelude.{Option, Some, None}
 use Rattle.std.specs.List.{list_any, list_all}
 use Rattle.std.proofs.lemmas.List.{append-nil}
 use Rattle.std.proofs.lemmas.List.Elements.{filter_map-append}
@@ -10,12 +10,10 @@ use Rattle.caf_events.specs.declared.round.RoundKind.{RoundKind}
 use Rattle.caf_events.specs.declared.event.Entry.{Entry}
 use Rattle.object_rules.specs.Scans.{or_else, front_where}
 use Rattle.object_rules.specs.Happenings.{Happening, arrives, control, happens, happened, is_stop, is_failure, has_stopped, has_failed, has_ended}
-use Rattle.object_rules.specs.TeamRounds.{is_arrival, arrivals, has_arrived, has_closed, Missed, missed_by, opening_of, result_of}
-use Rattle.object_rules.specs.BoardTeams.{closing, closes_now, is_form, round_of, form_args}
-use Rattle.object_rules.specs.FormedTeams.{is_bad_form}
+use Rattle.object_rules.specs.TeamRounds.{arrivals, has_arrived, has_closed, Missed, opening_of, result_of}
+use Rattle.object_rules.specs.BoardTeams.{closing, closes_now, is_form}
 use Rattle.object_rules.proofs.Growing.{first_front_more, none_now, arrivals_more, any_more}
 use Rattle.failure_status.specs.Endings.{end_of}
-use Rattle.team_round.specs.declared.round.Arrival.{Arrival}
 use Rattle.team_round.specs.declared.round.Arrival.TheVariants as arrived
 use Rattle.team_round.proofs.Making.{happened_none, happened_some, foreign_closed}
 use Rattle.team_round.proofs.Arriving.{closed_other}

@@ -1,6 +1,6 @@
 -- The teams of a plan fit, and their members are images of the run.
-use Rattle.std.proofs.Common.{◌≡◌, ℕ, zero, suc, ◌+◌, ◌^◌, ◌<◌, ◌≤◌, Bool, true, false, ◌&&◌, List, [], ◌∷◌, ◌++◌, length, map, refl, ap, sym, ◌∙◌, subst, arith}
-use Rattle.std.specs.Prelude.{Some, None, slice_get, vec_len, vec_capacity}
+use Rattle.std.proofs.Common.{◌≡◌, ℕ, zero, suc, ◌+◌, ◌^◌, ◌<◌, ◌≤◌, true, false, List, [], ◌∷◌, length, map, refl, ap, sym, ◌∙◌, subst, arith}
+use Rattle.std.specs.Prelude.{Some, slice_get, vec_len, vec_capacity}
 use Rattle.std.specs.List.{list_all}
 use Rattle.std.specs.Global.{Vec}
 use Rattle.std.proofs.lemmas.Bool.{and_parts}
@@ -8,10 +8,9 @@ use Rattle.caf_base.specs.declared.place.ImageNo.{ImageNo}
 use Rattle.caf_events.specs.declared.ask.Ask.{Ask}
 use Rattle.caf_events.specs.declared.event.Entry.{Entry}
 use Rattle.object_rules.specs.Happenings.{numbers_of}
-use Rattle.object_rules.specs.BoardTeams.{Team, teams_after, made_by}
+use Rattle.object_rules.specs.BoardTeams.{Team, teams_after}
 use Rattle.object_rules.specs.BoardRules.{is_image}
 use Rattle.failure_status.specs.Endings.{AreWithin}
-use Rattle.team_round.specs.TeamStates.{RoundsState}
 use Rattle.team_tree.specs.KnownTeams.{TeamsState, images_from}
 use Rattle.control_board.specs.Values.{BroughtState}
 use Rattle.control_board.specs.declared.forming.Plan.{Plan}

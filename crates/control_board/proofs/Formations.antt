@@ -1,6 +1,6 @@
 -- The teams of formations, one after the other.
-use Rattle.std.proofs.Common.{◌≡◌, ◌⊎◌, inl, inr, ℕ, zero, suc, ◌+◌, ◌-◌, ◌^◌, ◌<◌, ◌≤◌, List, [], ◌∷◌, ◌++◌, length, map, replicate, take, refl, ap, sym, ◌∙◌, subst, arith, append_assoc, length-append}
-use Rattle.std.specs.Prelude.{Some, None, Option, slice_get, slice_index_or}
+use Rattle.std.proofs.Common.{◌≡◌, ◌⊎◌, inl, inr, ℕ, zero, suc, ◌+◌, ◌<◌, ◌≤◌, List, [], ◌∷◌, ◌++◌, length, map, replicate, take, refl, ap, sym, ◌∙◌, subst, arith, append_assoc, length-append}
+use Rattle.std.specs.Prelude.{Some, slice_get, slice_index_or}
 use Rattle.std.specs.Global.{Vec}
 use Rattle.std.proofs.lemmas.List.{append-nil, length-map}
 use Rattle.caf_base.specs.declared.place.ImageNo.{ImageNo}
@@ -8,7 +8,7 @@ use Rattle.object_rules.specs.FormedTeams.{Members}
 use Rattle.object_rules.specs.BoardTeams.{Team}
 use Rattle.team_tree.specs.declared.arg.Members.{Members as MadeMembers}
 use Rattle.team_tree.specs.Args.{plain_members, plain_teams, image_numbers}
-use Rattle.team_tree.specs.KnownTeams.{KnownTeam, known, all_known, images_from, child_of, AreFew}
+use Rattle.team_tree.specs.KnownTeams.{all_known, images_from, child_of, AreFew}
 use Rattle.control_board.specs.declared.forming.Formation.{Formation}
 use Rattle.control_board.specs.Boards.{team_with, made_of, all_made, AllFew, images_of_teams, IsCopied}
 

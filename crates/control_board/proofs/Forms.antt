@@ -1,5 +1,5 @@
 -- What images gave at FORM TEAM, with one more entry.
-use Rattle.std.proofs.Common.{◌≡◌, ℕ, zero, suc, ◌+◌, ◌-◌, ◌<◌, ◌≤◌, Bool, true, false, ◌&&◌, nat_eq, cond, List, [], ◌∷◌, ◌++◌, inl, inr, length, take, refl, ap, sym, ◌∙◌, subst, arith}
+use Rattle.std.proofs.Common.{◌≡◌, ℕ, zero, suc, ◌+◌, ◌-◌, ◌<◌, Bool, true, false, ◌&&◌, nat_eq, cond, List, [], ◌∷◌, ◌++◌, inl, inr, length, take, refl, ap, sym, ◌∙◌, subst, arith}
 use Rattle.std.specs.Prelude.{Option, Some, None, filter_map, slice_index_or}
 use Rattle.std.proofs.lemmas.Bool.{cases_Bool, cases_eq, eq-eqb, ne_eqb}
 use Rattle.caf_base.specs.declared.place.ImageNo.{ImageNo}
@@ -11,7 +11,7 @@ use Rattle.caf_events.specs.declared.round.RoundKind.{RoundKind}
 use Rattle.caf_events.specs.declared.event.Entry.{Entry}
 use Rattle.object_rules.specs.Scans.{or_else}
 use Rattle.object_rules.specs.Happenings.{Happening, arrives, control, happens, happened}
-use Rattle.object_rules.specs.TeamRounds.{is_arrival, arrivals}
+use Rattle.object_rules.specs.TeamRounds.{arrivals}
 use Rattle.object_rules.specs.FormedTeams.{FormArg}
 use Rattle.object_rules.specs.BoardTeams.{arrives_there, nth_arrival, round_of, form_arg, form_args}
 use Rattle.object_rules.proofs.Growing.{or_else_none}

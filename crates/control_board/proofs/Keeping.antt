@@ -7,7 +7,7 @@ use Rattle.std.proofs.lemmas.List.{append-nil, length-map}
 use Rattle.caf_base.specs.declared.place.ImageNo.{ImageNo}
 use Rattle.caf_events.specs.Histories.{last_stamp_of}
 use Rattle.caf_events.specs.declared.event.Entry.{Entry}
-use Rattle.object_rules.specs.Happenings.{Happening, control, collective, images, happens, happened, numbers_of}
+use Rattle.object_rules.specs.Happenings.{control, collective, images, happens, happened, numbers_of}
 use Rattle.object_rules.specs.TeamRounds.{at_close}
 use Rattle.object_rules.specs.Constructs.{construct_turn}
 use Rattle.object_rules.specs.BoardTeams.{Team, arrives_there, made_by, teams_after, members_at, members_there, closing}

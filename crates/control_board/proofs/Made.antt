@@ -1,20 +1,19 @@
 -- The teams that one more entry makes.
-use Rattle.std.proofs.Common.{◌≡◌, ℕ, zero, suc, ◌+◌, ◌-◌, ◌<◌, ◌≤◌, Bool, true, false, ◌&&◌, ◌||◌, not, nat_eq, nat_le, cond, List, [], ◌∷◌, ◌++◌, inl, inr, length, map, refl, ap, sym, ◌∙◌, subst, arith, append_assoc, take}
-use Rattle.std.specs.Prelude.{ℤ, max, filter, filter_map, slice_get, slice_index_or, Option, Some, None}
+use Rattle.std.proofs.Common.{◌≡◌, ℕ, zero, suc, ◌+◌, ◌-◌, ◌<◌, ◌≤◌, Bool, true, false, ◌&&◌, not, nat_eq, cond, List, [], ◌∷◌, ◌++◌, inl, inr, length, map, refl, ap, sym, ◌∙◌, arith, append_assoc, take}
+use Rattle.std.specs.Prelude.{filter, slice_get, Option, Some, None}
 use Rattle.std.specs.List.{list_any, list_all, range_with_len}
 use Rattle.std.proofs.lemmas.List.{append-nil}
-use Rattle.std.proofs.lemmas.Bool.{cases_Bool, cases_eq, eq-eqb, ne_eqb, leb-true, le-leb, and_parts, or_cases, eqb-true}
+use Rattle.std.proofs.lemmas.Bool.{cases_Bool, eq-eqb, ne_eqb, leb-true, and_parts, or_cases, eqb-true}
 use Rattle.caf_events.specs.declared.ask.Ask.{Ask}
 use Rattle.caf_events.specs.declared.ask.Ask.TheVariants as asks
 use Rattle.caf_events.specs.declared.reply.Reply.{Reply}
 use Rattle.caf_events.specs.declared.reply.Reply.TheVariants as replies
-use Rattle.caf_events.specs.declared.round.Arriving.{Arriving}
 use Rattle.caf_events.specs.declared.round.Arriving.TheVariants as arrivings
 use Rattle.caf_events.specs.declared.round.RoundKind.{RoundKind}
 use Rattle.caf_events.specs.declared.event.Entry.{Entry}
-use Rattle.object_rules.specs.Happenings.{Happening, arrives, stops, fails, control, happens, happened}
+use Rattle.object_rules.specs.Happenings.{Happening, arrives, control, happens, happened}
 use Rattle.object_rules.specs.TeamRounds.{is_arrival, arrivals, has_arrived, has_closed, opening_of, missed_by}
-use Rattle.object_rules.specs.FormedTeams.{FormArg, Members, formed, is_bad_form}
+use Rattle.object_rules.specs.FormedTeams.{FormArg, Members, formed}
 use Rattle.object_rules.specs.BoardRules.{is_image}
 use Rattle.object_rules.specs.BoardTeams.{Team, arrives_there, nth_arrival, round_of, form_arg, form_args, is_form, teams_made, most_joined, closes_now, made_in_rounds, made_in_team, made_by, members_at, members_there}
 use Rattle.team_round.proofs.Making.{made_there, made_arrival, happened_some}

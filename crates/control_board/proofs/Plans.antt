@@ -1,14 +1,11 @@
 -- What is planned is what the definitions say that an entry makes.
-use Rattle.std.proofs.Common.{◌≡◌, ◌⊎◌, ℕ, zero, suc, ◌+◌, ◌-◌, ◌<◌, ◌≤◌, ◌^◌, Bool, true, false, ◌&&◌, ◌||◌, not, nat_eq, cond, List, [], ◌∷◌, ◌++◌, inl, inr, length, map, take, refl, ap, sym, ◌∙◌, subst, arith, IsTrue}
-use Rattle.std.specs.Prelude.{ℤ, pos, filter_map, slice_get, Option, Some, None}
-use Rattle.std.specs.List.{range_with_len}
+use Rattle.std.proofs.Common.{◌≡◌, ◌⊎◌, ℕ, suc, ◌+◌, ◌-◌, ◌<◌, ◌≤◌, Bool, true, false, ◌&&◌, not, cond, List, [], ◌∷◌, ◌++◌, inl, inr, length, map, refl, ap, sym, ◌∙◌, subst, arith}
+use Rattle.std.specs.Prelude.{ℤ, pos, Option, Some, None}
 use Rattle.std.specs.Ordering.{int_eq}
-use Rattle.std.proofs.lemmas.Bool.{cases_Bool, eq-eqb, and_parts}
-use Rattle.std.proofs.lemmas.List.{append-nil}
+use Rattle.std.proofs.lemmas.Bool.{cases_Bool}
 use Rattle.caf_base.specs.declared.place.ImageNo.{ImageNo}
 use Rattle.caf_base.specs.declared.place.TeamNo.{TeamNo}
 use Rattle.caf_events.specs.declared.ask.Ask.TheVariants as asks
-use Rattle.caf_events.specs.declared.reply.Reply.{Reply}
 use Rattle.caf_events.specs.declared.round.Arriving.{Arriving}
 use Rattle.caf_events.specs.declared.round.Arriving.TheVariants as arrivings
 use Rattle.caf_events.specs.declared.round.RoundKind.{RoundKind}
@@ -17,10 +14,10 @@ use Rattle.caf_events.specs.declared.event.Entry.{Entry}
 use Rattle.object_rules.specs.Kinds.{same_kind}
 use Rattle.object_rules.specs.Scans.{or_else}
 use Rattle.object_rules.specs.Happenings.{Happening, arrives, control, happens, happened, kind_of, numbers_of}
-use Rattle.object_rules.specs.TeamRounds.{arrivals, Opening, opening_of, joins_round, Missed, missed_by, has_closed}
-use Rattle.object_rules.specs.FormedTeams.{FormArg, formed, is_bad_form}
-use Rattle.object_rules.specs.BoardTeams.{closes_now, is_form, is_form_kind, arrives_there, form_args, round_of, teams_made, made_in_team, made_by, teams_after, members_at}
-use Rattle.object_rules.specs.BoardRules.{board_ready, board_reply, joined_or_clash}
+use Rattle.object_rules.specs.TeamRounds.{arrivals, Opening, opening_of, joins_round, Missed, missed_by}
+use Rattle.object_rules.specs.FormedTeams.{formed, is_bad_form}
+use Rattle.object_rules.specs.BoardTeams.{closes_now, is_form, is_form_kind, arrives_there, form_args, round_of, teams_made, made_by, teams_after, members_at}
+use Rattle.object_rules.specs.BoardRules.{board_reply}
 use Rattle.object_rules.proofs.Growing.{opening_more}
 use Rattle.failure_status.specs.Endings.{end_of}
 use Rattle.team_round.specs.TeamStates.{missed_status, closing_at, told_arrival, kind_told}
@@ -32,16 +29,15 @@ use Rattle.object_rules.proofs.Growing.{or_else_none}
 use Rattle.team_tree.specs.declared.arg.FormArg.{FormArg as GivenArg}
 use Rattle.team_tree.specs.Args.{plain_arg, plain_args}
 use Rattle.team_tree.specs.Orders.{given_by, in_order}
-use Rattle.control_board.specs.declared.forming.Given.{Given}
 use Rattle.control_board.specs.declared.forming.Formation.{Formation}
 use Rattle.control_board.specs.declared.parts.Parts.{Parts}
-use Rattle.control_board.specs.Boards.{IsBoard, IsFormed, MakesFor, Ends, team_with, made_by_one, bad_of, args_in, args_of, plain_given, given_at, given_with, made_at, made_over, bad_now, is_bad_round, due}
-use Rattle.control_board.proofs.Forms.{AreForms, forms_none, forms_arrival, args_with, round_args}
+use Rattle.control_board.specs.Boards.{IsBoard, IsFormed, MakesFor, Ends, team_with, made_by_one, bad_of, args_in, args_of, given_at, made_at, bad_now, is_bad_round, due}
+use Rattle.control_board.proofs.Forms.{forms_none, forms_arrival, args_with, round_args}
 use Rattle.control_board.proofs.Made.{arrival_makes}
 use Rattle.control_board.proofs.Bad.{bad_none}
 use Rattle.control_board.proofs.Arrivals.{told_is}
 use Rattle.control_board.proofs.Steps.{joined_number, end_arrives}
-use Rattle.control_board.proofs.Members.{get_there, member_there, teams_count}
+use Rattle.control_board.proofs.Members.{get_there, teams_count}
 
 -- ---- the arguments in the order of the members
 pub plain_order : (ms : List ImageNo) (as_ : List GivenArg) → plain_args (in_order ms as_) ≡ args_of as_ (numbers_of ms)

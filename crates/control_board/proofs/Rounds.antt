@@ -1,13 +1,12 @@
 -- Rounds that have closed, and rounds that are none of FORM TEAM.
-use Rattle.std.proofs.Common.{◌≡◌, ◌≢◌, ◌⊎◌, ℕ, suc, ◌<◌, ◌≤◌, Bool, true, false, ◌&&◌, not, nat_eq, cond, List, [], ◌∷◌, ◌++◌, inl, inr, refl, ap, sym, ◌∙◌, subst, arith, append_assoc}
+use Rattle.std.proofs.Common.{◌≡◌, ◌≢◌, ◌⊎◌, ℕ, suc, ◌<◌, ◌≤◌, Bool, true, false, ◌&&◌, nat_eq, cond, List, [], ◌∷◌, ◌++◌, inl, inr, refl, ap, sym, ◌∙◌, subst, arith, append_assoc}
 use Rattle.std.specs.Prelude.{Option, Some, None, is_some}
-use Rattle.std.specs.List.{list_any, list_all}
+use Rattle.std.specs.List.{list_any}
 use Rattle.std.proofs.lemmas.List.{append-nil}
 use Rattle.std.proofs.lemmas.Bool.{cases_Bool, cases_eq, and_parts, or_cases, leb-true, eq-eqb, ne_eqb}
 use Rattle.object_rules.specs.Scans.{or_else, first_front_from, first_told_from}
 use Rattle.object_rules.specs.Happenings.{Happening, arrives, pairs, stops, fails}
 use Rattle.object_rules.specs.TeamRounds.{arrivals, has_arrived, has_closed, at_close, joins_round, opening_of, Opening}
-use Rattle.object_rules.specs.BoardTeams.{is_form_kind, is_form}
 use Rattle.object_rules.proofs.Growing.{arrivals_more}
 
 -- ---- a first front

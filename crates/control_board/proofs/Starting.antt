@@ -1,9 +1,9 @@
 -- What the board keeps at the start of a run.
-use Rattle.std.proofs.Common.{◌≡◌, ℕ, zero, suc, ◌+◌, ◌-◌, ◌<◌, ◌≤◌, Bool, true, false, ◌&&◌, ◌||◌, cond, nat_le, List, [], ◌∷◌, length, replicate, refl, ap, sym, ◌∙◌, arith}
-use Rattle.std.specs.Prelude.{slice_index_or, Option, Some, None}
+use Rattle.std.proofs.Common.{◌≡◌, ℕ, zero, suc, ◌-◌, ◌<◌, ◌≤◌, Bool, true, false, ◌&&◌, ◌||◌, cond, nat_le, List, [], ◌∷◌, length, replicate, refl, ap, sym, ◌∙◌, arith}
+use Rattle.std.specs.Prelude.{slice_index_or, Some, None}
 use Rattle.std.proofs.lemmas.Bool.{leb-true}
 use Rattle.std.specs.List.{list_any, list_all, range_with_len}
-use Rattle.object_rules.specs.Happenings.{control, has_ended, numbers_of}
+use Rattle.object_rules.specs.Happenings.{control, has_ended}
 use Rattle.object_rules.specs.TeamRounds.{has_arrived, has_closed}
 use Rattle.object_rules.specs.BoardTeams.{teams_after, closing}
 use Rattle.object_rules.specs.BoardRules.{is_image}

@@ -1,6 +1,6 @@
-use Rattle.std.proofs.Common.{◌≡◌, ◌++◌, ◌∷◌, [], ◌-◌, ◌<◌, ◌≤◌, length, map, arith, ap, sym, subst, ◌∙◌, refl}
+use Rattle.std.proofs.Common.{◌++◌, ◌∷◌, [], ◌-◌, ◌<◌, ◌≤◌, length, map, arith, ap, sym, subst, ◌∙◌, refl}
 use Rattle.std.specs.Prelude.{slice_set}
-use Rattle.control_board.specs.Boards.{values_in, values_of, table_of, IsKeptWith}
+use Rattle.control_board.specs.Boards.{values_in, values_of, IsKeptWith}
 use Rattle.control_board.proofs.Bringing.{table_kept, table_itself}
 use Rattle.control_board.proofs.brought.keep_joined.Goals as goal
 

@@ -1,4 +1,4 @@
-use Rattle.std.proofs.Common.{◌≡◌, ◌-◌, ◌<◌, ◌≤◌, List, length, arith, ap, subst, sym, ◌∙◌}
+use Rattle.std.proofs.Common.{◌≡◌, ◌-◌, ◌<◌, ◌≤◌, List, length, arith, subst, sym}
 use Rattle.std.specs.Prelude.{Some, slice_get}
 use Rattle.control_board.specs.Values.{BroughtState}
 use Rattle.control_board.proofs.Bringing.{table_kept, table_as, on_ok}

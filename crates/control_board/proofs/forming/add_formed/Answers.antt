@@ -1,5 +1,4 @@
-use Rattle.std.proofs.Common.{◌≡◌, ◌+◌, ◌≤◌, ◌++◌, ◌∷◌, [], length, map, replicate, ap, sym, ◌∙◌, arith, append_assoc, length-append}
-use Rattle.std.specs.Prelude.{vec_len, vec_capacity}
+use Rattle.std.proofs.Common.{◌≡◌, ◌+◌, ◌++◌, ◌∷◌, [], length, map, replicate, ap, sym, ◌∙◌, arith, append_assoc, length-append}
 use Rattle.object_rules.specs.BoardTeams.{Team}
 use Rattle.team_tree.specs.KnownTeams.{known, all_known, child_of}
 use Rattle.control_board.specs.Boards.{made_of, all_made}

@@ -1,8 +1,6 @@
-use Rattle.std.proofs.Common.{rules, ◌≡◌, ℕ, suc, ◌+◌, ◌-◌, ◌<◌, ◌≤◌, true, false, ◌&&◌, not, cond, List, [], ◌∷◌, ◌++◌, length, map, take, refl, ap, sym, ◌∙◌, subst, arith, to_z, of_z, w32}
-use Rattle.std.specs.Prelude.{pos, Some, None, slice_get, slice_index_or}
+use Rattle.std.proofs.Common.{◌≡◌, ◌+◌, take, ap, sym, ◌∙◌, subst}
 use Rattle.std.specs.Global.{Vec}
 use Rattle.team_tree.specs.declared.arg.FormArg.{FormArg}
-use Rattle.std.proofs.lemmas.List.{append-nil}
 use Rattle.control_board.specs.Boards.{args_in}
 use Rattle.control_board.proofs.Forms.{args_then, args_else}
 use Rattle.control_board.proofs.forming.args_for.Goals as goal

@@ -1,6 +1,4 @@
-use Rattle.std.proofs.Common.{◌≡◌, ◌+◌, ap, sym, ◌∙◌, subst, take, map}
-use Rattle.std.specs.Global.{Vec}
-use Rattle.caf_base.specs.declared.place.ImageNo.{ImageNo}
+use Rattle.std.proofs.Common.{◌+◌, ap, sym, ◌∙◌, subst, take}
 use Rattle.control_board.specs.declared.forming.Formation.{Formation}
 use Rattle.control_board.specs.Boards.{IsCopied, images_of_teams, all_made}
 use Rattle.control_board.proofs.Formations.{members_more}

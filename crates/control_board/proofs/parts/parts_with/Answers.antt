@@ -1,17 +1,11 @@
-use Rattle.std.proofs.Common.{◌≡◌, ℕ, zero, suc, ◌+◌, ◌-◌, ◌<◌, ◌≤◌, ◌^◌, true, false, ◌∷◌, [], map, replicate, length, refl, ap, sym, subst, ◌∙◌, arith}
-use Rattle.std.specs.Prelude.{slice_index_or}
-use Rattle.std.specs.List.{list_all, range_with_len}
-use Rattle.object_rules.specs.BoardTeams.{Team, teams_after, members_at}
-use Rattle.object_rules.specs.BoardRules.{is_image}
-use Rattle.team_round.specs.TeamStates.{images_to, members_in}
-use Rattle.team_round.proofs.NewTeams.{all_within}
+use Rattle.std.proofs.Common.{◌-◌, ◌<◌, ◌≤◌, ◌^◌, [], replicate, length, refl, ap, sym, subst, ◌∙◌, arith}
+use Rattle.object_rules.specs.BoardTeams.{teams_after, members_at}
+use Rattle.team_round.specs.TeamStates.{members_in}
 use Rattle.image_sync.specs.Holds.{hold_in}
 use Rattle.control_board.specs.Values.{no_values}
 use Rattle.team_tree.specs.Orders.{given_by}
-use Rattle.control_board.specs.Boards.{values_in, values_of, table_of, plain_given, args_in, is_listed}
+use Rattle.control_board.specs.Boards.{values_of, table_of, plain_given, args_in, is_listed}
 use Rattle.control_board.proofs.Keeping.{both}
-use Rattle.control_board.proofs.Members.{numbers_images}
-use Rattle.control_board.proofs.Collecting.{images_all}
 use Rattle.control_board.proofs.Starting.{none_bad, values_none, length_none, first_table, first_members}
 use Rattle.control_board.proofs.parts.parts_with.Goals as goal
 

@@ -1,5 +1,4 @@
-use Rattle.std.proofs.Common.{rules, ◌≡◌, ℕ, suc, ◌+◌, ◌-◌, ◌<◌, ◌≤◌, true, false, ◌&&◌, not, cond, List, [], ◌∷◌, ◌++◌, length, map, take, refl, ap, sym, ◌∙◌, subst, arith, to_z, of_z, w32, append_assoc}
-use Rattle.std.specs.Prelude.{IfOk, pos, Some, None, slice_get, slice_index_or}
+use Rattle.std.proofs.Common.{◌++◌, ap, sym, ◌∙◌, subst}
 use Rattle.control_board.specs.Boards.{all_made, made_by_one, is_few, AllFew}
 use Rattle.control_board.proofs.Formations.{made_last, few_last}
 use Rattle.control_board.proofs.planning.add_made.Goals as goal

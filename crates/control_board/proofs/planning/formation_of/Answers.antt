@@ -1,5 +1,5 @@
-use Rattle.std.proofs.Common.{rules, ◌≡◌, ℕ, suc, ◌+◌, ◌-◌, ◌<◌, ◌≤◌, true, false, ◌&&◌, not, cond, List, [], ◌∷◌, ◌++◌, length, map, take, refl, ap, sym, ◌∙◌, subst, arith, to_z, of_z, w32}
-use Rattle.std.specs.Prelude.{pos, Some, None, slice_get, slice_index_or}
+use Rattle.std.proofs.Common.{rules, ◌≡◌, true, false, ◌&&◌, not, map, refl, ap, sym, ◌∙◌, to_z, of_z, w32}
+use Rattle.std.specs.Prelude.{pos}
 use Rattle.std.specs.Ordering.{int_eq}
 use Rattle.object_rules.specs.FormedTeams.{formed, is_bad_form}
 use Rattle.object_rules.specs.BoardTeams.{teams_after, members_at}

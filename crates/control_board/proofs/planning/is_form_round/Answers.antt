@@ -1,5 +1,4 @@
-use Rattle.std.proofs.Common.{rules, ◌≡◌, ℕ, suc, ◌+◌, ◌-◌, ◌<◌, ◌≤◌, true, false, ◌&&◌, not, cond, List, [], ◌∷◌, ◌++◌, length, map, take, refl, ap, sym, ◌∙◌, subst, arith, to_z, of_z, w32, append_assoc}
-use Rattle.std.specs.Prelude.{IfOk, pos, Some, None, slice_get, slice_index_or}
+use Rattle.std.proofs.Common.{false, ◌∙◌}
 use Rattle.object_rules.specs.Happenings.{control, happened}
 use Rattle.object_rules.specs.TeamRounds.{opening_of}
 use Rattle.control_board.proofs.Plans.{form_some, form_none}

@@ -1,16 +1,7 @@
-use Rattle.std.proofs.Common.{rules, ◌≡◌, ℕ, suc, ◌+◌, ◌-◌, ◌<◌, ◌≤◌, true, false, ◌&&◌, not, cond, List, [], ◌∷◌, ◌++◌, length, map, take, refl, ap, sym, ◌∙◌, subst, arith, to_z, of_z, w32, append_assoc}
-use Rattle.std.specs.Prelude.{IfOk, pos, Some, None, slice_get, slice_index_or}
-use Rattle.object_rules.specs.Happenings.{control, happened, numbers_of}
-use Rattle.object_rules.specs.TeamRounds.{opening_of}
-use Rattle.object_rules.specs.BoardTeams.{teams_after, members_at, is_form}
-use Rattle.team_round.specs.TeamStates.{closing_at}
-use Rattle.failure_status.specs.Endings.{end_of}
-use Rattle.control_board.specs.Boards.{IsFormed, args_in}
-use Rattle.control_board.proofs.Collecting.{ok_map}
-use Rattle.control_board.proofs.Keeping.{can_close, in_rounds, joined_is}
-use Rattle.control_board.proofs.Members.{get_there, rounds_members, rounds_count, teams_count}
+use Rattle.std.proofs.Common.{◌+◌, ◌<◌, ◌≤◌, ◌++◌, length, ap, sym, ◌∙◌, arith}
+use Rattle.object_rules.specs.BoardTeams.{teams_after, members_at}
+use Rattle.control_board.proofs.Members.{teams_count}
 use Rattle.object_rules.specs.BoardTeams.{made_by, made_in_team}
-use Rattle.control_board.specs.Boards.{all_made}
 use Rattle.control_board.proofs.Made.{by_more, take_all}
 use Rattle.control_board.proofs.planning.plan_end.Goals as goal
 

@@ -1,15 +1,9 @@
-use Rattle.std.proofs.Common.{rules, ◌≡◌, ℕ, suc, ◌+◌, ◌-◌, ◌<◌, ◌≤◌, true, false, ◌&&◌, not, cond, List, [], ◌∷◌, ◌++◌, length, map, take, refl, ap, sym, ◌∙◌, subst, arith, to_z, of_z, w32, append_assoc}
-use Rattle.std.specs.Prelude.{IfOk, pos, Some, None, slice_get, slice_index_or}
-use Rattle.object_rules.specs.Happenings.{control, happened, numbers_of}
-use Rattle.object_rules.specs.TeamRounds.{opening_of}
-use Rattle.object_rules.specs.BoardTeams.{teams_after, members_at, is_form}
-use Rattle.team_round.specs.TeamStates.{closing_at, Tells}
-use Rattle.failure_status.specs.Endings.{end_of}
-use Rattle.control_board.specs.Boards.{IsFormed, args_in}
-use Rattle.control_board.proofs.Collecting.{ok_map}
-use Rattle.control_board.proofs.Keeping.{can_close, in_rounds, joined_is}
-use Rattle.control_board.proofs.Members.{get_there, rounds_members, rounds_count, teams_count}
-use Rattle.object_rules.specs.BoardTeams.{made_in_team}
+use Rattle.std.proofs.Common.{◌≡◌, suc, ◌+◌, ◌-◌, ◌<◌, ◌≤◌, false, ◌++◌, length, ap, sym, ◌∙◌, subst, arith, append_assoc}
+use Rattle.object_rules.specs.Happenings.{control, happened}
+use Rattle.object_rules.specs.BoardTeams.{teams_after, members_at}
+use Rattle.team_round.specs.TeamStates.{Tells}
+use Rattle.control_board.proofs.Keeping.{in_rounds}
+use Rattle.control_board.proofs.Members.{get_there, rounds_count, teams_count}
 use Rattle.std.specs.List.{range_with_len}
 use Rattle.control_board.specs.Boards.{all_made, made_by_one, made_over}
 use Rattle.control_board.proofs.Made.{over_next, team_ends}

@@ -1,4 +1,4 @@
-use Rattle.std.proofs.Common.{◌≡◌, ◌&&◌, ◌<◌, ◌≤◌, true, false, nat_le, length, sym, subst, ◌∙◌, arith}
+use Rattle.std.proofs.Common.{◌&&◌, ◌<◌, ◌≤◌, false, nat_le, length, sym, subst, ◌∙◌, arith}
 use Rattle.std.proofs.lemmas.Bool.{and_parts, leb-true}
 use Rattle.caf_events.specs.declared.ask.Ask.TheVariants as asks
 use Rattle.object_rules.specs.BoardTeams.{teams_after, members_at}

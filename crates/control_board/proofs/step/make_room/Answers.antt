@@ -1,4 +1,4 @@
-use Rattle.std.proofs.Common.{refl, true, false, subst, IsTrue}
+use Rattle.std.proofs.Common.{refl, true, subst, IsTrue}
 use Rattle.caf_events.specs.declared.ask.Ask.TheVariants as asks
 use Rattle.object_rules.specs.BoardRules.{board_ready}
 use Rattle.control_board.proofs.Bringing.{gather_member}

@@ -1,4 +1,4 @@
-use Rattle.std.proofs.Common.{◌≡◌, ◌+◌, ◌<◌, ◌≤◌, true, false, refl, sym, subst, arith}
+use Rattle.std.proofs.Common.{◌<◌, true, false, sym, subst, arith}
 use Rattle.std.specs.Prelude.{vec_len, vec_capacity}
 use Rattle.std.specs.Global.{Vec}
 use Rattle.caf_events.specs.declared.ask.Ask.TheVariants as asks

@@ -1,4 +1,4 @@
-use Rattle.std.proofs.Common.{◌≡◌, true, false, refl, sym, ◌∙◌, ap, subst}
+use Rattle.std.proofs.Common.{true, false, refl, sym, ◌∙◌, ap, subst}
 use Rattle.std.specs.Prelude.{slice_get}
 use Rattle.caf_events.specs.declared.ask.Ask.TheVariants as asks
 use Rattle.control_board.specs.declared.forming.Plan.{Plan}

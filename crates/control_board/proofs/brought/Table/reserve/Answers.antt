@@ -1,4 +1,4 @@
-use Rattle.std.proofs.Common.{◌≡◌, ◌-◌, ◌<◌, ◌≤◌, List, length, arith, ap, ◌∙◌}
+use Rattle.std.proofs.Common.{◌≡◌, ◌-◌, ◌<◌, ◌≤◌, length, arith, ap, ◌∙◌}
 use Rattle.control_board.specs.Boards.{values_in}
 use Rattle.control_board.proofs.Bringing.{values_same, room_set, on_ok}
 use Rattle.control_board.proofs.brought.Table.reserve.Goals as goal
