@@ -149,11 +149,39 @@ fn one_fails(rt: HostRuntime) {
 fn four_form_teams(rt: HostRuntime) {
     let alloc = rt.alloc();
     let mut board = Board::new(alloc, 4).expect(&rt, "memory");
-    step(&rt, alloc, &mut board, 4, form(2), Reply::Round { round: 1 });
-    step(&rt, alloc, &mut board, 1, form(1), Reply::Round { round: 1 });
-    step(&rt, alloc, &mut board, 3, form(1), Reply::Round { round: 1 });
+    step(
+        &rt,
+        alloc,
+        &mut board,
+        4,
+        form(2),
+        Reply::Round { round: 1 },
+    );
+    step(
+        &rt,
+        alloc,
+        &mut board,
+        1,
+        form(1),
+        Reply::Round { round: 1 },
+    );
+    step(
+        &rt,
+        alloc,
+        &mut board,
+        3,
+        form(1),
+        Reply::Round { round: 1 },
+    );
     assert!(rt; !board.ready(ImageNo(3), &leave(1)));
-    step(&rt, alloc, &mut board, 2, form(2), Reply::Round { round: 1 });
+    step(
+        &rt,
+        alloc,
+        &mut board,
+        2,
+        form(2),
+        Reply::Round { round: 1 },
+    );
     step(&rt, alloc, &mut board, 3, leave(1), told_teams(&rt, alloc));
     step(&rt, alloc, &mut board, 4, leave(1), told_teams(&rt, alloc));
     let there = Ask::Arrive {
