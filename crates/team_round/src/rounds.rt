@@ -242,13 +242,7 @@ impl Rounds {
     }
 
     /// The status with which a round of the team closes when the image fails or stops; None where it doesn't close.
-    pub fn closing_by_end(
-        &self,
-        t: TeamNo,
-        round: u64,
-        image: ImageNo,
-        failed: bool,
-    ) -> Option<i32>
+    pub fn closing_by_end(&self, t: TeamNo, round: u64, image: ImageNo, failed: bool) -> Option<i32>
         requires team { (0 < t.0) × (t.0 ≤ length self.now.teams) }
         requires state { (x : TeamState) → slice_get self.now.teams (t.0 - 1) ≡ Some x → CanClose self.now.ended x image.0 }
         ensures { (n : ℕ) (hs : List Happening) (x : TeamState) → TellsAll n self.now hs → slice_get self.now.teams (t.0 - 1) ≡ Some x
