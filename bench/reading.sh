@@ -33,12 +33,12 @@ cat >"$scratch/crates/reading_bench/src/main.rt" <<'PROGRAM'
 use caf_base::refusal::Refusal;
 use source_reader::fault::{at, number};
 use source_reader::source::read;
-use std::io::{self, Read};
+use std::io;
 
 fn main(rt: HostRuntime) -> io::Result<()> {
     let alloc = rt.alloc();
     let mut bytes = Vec::new(alloc);
-    io::stdin(&rt).read_to_end(&mut bytes)?;
+    rt.stdin().read_to_end(&mut bytes)?;
     if bytes.len() >= 4_294_967_295 {
         return Ok(());
     }
