@@ -38,7 +38,6 @@ function take_line(line,   w) {
 function take_refusal(number, at,   entry, parts) {
     entry = "refusal " number
     split(at, parts, ":")
-    is_of_whole_file = number == 10
     add(parts[1], parts[2], "refused: " meaning[entry] " (" number " " name[entry] ")")
     hint = number
 }
@@ -131,5 +130,5 @@ function tell(i,   number, column) {
         column = RSTART
     }
     print shown_name ":" number ":" column ": " text_of[i]
-    if (number in source && !is_of_whole_file) print_excerpt(sprintf("%5d", number), source[number], column)
+    if (number in source) print_excerpt(sprintf("%5d", number), source[number], column)
 }

@@ -25,9 +25,11 @@ function check_entry(entry,   text, parts) {
     if (entry in is_told) write_example(entry, text)
 }
 
-# A refusal's place is one in the example's single line; the statements of a run fault's example get lines of their own.
+# A refusal's place is one in the example's single line; the statements of a run fault's example get lines of their own. The one example that is told in words
+# is a comment of 1,001 bytes.
 function write_example(entry, text,   file) {
     file = ENVIRON["CAF_TO"] name[entry]
+    if (example[entry] !~ /^`/) for (text = "!"; length(text) < 1001; text = text "x");
     if (kind_at[entry] == "fault") gsub(/; /, "\n", text)
     print text >(file ".f90")
     if (kind_at[entry] == "fault") print "fault image 1 " key_at[entry] >(file ".wanted")

@@ -196,6 +196,121 @@ fn undeclared_name(rt: HostRuntime) {
     );
 }
 
+// The forms of the thin program in another spelling: capitals, a comment, a continued name, two statements on a line.
+#[test]
+fn another_spelling(rt: HostRuntime) {
+    let words = ["run", "-n", "4", "--order", "0", "a.f90"];
+    let file =
+        b"INTEGER :: X[*]   ! one cell\nx = this_&\n &image()\nsync all; if (this_image() == 1) print *, x[4]\nend\n";
+    says(&rt, rt.alloc(), &words, file, WHOLE, 0, "1: 4\n");
+}
+
+// Two variables by one declaration, keywords as names, `end program`; the action of a one-line IF stands on a line of its own.
+#[test]
+fn further_spellings(rt: HostRuntime) {
+    let words = ["run", "-n", "1", "--order", "0", "a.f90"];
+    let names =
+        b"integer print, end\nprint = 2\nend = print + 3 - print\nprint *, end\nend program\n";
+    says(&rt, rt.alloc(), &words, names, WHOLE, 0, "1: 3\n");
+    let later = b"integer :: x[*]\nif (this_image() == 1) &\n print *, x[2]\nend\n";
+    says(
+        &rt,
+        rt.alloc(),
+        &words,
+        later,
+        WHOLE,
+        8,
+        "fault image 1 line 3 CoBounds\n",
+    );
+}
+
+// What the reader refuses: each number from 1 to 9, at its place.
+#[test]
+fn misread(rt: HostRuntime) {
+    let words = ["run", "-n", "1", "--order", "0", "a.f90"];
+    let table: [(&str, &[u8]); 11] = [
+        ("refused 1 at 1:10\n", b"print *, \xe4\nend\n"),
+        ("refused 3 at 1:10\n", b"sync all &"),
+        ("refused 4 at 1:10\n", b"print *, 'abc\nend"),
+        ("refused 5 at 1:11\n", b"print *, 1.5\nend\n"),
+        (
+            "refused 6 at 1:10\n",
+            b"print *, 9223372036854775808\nend\n",
+        ),
+        ("refused 7 at 1:1\n", b""),
+        ("refused 7 at 2:8\n", b"integer :: a\na = 1 +\nend\n"),
+        ("refused 8 at 1:1\n", b"sync all\n"),
+        ("refused 8 at 1:1\n", b"do; sync all\n"),
+        ("refused 7 at 2:1\n", b"end\nend\n"),
+        (
+            "refused 9 at 1:74\n",
+            b"print *, (((((((((((((((((((((((((((((((((((((((((((((((((((((((((((((((((\nend\n",
+        ),
+    ];
+    for (wanted, file) in table {
+        says(&rt, rt.alloc(), &words, file, WHOLE, 3, wanted);
+    }
+}
+
+// What is read and isn't of the thin form: the first statement, declaration or term that isn't.
+#[test]
+fn not_built(rt: HostRuntime) {
+    let words = ["run", "-n", "1", "--order", "0", "a.f90"];
+    let table: [(&str, &[u8]); 27] = [
+        ("refused 10 at 2:5\n", b"integer :: a\na = 2 * a\nend\n"),
+        ("refused 10 at 2:5\n", b"integer :: a\na = b\nend\n"),
+        ("refused 10 at 2:1\n", b"integer :: a\nb = 1\nend\n"),
+        (
+            "refused 10 at 2:14\n",
+            b"integer :: a\nprint *, a - (a)\nend\n",
+        ),
+        ("refused 10 at 1:15\n", b"integer :: a, a\nend\n"),
+        ("refused 10 at 1:1\n", b"integer :: a(3)\nend\n"),
+        ("refused 10 at 1:1\n", b"integer(4) :: a\nend\n"),
+        ("refused 10 at 1:1\n", b"integer, save :: a\nend\n"),
+        ("refused 10 at 1:1\n", b"integer :: a = 1\nend\n"),
+        ("refused 10 at 1:1\n", b"integer :: this_image\nend\n"),
+        (
+            "refused 10 at 2:3\n",
+            b"integer :: a\n  logical :: b\nend\n",
+        ),
+        ("refused 10 at 1:1\n", b"implicit none\nend\n"),
+        ("refused 10 at 1:1\n", b"use iso_fortran_env\nend\n"),
+        ("refused 10 at 1:9\n", b"program p\nend\n"),
+        ("refused 10 at 1:1\n", b"call s\nend\n"),
+        ("refused 10 at 1:1\n", b"do; end do; end\n"),
+        (
+            "refused 10 at 1:24\n",
+            b"if (this_image() == 1) sync all\nend\n",
+        ),
+        (
+            "refused 10 at 1:5\n",
+            b"if (1 == this_image()) print *, 1\nend\n",
+        ),
+        (
+            "refused 10 at 2:10\n",
+            b"integer :: x\nprint *, x[1]\nend\n",
+        ),
+        (
+            "refused 10 at 2:14\n",
+            b"integer :: x[*]\nprint *, 1 + x[this_image()]\nend\n",
+        ),
+        ("refused 10 at 1:1\n", b"print *, 1, 2\nend\n"),
+        ("refused 10 at 1:10\n", b"print *, 3000000000\nend\n"),
+        ("refused 10 at 1:10\n", b"print *, -1\nend\n"),
+        ("refused 10 at 1:1\n", b"sync all ()\nend\n"),
+        ("refused 10 at 1:1\n", b"end program a\n"),
+        ("refused 10 at 2:1\n", b"contains\nend\n"),
+        (
+            "refused 10 at 3:1\n",
+            b"sync all\ncontains\nsubroutine s\nend\nend\n",
+        ),
+    ];
+    for (wanted, file) in table {
+        says(&rt, rt.alloc(), &words, file, WHOLE, 3, wanted);
+    }
+}
+
 #[test]
 fn unknown_file(rt: HostRuntime) {
     let words = ["run", "-n", "1", "--order", "0", "b.f90"];

@@ -1,29 +1,42 @@
 -- What is due, case by case.
-use Rattle.std.proofs.Common.{◌≡◌, ℕ, ◌≤◌, ◌-◌, length, ap, List, ◌⊎◌, inl, inr, sym, ◌∙◌, subst, arith}
+use Rattle.std.proofs.Common.{◌≡◌, ℕ, ◌≤◌, ◌-◌, length, ap, List, ◌⊎◌, inl, inr, sym, ◌∙◌, subst, refl, arith}
 use Rattle.std.specs.Prelude.{Option, None, Some, codes, Result, Ok, Err, IfOk, slice_get}
-use Rattle.caf_base.specs.declared.refusal.Refusal.TheVariants.{Cause}
+use Rattle.caf_base.specs.declared.place.Pos.{Pos}
 use Rattle.caf_base.specs.declared.thin.ThinProgram.{ThinProgram}
 use Rattle.caf_base.specs.Outside.{Files, HaveNot, MayNotBegin}
 use Rattle.caf_report.specs.declared.report.Report.{Report}
-use Rattle.fortran_reader.specs.Reads.{Reads, Refuses}
-use Rattle.fortran_reader.specs.declared.reader.ReadFault.{ReadFault}
-use Rattle.fortran_reader.specs.declared.reader.ReadFault.TheVariants.{NotBuilt}
+use Rattle.fortran_tree.specs.Units.{Program}
+use Rattle.source_reader.specs.Sources.{IsRead}
+use Rattle.source_reader.specs.Refusals.{IsRefused, number, place}
+use Rattle.source_reader.specs.declared.fault.ReadFault.{ReadFault}
+use Rattle.source_reader.proofs.OneAnswer.{read_once, read_not_refused}
+use Rattle.thin_form.specs.Answers.{Found, not_built}
+use Rattle.thin_form.specs.ThinForms.{thin_of}
 use Rattle.caf_run.specs.declared.words.Command.{Command}
 use Rattle.caf_run.specs.declared.words.Command.TheVariants.{Run}
 use Rattle.caf_run.specs.declared.words.Input.TheVariants.{File}
 use Rattle.caf_run.specs.declared.words.Way.TheVariants.{Order}
 use Rattle.caf_run.specs.Words.{Word, IsRun, UsageIs, Means, IsRunAt, place_of_file, count_of_images, seed_of}
 use Rattle.caf_run.specs.Reading.{HasBytesIfTold, HasBytes, HasNothingLeft, IsLonger}
-use Rattle.caf_run.specs.Dues.{usage_text, refusal_text, IsRunStatus, IsNoProgram, IsDue, RanBytes, BytesDue, RanFile, FileDue, ReportClause, RunClause}
-use Rattle.caf_run.specs.Runs.{IsReportOf}
+use Rattle.caf_run.specs.Dues.{usage_text, IsRunStatus, IsNoProgram, IsDue, RanTree, TreeDue, RanBytes, BytesDue, RanFile, FileDue, ReportClause, RunClause}
+use Rattle.caf_run.specs.Sources.{StandsFor, IsRefusedAs, IsRefusal, refusal_text}
 use Rattle.caf_run.proofs.Usages.{usage_invalid}
 use Rattle.caf_run.proofs.Settled.{not_run, whole_has, longer_has, fault_settles, whole_settles, longer_settles, one_file}
 
--- the bytes are no thin program
-pub refused_bytes : (bytes : List ℕ) (n seed status : ℕ) (text : List ℕ) (report : Option Report) → IsNoProgram bytes → status ≡ 3 → text ≡ refusal_text → report ≡ None → BytesDue bytes n seed status text report
-refused_bytes bytes n seed status text report none s t r = record {
+-- a tree is one thin program, and isn't told as not built then
+not_both : (found : Found ThinProgram) (p : ThinProgram) (at : Pos) → found ≡ Ok p → found ≡ not_built at → ⊥
+not_both found p at h k = cc
+
+-- bytes that are refused stand for no program
+refused_none : (bytes : List ℕ) (r : ℕ) (at : Pos) → IsRefusedAs bytes r at → IsNoProgram bytes
+refused_none bytes r at (inl m) p reads = read_not_refused bytes reads.tree m.fault reads.read m.refused
+refused_none bytes r at (inr u) p reads = not_both (thin_of u.tree) p at (ap thin_of (read_once bytes u.tree reads.tree u.read reads.read) ∙ reads.thin) u.thin
+
+-- the bytes are refused
+pub refused_bytes : (bytes : List ℕ) (n seed status : ℕ) (text : List ℕ) (report : Option Report) → IsRefusal bytes text → status ≡ 3 → report ≡ None → BytesDue bytes n seed status text report
+refused_bytes bytes n seed status text report is s r = record {
   known = inr s;
-  refused = λ _. (none, t);
+  refused = λ _. (refused_none bytes is.number is.at is.refused, is);
   run = λ h. absurd (not_run status h (inr (inl s)));
   reported = subst (λ v. ReportClause v status text) (sym r) (inr (inl s));
   ran = subst (RanBytes bytes n seed) (sym r) tt;
@@ -95,10 +108,6 @@ usage_wrong words k files left' faults faults' status text report usage s t r = 
   ran = subst (RunClause words files) (sym r) tt;
 }
 
--- what is refused isn't read
-pub refused_none : (bytes : List ℕ) (f : ReadFault) → Refuses bytes (Cause f) → (p : ThinProgram) → Reads bytes p → ⊥
-refused_none bytes (NotBuilt at) h = h.1
-
 pub if_ok_map : {A E : Type 0} (v : Result A E) (P Q : A → Type 0) → ((a : A) → P a → Q a) → IfOk v P → IfOk v Q
 if_ok_map (Ok a) P Q f h = f a h
 if_ok_map (Err e) P Q f h = h
@@ -118,3 +127,25 @@ last_word words number n seed name (file, valid, last) h =
 
 pub images_within : (words : List Word) (number n seed : ℕ) → IsRunAt words number n seed → (1 ≤ n) × (n ≤ 64)
 images_within words number n seed (file, valid, last) = valid.images
+
+-- the report of a source that is read
+ran_bytes : (bytes : List ℕ) (x : Program) (n seed : ℕ) (report : Option Report) → IsRead bytes x → RanTree x n seed report → RanBytes bytes n seed report
+ran_bytes bytes x n seed None read ran = tt
+ran_bytes bytes x n seed (Some r) read (p, found, of) = (p, record { tree = x; read = read; thin = found }, of)
+
+-- a source that is read
+pub read_bytes : (bytes : List ℕ) (x : Program) (n seed status : ℕ) (text : List ℕ) (report : Option Report) → IsRead bytes x → TreeDue x n seed status text report → BytesDue bytes n seed status text report
+read_bytes bytes x n seed status text report read t = record {
+  known = t.known;
+  refused = λ s. (let h = t.refused s in
+      let is : IsRefusedAs bytes 10 h.0 = inr (record { tree = x; read = read; thin = h.1; number = refl }) in
+      (refused_none bytes 10 h.0 is, record { number = 10; at = h.0; refused = is; said = h.2 }));
+  run = λ r. (let h = t.run r in (h.0, record { tree = x; read = read; thin = h.1 }));
+  reported = t.reported;
+  ran = ran_bytes bytes x n seed report read t.ran;
+}
+
+-- a source that the reader refuses
+pub misread_bytes : (bytes : List ℕ) (f : ReadFault) (r n seed status : ℕ) (at : Pos) (text : List ℕ) (report : Option Report) → IsRefused bytes f → r ≡ number f → at ≡ place f → status ≡ 3 → text ≡ refusal_text r at → report ≡ None → BytesDue bytes n seed status text report
+misread_bytes bytes f r n seed status at text report is nr pl s t e =
+    refused_bytes bytes n seed status text report (record { number = r; at = at; refused = inl (record { fault = f; refused = is; number = nr; place = pl }); said = t }) s e

@@ -1,5 +1,6 @@
 pub mod Dues
 pub mod Reading
 pub mod Runs
+pub mod Sources
 pub mod Words
 pub mod Writing

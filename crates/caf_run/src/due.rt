@@ -5,8 +5,10 @@ ghost use Rattle.std.specs.Fmt.{decimal};
 ghost use Rattle.caf_base.specs.Thin.{IsDeclared, most_moves};
 ghost use Rattle.caf_report.specs.Ends.{status_of};
 ghost use Rattle.caf_report.specs.ReportText.{report_text};
-ghost use Rattle.caf_run.specs.Dues.{usage_text, IsDue, BytesDue, FileDue, ReportClause};
+ghost use Rattle.caf_run.specs.Dues.{usage_text, IsDue, BytesDue, FileDue, TreeDue, ReportClause};
 ghost use Rattle.caf_run.specs.Runs.{IsReportOf};
+ghost use Rattle.caf_run.specs.Sources.{refusal_text};
+ghost use Rattle.fortran_tree.specs.UnitViews.{program};
 ghost use Rattle.caf_run.specs.Words.{words_in, IsValid, IsRunAt, place_of_file, count_of_images, seed_of};
 ghost use Rattle.caf_report.specs.declared.report.Report.{Report};
 
@@ -14,12 +16,16 @@ use crate::reading::{ReadEnd, read_file};
 use crate::running::run_program;
 use crate::words::{Command, Input, Way, words_of};
 use caf_base::outside::Source;
+use caf_base::place::Pos;
 use caf_base::refusal::{NoMemory, Refusal};
 use caf_base::thin::{THIN_SOURCE_BYTES, ThinProgram};
 use caf_report::report::{Report, Shown};
 use caf_text::push_number;
-use fortran_reader::read;
+use fortran_tree::unit::Program;
+use source_reader::fault::{at, number};
+use source_reader::source::read;
 use std::alloc::Global;
+use thin_form::program::thin;
 
 /// The status and the text that are due, and the report where a run was made.
 #[derive(Drop)]
@@ -74,6 +80,38 @@ fn run_due(alloc: Global, program: ThinProgram, n: u32, seed: u32) -> Result<Due
     })
 }
 
+// The answer to a refusal.
+fn refused_due(alloc: Global, number: u32, at: Pos) -> Result<Due, NoMemory>
+    ensures { IfOk result (λ d. (d.status ≡ 3) × (d.text.items ≡ refusal_text number at) × (d.report ≡ None)) }
+{
+    let mut text = Vec::from_slice(alloc, b"refused ")?;
+    push_number(&mut text, i64::from(number))?;
+    text.extend_from_slice(b" at ")?;
+    push_number(&mut text, i64::from(at.line))?;
+    text.push(b':')?;
+    push_number(&mut text, i64::from(at.col))?;
+    text.push(b'\n')?;
+    Ok(Due {
+        status: 3,
+        text,
+        report: None,
+    })
+}
+
+// What is due for the program that a source is read as.
+fn tree_due(alloc: Global, tree: Program, n: u32, seed: u32) -> Result<Due, NoMemory>
+    requires { (1 ≤ n) × (n ≤ 64) }
+    ensures { IfOk result (λ d. TreeDue (program tree) n seed d.status d.text.items d.report) }
+{
+    let thin = thin(alloc, &tree);
+    drop(tree);
+    match thin {
+        Ok(program) => run_due(alloc, program, n, seed),
+        Err(Refusal::Cause(fault)) => refused_due(alloc, 10, fault.at),
+        Err(Refusal::NoMemory) => Err(NoMemory),
+    }
+}
+
 // What is due for the bytes of a file.
 fn bytes_due(alloc: Global, bytes: &[u8], n: u32, seed: u32) -> Result<Due, NoMemory>
     requires images { (1 ≤ n) × (n ≤ 64) }
@@ -81,8 +119,8 @@ fn bytes_due(alloc: Global, bytes: &[u8], n: u32, seed: u32) -> Result<Due, NoMe
     ensures { IfOk result (λ d. BytesDue bytes.now n seed d.status d.text.items d.report) }
 {
     match read(alloc, bytes) {
-        Ok(program) => run_due(alloc, program, n, seed),
-        Err(Refusal::Cause(_)) => said(alloc, 3, b"refused 10 at 1:1\n"),
+        Ok(tree) => tree_due(alloc, tree, n, seed),
+        Err(Refusal::Cause(fault)) => refused_due(alloc, number(fault), at(fault)),
         Err(Refusal::NoMemory) => Err(NoMemory),
     }
 }

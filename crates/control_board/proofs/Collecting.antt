@@ -6,7 +6,7 @@ use Rattle.object_rules.specs.ImagePairs.{names}
 use Rattle.team_round.specs.TeamStates.{TeamState, TellsAll}
 use Rattle.team_tree.specs.KnownTeams.{team_of}
 use Rattle.control_board.specs.Values.{BroughtState}
-use Rattle.control_board.proofs.Members.{get_there, member_there, member_initial, rounds_members, known_there, known_within}
+use Rattle.control_board.proofs.Members.{get_there, member_there, tables_there, rounds_members, known_there, known_within}
 use Rattle.std.proofs.Common.{◌≡◌, ℕ, zero, suc, ◌+◌, ◌-◌, ◌<◌, ◌≤◌, Bool, true, false, ◌&&◌, ◌||◌, cond, List, [], ◌∷◌, ◌++◌, inl, inr, length, map, refl, ap, sym, ◌∙◌, subst, arith, length-append}
 use Rattle.std.specs.Prelude.{ℤ, pos, Option, Some, None, is_some, slice_get, slice_index_or}
 use Rattle.std.specs.List.{list_any, list_all}
@@ -30,60 +30,60 @@ use Rattle.failure_status.specs.Endings.{AreWithin}
 use Rattle.team_round.specs.TeamStates.{kind_told}
 use Rattle.team_round.proofs.Closings.{happened_by, closing_is}
 use Rattle.control_board.specs.declared.parts.Parts.{Parts}
-use Rattle.control_board.specs.Boards.{IsBoard, brings, brought, values_of, value_at, collected_of, taken_of}
+use Rattle.control_board.specs.Boards.{IsBoard, brings, brought, values_of, value_at, table_of, collected_of, taken_of}
 use Rattle.control_board.proofs.Members.{image_within}
 use Rattle.control_board.proofs.Rounds.{front_holds, close_opens}
 
 -- ---- the calls of an image are its arrivals
-some_gathered : (i line : ℕ) (a : Ask) (r : Reply) (x : Happening) (m : ℕ) → happens collective i line a r ≡ Some x → is_arrival 1 m x ≡ true → (vs : List Value) × (gathered a ≡ Some vs)
-some_gathered i line (asks.Gather team op root kind vs) r x m h t = (vs, refl)
-some_gathered i line (asks.Stop code) r x m h t = absurd (let s : is_arrival 1 m x ≡ false = ap (is_arrival 1 m) (some_same h) in let w : true ≡ false = sym t ∙ s in cc)
+some_gathered : (t i line : ℕ) (a : Ask) (r : Reply) (x : Happening) (m : ℕ) → happens collective i line a r ≡ Some x → is_arrival t m x ≡ true → (vs : List Value) × (gathered a ≡ Some vs)
+some_gathered t i line (asks.Gather team op root kind vs) r x m h y = (vs, refl)
+some_gathered t i line (asks.Stop code) r x m h y = absurd (let s : is_arrival t m x ≡ false = ap (is_arrival t m) (some_same h) in let w : true ≡ false = sym y ∙ s in cc)
   where
     some_same : {A : Type 0} {x y : A} → Some x ≡ Some y → y ≡ x
     some_same e = cc
-some_gathered i line asks.Gone r x m h t = absurd (let s : is_arrival 1 m x ≡ false = ap (is_arrival 1 m) (some_same h) in let w : true ≡ false = sym t ∙ s in cc)
+some_gathered t i line asks.Gone r x m h y = absurd (let s : is_arrival t m x ≡ false = ap (is_arrival t m) (some_same h) in let w : true ≡ false = sym y ∙ s in cc)
   where
     some_same : {A : Type 0} {x y : A} → Some x ≡ Some y → y ≡ x
     some_same e = cc
-some_gathered i line a r x m h t = absurd (cc)
+some_gathered t i line a r x m h y = absurd (cc)
 
-abbrev told_there : ℕ → Entry → Bool
-told_there m e = arrives_there 1 m (happens collective e.image.0 e.event.line e.event.ask e.event.reply)
+abbrev told_there : ℕ → ℕ → Entry → Bool
+told_there u m e = arrives_there u m (happens collective e.image.0 e.event.line e.event.ask e.event.reply)
 
-there_gathered : (m : ℕ) (e : Entry) → told_there m e ≡ true → (vs : List Value) × (gathered e.event.ask ≡ Some vs)
-there_gathered m e t = by (happens collective e.image.0 e.event.line e.event.ask e.event.reply) refl t
+there_gathered : (u m : ℕ) (e : Entry) → told_there u m e ≡ true → (vs : List Value) × (gathered e.event.ask ≡ Some vs)
+there_gathered u m e t = by (happens collective e.image.0 e.event.line e.event.ask e.event.reply) refl t
   where
-    by : (o : Option Happening) → happens collective e.image.0 e.event.line e.event.ask e.event.reply ≡ o → arrives_there 1 m o ≡ true → (vs : List Value) × (gathered e.event.ask ≡ Some vs)
+    by : (o : Option Happening) → happens collective e.image.0 e.event.line e.event.ask e.event.reply ≡ o → arrives_there u m o ≡ true → (vs : List Value) × (gathered e.event.ask ≡ Some vs)
     by None q t = absurd (cc)
-    by (Some x) q t = some_gathered e.image.0 e.event.line e.event.ask e.event.reply x m q t
+    by (Some x) q t = some_gathered u e.image.0 e.event.line e.event.ask e.event.reply x m q t
 
-brought_count : (m : ℕ) (h : List Entry) → length (brought m h) ≡ arrivals 1 m (happened collective h)
-brought_count m [] = refl
-brought_count m (e ∷ es) = by (happens collective e.image.0 e.event.line e.event.ask e.event.reply) refl (brought_count m es)
+pub brought_count : (u m : ℕ) (h : List Entry) → length (brought u m h) ≡ arrivals u m (happened collective h)
+brought_count u m [] = refl
+brought_count u m (e ∷ es) = by (happens collective e.image.0 e.event.line e.event.ask e.event.reply) refl (brought_count u m es)
   where
-    counted : (x : Happening) → happens collective e.image.0 e.event.line e.event.ask e.event.reply ≡ Some x → (b : Bool) → is_arrival 1 m x ≡ b → length (brought m es) ≡ arrivals 1 m (happened collective es)
-        → length (brought m (e ∷ es)) ≡ cond (is_arrival 1 m x) 1 0 + arrivals 1 m (happened collective es)
+    counted : (x : Happening) → happens collective e.image.0 e.event.line e.event.ask e.event.reply ≡ Some x → (b : Bool) → is_arrival u m x ≡ b → length (brought u m es) ≡ arrivals u m (happened collective es)
+        → length (brought u m (e ∷ es)) ≡ cond (is_arrival u m x) 1 0 + arrivals u m (happened collective es)
     counted x q true t f =
-        let vs = some_gathered e.image.0 e.event.line e.event.ask e.event.reply x m q t in
-        let one : brings m e ≡ Some vs.0 = rw (q, t) vs.1 in
+        let vs = some_gathered u e.image.0 e.event.line e.event.ask e.event.reply x m q t in
+        let one : brings u m e ≡ Some vs.0 = rw (q, t) vs.1 in
         rw (one, t) (omega (arith, f))
     counted x q false t f =
-        let none : brings m e ≡ None = rw (q, t) refl in
+        let none : brings u m e ≡ None = rw (q, t) refl in
         rw (none, t) (omega (arith, f))
 
-    by : (o : Option Happening) → happens collective e.image.0 e.event.line e.event.ask e.event.reply ≡ o → length (brought m es) ≡ arrivals 1 m (happened collective es) → length (brought m (e ∷ es)) ≡ arrivals 1 m (happened collective (e ∷ es))
-    by None q f = let none : brings m e ≡ None = rw q refl in rw (none, q) f
-    by (Some x) q f = counted x q (is_arrival 1 m x) refl f ∙ sym (rw q refl)
+    by : (o : Option Happening) → happens collective e.image.0 e.event.line e.event.ask e.event.reply ≡ o → length (brought u m es) ≡ arrivals u m (happened collective es) → length (brought u m (e ∷ es)) ≡ arrivals u m (happened collective (e ∷ es))
+    by None q f = let none : brings u m e ≡ None = rw q refl in rw (none, q) f
+    by (Some x) q f = counted x q (is_arrival u m x) refl f ∙ sym (rw q refl)
 
 abbrev gathered_of : Option Entry → Option (List Value)
 gathered_of None = None
 gathered_of (Some e) = gathered e.event.ask
 
-nth_brought : (m n : ℕ) (h : List Entry) → 0 < n → gathered_of (nth_arrival collective 1 m n h) ≡ slice_get (brought m h) (n - 1)
-nth_brought m n [] low = refl
-nth_brought m n (e ∷ es) low = elim (cases_Bool (told_there m e)) [
+nth_brought : (u m n : ℕ) (h : List Entry) → 0 < n → gathered_of (nth_arrival collective u m n h) ≡ slice_get (brought u m h) (n - 1)
+nth_brought u m n [] low = refl
+nth_brought u m n (e ∷ es) low = elim (cases_Bool (told_there u m e)) [
   | inl t ↦ (
-      let vs = there_gathered m e t in
+      let vs = there_gathered u m e t in
       elim (cases_eq n 1) [
         | inl same ↦ (
             let z : n - 1 ≡ 0 = omega arith in
@@ -91,9 +91,9 @@ nth_brought m n (e ∷ es) low = elim (cases_Bool (told_there m e)) [
         | inr other ↦ (
             let ne : (n ≡ 1 → ⊥) = other in
             let z : n - 1 ≡ suc (n - 1 - 1) = omega arith in
-            rw (t, ne_eqb n 1 other, vs.1) (nth_brought m (n - 1) es (omega arith) ∙ sym (ap (slice_get (vs.0 ∷ brought m es)) z)))
+            rw (t, ne_eqb n 1 other, vs.1) (nth_brought u m (n - 1) es (omega arith) ∙ sym (ap (slice_get (vs.0 ∷ brought u m es)) z)))
       ])
-  | inr f ↦ rw f (nth_brought m n es low)
+  | inr f ↦ rw f (nth_brought u m n es low)
 ]
 
 -- ---- the parts of a round to which all members came
@@ -102,24 +102,24 @@ front_item [] ys k d h = absurd (omega arith)
 front_item (x ∷ xs) ys zero d h = refl
 front_item (x ∷ xs) ys (suc k) d h = front_item xs ys k d (omega arith)
 
-module _ (n r : ℕ) (f rest h : List Entry) (joined : f ++ rest ≡ h) (first : 0 < r) (vals : ℕ → List Value) (are : (m : ℕ) → 0 < m → m ≤ n → vals m ≡ slice_index_or (brought m h) (r - 1) []) where
-  nth_there : (m : ℕ) → 0 < m → m ≤ n → r ≤ arrivals 1 m (happened collective f) → gathered_of (nth_arrival collective 1 m r f) ≡ Some (vals m)
+module _ (u n r : ℕ) (f rest h : List Entry) (joined : f ++ rest ≡ h) (first : 0 < r) (vals : ℕ → List Value) (are : (m : ℕ) → 0 < m → m ≤ n → vals m ≡ slice_index_or (brought u m h) (r - 1) []) where
+  nth_there : (m : ℕ) → 0 < m → m ≤ n → r ≤ arrivals u m (happened collective f) → gathered_of (nth_arrival collective u m r f) ≡ Some (vals m)
   nth_there m low high came =
-      let c = brought_count m f in
-      nth_brought m r f first ∙ front_item (brought m f) (brought m rest) (r - 1) [] (omega arith)
-      ∙ ap Some (ap (λ l. slice_index_or l (r - 1) []) (sym (filter_map-append (brings m) f rest) ∙ ap (brought m) joined) ∙ sym (are m low high))
+      let c = brought_count u m f in
+      nth_brought u m r f first ∙ front_item (brought u m f) (brought u m rest) (r - 1) [] (omega arith)
+      ∙ ap Some (ap (λ l. slice_index_or l (r - 1) []) (sym (filter_map-append (brings u m) f rest) ∙ ap (brought u m) joined) ∙ sym (are m low high))
 
-  one_more : (m : ℕ) (ms : List ℕ) (o : Option Entry) → nth_arrival collective 1 m r f ≡ o → gathered_of o ≡ Some (vals m) → parts_of (round_of collective 1 r ms f) ≡ map vals ms → parts_of (round_of collective 1 r (m ∷ ms) f) ≡ vals m ∷ map vals ms
+  one_more : (m : ℕ) (ms : List ℕ) (o : Option Entry) → nth_arrival collective u m r f ≡ o → gathered_of o ≡ Some (vals m) → parts_of (round_of collective u r ms f) ≡ map vals ms → parts_of (round_of collective u r (m ∷ ms) f) ≡ vals m ∷ map vals ms
   one_more m ms None q g i = absurd (cc)
   one_more m ms (Some e) q g i = rw q (rw g (ap (λ l. vals m ∷ l) i))
 
-  pub round_parts : (ms : List ℕ) → list_all (is_image n) ms ≡ true → list_all (λ m. has_arrived 1 r m (happened collective f)) ms ≡ true → parts_of (round_of collective 1 r ms f) ≡ map vals ms
+  pub round_parts : (ms : List ℕ) → list_all (is_image n) ms ≡ true → list_all (λ m. has_arrived u r m (happened collective f)) ms ≡ true → parts_of (round_of collective u r ms f) ≡ map vals ms
   round_parts [] w a = refl
   round_parts (m ∷ ms) w a =
       let p = and_parts (is_image n m) (list_all (is_image n) ms) w in
-      let q = and_parts (has_arrived 1 r m (happened collective f)) (list_all (λ k. has_arrived 1 r k (happened collective f)) ms) a in
+      let q = and_parts (has_arrived u r m (happened collective f)) (list_all (λ k. has_arrived u r k (happened collective f)) ms) a in
       let i = image_within n m p.0 in
-      one_more m ms (nth_arrival collective 1 m r f) refl (nth_there m i.0 i.1 (leb-true r (arrivals 1 m (happened collective f)) q.0)) (round_parts ms p.1 q.1)
+      one_more m ms (nth_arrival collective u m r f) refl (nth_there m i.0 i.1 (leb-true r (arrivals u m (happened collective f)) q.0)) (round_parts ms p.1 q.1)
 
 -- ---- a round that no member missed
 none_missed : (m : Missed) → result_of m false ≡ pos 0 → (m.stopped ≡ false) × (m.failed ≡ false)
@@ -170,82 +170,82 @@ missed_any m q ne = go m.stopped m.failed q refl refl
     go false true (Some vs) s f = rw (s, f) refl
     go false false q s f = absurd (ne (rw (s, f) refl))
 
-module _ (n : ℕ) (h : List Entry) (p : Parts) (b : IsBoard n h p) (r : ℕ) (first : 0 < r) (within : list_all (is_image n) (members_at (teams_after n h) 1) ≡ true) where
+module _ (n : ℕ) (h : List Entry) (p : Parts) (b : IsBoard n h p) (u r : ℕ) (low_u : 0 < u) (high_u : u ≤ length p.brought.items) (first : 0 < r) (within : list_all (is_image n) (members_at (teams_after n h) u) ≡ true) where
   abbrev ms : List ℕ
-  ms = members_at (teams_after n h) 1
+  ms = members_at (teams_after n h) u
 
   -- the status of a round that no member missed, by its close
   abbrev IsStatus : ℤ → Type 0
-  IsStatus status = (f : List Happening) → at_close ms 1 r (happened collective h) ≡ Some f → status ≡ result_of (missed_by ms f) false
+  IsStatus status = (f : List Happening) → at_close ms u r (happened collective h) ≡ Some f → status ≡ result_of (missed_by ms f) false
 
-  close_at : (f : List Entry) → closing collective 1 r ms h ≡ Some f → at_close ms 1 r (happened collective h) ≡ Some (happened collective f)
-  close_at f e = sym (closing_is collective 1 r ms h) ∙ ap (happened_by collective) e
+  close_at : (f : List Entry) → closing collective u r ms h ≡ Some f → at_close ms u r (happened collective h) ≡ Some (happened collective f)
+  close_at f e = sym (closing_is collective u r ms h) ∙ ap (happened_by collective) e
 
-  came : (f : List Entry) → closing collective 1 r ms h ≡ Some f → (status : ℤ) → IsStatus status → status ≡ pos 0 → list_all (λ m. has_arrived 1 r m (happened collective f)) ms ≡ true
+  came : (f : List Entry) → closing collective u r ms h ≡ Some f → (status : ℤ) → IsStatus status → status ≡ pos 0 → list_all (λ m. has_arrived u r m (happened collective f)) ms ≡ true
   came f e status is zero_status =
       let m = none_missed (missed_by ms (happened collective f)) (sym (is (happened collective f) (close_at f e)) ∙ zero_status) in
-      let c = front_holds (λ g. has_closed ms 1 r (happened collective g)) [] h f e in
-      come_all 1 r ms (happened collective f) m.0 m.1 (and_parts (list_any (λ k. has_arrived 1 r k (happened collective f)) ms) _ c.0).1
+      let c = front_holds (λ g. has_closed ms u r (happened collective g)) [] h f e in
+      come_all u r ms (happened collective f) m.0 m.1 (and_parts (list_any (λ k. has_arrived u r k (happened collective f)) ms) _ c.0).1
 
-  open_now : (f : List Entry) → closing collective 1 r ms h ≡ Some f → (o : Opening) × (opening_of 1 r (happened collective f) ≡ Some o) × (opening_of 1 r (happened collective h) ≡ Some o)
+  open_now : (f : List Entry) → closing collective u r ms h ≡ Some f → (o : Opening) × (opening_of u r (happened collective f) ≡ Some o) × (opening_of u r (happened collective h) ≡ Some o)
   open_now f e =
-      let c = close_opens ms 1 r (happened collective h) (happened collective f) first (close_at f e) in
-      by (opening_of 1 r (happened collective f)) refl c.0 c.1 c.2
+      let c = close_opens ms u r (happened collective h) (happened collective f) first (close_at f e) in
+      by (opening_of u r (happened collective f)) refl c.0 c.1 c.2
     where
-      by : (o : Option Opening) → opening_of 1 r (happened collective f) ≡ o → is_some o ≡ true → (rest : List Happening) → happened collective f ++ rest ≡ happened collective h
-          → (o : Opening) × (opening_of 1 r (happened collective f) ≡ Some o) × (opening_of 1 r (happened collective h) ≡ Some o)
+      by : (o : Option Opening) → opening_of u r (happened collective f) ≡ o → is_some o ≡ true → (rest : List Happening) → happened collective f ++ rest ≡ happened collective h
+          → (o : Opening) × (opening_of u r (happened collective f) ≡ Some o) × (opening_of u r (happened collective h) ≡ Some o)
       by None q s rest j = absurd (cc)
-      by (Some o) q s rest j = (o, q, ap (opening_of 1 r) (sym j) ∙ told_stays (joins_round 1 r) [] (happened collective f) rest o q)
+      by (Some o) q s rest j = (o, q, ap (opening_of u r) (sym j) ∙ told_stays (joins_round u r) [] (happened collective f) rest o q)
 
-  pub missed_reply : (status : ℤ) (o : Option (List Entry)) → closing collective 1 r ms h ≡ o → is_some o ≡ true → IsStatus status → (status ≡ pos 0 → ⊥) → replies.Taken status [] ≡ take_reply n h 1 r o
+  pub missed_reply : (status : ℤ) (o : Option (List Entry)) → closing collective u r ms h ≡ o → is_some o ≡ true → IsStatus status → (status ≡ pos 0 → ⊥) → replies.Taken status [] ≡ take_reply n h u r o
   missed_reply status None e s is ne = absurd (cc)
   missed_reply status (Some f) e s is ne =
       let o = open_now f e in
       let same = is (happened collective f) (close_at f e) in
       let m = missed_by ms (happened collective f) in
       ap (λ z. replies.Taken z []) same
-      ∙ sym (missed_any m (collected o.0.kind (parts_of (round_of collective 1 r ms f))) (λ q. ne (same ∙ q)))
-      ∙ sym (ap (collective_result 1 r ms f) o.1)
+      ∙ sym (missed_any m (collected o.0.kind (parts_of (round_of collective u r ms f))) (λ q. ne (same ∙ q)))
+      ∙ sym (ap (collective_result u r ms f) o.1)
 
-  pub taken_reply : (status : ℤ) (o : Option (List Entry)) → closing collective 1 r ms h ≡ o → is_some o ≡ true → IsStatus status → status ≡ pos 0
-      → taken_of (collected_of (opening_of 1 r (happened collective h)) (map (λ m. value_at p.brought.items r m) ms)) ≡ take_reply n h 1 r o
+  pub taken_reply : (status : ℤ) (o : Option (List Entry)) → closing collective u r ms h ≡ o → is_some o ≡ true → IsStatus status → status ≡ pos 0
+      → taken_of (collected_of (opening_of u r (happened collective h)) (map (λ m. value_at (table_of p.brought.items u) r m) ms)) ≡ take_reply n h u r o
   taken_reply status None e s is z = absurd (cc)
   taken_reply status (Some f) e s is z =
       let o = open_now f e in
       let m = none_missed (missed_by ms (happened collective f)) (sym (is (happened collective f) (close_at f e)) ∙ z) in
-      let c = front_holds (λ g. has_closed ms 1 r (happened collective g)) [] h f e in
-      let parts = round_parts n r f c.1 h c.2 first (λ k. value_at p.brought.items r k) (λ k low high. ap (λ l. slice_index_or l (r - 1) []) (b.values k low high)) ms within (came f e status is z) in
-      ap (λ q. taken_of (collected_of q (map (λ k. value_at p.brought.items r k) ms))) o.2
+      let c = front_holds (λ g. has_closed ms u r (happened collective g)) [] h f e in
+      let parts = round_parts u n r f c.1 h c.2 first (λ k. value_at (table_of p.brought.items u) r k) (λ k low high. ap (λ l. slice_index_or l (r - 1) []) (b.values u k low_u high_u low high)) ms within (came f e status is z) in
+      ap (λ q. taken_of (collected_of q (map (λ k. value_at (table_of p.brought.items u) r k) ms))) o.2
       ∙ ap (λ l. taken_of (collected o.0.kind l)) (sym parts)
-      ∙ sym (not_missed (missed_by ms (happened collective f)) (collected o.0.kind (parts_of (round_of collective 1 r ms f))) m.0 m.1)
-      ∙ sym (ap (collective_result 1 r ms f) o.1)
+      ∙ sym (not_missed (missed_by ms (happened collective f)) (collected o.0.kind (parts_of (round_of collective u r ms f))) m.0 m.1)
+      ∙ sym (ap (collective_result u r ms f) o.1)
 
   -- each member has brought the values of the round
-  there_all : (f rest : List Entry) → f ++ rest ≡ h → (ks : List ℕ) → list_all (is_image n) ks ≡ true → list_all (λ m. has_arrived 1 r m (happened collective f)) ks ≡ true → (k m : ℕ) → slice_get ks k ≡ Some m → r ≤ length (values_of p.brought.items m)
+  there_all : (f rest : List Entry) → f ++ rest ≡ h → (ks : List ℕ) → list_all (is_image n) ks ≡ true → list_all (λ m. has_arrived u r m (happened collective f)) ks ≡ true → (k m : ℕ) → slice_get ks k ≡ Some m → r ≤ length (values_of (table_of p.brought.items u) m)
   there_all f rest j [] w a k m at = absurd (cc)
   there_all f rest j (x ∷ xs) w a k m at =
-      by (there_all f rest j xs (and_parts (is_image n x) (list_all (is_image n) xs) w).1 (and_parts (has_arrived 1 r x (happened collective f)) (list_all (λ z. has_arrived 1 r z (happened collective f)) xs) a).1) k at
+      by (there_all f rest j xs (and_parts (is_image n x) (list_all (is_image n) xs) w).1 (and_parts (has_arrived u r x (happened collective f)) (list_all (λ z. has_arrived u r z (happened collective f)) xs) a).1) k at
     where
       some_same : {A : Type 0} {x y : A} → Some x ≡ Some y → x ≡ y
       some_same e = cc
 
-      here : x ≡ m → r ≤ length (values_of p.brought.items m)
+      here : x ≡ m → r ≤ length (values_of (table_of p.brought.items u) m)
       here same =
           let i = image_within n x (and_parts (is_image n x) (list_all (is_image n) xs) w).0 in
-          let came_in = leb-true r (arrivals 1 x (happened collective f)) (and_parts (has_arrived 1 r x (happened collective f)) (list_all (λ z. has_arrived 1 r z (happened collective f)) xs) a).0 in
-          let count = brought_count x f in
-          let whole : length (brought x h) ≡ length (brought x f) + length (brought x rest) = ap (λ l. length (brought x l)) (sym j) ∙ ap length (filter_map-append (brings x) f rest) ∙ length-append (brought x f) (brought x rest) in
-          let kept : length (values_of p.brought.items x) ≡ length (brought x h) = ap length (b.values x i.0 i.1) in
-          subst (λ z. r ≤ length (values_of p.brought.items z)) same (omega arith)
+          let came_in = leb-true r (arrivals u x (happened collective f)) (and_parts (has_arrived u r x (happened collective f)) (list_all (λ z. has_arrived u r z (happened collective f)) xs) a).0 in
+          let count = brought_count u x f in
+          let whole : length (brought u x h) ≡ length (brought u x f) + length (brought u x rest) = ap (λ l. length (brought u x l)) (sym j) ∙ ap length (filter_map-append (brings u x) f rest) ∙ length-append (brought u x f) (brought u x rest) in
+          let kept : length (values_of (table_of p.brought.items u) x) ≡ length (brought u x h) = ap length (b.values u x low_u high_u i.0 i.1) in
+          subst (λ z. r ≤ length (values_of (table_of p.brought.items u) z)) same (omega arith)
 
-      by : ((k m : ℕ) → slice_get xs k ≡ Some m → r ≤ length (values_of p.brought.items m)) → (k : ℕ) → slice_get (x ∷ xs) k ≡ Some m → r ≤ length (values_of p.brought.items m)
+      by : ((k m : ℕ) → slice_get xs k ≡ Some m → r ≤ length (values_of (table_of p.brought.items u) m)) → (k : ℕ) → slice_get (x ∷ xs) k ≡ Some m → r ≤ length (values_of (table_of p.brought.items u) m)
       by next zero at = here (some_same at)
       by next (suc k) at = next k m at
 
-  pub members_came : (status : ℤ) (o : Option (List Entry)) → closing collective 1 r ms h ≡ o → is_some o ≡ true → IsStatus status → status ≡ pos 0 → (k m : ℕ) → slice_get ms k ≡ Some m → r ≤ length (values_of p.brought.items m)
+  pub members_came : (status : ℤ) (o : Option (List Entry)) → closing collective u r ms h ≡ o → is_some o ≡ true → IsStatus status → status ≡ pos 0 → (k m : ℕ) → slice_get ms k ≡ Some m → r ≤ length (values_of (table_of p.brought.items u) m)
   members_came status None e s is z k m at = absurd (cc)
   members_came status (Some f) e s is z k m at =
-      let c = front_holds (λ g. has_closed ms 1 r (happened collective g)) [] h f e in
+      let c = front_holds (λ g. has_closed ms u r (happened collective g)) [] h f e in
       there_all f c.1 c.2 ms within (came f e status is z) k m at
 
 -- ---- the calls
@@ -311,27 +311,23 @@ IsTold p t r status = (n : ℕ) (hs f : List Happening) (x : TeamState) → Tell
 
 pub record Departs (n : ℕ) (h : List Entry) (p : Parts) (t r : ℕ) (status : ℤ) : Type 0 where
   pub missed : (status ≡ pos 0 → ⊥) → replies.Taken status [] ≡ take_reply n h t r (closing collective t r (members_at (teams_after n h) t) h)
-  pub taken : status ≡ pos 0 → taken_of (collected_of (opening_of t r (happened collective h)) (map (λ m. value_at p.brought.items r m) (members_at (teams_after n h) t))) ≡ take_reply n h t r (closing collective t r (members_at (teams_after n h) t) h)
-  pub came : status ≡ pos 0 → (k m : ℕ) → slice_get (members_at (teams_after n h) t) k ≡ Some m → r ≤ length (values_of p.brought.items m)
+  pub taken : status ≡ pos 0 → taken_of (collected_of (opening_of t r (happened collective h)) (map (λ m. value_at (table_of p.brought.items t) r m) (members_at (teams_after n h) t))) ≡ take_reply n h t r (closing collective t r (members_at (teams_after n h) t) h)
+  pub came : status ≡ pos 0 → (k m : ℕ) → slice_get (members_at (teams_after n h) t) k ≡ Some m → r ≤ length (values_of (table_of p.brought.items t) m)
 
 module _ (n : ℕ) (h : List Entry) (p : Parts) (b : IsBoard n h p) (i r : ℕ) (first : 0 < r) (status : ℤ) where
-  departs_one : names i (members_at (teams_after n h) 1) ≡ true → is_some (closing collective 1 r (members_at (teams_after n h) 1) h) ≡ true → IsTold p 1 r status → Departs n h p 1 r status
-  departs_one member closed told =
-      let there = member_there n h p b true 1 i member in
-      let low : 0 < 1 = omega arith in
-      let high : 1 ≤ length p.collective.teams = there.1 in
-      let x = get_there p.collective.teams (1 - 1) (omega arith) in
-      let m = rounds_members n h p b true 1 x.0 low x.1 in
-      let within : list_all (is_image n) (members_at (teams_after n h) 1) ≡ true = ap (list_all (is_image n)) (sym (known_there n h p b 1 low there.2)) ∙ images_all n (team_of p.teams.teams 1).members (known_within n h p b 1 low there.2) in
-      let is : (f : List Happening) → at_close (members_at (teams_after n h) 1) 1 r (happened collective h) ≡ Some f → status ≡ result_of (missed_by (members_at (teams_after n h) 1) f) false =
-      (λ f e. told n (happened collective h) f x.0 (b.rounds true) x.1 (ap (λ ks. at_close ks 1 r (happened collective h)) m ∙ e) ∙ ap (λ ks. result_of (missed_by ks f) false) m) in
-      record {
-        missed = missed_reply n h p b r first within status (closing collective 1 r (members_at (teams_after n h) 1) h) refl closed is;
-        taken = taken_reply n h p b r first within status (closing collective 1 r (members_at (teams_after n h) 1) h) refl closed is;
-        came = members_came n h p b r first within status (closing collective 1 r (members_at (teams_after n h) 1) h) refl closed is;
-      }
-
   pub departs : (t : ℕ) → names i (members_at (teams_after n h) t) ≡ true → is_some (closing collective t r (members_at (teams_after n h) t) h) ≡ true → IsTold p t r status → Departs n h p t r status
   departs t member closed told =
-      subst (λ u. names i (members_at (teams_after n h) u) ≡ true → is_some (closing collective u r (members_at (teams_after n h) u) h) ≡ true → IsTold p u r status → Departs n h p u r status)
-      (sym (member_initial n h p b t i member)) departs_one member closed told
+      let there = member_there n h p b true t i member in
+      let low : 0 < t = there.0 in
+      let high : t ≤ length p.collective.teams = there.1 in
+      let x = get_there p.collective.teams (t - 1) (omega arith) in
+      let m = rounds_members n h p b true t x.0 low x.1 in
+      let within : list_all (is_image n) (members_at (teams_after n h) t) ≡ true = ap (list_all (is_image n)) (sym (known_there n h p b t low there.2)) ∙ images_all n (team_of p.teams.teams t).members (known_within n h p b t low there.2) in
+      let table = tables_there n h p b t low there.2 in
+      let is : (f : List Happening) → at_close (members_at (teams_after n h) t) t r (happened collective h) ≡ Some f → status ≡ result_of (missed_by (members_at (teams_after n h) t) f) false =
+      (λ f e. told n (happened collective h) f x.0 (b.rounds true) x.1 (ap (λ ks. at_close ks t r (happened collective h)) m ∙ e) ∙ ap (λ ks. result_of (missed_by ks f) false) m) in
+      record {
+        missed = missed_reply n h p b t r low table first within status (closing collective t r (members_at (teams_after n h) t) h) refl closed is;
+        taken = taken_reply n h p b t r low table first within status (closing collective t r (members_at (teams_after n h) t) h) refl closed is;
+        came = members_came n h p b t r low table first within status (closing collective t r (members_at (teams_after n h) t) h) refl closed is;
+      }

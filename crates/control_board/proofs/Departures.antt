@@ -8,11 +8,11 @@ use Rattle.caf_events.specs.declared.event.Entry.{Entry}
 use Rattle.object_rules.specs.Happenings.{Class, control, collective, happened, numbers_of}
 use Rattle.object_rules.specs.ImagePairs.{names}
 use Rattle.object_rules.specs.TeamRounds.{arrivals, at_close}
-use Rattle.object_rules.specs.BoardRules.{has_joined}
+use Rattle.object_rules.specs.BoardRules.{has_joined, board_ready}
 use Rattle.object_rules.specs.BoardTeams.{teams_after, members_at, closing}
 use Rattle.team_round.specs.TeamStates.{TeamState}
 use Rattle.control_board.specs.declared.parts.Parts.{Parts}
-use Rattle.control_board.specs.Boards.{IsBoard, class_of, rounds_in, served_ready}
+use Rattle.control_board.specs.Boards.{IsBoard, class_of, rounds_in}
 use Rattle.control_board.proofs.Members.{get_there, member_there, rounds_members}
 use Rattle.control_board.proofs.Replying.{close_law}
 use Rattle.control_board.proofs.Steps.{ready_parts}
@@ -25,20 +25,20 @@ joined_is c n h i t r j =
     let l = leb-true 1 r m.1 in
     (m.0, omega arith)
 
-pub joined_parts : (n : ℕ) (h : List Entry) (i : ℕ) (team : TeamNo) (r : ℕ) → IsTrue (served_ready n h i (asks.Leave team r))
+pub joined_parts : (n : ℕ) (h : List Entry) (i : ℕ) (team : TeamNo) (r : ℕ) → IsTrue (board_ready n h i (asks.Leave team r))
     → (names i (members_at (teams_after n h) team.0) ≡ true) × (0 < r) × (is_some (closing control team.0 r (members_at (teams_after n h) team.0) h) ≡ true)
 joined_parts n h i team r ready =
     let p = ready_parts n h i (asks.Leave team r) ready in
-    let j = joined_is control n h i team.0 r p.2 in
-    (j.0, j.1, p.3)
+    let j = joined_is control n h i team.0 r p.1 in
+    (j.0, j.1, p.2)
 
 -- the same of a collective subroutine
-pub taken_parts : (n : ℕ) (h : List Entry) (i : ℕ) (team : TeamNo) (r : ℕ) → IsTrue (served_ready n h i (asks.Take team r))
+pub taken_parts : (n : ℕ) (h : List Entry) (i : ℕ) (team : TeamNo) (r : ℕ) → IsTrue (board_ready n h i (asks.Take team r))
     → (names i (members_at (teams_after n h) team.0) ≡ true) × (0 < r) × (is_some (closing collective team.0 r (members_at (teams_after n h) team.0) h) ≡ true)
 taken_parts n h i team r ready =
     let p = ready_parts n h i (asks.Take team r) ready in
-    let j = joined_is collective n h i team.0 r p.2 in
-    (j.0, j.1, p.3)
+    let j = joined_is collective n h i team.0 r p.1 in
+    (j.0, j.1, p.2)
 
 -- whether it can leave
 pub can_depart_law : (c : Bool) (n : ℕ) (h : List Entry) (p : Parts) → IsBoard n h p → (i t r : ℕ) (closed : Bool) → has_joined (class_of c) n h i t r ≡ true

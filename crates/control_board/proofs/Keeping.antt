@@ -1,73 +1,263 @@
 -- What the board keeps, after a step.
-use Rattle.control_board.specs.Values.{BroughtState}
-use Rattle.control_board.specs.Boards.{class_of, rounds_in, brought, values_in, values_of}
-use Rattle.std.proofs.Common.{◌≡◌, ℕ, zero, suc, ◌+◌, ◌-◌, ◌^◌, ◌<◌, ◌≤◌, Bool, true, false, List, [], ◌∷◌, ◌++◌, length, map, refl, ap, sym, ◌∙◌, subst, arith, length-append, length-set}
-use Rattle.std.specs.Prelude.{Some, slice_get, slice_index_or}
-use Rattle.std.specs.List.{list_all}
-use Rattle.std.proofs.lemmas.Bool.{and_parts}
-use Rattle.std.proofs.lemmas.List.{length-map}
+use Rattle.std.proofs.Common.{◌≡◌, ℕ, zero, suc, ◌+◌, ◌-◌, ◌^◌, ◌<◌, ◌≤◌, Bool, true, false, ◌||◌, List, [], ◌∷◌, ◌++◌, inl, inr, length, map, replicate, refl, ap, sym, ◌∙◌, subst, arith, length-append, length-set}
+use Rattle.std.specs.Prelude.{Option, Some, None, slice_get, slice_index_or}
+use Rattle.std.specs.Global.{Vec}
+use Rattle.std.proofs.lemmas.Bool.{cases_lt}
+use Rattle.std.proofs.lemmas.List.{append-nil, length-map}
 use Rattle.caf_base.specs.declared.place.ImageNo.{ImageNo}
 use Rattle.caf_events.specs.Histories.{last_stamp_of}
 use Rattle.caf_events.specs.declared.event.Entry.{Entry}
-use Rattle.object_rules.specs.Happenings.{Happening, images, happened, numbers_of}
+use Rattle.object_rules.specs.Happenings.{control, collective, images, happens, happened, numbers_of}
+use Rattle.object_rules.specs.TeamRounds.{at_close}
 use Rattle.object_rules.specs.Constructs.{construct_turn}
-use Rattle.object_rules.specs.BoardTeams.{Team, teams_after}
+use Rattle.object_rules.specs.BoardTeams.{Team, arrives_there, made_by, teams_after, members_at, members_there, closing}
 use Rattle.object_rules.specs.BoardRules.{is_image}
 use Rattle.object_rules.proofs.MemoryGrowing.{construct_more}
-use Rattle.failure_status.specs.Endings.{AreWithin, Ended, ended_with}
-use Rattle.team_round.specs.TeamStates.{TeamState, joined_by, members_in, TellsAll, CanArrive, CanExpect, CanEnd}
-use Rattle.image_sync.specs.Holds.{hold_in}
+use Rattle.failure_status.specs.Endings.{Ended, ended_with}
+use Rattle.team_round.specs.TeamStates.{TeamState, joined_by, members_in, TellsAll, CanArrive, CanExpect, CanClose, CanEnd}
+use Rattle.team_round.proofs.Making.{teams_more, made_none}
+use Rattle.team_round.proofs.Closings.{happened_by, closing_is}
+use Rattle.image_sync.specs.Holds.{CriticalsState, hold_in}
 use Rattle.image_sync.specs.PairStates.{row_of, TellsSyncs}
-use Rattle.team_tree.specs.KnownTeams.{TeamsState, all_known, images_from}
+use Rattle.team_tree.specs.KnownTeams.{TeamsState, known, all_known, images_from}
+use Rattle.control_board.specs.Values.{BroughtState, no_values}
+use Rattle.control_board.specs.declared.forming.Given.{Given}
+use Rattle.control_board.specs.declared.forming.BadRound.{BadRound}
+use Rattle.control_board.specs.declared.forming.Plan.{Plan}
 use Rattle.control_board.specs.declared.parts.Parts.{Parts}
-use Rattle.control_board.specs.Boards.{IsBoard, is_served}
-use Rattle.control_board.proofs.Members.{image_within}
-use Rattle.control_board.proofs.Forms.{teams_stay, served_more}
+use Rattle.control_board.specs.Boards.{IsBoard, HasGrown, PlanFits, IsEnacted, class_of, rounds_in, brings, brought, values_in, values_of, table_of, all_made, are_images, images_of_teams, is_listed, was_bad, bad_now}
+use Rattle.control_board.proofs.Members.{at_place, numbers_images, image_within, rounds_count}
+use Rattle.control_board.proofs.Forms.{AreForms, forms_none}
+use Rattle.control_board.proofs.Made.{images_append, by_images}
+use Rattle.control_board.proofs.Bad.{bad_more, bad_none, none_closed}
+use Rattle.control_board.proofs.Bringing.{brought_none, table_values, tables_same, bringers_same}
+use Rattle.control_board.proofs.Collecting.{brought_count}
 use Rattle.control_board.proofs.Counts.{rounds_joined, pairs_begun, last_more}
 
-some_same : {A : Type 0} (x y : A) → Some x ≡ Some y → x ≡ y
-some_same x y e = cc
+-- what holds of both classes
+pub both : (A : Bool → Type 0) → A true → A false → (c : Bool) → A c
+both A x y true = x
+both A x y false = y
 
--- as many images
-pub values_count : (bs cs : List BroughtState) → values_in bs ≡ values_in cs → length bs ≡ length cs
-values_count bs cs e = sym (length-map bs (λ (b : BroughtState). b.values)) ∙ ap length e ∙ length-map cs (λ (b : BroughtState). b.values)
+-- ---- teams behind the others
+get_before : (ts us : List Team) (k : ℕ) → k < length ts → slice_get (ts ++ us) k ≡ slice_get ts k
+get_before [] us k l = absurd (omega arith)
+get_before (x ∷ xs) us zero l = refl
+get_before (x ∷ xs) us (suc k) l = get_before xs us k (omega arith)
 
--- the same members by place
-same_members : (cs ds : List TeamState) (k : ℕ) (x : TeamState) → members_in cs ≡ members_in ds → slice_get cs k ≡ Some x → (y : TeamState) × (slice_get ds k ≡ Some y) × (y.members ≡ x.members)
-same_members [] ds k x e at = absurd (cc)
-same_members (c ∷ cs) [] k x e at = absurd (cc)
-same_members (c ∷ cs) (d ∷ ds) zero x e at =
-    let f : c.members ≡ d.members = cc in
-    (d, refl, sym f ∙ ap (λ (q : TeamState). q.members) (some_same c x at))
-same_members (c ∷ cs) (d ∷ ds) (suc k) x e at = same_members cs ds k x (let f : members_in cs ≡ members_in ds = cc in f) at
+pub members_before : (ts us : List Team) (t : ℕ) → t ≤ length ts → members_at (ts ++ us) t ≡ members_at ts t
+members_before ts us zero l = refl
+members_before ts us (suc k) l = at_place (ts ++ us) (suc k) (omega arith) ∙ ap members_there (get_before ts us (suc k - 1) (omega arith)) ∙ sym (at_place ts (suc k) (omega arith))
 
-within_same : (n : ℕ) (cs ds : List TeamState) → members_in cs ≡ members_in ds → ((k : ℕ) (x : TeamState) → slice_get ds k ≡ Some x → AreWithin n x.members) → (k : ℕ) (x : TeamState) → slice_get cs k ≡ Some x → AreWithin n x.members
-within_same n cs ds e w k x at = let y = same_members cs ds k x e at in subst (AreWithin n) y.2 (w k y.0 y.1)
+get_past : (ts : List Team) (k : ℕ) → length ts ≤ k → members_there (slice_get ts k) ≡ []
+get_past [] k l = refl
+get_past (x ∷ xs) zero l = absurd (omega arith)
+get_past (x ∷ xs) (suc k) l = get_past xs k (omega arith)
 
-module _ (n : ℕ) (h : List Entry) (p q : Parts) (e : Entry) (b : IsBoard n h p) (served : is_served e.event.ask ≡ true) (late : last_stamp_of h < e.event.stamp) where
-  teams_now : teams_after n (h ++ e ∷ []) ≡ teams_after n h
-  teams_now = teams_stay n h e (served_more h e b.served served)
+members_past : (ts : List Team) (t : ℕ) → length ts < t → members_at ts t ≡ []
+members_past ts zero l = refl
+members_past ts (suc k) l = at_place ts (suc k) (omega arith) ∙ get_past ts (suc k - 1) (omega arith)
 
-  -- a step that changes the parts as its entry says
-  pub kept : q.images ≡ p.images → q.teams.teams ≡ p.teams.teams → ((c : Bool) → members_in (rounds_in q c).teams ≡ members_in (rounds_in p c).teams)
-      → ((c : Bool) → TellsAll n (rounds_in q c) (happened (class_of c) (h ++ e ∷ []))) → length q.brought.items ≡ length p.brought.items
-      → ((i : ℕ) → 0 < i → i ≤ n → values_of q.brought.items i ≡ brought i (h ++ e ∷ [])) → TellsSyncs n q.pairs (happened images (h ++ e ∷ []))
-      → ((c : ℕ) → hold_in q.criticals.constructs c ≡ construct_turn c (hold_in p.criticals.constructs c) e.image.0 e.event.ask)
-      → IsBoard n (h ++ e ∷ []) q
-  kept same teams members rounds count values syncs turned = record {
-    run = same ∙ b.run;
-    teams = teams ∙ b.teams ∙ ap all_known (sym teams_now);
-    members = λ c. members c ∙ b.members c ∙ ap (λ ts. map (λ (x : Team). images_from x.members) ts) (sym teams_now);
-    within = within_same n q.control.teams p.control.teams (members false) b.within;
-    rounds = rounds;
-    bringers = count ∙ b.bringers;
-    values = values;
-    syncs = syncs;
-    constructs = λ c. turned c ∙ ap (λ s. construct_turn c s e.image.0 e.event.ask) (b.constructs c) ∙ sym (construct_more c h e);
-    initial = teams_now ∙ b.initial;
-    served = served_more h e b.served served;
+map_append : {A B : Type 0} (f : A → B) (xs ys : List A) → map f (xs ++ ys) ≡ map f xs ++ map f ys
+map_append f [] ys = refl
+map_append f (x ∷ xs) ys = ap (λ l. f x ∷ l) (map_append f xs ys)
+
+-- what is kept goes with one more entry, and with the teams that it makes
+module _ (n : ℕ) (h : List Entry) (p q : Parts) (e : Entry) (added : List Team) (b : IsBoard n h p) (made : made_by 1 (teams_after n h) h e ≡ added) (late : last_stamp_of h < e.event.stamp) where
+  teams_now : teams_after n (h ++ e ∷ []) ≡ teams_after n h ++ added
+  teams_now = teams_more n h e ∙ ap (λ l. teams_after n h ++ l) made
+
+  pub record After : Type 0 where
+    pub same : q.images ≡ p.images
+    pub runs : (c : Bool) → (rounds_in q c).images ≡ (rounds_in p c).images
+    pub teams : q.teams.teams ≡ p.teams.teams ++ all_known added
+    pub few : length q.teams.teams < 2 ^ 32
+    pub births : q.births.items ≡ p.births.items ++ map (λ (x : Team). x.round) added
+    pub members : (c : Bool) → members_in (rounds_in q c).teams ≡ members_in (rounds_in p c).teams ++ images_of_teams added
+    pub rounds : (c : Bool) → TellsAll n (rounds_in q c) (happened (class_of c) (h ++ e ∷ []))
+    pub tables : length q.brought.items ≡ length p.brought.items + length added
+    pub bringers : (t : ℕ) → 0 < t → t ≤ length q.brought.items → length (table_of q.brought.items t) ≡ n
+    pub values : (t i : ℕ) → 0 < t → t ≤ length q.brought.items → 0 < i → i ≤ n → values_of (table_of q.brought.items t) i ≡ brought t i (h ++ e ∷ [])
+    pub forms : AreForms q.forms.items (h ++ e ∷ [])
+    pub bad : (t r : ℕ) → 0 < r → is_listed q.bad.items t r ≡ was_bad t r (members_at (teams_after n h ++ added) t) (closing control t r (members_at (teams_after n h ++ added) t) (h ++ e ∷ []))
+    pub syncs : TellsSyncs n q.pairs (happened images (h ++ e ∷ []))
+    pub turned : (c : ℕ) → hold_in q.criticals.constructs c ≡ construct_turn c (hold_in p.criticals.constructs c) e.image.0 e.event.ask
+
+  pub kept_made : After → IsBoard n (h ++ e ∷ []) q
+  kept_made a = record {
+    run = a.same ∙ b.run;
+    runs = λ c. a.runs c ∙ b.runs c;
+    teams = a.teams ∙ ap (λ l. l ++ all_known added) b.teams ∙ sym (map_append known (teams_after n h) added) ∙ ap all_known (sym teams_now);
+    few = a.few;
+    births = a.births ∙ ap (λ l. l ++ map (λ (x : Team). x.round) added) b.births ∙ sym (map_append (λ (x : Team). x.round) (teams_after n h) added) ∙ ap (map (λ (x : Team). x.round)) (sym teams_now);
+    members = λ c. a.members c ∙ ap (λ l. l ++ images_of_teams added) (b.members c) ∙ sym (map_append (λ (x : Team). images_from x.members) (teams_after n h) added) ∙ ap (map (λ (x : Team). images_from x.members)) (sym teams_now);
+    within = ap (are_images n) teams_now ∙ images_append n (teams_after n h) added b.within (ap (are_images n) (sym made) ∙ by_images n 1 (teams_after n h) h e b.within);
+    rounds = a.rounds;
+    tables = a.tables ∙ ap (λ k. k + length added) b.tables ∙ sym (length-append (teams_after n h) added) ∙ ap length (sym teams_now);
+    bringers = a.bringers;
+    values = a.values;
+    forms = a.forms;
+    bad = λ t r low. subst (λ ts. is_listed q.bad.items t r ≡ was_bad t r (members_at ts t) (closing control t r (members_at ts t) (h ++ e ∷ []))) (sym teams_now) (a.bad t r low);
+    syncs = a.syncs;
+    constructs = λ c. a.turned c ∙ ap (λ s. construct_turn c s e.image.0 e.event.ask) (b.constructs c) ∙ sym (construct_more c h e);
     steps = (let s = b.steps in let l = length-append h (e ∷ []) in let m = last_more h e in omega arith);
   }
+
+or_nil : (a : Bool) → (a || false) ≡ a
+or_nil true = refl
+or_nil false = refl
+
+-- an entry that is nothing to rounds of image control statements: the teams stay
+module _ (n : ℕ) (h : List Entry) (p q : Parts) (e : Entry) (b : IsBoard n h p) (none : happens control e.image.0 e.event.line e.event.ask e.event.reply ≡ None) (late : last_stamp_of h < e.event.stamp) where
+  pub kept : q.images ≡ p.images → ((c : Bool) → (rounds_in q c).images ≡ (rounds_in p c).images) → q.teams.teams ≡ p.teams.teams → q.births ≡ p.births → ((c : Bool) → members_in (rounds_in q c).teams ≡ members_in (rounds_in p c).teams)
+      → ((c : Bool) → TellsAll n (rounds_in q c) (happened (class_of c) (h ++ e ∷ []))) → length q.brought.items ≡ length p.brought.items
+      → ((t : ℕ) → 0 < t → t ≤ length p.brought.items → length (table_of q.brought.items t) ≡ n)
+      → ((t i : ℕ) → 0 < t → t ≤ length p.brought.items → 0 < i → i ≤ n → values_of (table_of q.brought.items t) i ≡ brought t i (h ++ e ∷ []))
+      → q.forms ≡ p.forms → q.bad ≡ p.bad
+      → TellsSyncs n q.pairs (happened images (h ++ e ∷ []))
+      → ((c : ℕ) → hold_in q.criticals.constructs c ≡ construct_turn c (hold_in p.criticals.constructs c) e.image.0 e.event.ask)
+      → IsBoard n (h ++ e ∷ []) q
+  kept same runs teams births members rounds count bringers values forms bad syncs turned =
+      kept_made n h p q e [] b (made_none h e none 1 (teams_after n h)) late (record {
+        same = same;
+        runs = runs;
+        teams = teams ∙ sym (append-nil p.teams.teams);
+        few = subst (λ ts. length ts < 2 ^ 32) (sym teams) b.few;
+        births = ap (λ (v : Vec ℕ). v.items) births ∙ sym (append-nil p.births.items);
+        members = λ c. members c ∙ sym (append-nil (members_in (rounds_in p c).teams));
+        rounds = rounds;
+        tables = (let c = count in omega arith);
+        bringers = λ t low high. bringers t low (subst (λ k. t ≤ k) count high);
+        values = λ t i low high a c. values t i low (subst (λ k. t ≤ k) count high) a c;
+        forms = subst (λ (v : Vec Given). AreForms v.items (h ++ e ∷ [])) (sym forms) (forms_none p.forms.items h e (λ t m. ap (arrives_there t m) none) b.forms);
+        bad = λ t r low. ap (λ (v : Vec BadRound). is_listed v.items t r) bad
+            ∙ b.bad t r low
+            ∙ sym (bad_more t r (members_at (teams_after n h) t) h e ∙ ap (λ z. was_bad t r (members_at (teams_after n h) t) (closing control t r (members_at (teams_after n h) t) h) || z) (bad_none t r (members_at (teams_after n h) t) h e none) ∙ or_nil _)
+            ∙ ap (λ ts. was_bad t r (members_at ts t) (closing control t r (members_at ts t) (h ++ e ∷ []))) (sym (append-nil (teams_after n h)));
+        syncs = syncs;
+        turned = turned;
+      })
+
+-- ---- an entry of rounds: the parts before the teams are added
+none_values : (n k : ℕ) → slice_index_or (values_in (replicate n no_values)) k [] ≡ []
+none_values zero k = refl
+none_values (suc n) zero = refl
+none_values (suc n) (suc k) = none_values n k
+
+none_length : {A : Type 0} (n : ℕ) (x : A) → length (replicate n x) ≡ n
+none_length zero x = refl
+none_length (suc n) x = ap suc (none_length n x)
+
+table_before : (ts us : List (List BroughtState)) (k : ℕ) → k < length ts → slice_index_or (ts ++ us) k [] ≡ slice_index_or ts k []
+table_before [] us k l = absurd (omega arith)
+table_before (x ∷ xs) us zero l = refl
+table_before (x ∷ xs) us (suc k) l = table_before xs us k (omega arith)
+
+table_past : (ts : List (List BroughtState)) (k j : ℕ) (x : List BroughtState) → length ts ≤ j → j < length ts + k → slice_index_or (ts ++ replicate k x) j [] ≡ x
+table_past [] zero j x l u = absurd (omega arith)
+table_past [] (suc k) zero x l u = refl
+table_past [] (suc k) (suc j) x l u = table_past [] k j x (omega arith) (omega arith)
+table_past (y ∷ ys) k zero x l u = absurd (omega arith)
+table_past (y ∷ ys) k (suc j) x l u = table_past ys k j x (omega arith) (omega arith)
+
+nothing_there : {A : Type 0} (xs : List A) → length xs ≤ 0 → xs ≡ []
+nothing_there [] l = refl
+nothing_there (x ∷ xs) l = absurd (omega arith)
+
+none_by : (o : Option (List Entry)) → happened_by control o ≡ None → o ≡ None
+none_by None e = refl
+none_by (Some f) e = absurd (cc)
+
+-- the parts m are those after the entry, but for the teams that it makes
+pub record Middle (n : ℕ) (h : List Entry) (p m : Parts) (e : Entry) : Type 0 where
+  pub run : m.images ≡ p.images
+  pub runs : (c : Bool) → (rounds_in m c).images ≡ (rounds_in p c).images
+  pub teams : m.teams ≡ p.teams
+  pub births : m.births ≡ p.births
+  pub members : (c : Bool) → members_in (rounds_in m c).teams ≡ members_in (rounds_in p c).teams
+  pub rounds : (c : Bool) → TellsAll n (rounds_in m c) (happened (class_of c) (h ++ e ∷ []))
+  pub tables : m.brought ≡ p.brought
+  pub no_value : (t i : ℕ) → brings t i e ≡ None
+  pub forms : AreForms m.forms.items (h ++ e ∷ [])
+  pub bad : (t r : ℕ) → 0 < r → is_listed m.bad.items t r ≡ (is_listed p.bad.items t r || bad_now t r (members_at (teams_after n h) t) h e)
+  pub no_new : (t r : ℕ) → length (teams_after n h) < t → bad_now t r (members_at (teams_after n h) t) h e ≡ false
+  pub syncs : TellsSyncs n m.pairs (happened images (h ++ e ∷ []))
+  pub turned : (c : ℕ) → hold_in m.criticals.constructs c ≡ construct_turn c (hold_in p.criticals.constructs c) e.image.0 e.event.ask
+
+module _ (n : ℕ) (h : List Entry) (p m q : Parts) (e : Entry) (plan : Plan) (b : IsBoard n h p) (fits : PlanFits p plan) (made : made_by 1 (teams_after n h) h e ≡ all_made plan.formations.items) (late : last_stamp_of h < e.event.stamp)
+    (mid : Middle n h p m e) (to : IsEnacted m plan q) where
+  abbrev new : List Team
+  new = all_made plan.formations.items
+
+  tables_now : q.brought.items ≡ p.brought.items ++ replicate (length (all_made plan.formations.items)) (replicate n no_values)
+  tables_now = to.tables ∙ ap (λ (v : Vec (List BroughtState)). v.items ++ plan.tables.items) mid.tables ∙ ap (λ l. p.brought.items ++ l) (fits.stock.tables ∙ ap (λ k. replicate (length (all_made plan.formations.items)) (replicate k no_values)) b.run)
+
+  count_now : length q.brought.items ≡ length p.brought.items + length (all_made plan.formations.items)
+  count_now = ap length tables_now ∙ length-append p.brought.items _ ∙ ap (λ k. length p.brought.items + k) (none_length (length (all_made plan.formations.items)) (replicate n no_values))
+
+  old_table : (t : ℕ) → 0 < t → t ≤ length p.brought.items → table_of q.brought.items t ≡ table_of p.brought.items t
+  old_table t low high = ap (λ ts. table_of ts t) tables_now ∙ table_before p.brought.items _ (t - 1) (omega arith)
+
+  new_table : (t : ℕ) → length p.brought.items < t → t ≤ length q.brought.items → table_of q.brought.items t ≡ replicate n no_values
+  new_table t low high = ap (λ ts. table_of ts t) tables_now ∙ table_past p.brought.items (length (all_made plan.formations.items)) (t - 1) (replicate n no_values) (omega arith) (let c = count_now in omega arith)
+
+  nothing_brought : (t i : ℕ) → length p.brought.items < t → brought t i h ≡ []
+  nothing_brought t i low =
+      let c = rounds_count n h p b true in
+      let d = b.tables in
+      let f = ((b.rounds true).fresh t [] (omega arith)).few i in
+      nothing_there (brought t i h) (let k = brought_count t i h in omega arith)
+
+  in_turn : (t : ℕ) (P : Type 0) → (t ≤ length p.brought.items → P) → (length p.brought.items < t → P) → P
+  in_turn t P x y = elim (cases_lt (length p.brought.items) t) [ inl l ↦ y l | inr g ↦ x g ]
+
+  bad_past : (t r : ℕ) → 0 < r → length (teams_after n h) < t → is_listed q.bad.items t r ≡ was_bad t r (members_at (teams_after n h ++ all_made plan.formations.items) t) (closing control t r (members_at (teams_after n h ++ all_made plan.formations.items) t) (h ++ e ∷ []))
+  bad_past t r low past =
+      let ks = members_at (teams_after n h ++ all_made plan.formations.items) t in
+      let c = rounds_count n h p b false in
+      let d : length m.control.teams ≡ length p.control.teams = sym (length-map m.control.teams (λ (x : TeamState). x.members)) ∙ ap length (mid.members false) ∙ length-map p.control.teams (λ (x : TeamState). x.members) in
+      let u = ((mid.rounds false).fresh t (images_from ks) (omega arith)).unclosed (r - 1) (omega arith) in
+      let s : suc (r - 1) ≡ r = omega arith in
+      let none : closing control t r ks (h ++ e ∷ []) ≡ None = none_by (closing control t r ks (h ++ e ∷ []))
+      (closing_is control t r ks (h ++ e ∷ []) ∙ ap (λ ls. at_close ls t r (happened control (h ++ e ∷ []))) (sym (numbers_images ks)) ∙ ap (λ k. at_close (numbers_of (images_from ks)) t k (happened control (h ++ e ∷ []))) (sym s) ∙ u) in
+      ap (λ (v : Vec BadRound). is_listed v.items t r) to.bad ∙ mid.bad t r low ∙ ap (λ z. is_listed p.bad.items t r || z) (mid.no_new t r past) ∙ or_nil (is_listed p.bad.items t r)
+      ∙ b.bad t r low ∙ ap (λ ls. was_bad t r ls (closing control t r ls h)) (members_past (teams_after n h) t past) ∙ none_closed t r h
+      ∙ sym (ap (was_bad t r ks) none)
+
+  bad_before : (t r : ℕ) → 0 < r → t ≤ length (teams_after n h) → is_listed q.bad.items t r ≡ was_bad t r (members_at (teams_after n h ++ all_made plan.formations.items) t) (closing control t r (members_at (teams_after n h ++ all_made plan.formations.items) t) (h ++ e ∷ []))
+  bad_before t r low high =
+      let ks = members_at (teams_after n h) t in
+      ap (λ (v : Vec BadRound). is_listed v.items t r) to.bad ∙ mid.bad t r low ∙ ap (λ z. z || bad_now t r ks h e) (b.bad t r low) ∙ sym (bad_more t r ks h e)
+      ∙ ap (λ ls. was_bad t r ls (closing control t r ls (h ++ e ∷ []))) (sym (members_before (teams_after n h) (all_made plan.formations.items) t high))
+
+  pub enacted : IsBoard n (h ++ e ∷ []) q
+  enacted = kept_made n h p q e (all_made plan.formations.items) b made late (record {
+    same = to.images ∙ mid.run;
+    runs = both _ (to.collective.images ∙ mid.runs true) (to.control.images ∙ mid.runs false);
+    teams = to.teams ∙ ap (λ (s : TeamsState). s.teams ++ all_known (all_made plan.formations.items)) mid.teams;
+    few = (
+        let c : length q.teams.teams ≡ length p.teams.teams + length (all_made plan.formations.items) = ap length (to.teams ∙ ap (λ (s : TeamsState). s.teams ++ all_known (all_made plan.formations.items)) mid.teams) ∙ length-append p.teams.teams (all_known (all_made plan.formations.items)) ∙ ap (λ k. length p.teams.teams + k) (length-map (all_made plan.formations.items) known) in
+        let f = fits.room.numbers in
+        subst (λ k. k < 2 ^ 32) (sym c) f);
+    births = to.births ∙ ap (λ (v : Vec ℕ). v.items ++ map (λ (x : Team). x.round) (all_made plan.formations.items)) mid.births;
+    members = both _ (to.collective.members ∙ ap (λ l. l ++ map (λ (v : Vec ImageNo). v.items) plan.collective.items) (mid.members true) ∙ ap (λ l. members_in p.collective.teams ++ l) fits.stock.collective)
+        (to.control.members ∙ ap (λ l. l ++ map (λ (v : Vec ImageNo). v.items) plan.control.items) (mid.members false) ∙ ap (λ l. members_in p.control.teams ++ l) fits.stock.control);
+    rounds = both _ (
+        let r : m.collective.images ≡ n = mid.runs true ∙ b.runs true in
+        subst (λ k. TellsAll k q.collective (happened collective (h ++ e ∷ []))) (to.collective.images ∙ r) (to.collective.told (happened collective (h ++ e ∷ [])) (subst (λ k. TellsAll k m.collective (happened collective (h ++ e ∷ []))) (sym r) (mid.rounds true))))
+        (
+        let r : m.control.images ≡ n = mid.runs false ∙ b.runs false in
+        subst (λ k. TellsAll k q.control (happened control (h ++ e ∷ []))) (to.control.images ∙ r) (to.control.told (happened control (h ++ e ∷ [])) (subst (λ k. TellsAll k m.control (happened control (h ++ e ∷ []))) (sym r) (mid.rounds false))));
+    tables = count_now;
+    bringers = λ t low high. in_turn t (length (table_of q.brought.items t) ≡ n) (λ l. ap length (old_table t low l) ∙ b.bringers t low l) (λ g. ap length (new_table t g high) ∙ none_length n no_values);
+    values = λ t i low high a c. in_turn t (values_of (table_of q.brought.items t) i ≡ brought t i (h ++ e ∷ []))
+        (λ l. ap (λ bs. values_of bs i) (old_table t low l) ∙ b.values t i low l a c ∙ sym (brought_none t i h e (mid.no_value t i)))
+        (λ g. ap (λ bs. values_of bs i) (new_table t g high) ∙ none_values n (i - 1) ∙ sym (brought_none t i h e (mid.no_value t i) ∙ nothing_brought t i g));
+    forms = subst (λ (v : Vec Given). AreForms v.items (h ++ e ∷ [])) (sym to.forms) mid.forms;
+    bad = λ t r low. elim (cases_lt (length (teams_after n h)) t) [ inl l ↦ bad_past t r low l | inr g ↦ bad_before t r low g ];
+    syncs = subst (λ x. TellsSyncs n x (happened images (h ++ e ∷ []))) (sym to.pairs) mid.syncs;
+    turned = λ c. ap (λ (x : CriticalsState). hold_in x.constructs c) to.criticals ∙ mid.turned c;
+  })
 
 -- ---- what the calls ask
 module _ (n : ℕ) (h : List Entry) (p : Parts) (b : IsBoard n h p) (i : ℕ) (image : is_image n i ≡ true) where
@@ -137,36 +327,38 @@ module _ (n : ℕ) (h : List Entry) (p : Parts) (b : IsBoard n h p) (i : ℕ) (i
   pub in_rows : (0 < i) × (i ≤ length p.pairs.rows)
   in_rows = let r = in_run in let c = b.syncs.images in let high : i ≤ n = r.1 in (r.0, omega arith)
 
-  pub in_brought : (0 < i) × (i ≤ length p.brought.items)
-  in_brought = let r = in_run in let c = b.bringers in let high : i ≤ n = r.1 in (r.0, omega arith)
+  pub in_brought : (t : ℕ) → 0 < t → t ≤ length p.brought.items → (0 < i) × (i ≤ length (table_of p.brought.items t))
+  in_brought t low top = let r = in_run in let c = b.bringers t low top in let high : i ≤ n = r.1 in (r.0, omega arith)
+
+  pub can_close : (c : Bool) → length h + 1 < 2 ^ 64 → (k : ℕ) (x : TeamState) → slice_get (rounds_in p c).teams k ≡ Some x → CanClose (rounds_in p c).ended x i
+  can_close c few k x at = record {
+    image = (let r = in_run in let s = (b.rounds c).sizes k x at in let high : i ≤ n = r.1 in (r.0, omega arith));
+    few = (let j = joined_is c k x at in omega (arith, few));
+    stopped = (b.rounds c).ended_told.stopped_count ∙ sym ((b.rounds c).sizes k x at);
+    failed = (b.rounds c).ended_told.failed_count ∙ sym ((b.rounds c).sizes k x at);
+  }
 
   -- a set that can be named is of the run, and there is a number left for the SYNC IMAGES
   pub begun_few : length h < 2 ^ 62 → (row_of p.pairs.rows i).begun < 2 ^ 62
   begun_few few = let r = in_run in let c = b.syncs.rows_told.begun i r.0 r.1 in let f = pairs_begun images i h in omega (arith, few)
 
-set_from : (n : ℕ) (set : List ImageNo) → list_all (is_image n) (numbers_of set) ≡ true → (k : ℕ) (d : ImageNo) → k < length set → (0 < (slice_index_or set k d).0) × ((slice_index_or set k d).0 ≤ n)
-set_from n [] e k d l = absurd (omega arith)
-set_from n (x ∷ xs) e zero d l = image_within n x.0 (and_parts (is_image n x.0) (list_all (is_image n) (numbers_of xs)) e).0
-set_from n (x ∷ xs) e (suc k) d l = set_from n xs (and_parts (is_image n x.0) (list_all (is_image n) (numbers_of xs)) e).1 k d (omega arith)
-
-pub set_within : (n m : ℕ) (set : List ImageNo) → m ≡ n → list_all (is_image n) (numbers_of set) ≡ true → AreWithin m set
-set_within n m set same e = subst (λ q. AreWithin q set) (sym same) (set_from n set e)
-
 -- room that was made changes nothing that is told
-pub room_made : (n : ℕ) (h : List Entry) (p q : Parts) → IsBoard n h p → q.images ≡ p.images → q.teams ≡ p.teams → ((c : Bool) → members_in (rounds_in q c).teams ≡ members_in (rounds_in p c).teams)
-    → ((c : Bool) (m : ℕ) (hs : List Happening) → TellsAll m (rounds_in p c) hs → TellsAll m (rounds_in q c) hs) → values_in q.brought.items ≡ values_in p.brought.items → q.pairs ≡ p.pairs
-    → q.criticals.constructs ≡ p.criticals.constructs → IsBoard n h q
-room_made n h p q b same teams members rounds values syncs constructs = record {
-  run = same ∙ b.run;
-  teams = ap (λ (x : TeamsState). x.teams) teams ∙ b.teams;
-  members = λ c. members c ∙ b.members c;
-  within = within_same n q.control.teams p.control.teams (members false) b.within;
-  rounds = λ c. rounds c n (happened (class_of c) h) (b.rounds c);
-  bringers = values_count q.brought.items p.brought.items values ∙ b.bringers;
-  values = λ i low high. ap (λ vs. slice_index_or vs (i - 1) []) values ∙ b.values i low high;
-  syncs = subst (λ x. TellsSyncs n x (happened images h)) (sym syncs) b.syncs;
-  constructs = λ c. ap (λ cs. hold_in cs c) constructs ∙ b.constructs c;
-  initial = b.initial;
-  served = b.served;
+pub room_made : (n : ℕ) (h : List Entry) (p q : Parts) → IsBoard n h p → HasGrown p q → IsBoard n h q
+room_made n h p q b g = record {
+  run = g.images ∙ b.run;
+  runs = λ c. g.runs c ∙ b.runs c;
+  teams = g.teams ∙ b.teams;
+  few = subst (λ ts. length ts < 2 ^ 32) (sym g.teams) b.few;
+  births = g.births ∙ b.births;
+  members = λ c. g.members c ∙ b.members c;
+  within = b.within;
+  rounds = λ c. g.rounds c n (happened (class_of c) h) (b.rounds c);
+  tables = tables_same q.brought.items p.brought.items g.tables ∙ b.tables;
+  bringers = λ t low high. bringers_same (table_of q.brought.items t) (table_of p.brought.items t) (table_values q.brought.items p.brought.items (t - 1) g.tables) ∙ b.bringers t low (subst (λ k. t ≤ k) (tables_same q.brought.items p.brought.items g.tables) high);
+  values = λ t i low high a c. ap (λ vs. slice_index_or vs (i - 1) []) (table_values q.brought.items p.brought.items (t - 1) g.tables) ∙ b.values t i low (subst (λ k. t ≤ k) (tables_same q.brought.items p.brought.items g.tables) high) a c;
+  forms = subst (λ gs. AreForms gs h) (sym g.forms) b.forms;
+  bad = λ t r low. ap (λ bs. is_listed bs t r) g.bad ∙ b.bad t r low;
+  syncs = subst (λ x. TellsSyncs n x (happened images h)) (sym g.pairs) b.syncs;
+  constructs = λ c. ap (λ cs. hold_in cs c) g.criticals ∙ b.constructs c;
   steps = b.steps;
 }

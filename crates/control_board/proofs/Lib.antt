@@ -9,4 +9,10 @@ pub mod Steps
 pub mod Replying
 pub mod Departures
 pub mod Collecting
-pub mod Rooms
+pub mod Made
+pub mod Bad
+pub mod Enacting
+pub mod Formations
+pub mod Starting
+pub mod Plans
+pub mod Growing

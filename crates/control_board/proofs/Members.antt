@@ -1,6 +1,8 @@
 -- The teams that the board keeps are those of the history.
 use Rattle.std.proofs.Common.{◌≡◌, ℕ, zero, suc, ◌-◌, ◌<◌, ◌≤◌, Bool, true, false, ◌&&◌, nat_eq, nat_le, List, [], ◌∷◌, inl, inr, length, map, refl, ap, sym, ◌∙◌, subst, arith}
 use Rattle.std.specs.Prelude.{Some, slice_get, slice_index_or}
+use Rattle.std.specs.List.{list_all}
+use Rattle.caf_base.specs.declared.place.ImageNo.{ImageNo}
 use Rattle.std.proofs.lemmas.Bool.{and_parts, leb-true, le-leb, cases_Bool, ne_eqb}
 use Rattle.std.proofs.lemmas.List.{length-map}
 use Rattle.caf_events.specs.declared.event.Entry.{Entry}
@@ -12,7 +14,7 @@ use Rattle.failure_status.specs.Endings.{AreWithin}
 use Rattle.team_round.specs.TeamStates.{TeamState, members_in}
 use Rattle.team_tree.specs.KnownTeams.{KnownTeam, no_team, team_of, images_from, known, all_known}
 use Rattle.control_board.specs.declared.parts.Parts.{Parts}
-use Rattle.control_board.specs.Boards.{IsBoard, rounds_in}
+use Rattle.control_board.specs.Boards.{IsBoard, rounds_in, are_images}
 
 pub numbers_images : (ms : List ℕ) → numbers_of (images_from ms) ≡ ms
 numbers_images [] = refl
@@ -27,7 +29,7 @@ image_within n i h =
     (omega arith, omega arith)
 
 -- ---- the members of a team by its number
-at_place : (ts : List Team) (t : ℕ) → 0 < t → members_at ts t ≡ members_there (slice_get ts (t - 1))
+pub at_place : (ts : List Team) (t : ℕ) → 0 < t → members_at ts t ≡ members_there (slice_get ts (t - 1))
 at_place ts t low = let z : nat_eq t 0 ≡ false = ne_eqb t 0 (λ e. absurd (omega arith)) in rw z refl
 
 -- an image is a member of a team that is there only
@@ -100,22 +102,28 @@ rounds_from (c ∷ cs) (t ∷ ts) (suc k) x e at = rounds_from cs ts k x (tail_s
 rounds_at : (cs : List TeamState) (ts : List Team) (t : ℕ) (x : TeamState) → 0 < t → members_in cs ≡ map (λ (y : Team). images_from y.members) ts → slice_get cs (t - 1) ≡ Some x → numbers_of x.members ≡ members_at ts t
 rounds_at cs ts t x low e at = rounds_from cs ts (t - 1) x e at ∙ sym (at_place ts t low)
 
--- the members as images
-known_images : (ts : List Team) (k : ℕ) → k < length ts → (slice_index_or (all_known ts) k no_team).members ≡ images_from (members_there (slice_get ts k))
-known_images [] k h = absurd (omega arith)
-known_images (x ∷ xs) zero h = refl
-known_images (x ∷ xs) (suc k) h = known_images xs k (omega arith)
-
-rounds_images : (cs : List TeamState) (ts : List Team) (k : ℕ) (x : TeamState) → members_in cs ≡ map (λ (y : Team). images_from y.members) ts → slice_get cs k ≡ Some x → x.members ≡ images_from (members_there (slice_get ts k))
-rounds_images [] ts k x e at = absurd (cc)
-rounds_images (c ∷ cs) [] k x e at = absurd (cc)
-rounds_images (c ∷ cs) (t ∷ ts) zero x e at = ap (λ (y : TeamState). y.members) (sym (some_same c x at)) ∙ head_same c.members (images_from t.members) _ _ e
-rounds_images (c ∷ cs) (t ∷ ts) (suc k) x e at = rounds_images cs ts k x (tail_same c.members (images_from t.members) (members_in cs) (map (λ (y : Team). images_from y.members) ts) e) at
-
 pub get_there : {A : Type 0} (xs : List A) (k : ℕ) → k < length xs → (x : A) × (slice_get xs k ≡ Some x)
 get_there [] k h = absurd (omega arith)
 get_there (x ∷ xs) zero h = (x, refl)
 get_there (x ∷ xs) (suc k) h = get_there xs k (omega arith)
+
+set_from : (n : ℕ) (set : List ImageNo) → list_all (is_image n) (numbers_of set) ≡ true → (k : ℕ) (d : ImageNo) → k < length set → (0 < (slice_index_or set k d).0) × ((slice_index_or set k d).0 ≤ n)
+set_from n [] e k d l = absurd (omega arith)
+set_from n (x ∷ xs) e zero d l = image_within n x.0 (and_parts (is_image n x.0) (list_all (is_image n) (numbers_of xs)) e).0
+set_from n (x ∷ xs) e (suc k) d l = set_from n xs (and_parts (is_image n x.0) (list_all (is_image n) (numbers_of xs)) e).1 k d (omega arith)
+
+-- a set of images of the run
+pub set_within : (n m : ℕ) (set : List ImageNo) → m ≡ n → list_all (is_image n) (numbers_of set) ≡ true → AreWithin m set
+set_within n m set same e = subst (λ q. AreWithin q set) (sym same) (set_from n set e)
+
+images_from_place : (n : ℕ) (ts : List Team) (k : ℕ) → are_images n ts ≡ true → list_all (is_image n) (members_there (slice_get ts k)) ≡ true
+images_from_place n [] k e = refl
+images_from_place n (x ∷ xs) zero e = (and_parts (list_all (is_image n) x.members) (are_images n xs) e).0
+images_from_place n (x ∷ xs) (suc k) e = images_from_place n xs k (and_parts (list_all (is_image n) x.members) (are_images n xs) e).1
+
+images_at : (n : ℕ) (ts : List Team) (t : ℕ) → are_images n ts ≡ true → list_all (is_image n) (members_at ts t) ≡ true
+images_at n ts zero e = refl
+images_at n ts (suc k) e = ap (list_all (is_image n)) (at_place ts (suc k) (omega arith)) ∙ images_from_place n ts (suc k - 1) e
 
 module _ (n : ℕ) (h : List Entry) (p : Parts) (b : IsBoard n h p) where
   pub rounds_members : (c : Bool) (t : ℕ) (x : TeamState) → 0 < t → slice_get (rounds_in p c).teams (t - 1) ≡ Some x → numbers_of x.members ≡ members_at (teams_after n h) t
@@ -137,14 +145,8 @@ module _ (n : ℕ) (h : List Entry) (p : Parts) (b : IsBoard n h p) where
       let high : t ≤ length (teams_after n h) = r.1 in
       (low, omega arith, omega arith)
 
-  -- no other team than the initial one is there
-  pub member_initial : (t i : ℕ) → names i (members_at (teams_after n h) t) ≡ true → t ≡ 1
-  member_initial t i m =
-      let r = member_range (teams_after n h) t i m in
-      let one : length (teams_after n h) ≡ 1 = ap length b.initial in
-      let low : 0 < t = r.0 in
-      let high : t ≤ length (teams_after n h) = r.1 in
-      omega arith
+  pub tables_there : (t : ℕ) → 0 < t → t ≤ length p.teams.teams → t ≤ length p.brought.items
+  tables_there t low high = let c = teams_count in let d = b.tables in omega arith
 
   pub is_member_law : (t i : ℕ) → (is_image (length p.teams.teams) t && names i (numbers_of (team_of p.teams.teams t).members)) ≡ names i (members_at (teams_after n h) t)
   is_member_law t i = ap (λ (ts : List KnownTeam). is_image (length ts) t && names i (numbers_of (team_of ts t).members)) b.teams ∙ member_law (teams_after n h) t i
@@ -155,11 +157,8 @@ module _ (n : ℕ) (h : List Entry) (p : Parts) (b : IsBoard n h p) where
       ap (λ (ts : List KnownTeam). numbers_of (team_of ts t).members) b.teams ∙ known_members (teams_after n h) t low (omega arith)
 
   -- its members are images of the run
+  pub members_images : (t : ℕ) → list_all (is_image n) (members_at (teams_after n h) t) ≡ true
+  members_images t = images_at n (teams_after n h) t b.within
+
   pub known_within : (t : ℕ) → 0 < t → t ≤ length p.teams.teams → AreWithin n (team_of p.teams.teams t).members
-  known_within t low high =
-      let c = teams_count in
-      let d = rounds_count false in
-      let x = get_there p.control.teams (t - 1) (omega arith) in
-      let e : x.0.members ≡ (team_of p.teams.teams t).members =
-      rounds_images p.control.teams (teams_after n h) (t - 1) x.0 (b.members false) x.1 ∙ sym (known_images (teams_after n h) (t - 1) (omega arith)) ∙ ap (λ (ts : List KnownTeam). (team_of ts t).members) (sym b.teams) in
-      subst (AreWithin n) e (b.within (t - 1) x.0 x.1)
+  known_within t low high = set_within n n (team_of p.teams.teams t).members refl (ap (list_all (is_image n)) (known_there t low high) ∙ members_images t)

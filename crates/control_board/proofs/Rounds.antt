@@ -1,13 +1,12 @@
 -- Rounds that have closed, and rounds that are none of FORM TEAM.
-use Rattle.std.proofs.Common.{◌≡◌, ◌≢◌, ◌⊎◌, ℕ, suc, ◌<◌, ◌≤◌, Bool, true, false, ◌&&◌, not, nat_eq, cond, List, [], ◌∷◌, ◌++◌, inl, inr, refl, ap, sym, ◌∙◌, subst, arith, append_assoc}
+use Rattle.std.proofs.Common.{◌≡◌, ◌≢◌, ◌⊎◌, ℕ, suc, ◌<◌, ◌≤◌, Bool, true, false, ◌&&◌, nat_eq, cond, List, [], ◌∷◌, ◌++◌, inl, inr, refl, ap, sym, ◌∙◌, subst, arith, append_assoc}
 use Rattle.std.specs.Prelude.{Option, Some, None, is_some}
-use Rattle.std.specs.List.{list_any, list_all}
+use Rattle.std.specs.List.{list_any}
 use Rattle.std.proofs.lemmas.List.{append-nil}
 use Rattle.std.proofs.lemmas.Bool.{cases_Bool, cases_eq, and_parts, or_cases, leb-true, eq-eqb, ne_eqb}
 use Rattle.object_rules.specs.Scans.{or_else, first_front_from, first_told_from}
 use Rattle.object_rules.specs.Happenings.{Happening, arrives, pairs, stops, fails}
 use Rattle.object_rules.specs.TeamRounds.{arrivals, has_arrived, has_closed, at_close, joins_round, opening_of, Opening}
-use Rattle.object_rules.specs.BoardTeams.{is_form_kind, is_form}
 use Rattle.object_rules.proofs.Growing.{arrivals_more}
 
 -- ---- a first front
@@ -101,40 +100,3 @@ close_opens ms t r hs f low h =
     let a = front_holds (has_closed ms t r) [] hs f h in
     let c = any_arrived t r ms f (and_parts (list_any (λ m. has_arrived t r m f) ms) _ a.0).0 in
     (opens t c.0 r f low c.1, a.1, a.2)
-
--- ---- no arrival at FORM TEAM
-abbrev pub is_formless : Happening → Bool
-is_formless (arrives t i k l) = not (is_form_kind k)
-is_formless x = true
-
-abbrev pub are_formless : List Happening → Bool
-are_formless hs = list_all is_formless hs
-
-formless_from : (t r : ℕ) (b es : List Happening) → are_formless es ≡ true → is_form (first_told_from (joins_round t r) b es) ≡ false
-formless_from t r b [] h = refl
-formless_from t r b (x ∷ xs) h =
-    let p = and_parts (is_formless x) (are_formless xs) h in
-    one x p.0 (first_told_from (joins_round t r) (b ++ x ∷ []) xs) (formless_from t r (b ++ x ∷ []) xs p.1)
-  where
-    not_false : (c : Bool) → not c ≡ true → c ≡ false
-    not_false true e = absurd (cc)
-    not_false false e = refl
-
-    by : (c : Bool) (o : Opening) (q : Option Opening) → is_form_kind o.kind ≡ false → is_form q ≡ false → is_form (or_else (cond c (Some o) None) q) ≡ false
-    by true o q e f = e
-    by false o q e f = f
-
-    one : (y : Happening) → is_formless y ≡ true → (q : Option Opening) → is_form q ≡ false → is_form (or_else (joins_round t r b y) q) ≡ false
-    one (stops j) e q f = f
-    one (fails j) e q f = f
-    one (pairs j set) e q f = f
-    one (arrives u j k l) e q f = by (nat_eq u t && nat_eq (suc (arrivals t j b)) r) (record { kind = k; image = j; line = l }) q (not_false (is_form_kind k) e) f
-
-pub formless_opening : (t r : ℕ) (hs : List Happening) → are_formless hs ≡ true → is_form (opening_of t r hs) ≡ false
-formless_opening t r hs h = formless_from t r [] hs h
-
-pub formless_front : (f rest : List Happening) → are_formless (f ++ rest) ≡ true → are_formless f ≡ true
-formless_front [] rest h = refl
-formless_front (x ∷ xs) rest h =
-    let p = and_parts (is_formless x) (are_formless (xs ++ rest)) h in
-    rw (p.0, formless_front xs rest p.1) refl

@@ -49,8 +49,8 @@ impl Board {
 
 impl Object for Board {
     ghost use Rattle.std.specs.Prelude.{ℕ};
-    ghost use Rattle.object_rules.specs.BoardRules.{board_reply};
-    ghost use Rattle.control_board.specs.Boards.{BoardState, HasRoom, served_ready};
+    ghost use Rattle.object_rules.specs.BoardRules.{board_ready, board_reply};
+    ghost use Rattle.control_board.specs.Boards.{BoardState, HasRoom};
 
     ghost Made = { ℕ };
 
@@ -60,7 +60,7 @@ impl Object for Board {
 
     ghost has_room = { λ b image ask. HasRoom b image ask };
 
-    ghost ready_after = { λ n h image ask. served_ready n h image ask };
+    ghost ready_after = { λ n h image ask. board_ready n h image ask };
 
     ghost reply_after = { λ n h image ask. board_reply n h image ask };
 

@@ -1,20 +1,23 @@
 //! The departure from a round of a team.
 
-ghost use Rattle.std.specs.Prelude.{◌≡◌, ◌-◌, ◌<◌, ◌≤◌, ℕ, Bool, List, Some, IsTrue, ◌&&◌, nat_le, length, slice_get};
+ghost use Rattle.std.specs.Prelude.{◌≡◌, ◌+◌, ◌-◌, ◌<◌, ◌≤◌, ◌^◌, ℕ, Bool, List, Some, IsTrue, IfOk, ◌&&◌, nat_le, nat_eq, length, slice_get, slice_index_or};
 ghost use Rattle.std.specs.Option.{is_some};
 ghost use Rattle.caf_events.specs.declared.ask.Ask.TheVariants as asks;
 ghost use Rattle.caf_events.specs.declared.event.Entry.{Entry};
 ghost use Rattle.object_rules.specs.Happenings.{Happening};
 ghost use Rattle.object_rules.specs.TeamRounds.{arrivals};
 ghost use Rattle.team_round.specs.TeamStates.{TeamState, TellsAll};
-ghost use Rattle.object_rules.specs.BoardRules.{is_image, has_joined as joined_by_rules, board_reply};
-ghost use Rattle.object_rules.specs.BoardTeams.{teams_after, members_at, closing};
-ghost use Rattle.control_board.specs.Boards.{IsBoard, AreRounds, Comes, class_of, rounds_in, served_ready};
+ghost use Rattle.object_rules.specs.BoardRules.{is_image, has_joined as joined_by_rules, board_ready, board_reply};
+ghost use Rattle.object_rules.specs.BoardTeams.{teams_after, members_at, closing, made_teams};
+ghost use Rattle.team_tree.specs.KnownTeams.{team_of};
+ghost use Rattle.control_board.specs.Boards.{IsBoard, IsKept, AreRounds, Comes, class_of, rounds_in};
 
+use crate::forming::is_bad;
 use crate::parts::{Parts, is_member};
 use caf_base::listing::Listing;
 use caf_base::place::{ImageNo, TeamNo};
-use caf_events::reply::Reply;
+use caf_base::refusal::NoMemory;
+use caf_events::reply::{FormedTeam, Reply};
 use std::alloc::Global;
 use team_round::rounds::Rounds;
 
@@ -58,14 +61,51 @@ pub(crate) fn can_depart(
     has_joined(parts, rounds, image, team, round) && rounds.closed(team, round)
 }
 
-// The reply to a departure. It takes no memory.
-pub(crate) fn left(alloc: Global, parts: &Parts, image: ImageNo, team: TeamNo, round: u64) -> Reply
-    requires { Comes parts.now image.0 (asks.Leave team round) }
-    ensures { (n : ℕ) (h : List Entry) → IsBoard n h parts.now → IsTrue (served_ready n h image.0 (asks.Leave team round))
-        → result ≡ board_reply n h image.0 (asks.Leave team round) }
+// Whether this round of this team made the team of a number.
+fn is_made_by(parts: &Parts, made: usize, team: TeamNo, round: u64) -> bool
+    requires teams { made < length parts.now.teams.teams }
+    requires births { (length parts.now.births.items ≡ length parts.now.teams.teams) × (length parts.now.teams.teams < 2 ^ 32) }
+    ensures { result ≡ (nat_eq (team_of parts.now.teams.teams (made + 1)).parent team.0 && nat_eq (slice_index_or parts.now.births.items made 0) round) }
 {
-    Reply::Left {
-        status: parts.control.result(team, round, false),
-        teams: Listing::new(alloc),
+    parts.teams.is_child(TeamNo(made as u32 + 1), team) && parts.births[made] == round
+}
+
+// The teams that a round of a team made.
+fn teams_by(
+    alloc: Global,
+    parts: &Parts,
+    team: TeamNo,
+    round: u64,
+) -> Result<Listing<FormedTeam>, NoMemory>
+    requires { IsKept parts.now }
+    ensures { IfOk result (λ l. (n : ℕ) (h : List Entry) → IsBoard n h parts.now → l ≡ made_teams team.0 round 1 (teams_after n h)) }
+{
+    let mut teams = Listing::new(alloc);
+    for made in 0..parts.teams.len() {
+        if is_made_by(parts, made, team, round) {
+            teams.push(parts.teams.told(alloc, TeamNo(made as u32 + 1))?)?;
+        }
     }
+    Ok(teams)
+}
+
+// The reply to a departure.
+pub(crate) fn left(
+    alloc: Global,
+    parts: &Parts,
+    image: ImageNo,
+    team: TeamNo,
+    round: u64,
+) -> Result<Reply, NoMemory>
+    requires { Comes parts.now image.0 (asks.Leave team round) }
+    ensures { IfOk result (λ r. (n : ℕ) (h : List Entry) → IsBoard n h parts.now → IsTrue (board_ready n h image.0 (asks.Leave team round))
+        → r ≡ board_reply n h image.0 (asks.Leave team round)) }
+{
+    let teams = teams_by(alloc, parts, team, round)?;
+    Ok(Reply::Left {
+        status: parts
+            .control
+            .result(team, round, is_bad(&parts.bad, team, round)),
+        teams,
+    })
 }

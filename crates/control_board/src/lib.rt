@@ -2,14 +2,16 @@
 //! constructs, and which images have ended.
 //! It stands on `failure_status`, `team_round`, `image_sync`, `team_tree`, `collectives` and on the definitions of `object_rules`; the run will stand on it.
 //! Its main contract is that of `Object` for `Board`: whether an ask is ready and what is replied are `board_ready` and `board_reply` of the whole
-//! history, for every ask that it serves (`is_served`): all of them but the arrivals of FORM TEAM, which are never ready.
+//! history.
 #![tactic(auto)]
 
 pub mod board;
 pub mod brought;
 pub mod ending;
+pub mod forming;
 pub mod leaving;
 pub mod parts;
+pub mod planning;
 pub mod ready;
 pub mod reply;
 pub mod step;

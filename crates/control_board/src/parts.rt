@@ -8,7 +8,8 @@ ghost use Rattle.object_rules.specs.ImagePairs.{names};
 ghost use Rattle.control_board.specs.Boards.{IsBoard, IsFreshRounds};
 ghost use Rattle.team_tree.specs.KnownTeams.{all_known};
 
-use crate::brought::{Brought, none_brought};
+use crate::brought::Table;
+use crate::forming::{BadRound, Given, Plan, new_tables};
 use caf_base::place::{ImageNo, TeamNo};
 use caf_base::refusal::NoMemory;
 use image_sync::criticals::Criticals;
@@ -17,17 +18,22 @@ use std::alloc::Global;
 use team_round::rounds::Rounds;
 use team_tree::teams::Teams;
 
-/// The number of images, the teams, their rounds of image control statements and of collective subroutines, what each image has brought to the
-/// latter, the SYNC IMAGES of each image, and who is inside CRITICAL constructs.
+/// The number of images, the teams with the round that made each, their rounds of image control statements and of collective subroutines, what each
+/// image has brought to the latter and given at FORM TEAM, the rounds of FORM TEAM that closed with a bad argument, the SYNC IMAGES of each image, who
+/// is inside CRITICAL constructs, and what the next step makes of the teams.
 #[derive(Drop)]
 pub struct Parts {
     pub images: u32,
     pub teams: Teams,
+    pub births: Vec<u64>,
     pub control: Rounds,
     pub collective: Rounds,
-    pub brought: Vec<Brought>,
+    pub brought: Vec<Table>,
+    pub forms: Vec<Given>,
+    pub bad: Vec<BadRound>,
     pub pairs: Pairs,
     pub criticals: Criticals,
+    pub plan: Plan,
 }
 
 // The parts of a run of n images at its start, with its teams and rounds.
@@ -43,16 +49,21 @@ fn parts_with(
     requires collective { IsFreshRounds n collective }
     ensures { IfOk result (λ p. IsBoard n [] p) }
 {
-    let brought = none_brought(alloc, n)?;
+    let brought = new_tables(alloc, n, 1)?;
+    let births = Vec::from_elem(alloc, 0, 1)?;
     let pairs = Pairs::new(alloc, n)?;
     Ok(Parts {
         images: n,
         teams,
+        births,
         control,
         collective,
         brought,
+        forms: Vec::new(alloc),
+        bad: Vec::new(alloc),
         pairs,
         criticals: Criticals::new(alloc),
+        plan: Plan::none(alloc),
     })
 }
 

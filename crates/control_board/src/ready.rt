@@ -1,45 +1,27 @@
 //! Whether an ask fits and can come.
 
-ghost use Rattle.std.specs.Prelude.{◌≡◌, ◌&&◌, not, nat_le, ℕ, List, IsTrue, length};
+ghost use Rattle.std.specs.Prelude.{◌≡◌, ◌&&◌, nat_le, ℕ, List, IsTrue, length};
 ghost use Rattle.std.specs.List.{list_all};
 ghost use Rattle.std.specs.Option.{is_some};
 ghost use Rattle.caf_events.specs.declared.event.Entry.{Entry};
 ghost use Rattle.caf_events.specs.declared.ask.Ask.TheVariants as asks;
-ghost use Rattle.object_rules.specs.Happenings.{control, collective, images, happened, kind_of, numbers_of};
-ghost use Rattle.object_rules.specs.BoardRules.{is_image, is_gathered as is_gathered_by, is_root as is_root_by, has_joined, fits_board, all_differ, is_open as is_open_by};
+ghost use Rattle.object_rules.specs.Happenings.{control, collective, images, happened, numbers_of};
+ghost use Rattle.object_rules.specs.BoardRules.{is_image, is_gathered as is_gathered_by, is_root as is_root_by, has_joined, fits_board, board_ready, all_differ, is_open as is_open_by};
 ghost use Rattle.object_rules.specs.Folds.{is_of_kind as is_of_kind_by};
-ghost use Rattle.object_rules.specs.BoardTeams.{teams_after, members_at, closing, is_form_kind};
+ghost use Rattle.object_rules.specs.BoardTeams.{teams_after, members_at, closing};
 ghost use Rattle.object_rules.specs.Constructs.{construct_after};
 ghost use Rattle.image_sync.specs.Holds.{hold_in};
 ghost use Rattle.object_rules.specs.ImagePairs.{names, pairs_of, at_pairing};
-ghost use Rattle.control_board.specs.Boards.{IsBoard, IsKept, comes_by, served_ready};
+ghost use Rattle.control_board.specs.Boards.{IsBoard, IsKept, comes_by};
 
 use crate::leaving::can_depart;
 use crate::parts::{Parts, has_image, is_member};
 use caf_base::place::{ImageNo, TeamNo};
 use caf_base::value::{Kind, Value};
 use caf_events::ask::Ask;
-use caf_events::round::{Arriving, GatherOp};
+use caf_events::round::GatherOp;
 use collectives::pair::fits;
 use image_sync::criticals::Criticals;
-
-// Whether it is an arrival at FORM TEAM.
-fn is_form(arriving: &Arriving) -> bool
-    ensures { result ≡ is_form_kind (kind_of arriving.now) }
-{
-    match arriving {
-        Arriving::Form { .. } => true,
-        _ => false,
-    }
-}
-
-// Whether the image can arrive at a round of the team.
-fn can_arrive(parts: &Parts, image: ImageNo, team: TeamNo, arriving: &Arriving) -> bool
-    ensures { (n : ℕ) (h : List Entry) → IsBoard n h parts.now
-        → result ≡ (not (is_form_kind (kind_of arriving.now)) && names image.0 (members_at (teams_after n h) team.0)) }
-{
-    !is_form(arriving) && is_member(parts, team, image)
-}
 
 // Whether the image can leave the round of an image control statement.
 fn can_leave(parts: &Parts, image: ImageNo, team: TeamNo, round: u64) -> bool
@@ -221,7 +203,7 @@ fn comes(parts: &Parts, image: ImageNo, ask: &Ask) -> bool
     ensures { (n : ℕ) (h : List Entry) → IsBoard n h parts.now → result ≡ comes_by n h image.0 ask.now }
 {
     match ask {
-        Ask::Arrive { team, arriving } => can_arrive(parts, image, *team, arriving),
+        Ask::Arrive { team, .. } => is_member(parts, *team, image),
         Ask::Leave { team, round } => can_leave(parts, image, *team, *round),
         Ask::Gather {
             team,
@@ -244,10 +226,10 @@ fn comes(parts: &Parts, image: ImageNo, ask: &Ask) -> bool
     }
 }
 
-// Whether an ask is one that the board serves, fits and can come.
+// Whether an ask fits and can come.
 pub(crate) fn is_ready(parts: &Parts, image: ImageNo, ask: &Ask) -> bool
     requires { IsKept parts.now }
-    ensures { (n : ℕ) (h : List Entry) → IsBoard n h parts.now → result ≡ served_ready n h image.0 ask.now }
+    ensures { (n : ℕ) (h : List Entry) → IsBoard n h parts.now → result ≡ board_ready n h image.0 ask.now }
 {
     has_image(parts.images, image) && comes(parts, image, ask)
 }

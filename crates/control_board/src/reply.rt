@@ -5,8 +5,8 @@ ghost use Rattle.caf_events.specs.declared.ask.Ask.TheVariants as asks;
 ghost use Rattle.caf_events.specs.declared.event.Entry.{Entry};
 ghost use Rattle.caf_events.specs.declared.round.RoundKind.TheVariants as kinds;
 ghost use Rattle.object_rules.specs.Happenings.{collective, kind_of};
-ghost use Rattle.object_rules.specs.BoardRules.{arrival_reply, board_reply};
-ghost use Rattle.control_board.specs.Boards.{IsBoard, Comes, Gathers, served_ready, reply_by, reply_to};
+ghost use Rattle.object_rules.specs.BoardRules.{arrival_reply, board_ready, board_reply};
+ghost use Rattle.control_board.specs.Boards.{IsBoard, Comes, Gathers, reply_by, reply_to};
 
 use crate::ending::{ended_members, member_status};
 use crate::leaving::left;
@@ -86,7 +86,7 @@ fn gathered(parts: &Parts, image: ImageNo, team: TeamNo, what: &RoundKind) -> Re
 // The reply to a departure from SYNC IMAGES.
 fn unpaired(parts: &Parts, image: ImageNo) -> Reply
     requires { Comes parts.now image.0 asks.Unpair }
-    ensures { (n : ℕ) (h : List Entry) → IsBoard n h parts.now → IsTrue (served_ready n h image.0 asks.Unpair) → result ≡ board_reply n h image.0 asks.Unpair }
+    ensures { (n : ℕ) (h : List Entry) → IsBoard n h parts.now → IsTrue (board_ready n h image.0 asks.Unpair) → result ≡ board_reply n h image.0 asks.Unpair }
 {
     Reply::Number {
         status: parts.pairs.status(image),
@@ -134,11 +134,11 @@ pub(crate) fn reply(
     ask: &Ask,
 ) -> Result<Reply, NoMemory>
     requires { Comes parts.now image.0 ask.now }
-    ensures { IfOk result (λ r. (n : ℕ) (h : List Entry) → IsBoard n h parts.now → IsTrue (served_ready n h image.0 ask.now) → r ≡ reply_by n h image.0 ask.now) }
+    ensures { IfOk result (λ r. (n : ℕ) (h : List Entry) → IsBoard n h parts.now → IsTrue (board_ready n h image.0 ask.now) → r ≡ reply_by n h image.0 ask.now) }
 {
     match ask {
         Ask::Arrive { team, arriving } => joined(parts, image, *team, arriving),
-        Ask::Leave { team, round } => Ok(left(alloc, parts, image, *team, *round)),
+        Ask::Leave { team, round } => left(alloc, parts, image, *team, *round),
         Ask::Gather {
             team,
             op,

@@ -1,24 +1,29 @@
 //! The step of an ask at the board.
 
-ghost use Rattle.std.specs.Prelude.{◌≡◌, ◌<◌, ◌≤◌, ℕ, ℤ, List, length, OnOk};
+ghost use Rattle.std.specs.Prelude.{◌≡◌, ◌<◌, ◌≤◌, ℕ, ℤ, List, true, length, OnOk, IsTrue};
+ghost use Rattle.caf_events.specs.declared.ask.Ask.{Ask};
+ghost use Rattle.object_rules.specs.BoardRules.{board_ready};
 ghost use Rattle.caf_events.specs.declared.ask.Ask.TheVariants as asks;
 ghost use Rattle.caf_base.specs.declared.value.Kind.{Kind};
 ghost use Rattle.caf_events.specs.declared.event.Entry.{Entry};
 ghost use Rattle.caf_events.specs.declared.round.GatherOp.{GatherOp};
 ghost use Rattle.caf_events.specs.declared.round.RoundKind.TheVariants as kinds;
-ghost use Rattle.control_board.specs.Boards.{IsBoard, HasImage, CanStep, CanGather, GatherRoom, StepsTo, StepBy, RoomNeeds, PartsRoom};
+ghost use Rattle.control_board.specs.Boards.{IsBoard, CanEndNow, Asked, CanStep, CanStop, CanGather, GatherRoom, ArriveRoom, HasGrown, PlanFits, Planned, IsPlanned, StepsTo, StepBy, PartsRoom, table_of, is_end_ask};
 
 use crate::brought::{keep_joined, make_room_for};
+use crate::forming::{Plan, form_of, keep_bad, keep_given};
 use crate::parts::Parts;
+use crate::planning::{arrival_plan, enact, end_plan, make_room_for_teams};
 use crate::reply::{kind_from, kind_with};
 use caf_base::few::Few;
 use caf_base::listing::Listing;
-use caf_base::place::{ImageNo, TeamNo};
+use caf_base::place::{INITIAL_TEAM, ImageNo, TeamNo};
 use caf_base::refusal::NoMemory;
 use caf_base::value::Value;
 use caf_events::ask::Ask;
 use caf_events::round::{Arriving, RoundKind};
 use std::alloc::Global;
+use std::mem;
 
 // Makes room for what the image brings to a collective subroutine of the team.
 fn make_room_to_gather(
@@ -28,15 +33,50 @@ fn make_room_to_gather(
     team: TeamNo,
     values: &[Value],
 ) -> Result<(), NoMemory>
-    requires { ((0 < team.0) × (team.0 ≤ length parts.old.collective.teams)) × ((0 < image.0) × (image.0 ≤ length parts.old.brought.items)) }
-    ensures kept { (n : ℕ) (h : List Entry) → IsBoard n h parts.old → IsBoard n h parts.new }
+    requires { ((0 < team.0) × (team.0 ≤ length parts.old.collective.teams) × (team.0 ≤ length parts.old.brought.items)) × ((0 < image.0) × (image.0 ≤ length (table_of parts.old.brought.items team.0))) }
+    ensures kept { HasGrown parts.old parts.new }
     ensures room { OnOk result (GatherRoom parts.new image.0 team.0 (length values.now)) }
 {
     if values.len() > 4_294_967_295 {
         return Err(NoMemory);
     }
     parts.collective.reserve(alloc, team, 0)?;
-    make_room_for(&mut parts.brought, image)
+    make_room_for(&mut parts.brought, team, image)
+}
+
+// Makes room for an arrival at a round of the team, and plans what it makes.
+fn make_room_to_arrive(
+    alloc: Global,
+    parts: &mut Parts,
+    image: ImageNo,
+    team: TeamNo,
+    arriving: &Arriving,
+) -> Result<(), NoMemory>
+    requires { Asked parts.old image.0 (asks.Arrive team arriving.now) }
+    ensures kept { HasGrown parts.old parts.new }
+    ensures room { OnOk result (ArriveRoom parts.new team.0) }
+    ensures planned { OnOk result ((n : ℕ) (h : List Entry) → IsBoard n h parts.old → IsTrue (board_ready n h image.0 (asks.Arrive team arriving.now)) → Planned n h parts.new.plan image (asks.Arrive team arriving.now)) }
+{
+    parts.plan = arrival_plan(alloc, parts, image, team, arriving)?;
+    parts.forms.reserve(1)?;
+    parts.bad.reserve(1)?;
+    make_room_for_teams(alloc, parts, team)
+}
+
+// Makes room for the end of the image, and plans what it makes.
+fn make_room_to_end(
+    alloc: Global,
+    parts: &mut Parts,
+    image: ImageNo,
+    failed: bool,
+) -> Result<(), NoMemory>
+    requires { CanEndNow parts.old image.0 }
+    ensures kept { HasGrown parts.old parts.new }
+    ensures room { OnOk result (PlanFits parts.new parts.new.plan) }
+    ensures planned { OnOk result ((ask : Ask) (n : ℕ) (h : List Entry) → is_end_ask failed ask ≡ true → IsBoard n h parts.old → IsTrue (board_ready n h image.0 ask) → Planned n h parts.new.plan image ask) }
+{
+    parts.plan = end_plan(alloc, parts, image, failed)?;
+    make_room_for_teams(alloc, parts, INITIAL_TEAM)
 }
 
 // Makes room for the step of an ask of an image.
@@ -46,16 +86,19 @@ pub(crate) fn make_room(
     image: ImageNo,
     ask: &Ask,
 ) -> Result<(), NoMemory>
-    requires { RoomNeeds parts.old image.0 ask.now }
+    requires { Asked parts.old image.0 ask.now }
     ensures kept { (n : ℕ) (h : List Entry) → IsBoard n h parts.old → IsBoard n h parts.new }
     ensures room { OnOk result (PartsRoom parts.new image.0 ask.now) }
+    ensures planned { OnOk result ((n : ℕ) (h : List Entry) → IsBoard n h parts.old → IsTrue (board_ready n h image.0 ask.now) → IsPlanned n h parts.new.plan image ask.now) }
 {
     match ask {
-        Ask::Arrive { team, .. } => parts.control.reserve(alloc, *team, 0),
+        Ask::Arrive { team, arriving } => make_room_to_arrive(alloc, parts, image, *team, arriving),
         Ask::Gather { team, values, .. } => {
             make_room_to_gather(alloc, parts, image, *team, values.as_slice())
         }
         Ask::Enter { construct } => parts.criticals.reserve(*construct),
+        Ask::Gone => make_room_to_end(alloc, parts, image, true),
+        Ask::Stop { .. } => make_room_to_end(alloc, parts, image, false),
         _ => Ok(()),
     }
 }
@@ -65,7 +108,13 @@ fn arrive(parts: &mut Parts, image: ImageNo, team: TeamNo, arriving: Arriving, l
     requires { CanStep parts.old image.0 (asks.Arrive team arriving) }
     ensures { StepsTo parts.old image (asks.Arrive team arriving) line parts.new }
 {
-    parts.control.arrive(team, image, kind_from(arriving), line);
+    let nothing = Plan::none(*parts.births.allocator());
+    let plan = mem::replace(&mut parts.plan, nothing);
+    let form = form_of(image, &arriving);
+    let arrival = parts.control.arrive(team, image, kind_from(arriving), line);
+    keep_given(&mut parts.forms, team, form, arrival);
+    keep_bad(&mut parts.bad, team, arrival, plan.bad);
+    enact(parts, plan);
 }
 
 // The image comes to a collective subroutine of this kind of the team, and brings values.
@@ -81,7 +130,7 @@ fn gather(
     ensures { (op : GatherOp) (root : ℕ) (kind : Kind) → what ≡ kinds.Collective op root kind (length values) → StepsTo parts.old image (asks.Gather team op root kind values) line parts.new }
 {
     let arrival = parts.collective.arrive(team, image, what, line);
-    keep_joined(&mut parts.brought, image, values, arrival);
+    keep_joined(&mut parts.brought, team, image, values, arrival);
 }
 
 // The image begins SYNC IMAGES with a set.
@@ -112,20 +161,26 @@ fn fail(parts: &mut Parts, image: ImageNo)
     requires { CanStep parts.old image.0 asks.Gone }
     ensures { (line : ℕ) → StepsTo parts.old image asks.Gone line parts.new }
 {
+    let nothing = Plan::none(*parts.births.allocator());
+    let plan = mem::replace(&mut parts.plan, nothing);
     parts.control.ended(image, true);
     parts.collective.ended(image, true);
     parts.pairs.ended(image, true);
     parts.criticals.gone(image);
+    enact(parts, plan);
 }
 
 // The image initiates normal termination.
 fn stop(parts: &mut Parts, image: ImageNo)
-    requires { HasImage parts.old image.0 }
+    requires { CanStop parts.old image.0 }
     ensures { (code : ℤ) (line : ℕ) → StepsTo parts.old image (asks.Stop code) line parts.new }
 {
+    let nothing = Plan::none(*parts.births.allocator());
+    let plan = mem::replace(&mut parts.plan, nothing);
     parts.control.ended(image, false);
     parts.collective.ended(image, false);
     parts.pairs.ended(image, false);
+    enact(parts, plan);
 }
 
 // The step of an ask that brings nothing to be kept.

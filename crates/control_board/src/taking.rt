@@ -7,15 +7,15 @@ ghost use Rattle.std.specs.Option.{option_map};
 ghost use Rattle.caf_base.specs.declared.place.ImageNo.{ImageNo};
 ghost use Rattle.caf_events.specs.declared.ask.Ask.TheVariants as asks;
 ghost use Rattle.caf_events.specs.declared.event.Entry.{Entry};
-ghost use Rattle.object_rules.specs.BoardRules.{board_reply, or_none, collected as collected_by};
+ghost use Rattle.object_rules.specs.BoardRules.{board_ready, board_reply, or_none, collected as collected_by};
 ghost use Rattle.object_rules.specs.BoardTeams.{teams_after, members_at};
 ghost use Rattle.object_rules.specs.Happenings.{collective, happened};
 ghost use Rattle.object_rules.specs.TeamRounds.{opening_of};
 ghost use Rattle.object_rules.specs.Folds.{fold_of};
 ghost use Rattle.collectives.specs.Combining.{op_of};
-ghost use Rattle.control_board.specs.Boards.{IsBoard, Comes, served_ready, value_at, AreThere, AllCame, collected_of, taken_of};
+ghost use Rattle.control_board.specs.Boards.{IsBoard, Comes, value_at, table_of, AreThere, AllCame, collected_of, taken_of};
 
-use crate::brought::{Brought, brought_at};
+use crate::brought::{Table, brought_at};
 use crate::parts::Parts;
 use caf_base::few::Few;
 use caf_base::place::{ImageNo, TeamNo};
@@ -31,18 +31,20 @@ use std::alloc::Global;
 // What the members brought to their call of this number, in the order of the members.
 fn parts_of(
     alloc: Global,
-    brought: &Vec<Brought>,
+    tables: &Vec<Table>,
+    team: TeamNo,
     members: &[ImageNo],
     call: u64,
 ) -> Result<Vec<Vec<Value>>, NoMemory>
-    requires images { AreWithin (length brought.now.items) members.now }
+    requires team { (0 < team.0) × (team.0 ≤ length tables.now.items) }
+    requires images { AreWithin (length (table_of tables.now.items team.0)) members.now }
     requires first { 0 < call }
-    requires there { AreThere brought.now.items call members.now }
-    ensures { IfOk result (λ v. map (λ x. x.items) v.items ≡ map (λ (m : ImageNo). value_at brought.now.items call m.0) members.now) }
+    requires there { AreThere (table_of tables.now.items team.0) call members.now }
+    ensures { IfOk result (λ v. map (λ x. x.items) v.items ≡ map (λ (m : ImageNo). value_at (table_of tables.now.items team.0) call m.0) members.now) }
 {
     let mut parts = Vec::new(alloc);
     for member in members {
-        let values = Vec::from_slice(alloc, brought_at(brought, *member, call))?;
+        let values = Vec::from_slice(alloc, brought_at(tables, team, *member, call))?;
         parts.push(values)?;
     }
     Ok(parts)
@@ -125,10 +127,10 @@ fn combined(
 ) -> Result<Option<Vec<Value>>, NoMemory>
     requires { AllCame parts.now team.0 round }
     ensures { IfOk result (λ o. (n : ℕ) (h : List Entry) → IsBoard n h parts.now
-        → option_map (λ v. v.items) o ≡ collected_of (opening_of team.0 round (happened collective h)) (map (λ m. value_at parts.now.brought.items round m) (members_at (teams_after n h) team.0))) }
+        → option_map (λ v. v.items) o ≡ collected_of (opening_of team.0 round (happened collective h)) (map (λ m. value_at (table_of parts.now.brought.items team.0) round m) (members_at (teams_after n h) team.0))) }
 {
     let members = parts.teams.members(team);
-    let values = parts_of(alloc, &parts.brought, members, round)?;
+    let values = parts_of(alloc, &parts.brought, team, members, round)?;
     match parts.collective.kind(team, round) {
         Some(what) => collected(alloc, what, values.as_slice()),
         None => Ok(Some(Vec::new(alloc))),
@@ -144,7 +146,7 @@ pub(crate) fn taken(
     round: u64,
 ) -> Result<Reply, NoMemory>
     requires { Comes parts.now image.0 (asks.Take team round) }
-    ensures { IfOk result (λ r. (n : ℕ) (h : List Entry) → IsBoard n h parts.now → IsTrue (served_ready n h image.0 (asks.Take team round))
+    ensures { IfOk result (λ r. (n : ℕ) (h : List Entry) → IsBoard n h parts.now → IsTrue (board_ready n h image.0 (asks.Take team round))
         → r ≡ board_reply n h image.0 (asks.Take team round)) }
 {
     let status = parts.collective.result(team, round, false);

@@ -1,12 +1,12 @@
-//! Rounds, collective subroutines, SYNC IMAGES, CRITICAL and failures of two images.
+//! Rounds, collective subroutines, CRITICAL and failures of two images, and FORM TEAM of four.
 
 use caf_base::few::Few;
 use caf_base::listing::Listing;
-use caf_base::place::{INITIAL_TEAM, ImageNo};
+use caf_base::place::{INITIAL_TEAM, ImageNo, TeamNo};
 use caf_base::value::{Kind, Value};
 use caf_events::ask::Ask;
 use caf_events::object::Object;
-use caf_events::reply::Reply;
+use caf_events::reply::{FormedTeam, Reply};
 use caf_events::round::{Arriving, GatherOp};
 use control_board::board::Board;
 use std::alloc::Global;
@@ -69,6 +69,38 @@ fn left(alloc: Global, status: i32) -> Reply {
     }
 }
 
+fn form(number: i64) -> Ask {
+    Ask::Arrive {
+        team: INITIAL_TEAM,
+        arriving: Arriving::Form {
+            number,
+            new_index: 0,
+        },
+    }
+}
+
+// A team of two images, as a departure tells it.
+fn formed<R: Abort>(rt: &R, alloc: Global, team: u32, number: i64, images: [u32; 2]) -> FormedTeam {
+    let members = Listing::from_slice(alloc, &[ImageNo(images[0]), ImageNo(images[1])]);
+    FormedTeam {
+        team: TeamNo(team),
+        number,
+        members: members.expect(rt, "memory"),
+    }
+}
+
+// What is told where images 1 and 3 gave the number 1, and images 2 and 4 the number 2.
+fn told_teams<R: Abort>(rt: &R, alloc: Global) -> Reply {
+    let mut teams = Listing::new(alloc);
+    teams
+        .push(formed(rt, alloc, 2, 1, [1, 3]))
+        .expect(rt, "memory");
+    teams
+        .push(formed(rt, alloc, 3, 2, [2, 4]))
+        .expect(rt, "memory");
+    Reply::Left { status: 0, teams }
+}
+
 #[test]
 fn all_come(rt: HostRuntime) {
     let alloc = rt.alloc();
@@ -110,5 +142,53 @@ fn one_fails(rt: HostRuntime) {
         Ask::Enter { construct: 1 },
         Reply::Number { status: 6001 },
     );
+    drop(board);
+}
+
+#[test]
+fn four_form_teams(rt: HostRuntime) {
+    let alloc = rt.alloc();
+    let mut board = Board::new(alloc, 4).expect(&rt, "memory");
+    step(
+        &rt,
+        alloc,
+        &mut board,
+        4,
+        form(2),
+        Reply::Round { round: 1 },
+    );
+    step(
+        &rt,
+        alloc,
+        &mut board,
+        1,
+        form(1),
+        Reply::Round { round: 1 },
+    );
+    step(
+        &rt,
+        alloc,
+        &mut board,
+        3,
+        form(1),
+        Reply::Round { round: 1 },
+    );
+    assert!(rt; !board.ready(ImageNo(3), &leave(1)));
+    step(
+        &rt,
+        alloc,
+        &mut board,
+        2,
+        form(2),
+        Reply::Round { round: 1 },
+    );
+    step(&rt, alloc, &mut board, 3, leave(1), told_teams(&rt, alloc));
+    step(&rt, alloc, &mut board, 4, leave(1), told_teams(&rt, alloc));
+    let there = Ask::Arrive {
+        team: TeamNo(3),
+        arriving: Arriving::Sync,
+    };
+    assert!(rt; !board.ready(ImageNo(3), &there));
+    step(&rt, alloc, &mut board, 4, there, Reply::Round { round: 1 });
     drop(board);
 }

@@ -1,5 +1,5 @@
 -- The parts of a file may follow one another.
-use Rattle.std.proofs.Common.{◌≡◌, ℕ, Bool, true, false, cond, List, [], ◌∷◌, refl, sym, ◌∙◌, ap}
+use Rattle.std.proofs.Common.{◌≡◌, ℕ, true, cond, List, [], ◌∷◌, refl, ◌∙◌, ap}
 use Rattle.reader_theory.specs.Words.{Mark}
 use Rattle.fortran_grammar.specs.Tokens.{Token}
 use Rattle.statement_reader.specs.Parts.{Part, Form, is_of}

@@ -1,5 +1,5 @@
 -- One more of each list, at its end.
-use Rattle.std.proofs.Common.{◌≡◌, ℕ, List, [], ◌∷◌, ◌++◌, map, refl, ap, sym, ◌∙◌}
+use Rattle.std.proofs.Common.{◌≡◌, List, [], ◌∷◌, ◌++◌, map, refl, ap}
 use Rattle.fortran_tree.specs.declared.statement.Statement.{Statement}
 use Rattle.fortran_tree.specs.declared.statement.ElseIf.{ElseIf}
 use Rattle.fortran_tree.specs.declared.statement.CaseBlock.{CaseBlock}

@@ -4,4 +4,5 @@ pub mod Places
 pub mod Moves
 pub mod Stages
 pub mod Units
+pub mod Longer
 pub mod Follows

@@ -1,5 +1,5 @@
 -- How far a program unit has come, by the parts that come next.
-use Rattle.std.proofs.Common.{◌≡◌, ℕ, zero, suc, Bool, true, false, cond, List, [], ◌∷◌, length, refl, ap, sym, ◌∙◌, subst}
+use Rattle.std.proofs.Common.{◌≡◌, Bool, true, false, cond, List, [], ◌∷◌, length, refl, ap, sym, ◌∙◌, subst}
 use Rattle.std.proofs.lemmas.Bool.{true≢false, false≢true}
 use Rattle.statement_reader.specs.Parts as f
 use Rattle.statement_reader.specs.Parts.{Part, Form, is_of}
@@ -12,8 +12,10 @@ use Rattle.program_tree.specs.declared.block.Condition.{Condition}
 use Rattle.program_tree.specs.declared.block.Frame.{Frame}
 use Rattle.program_tree.specs.declared.block.Block.{Block}
 use Rattle.program_tree.specs.Following.{has_form, MayFollow, starts_with, executes, executes_first}
-use Rattle.program_tree.specs.Blocks.{place, IsClear, open_of, opens, begun_opens, begun_conditions}
-use Rattle.program_tree.proofs.Places.{closes, not_in_scope, plain_place, clear_place}
+use Rattle.fortran_tree.specs.StatementViews.{statement_list}
+use Rattle.program_reader.specs.Nesting.{statements_parts}
+use Rattle.program_tree.specs.Blocks.{place, IsClear, open_of, opens, begun_opens, begun_conditions, begun_front, frames_front, block_front}
+use Rattle.program_tree.proofs.Places.{closes, not_in_scope, plain_place, clear_place, clear_front}
 
 abbrev pub Stands : Stage → Scope → List Part → Type 0
 Stands t k es = MayFollow (plain_place (staged t k) []) es
@@ -189,3 +191,10 @@ pub finished : (k : Scope) (x : Block) (es : List Part) → executes_first es �
 finished k x es h m =
     let clear = nothing_begun k x.begun (opens x.frames.items []) es h m in
     (nothing_open k x.frames.items es h (subst (λ z. MayFollow z es) (clear_place k x clear) m), clear)
+
+pub finished_front : (x : Block) (es : List Part) → (x.frames.items ≡ []) × IsClear x.begun → block_front x es ≡ statements_parts (statement_list x.statements.items) es
+finished_front x es (none, clear) = ap (λ z. frames_front z (statements_parts (statement_list x.statements.items) (begun_front x.begun es))) none
+    ∙ ap (statements_parts (statement_list x.statements.items)) (clear_front x.begun es clear)
+
+pub finished_place : (k : Scope) (x : Block) (es : List Part) → (x.frames.items ≡ []) × IsClear x.begun → MayFollow (place k x) es → MayFollow (plain_place k []) es
+finished_place k x es (none, clear) m = subst (λ z. MayFollow z es) (clear_place k x clear ∙ ap (λ z. plain_place k (opens z [])) none) m

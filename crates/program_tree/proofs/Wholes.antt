@@ -1,12 +1,11 @@
 -- The parts of constructs that are over.
-use Rattle.std.proofs.Common.{◌≡◌, List, [], ◌∷◌, Option, Some, None, refl, ap, sym, ◌∙◌}
+use Rattle.std.proofs.Common.{◌≡◌, List, ◌∷◌, Some, None, ap, sym, ◌∙◌}
 use Rattle.std.specs.declared.alloc.Global.{Global}
 use Rattle.std.specs.declared.vec.Vec.{Vec}
 use Rattle.caf_base.specs.declared.place.Pos.{Pos}
 use Rattle.fortran_tree.specs.declared.statement.End.{End}
 use Rattle.fortran_tree.specs.declared.statement.Statement.{Statement}
 use Rattle.fortran_tree.specs.declared.statement.Statement.TheVariants as statements
-use Rattle.fortran_tree.specs.declared.statement.Otherwise.{Otherwise}
 use Rattle.fortran_tree.specs.declared.statement.BracketedSpecifier.{BracketedSpecifier}
 use Rattle.fortran_tree.specs.StatementViews.{statement, statement_list, bracketed_specifier, statement_if, statement_do, statement_critical, statement_change_team}
 use Rattle.statement_reader.specs.Parts as f

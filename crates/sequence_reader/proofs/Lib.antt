@@ -4,6 +4,8 @@ pub mod Together
 pub mod Gathering
 pub mod Conditions
 pub mod Depths
+pub mod Closed
+pub mod Late
 pub mod Turns
 pub mod Advances
 pub mod Walks

@@ -21,8 +21,10 @@ use Rattle.sequence_reader.specs.declared.state.State.{State as Held}
 use Rattle.sequence_reader.specs.declared.form.Form.{Form as HeldForm}
 use Rattle.sequence_reader.specs.Views.{construct, state, form}
 use Rattle.sequence_reader.specs.Answers.{Answer, stopped, stop_of, better, placed, goes, follow, gathered, value, Among, Comes, Tries, depth}
+use Rattle.sequence_reader.specs.Statements.{Before_the_end}
 use Rattle.sequence_reader.proofs.Better.{better_grouped, better_turned}
 use Rattle.sequence_reader.proofs.Gathering.{shorter, gathered_more}
+use Rattle.sequence_reader.proofs.Late.{further_late, fault_late, condition_late}
 use Rattle.sequence_reader.proofs.Conditions.{condition_stops, first_kept, second_taken}
 
 mapped_length : (os : List Construct) → length (map construct os) ≡ length os
@@ -66,32 +68,35 @@ module _ {X : Type 0} (look : X → Part × List Token) (s : State) (ts : List T
       ∙ (sym (better_grouped (goes 64 n s (look x).0 (look x).1) (stop_of e) (stop_of stop)) ∙ ap (better (better (goes 64 n s (look x).0 (look x).1) (stop_of e))) (sym h))
 
   -- a form that stops
-  pub stops_too : (was : Option X) (e stop new : Stop) (r : List Token) → part_reader 64 (placed s i) ts ≡ fault (cause_of stop.cause) r → length r ≡ stop.left → stop_of new ≡ better (stop_of e) (stop_of stop) → Comes look 64 s ts was
+  pub stops_too : (was : Option X) (e stop new : Stop) (r : List Token) → part_reader 64 (placed s i) ts ≡ fault (cause_of stop.cause) r → length r ≡ stop.left → stop_of new ≡ better (stop_of e) (stop_of stop) → Comes look 64 s ts was → Before_the_end ts e
       → Tries look 64 s ts (λ n. better (value look 64 n s was e) (answer n)) was new
-  stops_too was e stop new r h l k c = record { came = c; makes = λ n _. more_fault n was e stop new (ap (follow 64 n s) h ∙ ap (stopped (cause_of stop.cause)) l) k }
+  stops_too was e stop new r h l k c d = record { came = c; late = λ whole some. further_late e stop new k (d whole some) (subst (λ n. 0 < n) l (fault_late 64 (placed s i) ts whole some (cause_of stop.cause) r h)); makes = λ n _. more_fault n was e stop new (ap (follow 64 n s) h ∙ ap (stopped (cause_of stop.cause)) l) k }
 
   -- a condition before what is no word
-  pub stops_behind : (was : Option X) (e new : Stop) (b : Part) (ws : List Word) → part_reader 64 (placed s i) ts ≡ found b (tokens_of ws) → is_of f.condition_form b ≡ true → begins is_word (tokens_of ws) ≡ false → stop_of new ≡ better (stop_of e) (stopped expected (length ws)) → Comes look 64 s ts was
+  pub stops_behind : (was : Option X) (e new : Stop) (b : Part) (ws : List Word) → part_reader 64 (placed s i) ts ≡ found b (tokens_of ws) → is_of f.condition_form b ≡ true → begins is_word (tokens_of ws) ≡ false → stop_of new ≡ better (stop_of e) (stopped expected (length ws)) → Comes look 64 s ts was → Before_the_end ts e
       → Tries look 64 s ts (λ n. better (value look 64 n s was e) (answer n)) was new
-  stops_behind was e new b ws h is_c un k c = record {
+  stops_behind was e new b ws h is_c un k c d = record {
     came = c;
+    late = λ whole some. further_late e (record { cause = causes.Expected; left = length ws }) new k (d whole some) (subst (λ n. 0 < n) (tokens_length ws) (condition_late 64 (placed s i) ts whole some b (tokens_of ws) h is_c));
     makes = λ n l. let short = shorter 64 (placed s i) ts b (tokens_of ws) h in
         more_fault n was e (record { cause = causes.Expected; left = length ws }) new (ap (follow 64 n s) h ∙ (condition_stops 64 n s b (tokens_of ws) is_c un (omega arith) ∙ ap (stopped expected) (tokens_length ws))) k;
   }
 
   -- a form that reads a part: the first one
-  pub first_read : (was : Option X) (x : X) (e : Stop) → was ≡ None → Among i (allowed s) → part_reader 64 (placed s i) ts ≡ found (look x).0 (look x).1 → (is_of f.condition_form (look x).0 ≡ true → begins is_word (look x).1 ≡ true)
+  pub first_read : (was : Option X) (x : X) (e : Stop) → was ≡ None → Among i (allowed s) → part_reader 64 (placed s i) ts ≡ found (look x).0 (look x).1 → (is_of f.condition_form (look x).0 ≡ true → begins is_word (look x).1 ≡ true) → Before_the_end ts e
       → Tries look 64 s ts (λ n. better (value look 64 n s was e) (answer n)) (Some x) e
-  first_read was x e none m h w = subst (λ z. Tries look 64 s ts (λ n. better (value look 64 n s z e) (answer n)) (Some x) e) (sym none) (record {
+  first_read was x e none m h w d = subst (λ z. Tries look 64 s ts (λ n. better (value look 64 n s z e) (answer n)) (Some x) e) (sym none) (record {
     came = record { form = i; may = m; reads = h; word = w };
+    late = d;
     makes = λ n _. sym (ap (better (stop_of e)) (ap (follow 64 n s) h) ∙ better_turned (cause_of e.cause) e.left (goes 64 n s (look x).0 (look x).1));
   })
 
   -- behind the condition of a one-line IF, whose place it takes
-  pub other_read : (was : Option X) (o x : X) (e : Stop) → was ≡ Some o → Among i (allowed s) → part_reader 64 (placed s i) ts ≡ found (look x).0 (look x).1 → (is_of f.condition_form (look x).0 ≡ true → begins is_word (look x).1 ≡ true) → Comes look 64 s ts was → is_of f.condition_form (look o).0 ≡ true
+  pub other_read : (was : Option X) (o x : X) (e : Stop) → was ≡ Some o → Among i (allowed s) → part_reader 64 (placed s i) ts ≡ found (look x).0 (look x).1 → (is_of f.condition_form (look x).0 ≡ true → begins is_word (look x).1 ≡ true) → Comes look 64 s ts was → is_of f.condition_form (look o).0 ≡ true → Before_the_end ts e
       → Tries look 64 s ts (λ n. better (value look 64 n s was e) (answer n)) (Some x) e
-  other_read was o x e same m h w c is_c = subst (λ z. Tries look 64 s ts (λ n. better (value look 64 n s z e) (answer n)) (Some x) e) (sym same) (record {
+  other_read was o x e same m h w c is_c d = subst (λ z. Tries look 64 s ts (λ n. better (value look 64 n s z e) (answer n)) (Some x) e) (sym same) (record {
     came = record { form = i; may = m; reads = h; word = w };
+    late = d;
     makes = λ n l. sym (
         ap (better (better (goes 64 n s (look o).0 (look o).1) (stop_of e))) (ap (follow 64 n s) h)
         ∙ (swapped (goes 64 n s (look o).0 (look o).1) (goes 64 n s (look x).0 (look x).1) e
@@ -99,10 +104,11 @@ module _ {X : Type 0} (look : X → Part × List Token) (s : State) (ts : List T
   })
 
   -- behind another part, which stays
-  pub also_read : (was : Option X) (o : X) (e : Stop) (b : Part) (r : List Token) → was ≡ Some o → Among i (allowed s) → part_reader 64 (placed s i) ts ≡ found b r → (is_of f.condition_form b ≡ true → begins is_word r ≡ true) → Comes look 64 s ts was → is_of f.condition_form (look o).0 ≡ false
+  pub also_read : (was : Option X) (o : X) (e : Stop) (b : Part) (r : List Token) → was ≡ Some o → Among i (allowed s) → part_reader 64 (placed s i) ts ≡ found b r → (is_of f.condition_form b ≡ true → begins is_word r ≡ true) → Comes look 64 s ts was → is_of f.condition_form (look o).0 ≡ false → Before_the_end ts e
       → Tries look 64 s ts (λ n. better (value look 64 n s was e) (answer n)) (Some o) e
-  also_read was o e b r same m h w c un = subst (λ z. Tries look 64 s ts (λ n. better (value look 64 n s z e) (answer n)) (Some o) e) (sym same) (record {
+  also_read was o e b r same m h w c un d = subst (λ z. Tries look 64 s ts (λ n. better (value look 64 n s z e) (answer n)) (Some o) e) (sym same) (record {
     came = subst (Comes look 64 s ts) same c;
+    late = d;
     makes = λ n l. sym (
         ap (better (better (goes 64 n s (look o).0 (look o).1) (stop_of e))) (ap (follow 64 n s) h)
         ∙ (swapped (goes 64 n s (look o).0 (look o).1) (goes 64 n s b r) e
@@ -110,13 +116,14 @@ module _ {X : Type 0} (look : X → Part × List Token) (s : State) (ts : List T
   })
 
 -- several forms
-pub begun : {X : Type 0} (look : X → Part × List Token) (s : State) (ts : List Token) (was : Option X) (e : Stop) → Comes look 64 s ts was → Tries look 64 s ts (λ n. gathered 64 n s ts (value look 64 n s was e) []) was e
-begun look s ts was e c = record { came = c; makes = λ n _. refl }
+pub begun : {X : Type 0} (look : X → Part × List Token) (s : State) (ts : List Token) (was : Option X) (e : Stop) → Comes look 64 s ts was → Before_the_end ts e → Tries look 64 s ts (λ n. gathered 64 n s ts (value look 64 n s was e) []) was e
+begun look s ts was e c d = record { came = c; late = d; makes = λ n _. refl }
 
 pub one_more : {X : Type 0} (look : X → Part × List Token) (s : State) (ts : List Token) (is : List Form) (i : Form) (v : ℕ → Answer) (was new : Option X) (e d : Stop)
     → Tries look 64 s ts (λ n. gathered 64 n s ts (v n) is) was e → Tries look 64 s ts (λ n. better (value look 64 n s was e) (follow 64 n s (part_reader 64 (placed s i) ts))) new d → Tries look 64 s ts (λ n. gathered 64 n s ts (v n) (is ++ i ∷ [])) new d
 one_more look s ts is i v was new e d h k = record {
   came = k.came;
+  late = k.late;
   makes = λ n l. k.makes n l ∙ (ap (λ z. better z (follow 64 n s (part_reader 64 (placed s i) ts))) (h.makes n l) ∙ sym (gathered_more 64 n s ts (v n) is (i ∷ [])));
 }
 
@@ -124,6 +131,7 @@ pub several_more : {X : Type 0} (look : X → Part × List Token) (s : State) (t
     → Tries look 64 s ts (λ n. gathered 64 n s ts (v n) is) was e → Tries look 64 s ts (λ n. gathered 64 n s ts (value look 64 n s was e) js) new d → Tries look 64 s ts (λ n. gathered 64 n s ts (v n) (is ++ js)) new d
 several_more look s ts is js v was new e d h k = record {
   came = k.came;
+  late = k.late;
   makes = λ n l. k.makes n l ∙ (ap (λ z. gathered 64 n s ts z js) (h.makes n l) ∙ sym (gathered_more 64 n s ts (v n) is js));
 }
 
@@ -147,6 +155,10 @@ pub forms_more : (xs : List HeldForm) (k : ℕ) (d : HeldForm) → k < length xs
 forms_more [] k d h = absurd (omega arith)
 forms_more (x ∷ xs) zero d h = refl
 forms_more (x ∷ xs) (suc k) d h = ap (λ is. form x ∷ is) (forms_more xs k d (omega arith))
+
+-- no fault so far
+pub unread_late : (ws : List Word) → Before_the_end (tokens_of ws) (record { cause = causes.Expected; left = length ws })
+unread_late ws = λ whole some. subst (λ n. 0 < n) (tokens_length ws) some
 
 -- all forms of a place, in three slices
 pub all_tried : {X : Type 0} (look : X → Part × List Token) (s : State) (ws : List Word) (is js ks every : List Form) (one two three : Option X) (d e g : Stop) → is ++ (js ++ ks) ≡ every

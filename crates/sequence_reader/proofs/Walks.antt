@@ -1,5 +1,5 @@
 -- The parts read so far are the words of the text up to their place.
-use Rattle.std.proofs.Common.{◌≡◌, ℕ, false, List, [], ◌∷◌, ◌++◌, length, Option, Some, Result, Ok, Err, MatchResult, inl, inr, refl, ap, sym, ◌∙◌, subst, arith, append_assoc, append-nil}
+use Rattle.std.proofs.Common.{◌≡◌, ℕ, ◌<◌, true, false, List, [], ◌∷◌, ◌++◌, length, Option, Some, Result, Ok, Err, MatchResult, inl, inr, refl, ap, sym, ◌∙◌, subst, arith, append_assoc, append-nil}
 use Rattle.caf_base.specs.declared.place.Pos.{Pos}
 use Rattle.reader_theory.specs.Words.{Mark, bare, found}
 use Rattle.reader_theory.specs.Texts.{AnyOf}
@@ -17,8 +17,10 @@ use Rattle.program_reader.specs.Unfinished.{Parts_from, behind, innermost, first
 use Rattle.program_reader.proofs.Files.{file_answered}
 use Rattle.sequence_reader.specs.declared.sequence.Halt.{Halt}
 use Rattle.sequence_reader.specs.declared.sequence.Halt.TheVariants as halts
-use Rattle.sequence_reader.specs.Answers.{Answer, read, answer_of, placed, Among, Came, Comes, Tries, Ends}
+use Rattle.sequence_reader.specs.Answers.{Answer, read, answer_of, stop_of, better, placed, Among, Came, Comes, Tries, Ends}
 use Rattle.sequence_reader.specs.Halts.{Walked, file_answer, Halts, Halts_as, plain, halted}
+use Rattle.sequence_reader.specs.Statements.{whole_statements, Before_the_end, Stops_before, On_the_way}
+use Rattle.sequence_reader.proofs.Late.{further_late, whole_rest}
 use Rattle.sequence_reader.proofs.Together.{found_word}
 use Rattle.sequence_reader.proofs.Advances.{found_of, stands_of}
 
@@ -66,12 +68,12 @@ unfinished_at every s bs at w un e = record {
 -- the answer is the theory's
 pub halts_as : (ts : List Token) (e : Halt) → Halts_as e (answer_of (file_answer ts)) ts → Halts e ts
 halts_as ts halts.Memory h = tt
-halts_as ts (halts.Stopped st) h = stands_of st (file_answer ts) h
-halts_as ts (halts.Unfinished st at) h = (stands_of st (file_answer ts) h.0, h.1)
+halts_as ts (halts.Stopped st) h = (stands_of st (file_answer ts) h.0, h.1)
+halts_as ts (halts.Unfinished st at) h = (stands_of st (file_answer ts) h.0, h.1, h.2)
 
-pub halted_as : (ts : List Token) (v : Answer) (e : ReadError) → Ends e v → Halts_as (halted e) v ts
-halted_as ts v errors.Memory h = tt
-halted_as ts v (errors.Stopped st) h = h
+pub halted_as : (ts : List Token) (v : Answer) (e : ReadError) → Ends e v → Stops_before ts e → Halts_as (halted e) v ts
+halted_as ts v errors.Memory h d = tt
+halted_as ts v (errors.Stopped st) h d = (h, d)
 
 pub reads_as : {X : Type 0} (look : X → List Part) (ts : List Token) (r : Result X Halt) → MatchResult r (λ x. answer_of (file_answer ts) ≡ read (look x)) (λ e. Halts_as e (answer_of (file_answer ts)) ts) → MatchResult r (λ x. file_answer ts ≡ found (look x) []) (λ e. Halts e ts)
 reads_as look ts (Ok x) h = found_of ts (look x) (file_answer ts) (file_answered 64 (length ts) start ts (omega arith)) h
@@ -79,5 +81,19 @@ reads_as look ts (Err e) h = halts_as ts e h
 
 pub plain_fails : (ts : List Token) (e : Halt) → Halts e ts → Fails (plain e) (file_answer ts)
 plain_fails ts halts.Memory h = tt
-plain_fails ts (halts.Stopped st) h = h
+plain_fails ts (halts.Stopped st) h = h.0
 plain_fails ts (halts.Unfinished st at) h = h.0
+
+-- the further one of a fault so far and one of the place's
+pub late_on : {X : Type 0} (look : X → Part × List Token) (every : List Token) (s : State) (ts : List Token) (v : ℕ → Answer) (tried : Option X) (old f new : Stop) → Tries look 64 s ts v tried f → 0 < length ts → stop_of new ≡ better (stop_of old) (stop_of f) → On_the_way every ts old → Before_the_end every new
+late_on look every s ts v tried old f new h some k w = λ whole there. further_late old f new k (w.1 whole there) (h.late (w.0 whole) some)
+
+pub way_on : {X : Type 0} (look : X → Part × List Token) (every : List Token) (s : State) (ts : List Token) (v : ℕ → Answer) (tried : Option X) (old f new : Stop) (x : X) → Tries look 64 s ts v tried f → 0 < length ts → stop_of new ≡ better (stop_of old) (stop_of f) → tried ≡ Some x → On_the_way every ts old → On_the_way every (look x).1 new
+way_on look every s ts v tried old f new x h some k is w =
+    let c : Came 64 s ts (look x).0 (look x).1 = subst (Comes look 64 s ts) is h.came in
+    let word = found_word 64 (placed s c.form) ts (look x).0 (look x).1 c.reads in
+    (λ whole. whole_rest (bare word.word) (look x).1 (subst (λ z. whole_statements z ≡ true) word.split (w.0 whole)), late_on look every s ts v tried old f new h some k w)
+
+pub fails_of : (ts : List Token) (e : ReadError) → Ends e (answer_of (file_answer ts)) → Fails e (file_answer ts)
+fails_of ts errors.Memory h = tt
+fails_of ts (errors.Stopped st) h = stands_of st (file_answer ts) h

@@ -13,6 +13,7 @@ use Rattle.statement_reader.specs.Parts.{Part, Form, is_of}
 use Rattle.statement_reader.specs.Forms.{Place, part_reader}
 use Rattle.action_reader.specs.Beginnings.{begins}
 use Rattle.program_reader.specs.Sequence.{State, next, allowed, rest_reader}
+use Rattle.sequence_reader.specs.Statements.{Before_the_end}
 
 -- the parts, or why and before how many tokens reading stops
 pub data Answer : Type 0 where
@@ -90,9 +91,10 @@ Comes look limit s ts (Some x) = Came limit s ts (look x).0 (look x).1
 abbrev pub Enough : List Token → ℕ → Type 0
 Enough ts n = length ts ≤ suc n
 
--- what the forms that were tried make, for every number of parts that may follow: a form of the place reads what was found
+-- what the forms that were tried make, for every number of parts that may follow: a form of the place reads what was found, and no fault stands just past whole statements
 pub record Tries {X : Type 0} (look : X → Part × List Token) (limit : ℕ) (s : State) (ts : List Token) (v : ℕ → Answer) (tried : Option X) (e : Stop) : Type 0 where
   pub came : Comes look limit s ts tried
+  pub late : Before_the_end ts e
   pub makes : (n : ℕ) → Enough ts n → value look limit n s tried e ≡ v n
 
 -- how many levels are open

@@ -1,5 +1,5 @@
 -- Why a file isn't read, and where a file is refused that ends too early.
-use Rattle.std.specs.Prelude.{ℕ, ◌≡◌, List, ◌++◌, length}
+use Rattle.std.specs.Prelude.{ℕ, ◌≡◌, List, [], ◌++◌, length}
 use Rattle.reader_theory.specs.Words.{Mark, bare, Shallow, Verdict}
 use Rattle.fortran_grammar.specs.Tokens.{Token}
 use Rattle.expr_reader.specs.Results.{Stands}
@@ -11,6 +11,7 @@ use Rattle.program_reader.specs.Unfinished.{Parts_from, behind, Unfinished}
 use Rattle.sequence_reader.specs.declared.sequence.Halt.{Halt}
 use Rattle.sequence_reader.specs.declared.sequence.Halt.TheVariants as halts
 use Rattle.sequence_reader.specs.Answers.{Answer, stop_of}
+use Rattle.sequence_reader.specs.Statements.{Before_the_end}
 
 -- the whole text begins with the words of these parts, behind which stands this place and the rest of the text
 pub record Walked (limit : ℕ) (every : List Token) (s : State) (bs : List Part) (ts : List Token) : Type 0 where
@@ -24,17 +25,21 @@ pub record Walked (limit : ℕ) (every : List Token) (s : State) (bs : List Part
 abbrev pub file_answer : List Token → Verdict Token (List Part)
 file_answer ts = rest_reader 64 (length ts) start ts
 
--- the fault is that of the reader of files; where the file ends too early, the place is that of what is open innermost
+-- the whole text is the words of some parts, behind which stands this place
+abbrev pub Leads_to : List Token → State → Type 0
+Leads_to every s = (bs : List Part) × Walked 64 every s bs []
+
+-- the fault is that of the reader of files, and stands at a token where they are whole statements; where the file ends too early, the fault stands just past the last token, and the place is that of what is open innermost
 abbrev pub Halts : Halt → List Token → Type 0
 Halts halts.Memory ts = Unit {0}
-Halts (halts.Stopped s) ts = Stands s (file_answer ts)
-Halts (halts.Unfinished s at) ts = Stands s (file_answer ts) × Unfinished 64 ts at
+Halts (halts.Stopped s) ts = Stands s (file_answer ts) × Before_the_end ts s
+Halts (halts.Unfinished s at) ts = Stands s (file_answer ts) × (s.left ≡ 0) × Unfinished 64 ts at
 
 -- the same of an answer by its place alone
 abbrev pub Halts_as : Halt → Answer → List Token → Type 0
 Halts_as halts.Memory v ts = Unit {0}
-Halts_as (halts.Stopped s) v ts = v ≡ stop_of s
-Halts_as (halts.Unfinished s at) v ts = (v ≡ stop_of s) × Unfinished 64 ts at
+Halts_as (halts.Stopped s) v ts = (v ≡ stop_of s) × Before_the_end ts s
+Halts_as (halts.Unfinished s at) v ts = (v ≡ stop_of s) × (s.left ≡ 0) × Unfinished 64 ts at
 
 -- without the place
 abbrev pub plain : Halt → ReadError

@@ -11,6 +11,7 @@ ghost use Rattle.reader_theory.specs.Words.{expected};
 ghost use Rattle.statement_reader.specs.Forms as forms;
 ghost use Rattle.statement_reader.specs.Parts as f;
 ghost use Rattle.sequence_reader.specs.Answers as answers;
+ghost use Rattle.sequence_reader.specs.Statements.{Before_the_end};
 ghost use Rattle.sequence_reader.specs.Views as view;
 
 use crate::form::{Form, read_form};
@@ -97,6 +98,7 @@ fn attempt<'a>(
     requires depth { state.now.conditions + length state.now.blocks.items ≤ 64 }
     requires may { answers.Among (view.form form) (sequence.allowed (view.state state.now)) }
     requires came { answers.Comes (λ q. (parts.part q.0, tokens_of q.1.now)) 64 (view.state state.now) (tokens_of words.now) before.found }
+    requires late { Before_the_end (tokens_of words.now) before.fault }
     ensures { let s = view.state state.now in
         let ts = tokens_of words.now in
         MatchResult result
@@ -159,6 +161,7 @@ fn attempts<'a>(
     requires depth { state.now.conditions + length state.now.blocks.items ≤ 64 }
     requires may { answers.Part_of (map view.form forms.now) (sequence.allowed (view.state state.now)) }
     requires came { answers.Comes (λ q. (parts.part q.0, tokens_of q.1.now)) 64 (view.state state.now) (tokens_of words.now) before.found }
+    requires late { Before_the_end (tokens_of words.now) before.fault }
     ensures { let s = view.state state.now in
         let ts = tokens_of words.now in
         MatchResult result

@@ -1,7 +1,7 @@
 //! The parts of a whole file, one behind the other.
 
-ghost use Rattle.std.specs.Prelude.{◌≡◌, ◌≤◌, ◌<◌, ◌+◌, List, [], length, map, IfOk, MatchResult};
-ghost use Rattle.expr_reader.specs.Results.{Gives};
+ghost use Rattle.std.specs.Prelude.{◌≡◌, ◌≤◌, ◌<◌, ◌+◌, List, [], length, map, IfOk, IfErr, MatchResult};
+ghost use Rattle.expr_reader.specs.Results.{Gives, Fails};
 ghost use Rattle.expr_reader.specs.Words.{tokens_of};
 ghost use Rattle.part_reader.specs.Views as held;
 ghost use Rattle.fortran_grammar.specs.Tokens.{Token};
@@ -10,6 +10,7 @@ ghost use Rattle.program_reader.specs.Unfinished as unfinished;
 ghost use Rattle.reader_theory.specs.Words.{found};
 ghost use Rattle.sequence_reader.specs.Answers as answers;
 ghost use Rattle.sequence_reader.specs.Halts as halts;
+ghost use Rattle.sequence_reader.specs.Statements as statements;
 ghost use Rattle.sequence_reader.specs.Views as view;
 
 use crate::place::{best, further};
@@ -44,6 +45,8 @@ fn advance<'a>(
         (λ e. answers.Ends e every) }
     ensures walks { (every : List Token) → halts.Walked 64 every (view.state progress.old.state) (map held.part progress.old.parts.items) (tokens_of words.now)
         → IfOk result (λ r. halts.Walked 64 every (view.state progress.new.state) (map held.part progress.new.parts.items) (tokens_of r.now)) }
+    ensures late { (every : List Token) → statements.On_the_way every (tokens_of words.now) progress.old.fault
+        → MatchResult result (λ r. statements.On_the_way every (tokens_of r.now) progress.new.fault) (λ e. statements.Stops_before every e) }
 {
     let tried = best(alloc, &progress.state, words)?;
     progress.fault = further(progress.fault, tried.fault);
@@ -66,7 +69,7 @@ fn advance<'a>(
 #[derive(Drop)]
 pub enum Halt {
     Memory,
-    /// No file goes on with this word, or the 65th level begins at it.
+    /// No file goes on with this word, or the 65th level begins at it. Of whole statements there is always a word left.
     Stopped(Stop),
     /// The words are whole statements, and more were needed: what is open innermost, a construct, a procedure or the main program, begins here.
     Unfinished { stop: Stop, at: Pos },
@@ -136,10 +139,14 @@ fn finished(progress: Progress, words: &[Word]) -> Result<Vec<Part>, Halt>
     })
 }
 
-/// The parts of a file, whose words these are (ISO/IEC 1539-1:2018, R501), in their order. Reading stops at the first word with which no
-/// file goes on, or at which the 65th level begins; where the file ends too early, it is told what is open.
-pub fn read_parts(alloc: Global, words: &[Word]) -> Result<Vec<Part>, Halt>
-    ensures { MatchResult result (λ v. halts.file_answer (tokens_of words.now) ≡ found (map held.part v.items) []) (λ e. halts.Halts e (tokens_of words.now)) }
+/// Reads parts up to the last word.
+fn walk(alloc: Global, words: &[Word]) -> Result<Progress, ReadError>
+    ensures depth { IfOk result (λ p. p.state.conditions + length p.state.blocks.items ≤ 64) }
+    ensures goes { MatchResult result
+        (λ p. answers.Reached 64 (answers.answer_of (halts.file_answer (tokens_of words.now))) (view.state p.state) (map held.part p.parts.items) p.fault [])
+        (λ e. answers.Ends e (answers.answer_of (halts.file_answer (tokens_of words.now)))) }
+    ensures walks { IfOk result (λ p. halts.Walked 64 (tokens_of words.now) (view.state p.state) (map held.part p.parts.items) []) }
+    ensures late { IfErr result (λ e. statements.Stops_before (tokens_of words.now) e) }
 {
     let mut progress = Progress {
         state: start(alloc),
@@ -155,11 +162,34 @@ pub fn read_parts(alloc: Global, words: &[Word]) -> Result<Vec<Part>, Halt>
             Ok(behind) => behind,
             Err(e) => {
                 drop(progress);
-                return Err(halted(e));
+                return Err(e);
             }
         };
     }
-    finished(progress, words)
+    Ok(progress)
+}
+
+/// The parts of a file, whose words these are (ISO/IEC 1539-1:2018, R501), in their order. Reading stops at the first word with which no
+/// file goes on, or at which the 65th level begins; where the file ends too early, it is told what is open.
+pub fn read_parts(alloc: Global, words: &[Word]) -> Result<Vec<Part>, Halt>
+    ensures { MatchResult result (λ v. halts.file_answer (tokens_of words.now) ≡ found (map held.part v.items) []) (λ e. halts.Halts e (tokens_of words.now)) }
+{
+    match walk(alloc, words) {
+        Ok(progress) => finished(progress, words),
+        Err(e) => Err(halted(e)),
+    }
+}
+
+/// The place behind these words, where they are whole parts that may begin a file; else where and why reading stops.
+pub fn place_behind(alloc: Global, words: &[Word]) -> Result<State, ReadError>
+    ensures depth { IfOk result (λ s. s.conditions + length s.blocks.items ≤ 64) }
+    ensures leads { IfOk result (λ s. halts.Leads_to (tokens_of words.now) (view.state s)) }
+    ensures stops { IfErr result (λ e. Fails e (halts.file_answer (tokens_of words.now))) }
+    ensures late { IfErr result (λ e. statements.Stops_before (tokens_of words.now) e) }
+{
+    let Progress { state, parts, .. } = walk(alloc, words)?;
+    drop(parts);
+    Ok(state)
 }
 
 /// Why a file isn't read, without what is open at its end.

@@ -1,5 +1,5 @@
 -- The statements of a file are no longer than the file.
-use Rattle.std.proofs.Common.{◌≡◌, ℕ, zero, suc, ◌+◌, ◌-◌, ◌<◌, ◌≤◌, Bool, true, false, cond, List, [], ◌∷◌, ◌++◌, ◌⊎◌, inl, inr, length, take, get_or, map, refl, ap, sym, ◌∙◌, subst, arith}
+use Rattle.std.proofs.Common.{◌≡◌, ℕ, zero, suc, ◌+◌, ◌-◌, ◌<◌, ◌≤◌, Bool, true, false, cond, List, [], ◌∷◌, inl, inr, length, take, get_or, map, refl, ap, arith}
 use Rattle.std.proofs.lemmas.List.{length-append}
 use Rattle.std.specs.Prelude.{All, slice_index, ◌==◌, if◌then◌else◌}
 use Rattle.std.specs.List.{slice_split, onto_first}
@@ -11,7 +11,7 @@ use Rattle.fortran_lines.specs.PlacedBytes.{placed_from, numbered, physical_line
 use Rattle.fortran_lines.specs.Lines.{statements_of}
 use Rattle.fortran_lines.specs.Faults.{faults_of}
 use Rattle.fortran_lines.specs.Statements.{with_places, placed_bytes}
-use Rattle.fortran_lines.specs.Taken.{MayGo, AreTaken, IsFront, AreFronts, in_a_row}
+use Rattle.fortran_lines.specs.Taken.{AreTaken, IsFront, AreFronts, in_a_row}
 use Rattle.fortran_lines.proofs.Keeping.{all_kept}
 use Rattle.fortran_lines.proofs.Feeds.{feed}
 

@@ -1,2 +1,4 @@
-pub mod OneAnswer
 pub mod Lengths
+pub mod OneAnswer
+pub mod Whole
+pub mod Reading

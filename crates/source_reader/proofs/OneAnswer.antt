@@ -18,7 +18,7 @@ use Rattle.token_words.specs.Words.{AreWords, IsFirstRefused}
 use Rattle.token_words.proofs.Sources.{words_once, never_both}
 use Rattle.reader_theory.specs.Refusals.{Reads}
 use Rattle.reader_theory.specs.Words.{expected}
-use Rattle.reader_theory.specs.Limits.{RefusedFor, no_word, level_at}
+use Rattle.reader_theory.specs.Limits.{no_word, level_at}
 use Rattle.reader_theory.proofs.Fronts.{not_both}
 use Rattle.reader_theory.proofs.Limits.{not_read, one_refusal}
 use Rattle.fortran_tree.specs.Units.{Program}
@@ -30,7 +30,8 @@ use Rattle.source_reader.specs.declared.fault.ReadFault.TheVariants.{NotAscii, L
 use Rattle.source_reader.specs.Sources.{AreStatements, AreSourceWords, IsRead}
 use Rattle.program_reader.specs.Unfinished.{No_statement}
 use Rattle.source_reader.specs.Laws.{IsSame}
-use Rattle.source_reader.specs.Refusals.{number, IsTokenFault, IsExpectedAt, IsOpenAt, IsTooDeepAt, AreRefused, WordsAreRefused, IsRefused, of_line, of_token}
+use Rattle.file_reader.specs.Refusals.{IsExpectedAt, IsOpenAt, IsTooDeepAt}
+use Rattle.source_reader.specs.Refusals.{number, IsTokenFault, AreRefused, WordsAreRefused, IsRefused, of_line, of_token}
 
 abbrev byte : ℕ → Pos → PlacedByte
 byte b p = record { code = b; at = p }

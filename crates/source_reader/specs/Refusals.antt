@@ -1,5 +1,5 @@
 -- How a source is refused: lines are judged first, over the whole file, then tokens, statement by statement, then statements.
-use Rattle.std.specs.Prelude.{ℕ, ◌≡◌, ◌<◌, List, [], ◌∷◌, ◌⊎◌, Some, length, slice_get}
+use Rattle.std.specs.Prelude.{ℕ, List}
 use Rattle.caf_base.specs.declared.place.Pos.{Pos}
 use Rattle.fortran_lines.specs.declared.fault.LineFault.{LineFault}
 use Rattle.fortran_lines.specs.declared.fault.LineFault.TheVariants as lines
@@ -8,10 +8,10 @@ use Rattle.fortran_lines.specs.Faults.{faults_of, IsFirst}
 use Rattle.fortran_tokens.specs.declared.fault.TokenFault.{TokenFault}
 use Rattle.fortran_tokens.specs.declared.fault.TokenFault.TheVariants as tokens
 use Rattle.token_words.specs.Words.{IsFirstRefused}
-use Rattle.reader_theory.specs.Limits.{RefusedFor, no_word, level_at}
 use Rattle.fortran_grammar.specs.Tokens.{Token}
-use Rattle.fortran_grammar.specs.ProgramGrammar.{Sources}
-use Rattle.program_reader.specs.Unfinished.{Unfinished, No_statement}
+use Rattle.file_reader.specs.declared.fault.FileFault.{FileFault}
+use Rattle.file_reader.specs.declared.fault.FileFault.TheVariants as files
+use Rattle.file_reader.specs.Refusals as words
 use Rattle.source_reader.specs.declared.fault.ReadFault.{ReadFault}
 use Rattle.source_reader.specs.declared.fault.ReadFault.TheVariants.{NotAscii, LineTooLong, DanglingContinuation, OpenLiteral, BadCharacter, NumberTooWide, Expected, BlockNotClosed, TooDeep}
 use Rattle.source_reader.specs.Sources.{AreStatements, AreSourceWords}
@@ -40,7 +40,7 @@ place (Expected at) = at
 place (BlockNotClosed at) = at
 place (TooDeep at) = at
 
--- a fault of the lines, and of the tokens, as one of the source
+-- a fault of the lines, of the tokens, and of the words as one of the source
 abbrev pub of_line : LineFault → ReadFault
 of_line (lines.NotAscii at) = NotAscii at
 of_line (lines.LineTooLong at) = LineTooLong at
@@ -51,39 +51,22 @@ abbrev pub of_token : TokenFault → ReadFault
 of_token (tokens.BadCharacter at) = BadCharacter at
 of_token (tokens.NumberTooWide at) = NumberTooWide at
 
+abbrev pub of_file : FileFault → ReadFault
+of_file (files.Expected at) = Expected at
+of_file (files.NotClosed at) = BlockNotClosed at
+of_file (files.TooDeep at) = TooDeep at
+
 -- no line breaks a rule, and this is wrong in the first statement that can't be cut into tokens
 pub record IsTokenFault (bytes : List ℕ) (f : TokenFault) : Type 0 where
   pub statements : List Stmt
   pub are : AreStatements bytes statements
   pub first : IsFirstRefused statements f
 
--- No program begins with the words up to and with this token, whatever its levels; the end of a statement is a token, just past its last one. Where there is no word at all, the beginning of the file.
-pub record IsExpectedAt (ts : List Token) (at : Pos) : Type 0 where
-  pub token : Token
-  pub rest : List Token
-  pub refused : RefusedFor Sources ts no_word (token ∷ rest)
-  pub place : at ≡ token.at
-
--- There are words, and programs go on from them, but none ends there; the innermost construct that is open stands at this place.
-pub record IsOpenAt (ts : List Token) (at : Pos) : Type 0 where
-  pub some : 0 < length ts
-  pub refused : RefusedFor Sources ts no_word []
-  pub unfinished : Unfinished 64 ts at
-
--- Programs go on with the token at which the words are refused, but each has a level too deep by then; the first of those levels begins at this token.
-pub record IsTooDeepAt (ts : List Token) (at : Pos) : Type 0 where
-  pub before : ℕ
-  pub token : Token
-  pub rest : List Token
-  pub refused : RefusedFor Sources ts (level_at before) rest
-  pub stands : slice_get ts before ≡ Some token
-  pub place : at ≡ token.at
-
 -- how the words of a source are refused
 abbrev pub AreRefused : List Token → ReadFault → Type 0
-AreRefused ts (Expected at) = No_statement ts at ⊎ IsExpectedAt ts at
-AreRefused ts (BlockNotClosed at) = IsOpenAt ts at
-AreRefused ts (TooDeep at) = IsTooDeepAt ts at
+AreRefused ts (Expected at) = words.AreRefused ts (files.Expected at)
+AreRefused ts (BlockNotClosed at) = words.AreRefused ts (files.NotClosed at)
+AreRefused ts (TooDeep at) = words.AreRefused ts (files.TooDeep at)
 AreRefused ts f = ⊥
 
 -- so are words of this source

@@ -4,6 +4,7 @@ ghost use Rattle.std.specs.Prelude.{◌≡◌};
 ghost use Rattle.source_reader.specs.Refusals as spec;
 
 use caf_base::place::Pos;
+use file_reader::FileFault;
 use fortran_lines::fault::LineFault;
 use fortran_tokens::fault::TokenFault;
 use thiserror::Error;
@@ -93,5 +94,16 @@ pub(crate) fn of_token(fault: TokenFault) -> ReadFault
     match fault {
         TokenFault::BadCharacter { at } => ReadFault::BadCharacter { at },
         TokenFault::NumberTooWide { at } => ReadFault::NumberTooWide { at },
+    }
+}
+
+/// A fault of the words as one of the source.
+pub(crate) fn of_file(fault: FileFault) -> ReadFault
+    ensures { result ≡ spec.of_file fault }
+{
+    match fault {
+        FileFault::Expected { at } => ReadFault::Expected { at },
+        FileFault::NotClosed { at } => ReadFault::BlockNotClosed { at },
+        FileFault::TooDeep { at } => ReadFault::TooDeep { at },
     }
 }

@@ -1,18 +1,25 @@
 //! The reader of sources.
 
-ghost use Rattle.std.specs.Prelude.{◌<◌, length, IfOk, IfErr};
+ghost use Rattle.std.specs.Prelude.{◌≡◌, ◌<◌, true, [], length, map, IfOk, IfErr};
 ghost use Rattle.expr_reader.specs.Words.{tokens_of};
 ghost use Rattle.fortran_lines.specs.Causes.{IfCause};
 ghost use Rattle.fortran_tree.specs.UnitViews.{program};
+ghost use Rattle.part_reader.specs.Views as held;
+ghost use Rattle.program_reader.specs.Sequence.{rest_reader, start};
+ghost use Rattle.reader_theory.specs.Words.{found};
+ghost use Rattle.sequence_reader.specs.Statements.{whole_statements};
 ghost use Rattle.source_reader.specs.Sources.{AreSourceWords, AreStatements, IsRead};
-ghost use Rattle.source_reader.specs.Refusals.{IsRefused};
+ghost use Rattle.source_reader.specs.Refusals.{AreRefused, IsRefused};
 
-use crate::fault::{ReadFault, of_line, of_token};
+use crate::fault::{ReadFault, of_file, of_line, of_token};
 use caf_base::refusal::Refusal;
 use expr_reader::word::Word;
+use file_reader::file_parts;
 use fortran_lines::join::join_lines;
 use fortran_lines::stmt::Stmt;
 use fortran_tree::unit::Program;
+use part_reader::part::Part;
+use program_tree::unit::program_of;
 use std::alloc::Global;
 use token_words::words;
 
@@ -43,6 +50,22 @@ pub fn source_words(alloc: Global, bytes: &[u8]) -> Result<Vec<Word>, Refusal<Re
     }
 }
 
+/// The parts that the words of a source spell. Places among words are numbers below 4,294,967,295: for more words memory is wanting.
+fn parts_of(alloc: Global, words: &[Word]) -> Result<Vec<Part>, Refusal<ReadFault>>
+    requires { whole_statements (tokens_of words.now) ≡ true }
+    ensures parts { IfOk result (λ parts. rest_reader 64 (length (tokens_of words.now)) start (tokens_of words.now) ≡ found (map held.part parts.items) []) }
+    ensures refused { IfErr result (λ refusal. IfCause refusal (λ fault. AreRefused (tokens_of words.now) fault)) }
+{
+    if words.len() >= 4_294_967_295 {
+        return Err(Refusal::NoMemory);
+    }
+    match file_parts(alloc, words) {
+        Ok(parts) => Ok(parts),
+        Err(Refusal::NoMemory) => Err(Refusal::NoMemory),
+        Err(Refusal::Cause(fault)) => Err(Refusal::Cause(of_file(fault))),
+    }
+}
+
 /// Reads a source: lines first, over the whole file, then tokens, then statements.
 ///
 /// # Errors
@@ -53,6 +76,7 @@ pub fn read(alloc: Global, bytes: &[u8]) -> Result<Program, Refusal<ReadFault>>
     ensures read { IfOk result (λ tree. IsRead bytes.now (program tree)) }
     ensures refused { IfErr result (λ refusal. IfCause refusal (λ fault. IsRefused bytes.now fault)) }
 {
-    drop(source_words(alloc, bytes)?);
-    Err(Refusal::NoMemory)
+    let words = source_words(alloc, bytes)?;
+    let parts = parts_of(alloc, words.as_slice())?;
+    Ok(program_of(alloc, parts)?)
 }

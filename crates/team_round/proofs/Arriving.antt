@@ -24,10 +24,10 @@ module _ (t i : ℕ) (kind : RoundKind) (line : ℕ) (hs : List Happening) where
   here : Happening
   here = arrives t i kind line
 
-  count_mine : arrivals t i (hs ++ arrives t i kind line ∷ []) ≡ arrivals t i hs + 1
+  pub count_mine : arrivals t i (hs ++ arrives t i kind line ∷ []) ≡ arrivals t i hs + 1
   count_mine = arrivals_more t i hs (arrives t i kind line) ∙ rw (eq-eqb t t refl, eq-eqb i i refl) refl
 
-  count_other : (j : ℕ) → (i ≡ j → ⊥) → arrivals t j (hs ++ arrives t i kind line ∷ []) ≡ arrivals t j hs
+  pub count_other : (j : ℕ) → (i ≡ j → ⊥) → arrivals t j (hs ++ arrives t i kind line ∷ []) ≡ arrivals t j hs
   count_other j n =
       let a : arrivals t j (hs ++ arrives t i kind line ∷ []) ≡ arrivals t j hs + 0 = arrivals_more t j hs (arrives t i kind line) ∙ rw (eq-eqb t t refl, ne_eqb i j n) refl in
       omega arith

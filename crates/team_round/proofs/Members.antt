@@ -54,3 +54,10 @@ told_of n t s0 s y hs v w is all =
     let high : t ≤ length s0.teams = w.1 in
     let number : suc (t - 1) ≡ t = omega arith in
     subst (λ u. IsTold u y s0.ended hs) number (told_there n (t - 1) s0 y hs (get_from s0.teams (t - 1) y (omega arith) (is ∙ ap (λ (q : RoundsState). slice_index_or q.teams (t - 1) y) v)) all)
+
+-- the team that is read is the one of the number
+pub read_there : (t : ℕ) (s0 s : RoundsState) (y x : TeamState) → s ≡ s0 → (0 < t) × (t ≤ length s0.teams) → y ≡ slice_index_or s.teams (t - 1) y → slice_get s0.teams (t - 1) ≡ Some x → y ≡ x
+read_there t s0 s y x v w is at =
+    let low : 0 < t = w.0 in
+    let high : t ≤ length s0.teams = w.1 in
+    same_some y x (sym (get_from s0.teams (t - 1) y (omega arith) (is ∙ ap (λ (q : RoundsState). slice_index_or q.teams (t - 1) y) v)) ∙ at)

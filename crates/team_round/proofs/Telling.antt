@@ -127,7 +127,7 @@ ended_other j i false hs n =
     ∙ ap (λ b. has_stopped j hs || b) (any_more (is_failure j) hs (stops i) ∙ or_false (has_failed j hs))
 
 -- a round that the image has joined doesn't wait for its end
-end_closed : (ms : List ℕ) (t r i : ℕ) (failed : Bool) (hs : List Happening) → r ≤ arrivals t i hs → has_closed ms t r (hs ++ end_of i failed ∷ []) ≡ has_closed ms t r hs
+pub end_closed : (ms : List ℕ) (t r i : ℕ) (failed : Bool) (hs : List Happening) → r ≤ arrivals t i hs → has_closed ms t r (hs ++ end_of i failed ∷ []) ≡ has_closed ms t r hs
 end_closed ms t r i failed hs joined =
     ap (λ b. b && list_all (λ m. has_arrived t r m (hs ++ end_of i failed ∷ []) || has_ended m (hs ++ end_of i failed ∷ [])) ms)
     (any_same (λ m. has_arrived t r m (hs ++ end_of i failed ∷ [])) (λ m. has_arrived t r m hs) (λ m. ap (nat_le r) (end_counts t m i failed hs)) ms)

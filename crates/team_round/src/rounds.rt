@@ -2,11 +2,14 @@
 
 ghost use Rattle.std.specs.Prelude.{◌≡◌, ◌+◌, ◌-◌, ◌<◌, ◌≤◌, ◌^◌, ℕ, List, [], ◌∷◌, ◌++◌, Some, None, true, length, slice_get, IfOk, OnOk, MatchOption, vec_len, vec_capacity};
 ghost use Rattle.std.specs.Option.{is_some};
-ghost use Rattle.object_rules.specs.Happenings.{Happening, numbers_of};
+ghost use Rattle.std.specs.Global.{Vec};
+ghost use Rattle.caf_base.specs.declared.place.ImageNo.{ImageNo};
+ghost use Rattle.caf_events.specs.declared.round.RoundKind.{RoundKind};
+ghost use Rattle.object_rules.specs.Happenings.{Happening, arrives, numbers_of};
 ghost use Rattle.object_rules.specs.Kinds.{same_kind as same_kinds};
 ghost use Rattle.object_rules.specs.TeamRounds.{arrivals, opening_of, at_close, missed_by, result_of};
 ghost use Rattle.failure_status.specs.Endings.{AreWithin, end_of, ended_with};
-ghost use Rattle.team_round.specs.TeamStates.{TeamState, CanArrive, CanEnd, AreEnded, told_arrival, happened_with, TellsAll, CanExpect, kind_told, closed_at, fresh_team, images_to, members_in, status_told, AreZeros};
+ghost use Rattle.team_round.specs.TeamStates.{TeamState, CanArrive, CanEnd, AreEnded, told_arrival, happened_with, TellsAll, CanExpect, CanClose, IsWith, closing_at, kind_told, closed_at, fresh_team, images_to, members_in, status_told, AreZeros};
 
 use crate::round::Arrival;
 use crate::rounds_of_team::TeamRounds;
@@ -54,6 +57,18 @@ fn end_all(teams: &mut Vec<TeamRounds>, endings: &Endings, image: ImageNo)
 {
     for k in 0..teams.len() {
         teams[k].ended(endings, image);
+    }
+}
+
+// Gives the next teams their members. It takes no memory.
+fn add_each(rounds: &mut Rounds, members: Vec<Vec<ImageNo>>)
+    requires room { length members.items ≤ rounds.old.room }
+    requires spare { length members.items ≤ rounds.old.spare }
+    requires members { (k : ℕ) (x : Vec ImageNo) → slice_get members.items k ≡ Some x → AreWithin rounds.old.images x.items }
+    ensures { IsWith rounds.old members.items rounds.new }
+{
+    for one in members {
+        rounds.add_team(one);
     }
 }
 
@@ -213,6 +228,45 @@ impl Rounds {
             Some(status) => status,
             None => unreachable!(),
         }
+    }
+
+    /// The status with which the round of the team after the last one that the image has joined closes by its arrival, 6000, 6001 or 0 by the
+    /// members that have ended; None where it doesn't close.
+    pub fn closing_by_arrival(&self, t: TeamNo, image: ImageNo) -> Option<i32>
+        requires team { (0 < t.0) × (t.0 ≤ length self.now.teams) }
+        requires state { (x : TeamState) → slice_get self.now.teams (t.0 - 1) ≡ Some x → CanClose self.now.ended x image.0 }
+        ensures { (n : ℕ) (kind : RoundKind) (line : ℕ) (hs : List Happening) (x : TeamState) → TellsAll n self.now hs → slice_get self.now.teams (t.0 - 1) ≡ Some x
+            → result ≡ closing_at (numbers_of x.members) t.0 hs (hs ++ arrives t.0 image.0 kind line ∷ []) (arrivals t.0 image.0 hs + 1) }
+    {
+        self.teams[(t.0 - 1) as usize].closing_by_arrival(&self.endings, image)
+    }
+
+    /// The status with which a round of the team closes when the image fails or stops; None where it doesn't close.
+    pub fn closing_by_end(&self, t: TeamNo, round: u64, image: ImageNo, failed: bool) -> Option<i32>
+        requires team { (0 < t.0) × (t.0 ≤ length self.now.teams) }
+        requires state { (x : TeamState) → slice_get self.now.teams (t.0 - 1) ≡ Some x → CanClose self.now.ended x image.0 }
+        ensures { (n : ℕ) (hs : List Happening) (x : TeamState) → TellsAll n self.now hs → slice_get self.now.teams (t.0 - 1) ≡ Some x
+            → result ≡ closing_at (numbers_of x.members) t.0 hs (hs ++ end_of image.0 failed ∷ []) round }
+    {
+        self.teams[(t.0 - 1) as usize].closing_by_end(&self.endings, round, image, failed)
+    }
+
+    /// How many rounds of the team have an arrival.
+    pub fn count(&self, t: TeamNo) -> usize
+        requires { (0 < t.0) × (t.0 ≤ length self.now.teams) }
+        ensures { (x : TeamState) → slice_get self.now.teams (t.0 - 1) ≡ Some x → result ≡ length x.rounds }
+    {
+        self.teams[(t.0 - 1) as usize].count()
+    }
+
+    /// Gives the next teams their members, one after the other. It takes no memory.
+    pub fn add_teams(&mut self, members: Vec<Vec<ImageNo>>)
+        requires room { length members.items ≤ self.old.room }
+        requires spare { length members.items ≤ self.old.spare }
+        requires members { (k : ℕ) (x : Vec ImageNo) → slice_get members.items k ≡ Some x → AreWithin self.old.images x.items }
+        ensures { IsWith self.old members.items self.new }
+    {
+        add_each(self, members);
     }
 
     /// The arrival of a member of a team, by a statement of a kind and at a line. It takes no memory.

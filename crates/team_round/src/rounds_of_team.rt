@@ -1,14 +1,15 @@
 //! The rounds of one team.
 
 ghost use Rattle.std.specs.Prelude.{◌≡◌, ◌+◌, ◌-◌, ◌<◌, ◌≤◌, ◌^◌, ℕ, Bool, vec_len, vec_capacity, List, [], ◌∷◌, ◌++◌, length, slice_get, Some, None, OnOk, MatchOption};
-ghost use Rattle.object_rules.specs.Happenings.{Happening, numbers_of};
+ghost use Rattle.caf_events.specs.declared.round.RoundKind.{RoundKind};
+ghost use Rattle.object_rules.specs.Happenings.{Happening, arrives, numbers_of};
 ghost use Rattle.object_rules.specs.Kinds.{same_kind as same_kinds};
 ghost use Rattle.object_rules.specs.TeamRounds.{arrivals, opening_of, at_close};
 ghost use Rattle.failure_status.specs.Endings.{AreWithin, Ended, end_of, TellsEnded};
-ghost use Rattle.team_round.specs.TeamStates.{clash_of, closed_at, opened_at, joined_by, told_arrival, happened_with, status_at, CanExpect, kind_told, kind_kept, Tells, IsTold};
+ghost use Rattle.team_round.specs.TeamStates.{clash_of, closed_at, opened_at, joined_by, told_arrival, happened_with, status_at, CanExpect, CanClose, closing_at, kind_told, kind_kept, Tells, IsTold};
 
 use crate::round::{Arrival, Round, same_kind};
-use crate::team::{try_close, try_from};
+use crate::team::{closes_by_arrival, closes_by_end, try_close, try_from};
 use caf_base::place::ImageNo;
 use caf_base::refusal::NoMemory;
 use caf_events::round::RoundKind;
@@ -174,6 +175,46 @@ impl TeamRounds {
             Some(clash) => clash,
             None => Arrival::Joined(place as u64 + 1),
         }
+    }
+
+    // The status with which the round after the last one that the image has joined closes by its arrival; None where it doesn't close.
+    pub(crate) fn closing_by_arrival(&self, endings: &Endings, image: ImageNo) -> Option<i32>
+        requires { CanClose endings.now self.now image.0 }
+        ensures { (t : ℕ) (kind : RoundKind) (line : ℕ) (hs : List Happening) → IsTold t self.now endings.now hs
+            → result ≡ closing_at (numbers_of self.now.members) t hs (hs ++ arrives t image.0 kind line ∷ []) (arrivals t image.0 hs + 1) }
+    {
+        let round = joined_rounds(&self.joined, image) + 1;
+        if closes_by_arrival(&self.members, &self.joined, endings, image, round) {
+            Some(endings.status_among(self.members.as_slice()))
+        } else {
+            None
+        }
+    }
+
+    // The status with which a round closes by the end of an image; None where it doesn't close.
+    pub(crate) fn closing_by_end(
+        &self,
+        endings: &Endings,
+        round: u64,
+        image: ImageNo,
+        failed: bool,
+    ) -> Option<i32>
+        requires { CanClose endings.now self.now image.0 }
+        ensures { (t : ℕ) (hs : List Happening) → IsTold t self.now endings.now hs
+            → result ≡ closing_at (numbers_of self.now.members) t hs (hs ++ end_of image.0 failed ∷ []) round }
+    {
+        if closes_by_end(&self.members, &self.joined, endings, image, round) {
+            Some(endings.status_among_with(self.members.as_slice(), image, failed))
+        } else {
+            None
+        }
+    }
+
+    // How many rounds have an arrival.
+    pub(crate) fn count(&self) -> usize
+        ensures { result ≡ length self.now.rounds }
+    {
+        self.rounds.len()
     }
 
     // How many rounds the image has joined.

@@ -1,6 +1,6 @@
 //! The teams of a run.
 
-ghost use Rattle.std.specs.Prelude.{◌≡◌, ◌+◌, ◌-◌, ◌<◌, ◌≤◌, ◌^◌, [], ◌++◌, ◌&&◌, not, false, length, map, IfOk, OnOk, vec_len, vec_capacity};
+ghost use Rattle.std.specs.Prelude.{◌≡◌, ◌+◌, ◌-◌, ◌<◌, ◌≤◌, ◌^◌, [], ◌++◌, ◌&&◌, not, false, nat_eq, length, map, IfOk, OnOk, vec_len, vec_capacity};
 ghost use Rattle.std.specs.List.{range_with_len};
 ghost use Rattle.object_rules.specs.BoardTeams.{teams_after};
 ghost use Rattle.object_rules.specs.Happenings.{numbers_of};
@@ -15,6 +15,7 @@ use crate::plan::{FormPlan, plan_of};
 use crate::team::Team;
 use caf_base::place::{ImageNo, TeamNo};
 use caf_base::refusal::NoMemory;
+use caf_events::reply::FormedTeam;
 use std::alloc::Global;
 use std::marker::Model;
 
@@ -49,7 +50,9 @@ fn all_images(alloc: Global, n: u32) -> Result<Vec<ImageNo>, NoMemory>
 fn add_children(teams: &mut Vec<Team>, parent: u32, made: Vec<Members>)
     requires few { AreFew made.items }
     requires room { vec_len teams.old + length made.items ≤ vec_capacity teams.old }
-    ensures { teams.new.items ≡ teams.old.items ++ map (child_of parent) made.items }
+    ensures teams { teams.new.items ≡ teams.old.items ++ map (child_of parent) made.items }
+    ensures len { vec_len teams.new ≡ vec_len teams.old + length made.items }
+    ensures capacity { vec_capacity teams.new ≡ vec_capacity teams.old }
 {
     for one in made {
         let Members { number, images } = one;
@@ -107,6 +110,22 @@ impl Teams {
         self.teams[(t.0 - 1) as usize].parent()
     }
 
+    /// Whether the team is a child of this one.
+    pub fn is_child(&self, t: TeamNo, parent: TeamNo) -> bool
+        requires { (0 < t.0) × (t.0 ≤ length self.now.teams) }
+        ensures { result ≡ nat_eq (team_of self.now.teams t.0).parent parent.0 }
+    {
+        self.teams[(t.0 - 1) as usize].is_child_of(parent)
+    }
+
+    /// The team as a reply tells it.
+    pub fn told(&self, alloc: Global, t: TeamNo) -> Result<FormedTeam, NoMemory>
+        requires { (0 < t.0) × (t.0 ≤ length self.now.teams) }
+        ensures { IfOk result (λ f. f ≡ record { team = t; number = (team_of self.now.teams t.0).number; members = (team_of self.now.teams t.0).members }) }
+    {
+        self.teams[(t.0 - 1) as usize].told(alloc, t)
+    }
+
     /// The plan of a FORM TEAM of the parent, by the arguments of its members; the arguments may stand in any order.
     pub fn plan_form(
         &self,
@@ -148,7 +167,8 @@ impl Teams {
     pub fn enact(&mut self, plan: FormPlan)
         requires few { AreFew plan.teams.items }
         requires room { length plan.teams.items ≤ self.old.room }
-        ensures { self.new.teams ≡ self.old.teams ++ map (child_of plan.parent.0) plan.teams.items }
+        ensures teams { self.new.teams ≡ self.old.teams ++ map (child_of plan.parent.0) plan.teams.items }
+        ensures room { self.new.room + length plan.teams.items ≡ self.old.room }
     {
         let FormPlan {
             parent,

@@ -31,7 +31,7 @@ returns c n h b ready =
     let x = get_there c.args.parts.now.control.teams (c.args.team.0 - 1) (omega arith) in
     let m = rounds_members n h c.args.parts.now b false c.args.team.0 x.0 low x.1 in
     let e : to_z w32 (of_z w32 c.result.result) ≡ c.result.result = search rules in
-    ap (λ s. replies.Left s c.new.result) e
-    ∙ ap (replies.Left c.result.result) c.new.ensures
-    ∙ left_law n h c.args.parts.now b c.args.team.0 c.args.round low j.1 c.result.result j.2
-    (λ f close. c.result.ensures n (happened control h) f x.0 (b.rounds false) x.1 (ap (λ ms. at_close ms c.args.team.0 c.args.round (happened control h)) m ∙ close) ∙ ap (λ ms. result_of (missed_by ms f) false) m)
+    ap (λ s. replies.Left s c.in_ok-teams.teams) e
+    ∙ left_law n h c.args.parts.now b c.args.team.0 c.args.round low j.1 c.result.result c.is_bad.result c.in_ok-teams.teams j.2
+    (λ f close. c.result.ensures n (happened control h) f x.0 (b.rounds false) x.1 (ap (λ ms. at_close ms c.args.team.0 c.args.round (happened control h)) m ∙ close) ∙ ap (λ ms. result_of (missed_by ms f) c.is_bad.result) m)
+    c.is_bad.ensures (c.in_ok-teams.ensures n h b)

@@ -12,13 +12,13 @@ use Rattle.control_board.proofs.reply.joined.Goals as goal
 pub expected-arrival-requires-clause-team : goal.expected-arrival-requires-clause-team
 expected-arrival-requires-clause-team c =
     let r = ready_parts c.requires.images c.requires.history c.args.image.0 (asks.Arrive c.args.team c.args.arriving.now) c.requires.ready in
-    let t = member_there c.requires.images c.requires.history c.args.parts.now c.requires.board false c.args.team.0 c.args.image.0 r.2 in
+    let t = member_there c.requires.images c.requires.history c.args.parts.now c.requires.board false c.args.team.0 c.args.image.0 r.1 in
     (t.0, t.1)
 
 pub expected-arrival-requires-clause-state : goal.expected-arrival-requires-clause-state
 expected-arrival-requires-clause-state c =
     let r = ready_parts c.requires.images c.requires.history c.args.image.0 (asks.Arrive c.args.team c.args.arriving.now) c.requires.ready in
-    can_expect c.requires.images c.requires.history c.args.parts.now c.requires.board c.args.image.0 r.1 false c.args.team.0 c.requires.few
+    can_expect c.requires.images c.requires.history c.args.parts.now c.requires.board c.args.image.0 r.0 false c.args.team.0 c.requires.few
 
 pub returns : goal.returns
 returns c n h b =

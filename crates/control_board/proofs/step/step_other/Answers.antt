@@ -1,6 +1,5 @@
 use Rattle.std.proofs.Common.{sym, subst}
-use Rattle.control_board.specs.Boards.{StepBy}
-use Rattle.control_board.proofs.Steps.{ready_parts}
+use Rattle.control_board.specs.Boards.{StepBy, CanStep}
 use Rattle.control_board.proofs.step.step_other.Goals as goal
 
 pub returns-in-Pair : goal.returns-in-Pair
@@ -19,10 +18,4 @@ pub returns-in-Stop : goal.returns-in-Stop
 returns-in-Stop c line = subst (λ a. StepBy c.args.parts.now c.args.image a line c.stop.new.parts) (sym c.in-Stop.is) (c.stop.ensures _ line)
 
 pub stop-requires : goal.stop-requires
-stop-requires c =
-    record {
-      images = c.requires.images;
-      history = c.requires.history;
-      board = c.requires.board;
-      image = (ready_parts c.requires.images c.requires.history c.args.image.0 c.args.ask.now c.requires.ready).1;
-    }
+stop-requires c = record { code = c.in-Stop.code; step = subst (CanStep c.args.parts.now c.args.image.0) c.in-Stop.is c.requires }

@@ -5,7 +5,7 @@ use Rattle.object_rules.specs.TeamRounds.{opening_of}
 use Rattle.object_rules.specs.BoardRules.{collected}
 use Rattle.team_tree.specs.KnownTeams.{team_of}
 use Rattle.caf_base.specs.declared.place.ImageNo.{ImageNo}
-use Rattle.control_board.specs.Boards.{value_at}
+use Rattle.control_board.specs.Boards.{value_at, table_of}
 use Rattle.control_board.proofs.Members.{known_there}
 use Rattle.control_board.proofs.Collecting.{ok_map, values_members, kind_collected, none_collected}
 use Rattle.control_board.proofs.taking.combined.Goals as goal
@@ -13,7 +13,7 @@ use Rattle.control_board.proofs.taking.combined.Goals as goal
 pub returns-in-Some : goal.returns-in-Some
 returns-in-Some c =
     ok_map c.collected.result (λ o q n h b. (
-    let f = value_at c.args.parts.now.brought.items c.args.round in
+    let f = value_at (table_of c.args.parts.now.brought.items c.args.team.0) c.args.round in
     q ∙ ap (λ l. collected c.in-Some.what.now (map (λ x. x.items) l)) c.as_slice.ensures.value
     ∙ ap (collected c.in-Some.what.now) (
     c.in_ok-values.ensures ∙ ap (map (λ (m : ImageNo). f m.0)) c.members-members.ensures.members ∙ values_members f (team_of c.args.parts.now.teams.teams c.args.team.0).members

@@ -6,8 +6,8 @@ use Rattle.caf_events.specs.declared.reply.Reply.TheVariants as replies
 use Rattle.object_rules.specs.BoardTeams.{teams_after, members_at}
 use Rattle.failure_status.specs.Endings.{AreWithin}
 use Rattle.team_tree.specs.KnownTeams.{team_of}
-use Rattle.control_board.specs.Boards.{values_of, taken_of}
-use Rattle.control_board.proofs.Members.{member_there, known_there, known_within}
+use Rattle.control_board.specs.Boards.{values_of, table_of, taken_of}
+use Rattle.control_board.proofs.Members.{member_there, tables_there, known_there, known_within}
 use Rattle.control_board.proofs.Replying.{closed_there}
 use Rattle.control_board.proofs.Departures.{taken_parts}
 use Rattle.control_board.proofs.Collecting.{all_there, departs}
@@ -53,9 +53,10 @@ combined-requires c =
       low = t.0;
       high = t.2;
       rounds = t.1;
+      table = tables_there q.images q.history c.args.parts.now q.board c.args.team.0 t.0 t.2;
       first = j.1;
-      images = subst (λ m. AreWithin m (team_of c.args.parts.now.teams.teams c.args.team.0).members) (sym q.board.bringers) (known_within q.images q.history c.args.parts.now q.board c.args.team.0 t.0 t.2);
-      there = all_there (team_of c.args.parts.now.teams.teams c.args.team.0).members (members_at (teams_after q.images q.history) c.args.team.0) (λ m. c.args.round ≤ length (values_of c.args.parts.now.brought.items m))
+      images = subst (λ m. AreWithin m (team_of c.args.parts.now.teams.teams c.args.team.0).members) (sym (q.board.bringers c.args.team.0 t.0 (tables_there q.images q.history c.args.parts.now q.board c.args.team.0 t.0 t.2))) (known_within q.images q.history c.args.parts.now q.board c.args.team.0 t.0 t.2);
+      there = all_there (team_of c.args.parts.now.teams.teams c.args.team.0).members (members_at (teams_after q.images q.history) c.args.team.0) (λ m. c.args.round ≤ length (values_of (table_of c.args.parts.now.brought.items c.args.team.0) m))
           (known_there q.images q.history c.args.parts.now q.board c.args.team.0 t.0 t.2) (d.came zero_status);
     }
 

@@ -1,5 +1,5 @@
-use Rattle.std.proofs.Common.{◌≡◌, ◌∷◌, ap, sym, ◌∙◌}
-use Rattle.fortran_tree.specs.ActionViews.{action_statement, action_if}
+use Rattle.std.proofs.Common.{◌∷◌, ap, sym, ◌∙◌}
+use Rattle.fortran_tree.specs.ActionViews.{action_if}
 use Rattle.fortran_tree.specs.ExpressionViews.{expression}
 use Rattle.statement_reader.specs.Parts as f
 use Rattle.program_reader.specs.Nesting.{action_parts}

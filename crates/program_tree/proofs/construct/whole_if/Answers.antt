@@ -1,8 +1,5 @@
-use Rattle.std.proofs.Common.{ap, sym, ◌∙◌, ◌∷◌, subst, ◌≡◌}
-use Rattle.fortran_tree.specs.StatementViews.{statement_list}
+use Rattle.std.proofs.Common.{◌∙◌, ◌∷◌}
 use Rattle.statement_reader.specs.Parts as f
-use Rattle.program_reader.specs.Nesting.{statements_parts}
-use Rattle.program_tree.specs.Blocks.{construct_front}
 use Rattle.program_tree.proofs.Wholes.{else_whole, if_whole}
 use Rattle.program_tree.proofs.construct.whole_if.Goals as goal
 

@@ -41,3 +41,6 @@ returns c =
     let last = map view.form c.allowed_forms.result.statements.now in
     turns.all_tried seen (view.state c.args.state.now) c.args.words.now own early last (sequence.allowed (view.state c.args.state.now)) c.in_ok-tried.tried.found c.in_ok-tried-2.tried.found c.in_ok-tried-3.tried.found c.in_ok-tried.tried.fault c.in_ok-tried-2.tried.fault c.in_ok-tried-3.tried.fault
     c.allowed_forms.ensures c.in_ok-tried.ensures c.in_ok-tried-2.ensures c.in_ok-tried-3.ensures
+
+pub attempts-requires-clause-late : goal.attempts-requires-clause-late
+attempts-requires-clause-late c = turns.unread_late c.args.words.now

@@ -1,4 +1,4 @@
-use Rattle.std.proofs.Common.{rules, arith, ◌≡◌, ◌≤◌, suc, List, [], ◌∷◌, ◌++◌, length, map, Bor, ap, sym, ◌∙◌, subst}
+use Rattle.std.proofs.Common.{rules, arith, ◌≡◌, ◌≤◌, ◌<◌, suc, List, [], ◌∷◌, ◌++◌, length, map, Bor, ap, sym, ◌∙◌, subst}
 use Rattle.fortran_grammar.specs.Tokens.{Token}
 use Rattle.expr_reader.specs.Words.{tokens_of}
 use Rattle.expr_reader.specs.declared.word.Word.{Word}
@@ -10,7 +10,7 @@ use Rattle.sequence_reader.specs.Answers as answers
 use Rattle.sequence_reader.specs.Views as view
 use Rattle.sequence_reader.proofs.Advances.{all_stop, one_goes, goes_shorter, goes_fitting, held_more}
 use Rattle.sequence_reader.specs.Halts as halts
-use Rattle.sequence_reader.proofs.Walks.{walk_on}
+use Rattle.sequence_reader.proofs.Walks.{walk_on, late_on, way_on}
 use Rattle.sequence_reader.proofs.Turns.{tokens_length, held_depth, depth_held}
 use Rattle.sequence_reader.proofs.sequence.advance.Goals as goal
 
@@ -47,3 +47,11 @@ returns-clause-walks c =
     λ every w. subst (λ z. halts.Walked 64 every z (map held.part c.push.new.self.items) (tokens_of c.in-Some.rest.now)) (sym c.in-Ok.ensures)
     (subst (λ z. halts.Walked 64 every (next s (held.part c.in-Some.part)) z (tokens_of c.in-Some.rest.now)) (sym (ap (map held.part) items ∙ held_more c.args.progress.now.parts.items c.in-Some.part))
     (walk_on seen every s (map held.part c.args.progress.now.parts.items) (tokens_of c.args.words.now) _ c.in_ok-tried.tried.found c.in_ok-tried.tried.fault (c.in-Some.part, c.in-Some.rest) c.in_ok-tried.ensures c.in-Some.is w))
+
+pub returns-in_default-clause-late : goal.returns-in_default-clause-late
+returns-in_default-clause-late c = λ every w. late_on seen every (view.state c.args.progress.now.state) (tokens_of c.args.words.now) _ c.in_ok-tried.tried.found c.args.progress.now.fault c.in_ok-tried.tried.fault c.further-progress.result c.in_ok-tried.ensures
+    (subst (λ n. 0 < n) (sym (tokens_length c.args.words.now)) c.requires.some) c.further-progress.ensures w
+
+pub returns-clause-late : goal.returns-clause-late
+returns-clause-late c = λ every w. way_on seen every (view.state c.args.progress.now.state) (tokens_of c.args.words.now) _ c.in_ok-tried.tried.found c.args.progress.now.fault c.in_ok-tried.tried.fault c.further-progress.result (c.in-Some.part, c.in-Some.rest) c.in_ok-tried.ensures
+    (subst (λ n. 0 < n) (sym (tokens_length c.args.words.now)) c.requires.some) c.further-progress.ensures c.in-Some.is w

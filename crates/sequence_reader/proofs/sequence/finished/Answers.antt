@@ -4,6 +4,7 @@ use Rattle.part_reader.specs.Views as held
 use Rattle.sequence_reader.specs.Views as view
 use Rattle.sequence_reader.proofs.Advances.{ends_well, ends_early}
 use Rattle.sequence_reader.proofs.Walks.{unfinished_at}
+use Rattle.sequence_reader.proofs.Late.{at_the_end}
 use Rattle.sequence_reader.proofs.sequence.finished.Goals as goal
 
 pub returns-then-ends : goal.returns-then-ends
@@ -12,5 +13,6 @@ returns-then-ends c = λ every r w. ends_well (view.state c.args.progress.state)
 pub returns : goal.returns
 returns c = λ every r w. (
   ends_early (view.state c.args.progress.state) (map held.part c.args.progress.parts.items) c.args.progress.fault c.further.result every r (sym c.may_end-ends.ensures ∙ c.if-ends.false) c.further.ensures,
+  at_the_end c.args.progress.fault c.further.result c.further.ensures,
   unfinished_at (tokens_of c.args.words.now) (view.state c.args.progress.state) (map held.part c.args.progress.parts.items) c.open_place-at.result w (sym c.may_end-ends.ensures ∙ c.if-ends.false) c.open_place-at.ensures,
 )

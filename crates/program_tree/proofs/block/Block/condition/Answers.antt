@@ -1,5 +1,4 @@
-use Rattle.std.proofs.Common.{◌≡◌, List, ◌∷◌, refl, ap, sym, ◌∙◌, subst}
-use Rattle.program_tree.proofs.Moves.{on_ok, conditioned, unselected}
+use Rattle.program_tree.proofs.Moves.{conditioned}
 use Rattle.program_tree.proofs.block.Block.condition.Goals as goal
 
 pub returns : goal.returns

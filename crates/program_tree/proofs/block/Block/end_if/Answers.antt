@@ -1,16 +1,11 @@
-use Rattle.std.proofs.Common.{◌≡◌, List, ◌∷◌, refl, ap, sym, ◌∙◌, subst}
-use Rattle.fortran_tree.specs.ExpressionViews.{expression}
-use Rattle.fortran_tree.specs.ActionViews.{action_statement}
-use Rattle.fortran_tree.specs.StatementViews.{statement, statement_list, case_selector}
+use Rattle.std.proofs.Common.{◌∷◌, refl, ap, sym, ◌∙◌}
+use Rattle.fortran_tree.specs.StatementViews.{statement_list}
 use Rattle.statement_reader.specs.Parts as f
 use Rattle.statement_reader.specs.Parts.{Part}
-use Rattle.program_reader.specs.Sequence.{to_else, to_case}
-use Rattle.program_reader.specs.Nesting.{statement_parts, statements_parts}
-use Rattle.program_tree.specs.declared.construct.Construct.{Construct}
-use Rattle.program_tree.specs.declared.construct.Construct.TheVariants as k
-use Rattle.program_tree.specs.Blocks.{construct_front, opens, open_of}
-use Rattle.program_tree.proofs.Places.{clear_close, clear_line, some_open, fits}
-use Rattle.program_tree.proofs.Moves.{on_ok, on_three, ended, divided, acted, then_else_if, then_else, then_case}
+use Rattle.program_reader.specs.Nesting.{statements_parts}
+use Rattle.program_tree.specs.Blocks.{construct_front}
+use Rattle.program_tree.proofs.Places.{clear_close, some_open}
+use Rattle.program_tree.proofs.Moves.{on_ok, ended}
 use Rattle.program_tree.proofs.block.Block.end_if.Goals as goal
 
 pub leave-construct-requires : goal.leave-construct-requires

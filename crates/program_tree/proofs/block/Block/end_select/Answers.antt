@@ -1,6 +1,6 @@
-use Rattle.std.proofs.Common.{◌≡◌, List, ◌∷◌, refl, ap, sym, ◌∙◌, subst}
+use Rattle.std.proofs.Common.{sym, ◌∙◌, subst}
 use Rattle.program_tree.specs.Blocks.{IsClear}
-use Rattle.program_tree.proofs.Moves.{on_ok, conditioned, unselected}
+use Rattle.program_tree.proofs.Moves.{on_ok, unselected}
 use Rattle.program_tree.proofs.block.Block.end_select.Goals as goal
 
 pub returns-in-Select : goal.returns-in-Select

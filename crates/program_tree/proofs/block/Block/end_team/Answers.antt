@@ -1,13 +1,11 @@
-use Rattle.std.proofs.Common.{◌≡◌, List, ◌∷◌, refl, ap, sym, ◌∙◌, subst}
-use Rattle.fortran_tree.specs.ExpressionViews.{expression}
-use Rattle.fortran_tree.specs.StatementViews.{statement, statement_list, case_selector, bracketed_specifier}
+use Rattle.std.proofs.Common.{◌∷◌, refl, ap, sym, ◌∙◌}
+use Rattle.fortran_tree.specs.StatementViews.{statement_list, bracketed_specifier}
 use Rattle.statement_reader.specs.Parts as f
 use Rattle.statement_reader.specs.Parts.{Part}
-use Rattle.program_reader.specs.Sequence.{to_else, to_case}
 use Rattle.program_reader.specs.Nesting.{statements_parts}
 use Rattle.program_tree.specs.Blocks.{construct_front}
-use Rattle.program_tree.proofs.Places.{clear_close, clear_line, some_open}
-use Rattle.program_tree.proofs.Moves.{on_ok, ended, divided}
+use Rattle.program_tree.proofs.Places.{clear_close, some_open}
+use Rattle.program_tree.proofs.Moves.{on_ok, ended}
 use Rattle.program_tree.proofs.block.Block.end_team.Goals as goal
 
 pub leave-construct-requires : goal.leave-construct-requires

@@ -1,6 +1,0 @@
-use Rattle.std.proofs.Common.{◌≡◌, replicate}
-use Rattle.control_board.specs.Values.{no_values}
-use Rattle.control_board.proofs.brought.none_brought.Given as goal
-
-abbrev pub invariant-loop : goal.invariant-loop
-invariant-loop l = l.brought.items ≡ replicate (l.counter) no_values

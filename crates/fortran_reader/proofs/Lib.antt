@@ -1,6 +1,0 @@
-pub mod Basics
-pub mod Counts
-pub mod Cuts
-pub mod Forms
-pub mod Loops
-pub mod Rows
