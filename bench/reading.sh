@@ -33,7 +33,7 @@ cat >"$scratch/crates/reading_bench/src/main.rt" <<'PROGRAM'
 use caf_base::refusal::Refusal;
 use source_reader::fault::{at, number};
 use source_reader::source::read;
-use std::io;
+use std::io::{self, Read};
 
 fn main(rt: HostRuntime) -> io::Result<()> {
     let alloc = rt.alloc();
