@@ -1,6 +1,7 @@
-//! Values of constant expressions (ISO/IEC 1539-1:2018, 10.1.12): so far the type that says what one may be, and which numbers a kind holds.
-//! It stands on `caf_base`, `checked_tree` and `rule_definitions`; the rules of declarations and of expressions stand on it.
-//! Nothing evaluates an expression here yet. Its main contract: each function is the definition of its name.
+//! Values of constant expressions (ISO/IEC 1539-1:2018, 10.1.12): what a typed expression stands for before the run, and the extents that are known of it.
+//! It stands on `caf_base`, `checked_tree`, `rule_definitions` and `scope_table`; the rules of declarations, of calls and of CASE stand on it.
+//! Its main contract: `value::value_of` gives what the definition of its name says.
 #![tactic(auto)]
 
 pub mod constancy;
+pub mod value;

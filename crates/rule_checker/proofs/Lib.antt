@@ -1,4 +1,0 @@
-pub mod Chains
-pub mod Gathering
-pub mod Lists
-pub mod Nothing

@@ -1,4 +1,0 @@
-pub mod Brackets
-pub mod Designators
-pub mod Items
-pub mod Views

@@ -1,17 +1,7 @@
-//! The rules of the language (ISO/IEC 1539-1:2018), judged: what is broken in each expression, and the typed expression that it is taken as.
-//! It stands on `caf_base`, `fortran_tree`, `checked_tree`, `rule_definitions` and `scope_table`; the command `check` will stand on it.
-//! Its main contract: each function gives exactly the judgement that the definition of its name in `rule_definitions` says: all rules that are
-//! broken in the part, in the order of the definition, and what the part stands for, nothing where one is broken.
+//! The rules of the language (ISO/IEC 1539-1:2018), judged of a whole program.
+//! It stands on `unit_scopes`, `statement_rules` and what is below them; `caf_run` will stand on it.
+//! Its main contract: `check::check` answers the checked program exactly where the program breaks no rule, and else the first rule that it breaks, at its
+//! place: the earliest in the source, at one place the lower number.
 #![tactic(auto)]
 
-pub mod bracket;
-pub mod constructor;
-pub mod designator;
-pub mod judged;
-pub mod literal;
-pub mod named;
-pub mod operand;
-pub mod operator;
-pub mod part;
-pub mod shape;
-pub mod types;
+pub mod check;

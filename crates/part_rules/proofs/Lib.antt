@@ -1,0 +1,4 @@
+pub mod Chains
+pub mod Gathering
+pub mod Lists
+pub mod Nothing

@@ -1,0 +1,4 @@
+pub mod Brackets
+pub mod Designators
+pub mod Items
+pub mod Views

