@@ -3,5 +3,10 @@
 //! Its main contract: `value::value_of` gives what the definition of its name says.
 #![tactic(auto)]
 
+mod arithmetic;
+mod bounds;
 pub mod constancy;
+mod known;
+mod part;
+mod relation;
 pub mod value;
