@@ -1,3 +1,4 @@
+pub mod Inquiries
 pub mod Lists
 pub mod Numbers
 pub mod Sizes

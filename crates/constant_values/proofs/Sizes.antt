@@ -1,5 +1,5 @@
 -- Sizes that 128 bits may not hold.
-use Rattle.std.proofs.Common.{◌≡◌, ℕ, zero, suc, ◌+◌, ◌-◌, ◌*◌, ◌^◌, ◌<◌, ◌≤◌, Bool, true, false, List, [], ◌∷◌, length, get_or, take, drop, refl, sym, ap, ◌∙◌, arith, cond}
+use Rattle.std.proofs.Common.{◌≡◌, ◌≢◌, ℕ, zero, suc, ◌+◌, ◌-◌, ◌*◌, ◌^◌, ◌<◌, ◌≤◌, Bool, true, false, List, [], ◌∷◌, length, get_or, take, drop, refl, sym, ap, ◌∙◌, arith, cond}
 use Rattle.std.specs.Prelude.{ℤ, pos, min, nat_le, nat_eq, Option, Some, None, slice_get}
 use Rattle.std.proofs.lemmas.Grind.{common_steps}
 use Rattle.std.proofs.Math.Nat.{le-mul_of_pos_right, mul_comm}
@@ -90,3 +90,10 @@ extents_capped a b h = agree_capped a b (nat_le 34028236692093846346337460743176
 pub size_front : (bs : List KnownBounds) → 1 ≤ length bs → with_extent (get_or bs 0 None) (made capped (known_size (take (length bs - 1) (drop 1 bs)))) ≡ made capped (known_size bs)
 size_front bs h =
     sym (size_more (get_or bs 0 None) (take (length bs - 1) (drop 1 bs))) ∙ ap (λ l. made capped (known_size l)) (front_of bs None h)
+
+-- a size that isn't at the limit is itself
+pub exact_size : (o p : Option ℕ) → p ≡ made capped o → (p ≡ Some 340282366920938463463374607431768211455 → ⊥) → p ≡ o
+exact_size None p e h = e
+exact_size (Some n) p e h =
+    let k : capped n ≢ 340282366920938463463374607431768211455 = λ q. h (e ∙ ap Some q) in
+    e ∙ ap Some (omega (arith, k))

@@ -5,6 +5,9 @@
 
 mod arithmetic;
 mod bounds;
+mod extreme;
+mod inquiry;
+mod items;
 pub mod constancy;
 mod known;
 mod part;
