@@ -97,3 +97,13 @@ exact_size None p e h = e
 exact_size (Some n) p e h =
     let k : capped n ≢ 340282366920938463463374607431768211455 = λ q. h (e ∙ ap Some q) in
     e ∙ ap Some (omega (arith, k))
+
+-- a number that 64 bits can hold isn't capped
+pub below_limit : (n m : ℕ) → n ≡ capped m → n < 2 ^ 64 → n ≡ m
+below_limit n m e h = omega (arith, e, h)
+
+pub within_capped : (i n : ℕ) → i < capped n → i < n
+within_capped i n h = omega (arith, h)
+
+pub beyond_capped : (i n : ℕ) → i < 2 ^ 64 → capped n ≤ i → n ≤ i
+beyond_capped i n f h = omega (arith, f, h)

@@ -1,5 +1,5 @@
 -- What is known of an expression before the run, as the definitions say it.
-use Rattle.std.specs.Prelude.{ℕ, ℤ, min, Bool, cond, List, [], Option, Some, None}
+use Rattle.std.specs.Prelude.{ℕ, ℤ, min, Bool, true, false, cond, List, [], Option, Some, None}
 use Rattle.caf_base.specs.declared.value.Value.{Value}
 use Rattle.caf_base.specs.declared.value.Value.TheVariants.{Int, Bool as Truth}
 use Rattle.rule_definitions.specs.Constants as k
@@ -72,3 +72,7 @@ plain_subscript (k.known_triplet a b c) = k.known_triplet (plain_part a) (plain_
 -- a selector, or none
 abbrev pub some_selector : Bool → t.Selector
 some_selector b = cond b (t.selector t.no_expressions t.current t.no_result) t.no_selector
+
+abbrev pub is_there_selector : t.Selector → Bool
+is_there_selector t.no_selector = false
+is_there_selector (t.selector es y r) = true

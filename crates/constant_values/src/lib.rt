@@ -5,11 +5,16 @@
 
 mod arithmetic;
 mod bounds;
+mod chosen;
+mod designator;
+mod expression;
 mod extreme;
 mod inquiry;
 mod items;
 pub mod constancy;
 mod known;
+mod operation;
 mod part;
 mod relation;
+mod selection;
 pub mod value;
