@@ -1,14 +1,17 @@
 -- What is known of designators.
 use Rattle.std.proofs.Common.{◌≡◌, ℕ, zero, suc, ◌+◌, ◌-◌, ◌<◌, ◌≤◌, Bool, true, false, List, [], ◌∷◌, ◌++◌, length, get_or, take, drop, map, refl, sym, ap, ◌∙◌, arith, append_assoc}
-use Rattle.std.specs.Prelude.{ℤ, pos, Option, Some, None}
+use Rattle.std.specs.Prelude.{ℤ, pos, ◌&&◌, Option, Some, None, is_some}
 use Rattle.caf_base.specs.declared.value.Value.TheVariants.{Int, Bool as Truth}
 use Rattle.coarray_types.specs.Places.{size_of}
 use Rattle.checked_tree.specs.Expressions as t
+use Rattle.checked_tree.specs.ExpressionViews.{maybe_selector, selector_is}
+use Rattle.checked_tree.specs.declared.expr.Selector.{Selector as SelectorType}
 use Rattle.checked_tree.specs.declared.data.Object.{Object}
 use Rattle.checked_tree.specs.declared.data.Object.TheVariants as objects
 use Rattle.checked_tree.specs.declared.data.Constant.{Constant}
 use Rattle.rule_definitions.specs.Names.{KnownBounds, Scope}
 use Rattle.rule_definitions.specs.Judgements.{item_at}
+use Rattle.rule_definitions.specs.Arguments.{agrees, all_agree}
 use Rattle.rule_definitions.specs.Constants as k
 use Rattle.constant_values.proofs.Lists.{front_of}
 use Rattle.constant_values.specs.declared.part.Section.{Section}
@@ -127,3 +130,31 @@ any_selector s (objects.Coarray n) xs (t.selector es y r) = refl
 
 pub part_coindexed : (s : Scope) (o : Object) (xs : List k.KnownSubscript) (c : t.Selector) → k.known_part s o xs (some_selector (is_there_selector c)) ≡ k.known_part s o xs c
 part_coindexed s o xs c = ap (λ v. record { constancy = v; bounds = k.bounds_behind (k.declared_bounds s o) xs }) (any_selector s o xs c)
+
+pub part_is : (s : Scope) (o : Object) (ls : List Section) (xs : List k.KnownSubscript) (c : t.Selector) (b : Bool) → map subscript ls ≡ map plain_subscript xs → b ≡ is_there_selector c
+    → k.known_part s o (map subscript ls) (some_selector b) ≡ k.known_part s o xs c
+part_is s o ls xs c b e h =
+    ap (λ l. k.known_part s o l (some_selector b)) e ∙ ap (λ t'. k.known_part s o (map plain_subscript xs) (some_selector t')) h
+    ∙ part_plain s o xs (some_selector (is_there_selector c)) ∙ part_coindexed s o xs c
+
+pub is_some_selector : (o : Option SelectorType) (b : Bool) → b ≡ is_some o → b ≡ is_there_selector (maybe_selector o)
+is_some_selector None b h = h
+is_some_selector (Some c) b h = h ∙ sym (ap is_there_selector (selector_is c))
+
+-- extents that agree
+
+no_extents : (as' : List (Option ℕ)) → all_agree as' [] ≡ true
+no_extents [] = refl
+no_extents (a ∷ as') = refl
+
+pub agree_front : (ds es : List KnownBounds) (d e : KnownBounds) → 1 ≤ length ds → 1 ≤ length es
+    → (agrees (k.known_extent (get_or ds 0 d)) (k.known_extent (get_or es 0 e)) && all_agree (map k.known_extent (rest ds)) (map k.known_extent (rest es)))
+    ≡ all_agree (map k.known_extent ds) (map k.known_extent es)
+agree_front ds es d e h g =
+    ap (λ l. all_agree (map k.known_extent l) (map k.known_extent (get_or es 0 e ∷ rest es))) (front_of ds d h)
+    ∙ ap (λ l. all_agree (map k.known_extent ds) (map k.known_extent l)) (front_of es e g)
+
+pub agree_turn : (ds es : List KnownBounds) (d e : KnownBounds) (r : Bool) → 1 ≤ length ds → 1 ≤ length es → true ≡ agrees (k.known_extent (get_or ds 0 d)) (k.known_extent (get_or es 0 e))
+    → r ≡ all_agree (map k.known_extent (rest ds)) (map k.known_extent (rest es)) → r ≡ all_agree (map k.known_extent ds) (map k.known_extent es)
+agree_turn ds es d e r h g p q =
+    q ∙ ap (λ b. b && all_agree (map k.known_extent (rest ds)) (map k.known_extent (rest es))) p ∙ agree_front ds es d e h g

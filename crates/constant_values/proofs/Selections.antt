@@ -41,7 +41,7 @@ rest xs = take (length xs - 1) (drop 1 xs)
 -- a dimension more
 pub select_front : (ds : List (ℤ × ℤ)) (xs : List Section) (d : ℤ × ℤ) (x : Section) → 1 ≤ length ds → 1 ≤ length xs
     → with_choice_of (get_or ds 0 d) (k.chosen (get_or ds 0 d) (subscript (get_or xs 0 x))) (option_map (places_of (rest ds)) (selected (rest ds) (map subscript (rest xs))))
-        ≡ option_map (places_of ds) (selected ds (map subscript xs))
+    ≡ option_map (places_of ds) (selected ds (map subscript xs))
 select_front ds xs d x h g =
     sym (before_choice (get_or ds 0 d) (rest ds) (k.chosen (get_or ds 0 d) (subscript (get_or xs 0 x))) (selected (rest ds) (map subscript (rest xs))))
     ∙ ap (λ l. option_map (places_of l) (selected l (map subscript (get_or xs 0 x ∷ rest xs)))) (front_of ds d h)
@@ -102,10 +102,11 @@ pub row_turn : (d : ℤ × ℤ) (xs ys whole : List ℤ) (c i : ℕ) (s n m t : 
 row_turn d xs ys whole c i s n m t h p e q v =
     let b = inside_some (is_inside d n) n m p in
     let k : t ≡ n +ℤ s = q ∙ ap (λ z. z +ℤ s) b.1 in
-    let r : ys ≡ xs ++ n ∷ [] = e ∙ ap (λ z. xs ++ z ∷ []) b.1 in
-    ( ap (λ l. l ++ row (c - (i + 1)) s t) r ∙ ap (λ z. (xs ++ n ∷ []) ++ row (c - (i + 1)) s z) k
-      ∙ append_assoc xs (n ∷ []) (row (c - (i + 1)) s (n +ℤ s)) ∙ ap (λ l. xs ++ l) (sym (row_step c i s n h)) ∙ v.0
-    , ap (all_inside d) r ∙ all_more d xs n v.1 b.0 )
+    let r : ys ≡ xs ++ n ∷ [] = e ∙ ap (λ z. xs ++ z ∷ []) b.1 in (
+      ap (λ l. l ++ row (c - (i + 1)) s t) r ∙ ap (λ z. (xs ++ n ∷ []) ++ row (c - (i + 1)) s z) k
+          ∙ append_assoc xs (n ∷ []) (row (c - (i + 1)) s (n +ℤ s)) ∙ ap (λ l. xs ++ l) (sym (row_step c i s n h)) ∙ v.0,
+      ap (all_inside d) r ∙ all_more d xs n v.1 b.0,
+    )
 
 all_before : (d : ℤ × ℤ) (xs : List ℤ) (n : ℤ) (ys : List ℤ) → is_inside d n ≡ false → all_inside d (xs ++ n ∷ ys) ≡ false
 all_before d [] n ys h = ap (λ b. b && all_inside d ys) h

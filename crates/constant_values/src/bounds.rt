@@ -8,7 +8,7 @@ ghost use Rattle.rule_definitions.specs.Constants as rules;
 ghost use Rattle.rule_definitions.specs.Constants.{as_constant, counted_from_one};
 ghost use Rattle.constant_values.specs.Sizes.{capped, with_extent};
 
-use crate::arithmetic::{in_type, is_zero, sum, wide, divided};
+use crate::arithmetic::{divided, in_type, is_zero, sum, wide};
 use caf_base::refusal::NoMemory;
 use caf_base::value::Kind;
 use checked_tree::data::DataType;
@@ -101,13 +101,7 @@ pub(crate) fn shown_bounds(bounds: Bounds) -> Bounds
     ensures { result ≡ rules.shown_bounds bounds }
 {
     match bounds {
-        Some((lower, upper)) => {
-            if upper < lower {
-                Some((1, 0))
-            } else {
-                bounds
-            }
-        }
+        Some((lower, upper)) => { if upper < lower { Some((1, 0)) } else { bounds } }
         None => None,
     }
 }
@@ -133,11 +127,7 @@ pub(crate) fn triplet_size(lower: i64, upper: i64, stride: i64) -> u128
     ensures small { result ≤ 2 ^ 65 }
 {
     let count = divided(sum(difference(upper, lower), wide(stride)), wide(stride));
-    if count < 0 {
-        0
-    } else {
-        count.unsigned_abs()
-    }
+    if count < 0 { 0 } else { count.unsigned_abs() }
 }
 
 // A difference.

@@ -38,7 +38,11 @@ pub(crate) fn choose(
             lower: first,
             upper: last,
             stride,
-        } => match (part_or(first, lower), part_or(last, upper), part_or(stride, 1)) {
+        } => match (
+            part_or(first, lower),
+            part_or(last, upper),
+            part_or(stride, 1),
+        ) {
             (Some(first), Some(last), Some(stride)) => several(alloc, bounds, first, last, stride),
             (_, _, _) => Ok(Chosen::Never),
         },

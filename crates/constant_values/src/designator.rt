@@ -49,9 +49,7 @@ fn part_constancy(
         return Ok(Constancy::NoConstant);
     }
     match object {
-        Object::Constant(number) => {
-            part_of_table(alloc, scope.constant(number), sections)
-        }
+        Object::Constant(number) => { part_of_table(alloc, scope.constant(number), sections) }
         Object::Local(_) | Object::Coarray(_) => Ok(Constancy::NoConstant),
     }
 }

@@ -33,11 +33,7 @@ use std::alloc::Global;
 /// What is known of an expression.
 #[cycle(known)]
 #[tactic(auto, using(crate::proofs::Expressions::known_laws))]
-pub(crate) fn known(
-    alloc: Global,
-    scope: &Scope<'_>,
-    expr: &TypedExpr,
-) -> Result<Known, NoMemory>
+pub(crate) fn known(alloc: Global, scope: &Scope<'_>, expr: &TypedExpr) -> Result<Known, NoMemory>
     ensures { IfOk result (λ k. seen k ≡ rules.known scope.now (expression expr.now)) }
 {
     match &expr.form {
@@ -74,8 +70,15 @@ pub(crate) fn known(
         } => {
             let left = known_integer(alloc, scope, left)?;
             let right = known_integer(alloc, scope, right)?;
-            let value =
-                arithmetic_links(alloc, scope, *operator, left, right, links, expr.of_type)?;
+            let value = arithmetic_links(
+                alloc,
+                scope,
+                *operator,
+                left,
+                right,
+                links,
+                expr.of_type,
+            )?;
             Ok(number(alloc, value))
         }
         ExprForm::Relation {
@@ -116,11 +119,7 @@ fn known_integer(
 
 /// The logical that an expression is.
 #[cycle(known)]
-fn known_truth(
-    alloc: Global,
-    scope: &Scope<'_>,
-    expr: &TypedExpr,
-) -> Result<Option<bool>, NoMemory>
+fn known_truth(alloc: Global, scope: &Scope<'_>, expr: &TypedExpr) -> Result<Option<bool>, NoMemory>
     ensures { IfOk result (λ o. o ≡ truth_of (rules.known scope.now (expression expr.now)).constancy) }
 {
     let whole = known(alloc, scope, expr)?;
@@ -194,11 +193,7 @@ fn known_items(
 /// What is known of a designator.
 #[cycle(known)]
 #[tactic(auto, using(checked_tree::specs::ExpressionViews::typed_forms))]
-fn known_designator(
-    alloc: Global,
-    scope: &Scope<'_>,
-    part: &Designator,
-) -> Result<Known, NoMemory>
+fn known_designator(alloc: Global, scope: &Scope<'_>, part: &Designator) -> Result<Known, NoMemory>
     ensures { IfOk result (λ k. seen k ≡ rules.known_designator scope.now (designator part.now)) }
 {
     let sections = known_subscripts(alloc, scope, &part.subscripts)?;

@@ -57,19 +57,7 @@ fn chosen_of_two(choice: Choice, left: i64, right: i64) -> i64
     ensures { rules.value (Int result) ≡ choice_of choice left right }
 {
     match choice {
-        Choice::Lesser => {
-            if left < right {
-                left
-            } else {
-                right
-            }
-        }
-        Choice::Greater => {
-            if left < right {
-                right
-            } else {
-                left
-            }
-        }
+        Choice::Lesser => { if left < right { left } else { right } }
+        Choice::Greater => { if left < right { right } else { left } }
     }
 }

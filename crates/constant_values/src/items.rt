@@ -24,7 +24,8 @@ pub(crate) struct KnownItems {
 
 /// No item.
 pub(crate) fn no_items(alloc: Global) -> KnownItems
-    ensures { items result ≡ record { items = Some []; count = Some 0 } }
+    ensures values { result.values ≡ Some [] }
+    ensures count { result.count ≡ Some 0 }
 {
     KnownItems {
         values: Some(Listing::new(alloc)),

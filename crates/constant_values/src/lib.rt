@@ -3,15 +3,16 @@
 //! Its main contract: `value::value_of` gives what the definition of its name says.
 #![tactic(auto)]
 
+mod agreement;
 mod arithmetic;
 mod bounds;
 mod chosen;
+pub mod constancy;
 mod designator;
 mod expression;
 mod extreme;
 mod inquiry;
 mod items;
-pub mod constancy;
 mod known;
 mod operation;
 mod part;

@@ -225,11 +225,7 @@ fn place_in(bounds: &(i64, i64), place: usize, number: i64) -> Result<usize, NoM
 }
 
 // The elements at these places: a scalar where there is no extent.
-fn taken(
-    alloc: Global,
-    constant: &Constant,
-    selection: Selection,
-) -> Result<Constancy, NoMemory>
+fn taken(alloc: Global, constant: &Constant, selection: Selection) -> Result<Constancy, NoMemory>
     ensures { IfOk result (λ c. constancy c ≡ taken_at (rules.initial_values constant.now.values (size_of constant.now.shape.dims)) (seen selection)) }
 {
     let size = array_size(constant.shape.dims.as_slice());

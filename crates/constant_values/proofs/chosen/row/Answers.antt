@@ -13,7 +13,7 @@ returns-in_default c =
     let f = to_z-of_z w64 c.args.first c.ranges.first in
     let at = to_z w128 c.loop-i.at-bits in
     sym (row_left d c.loop-i.subscripts.items (rules.row c.args.count (to_z w64 (of_z w64 c.args.stride)) (to_z w64 (of_z w64 c.args.first))) c.args.count c.loop-i.i (to_z w64 (of_z w64 c.args.stride)) at c.loop-i-test.true c.loop-i.invariant.0
-        (inside_none (rules.is_inside d at) at (sym c.in_default.is ∙ c.inside.ensures)))
+    (inside_none (rules.is_inside d at) at (sym c.in_default.is ∙ c.inside.ensures)))
     ∙ ap (rules.row_chosen d) (ap (λ z. rules.row c.args.count z (to_z w64 (of_z w64 c.args.first))) s ∙ ap (rules.row c.args.count c.args.stride) f)
 
 pub loop-i-preserved : goal.loop-i-preserved
@@ -26,4 +26,4 @@ loop-i-preserved c =
     let e : ys ≡ xs ++ m ∷ [] = grind (arith, common_steps) in
     let q : to_z w128 (of_z w128 c.after-at.result) ≡ m +ℤ to_z w64 (of_z w64 c.args.stride) = grind (arith, common_steps) in
     row_turn d xs ys (rules.row c.args.count (to_z w64 (of_z w64 c.args.stride)) (to_z w64 (of_z w64 c.args.first))) c.args.count c.loop-i.i (to_z w64 (of_z w64 c.args.stride)) at m (to_z w128 (of_z w128 c.after-at.result))
-        c.loop-i-test.true (sym c.in-Some.is ∙ c.inside.ensures) e q c.loop-i.invariant
+    c.loop-i-test.true (sym c.in-Some.is ∙ c.inside.ensures) e q c.loop-i.invariant
