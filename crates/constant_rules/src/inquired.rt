@@ -104,11 +104,7 @@ fn is_subscript_inquired(
 
 // Whether HUGE may ask of a subscript; nothing is said of a triplet.
 #[tactic(auto, using(fortran_tree::specs::ExpressionViews::expression_forms))]
-fn is_item_inquired(
-    alloc: Global,
-    scope: &Scope<'_>,
-    item: &Subscript,
-) -> Result<bool, NoMemory>
+fn is_item_inquired(alloc: Global, scope: &Scope<'_>, item: &Subscript) -> Result<bool, NoMemory>
     ensures { IfOk result (λ b. b ≡ is_item_inquired scope.now (section_subscript item.now)) }
 {
     match item {
@@ -129,12 +125,8 @@ fn is_inquired(alloc: Global, scope: &Scope<'_>, expr: &Expr) -> Result<bool, No
 }
 
 // Whether a typed expression is a variable or constant.
-#[tactic(auto, using(crate::proofs::Wanting::inquirable_is))]
-fn is_inquirable(
-    alloc: Global,
-    scope: &Scope<'_>,
-    meaning: &TypedExpr,
-) -> Result<bool, NoMemory>
+#[tactic(auto, using(crate::proofs::Lacking::inquirable_is))]
+fn is_inquirable(alloc: Global, scope: &Scope<'_>, meaning: &TypedExpr) -> Result<bool, NoMemory>
     ensures { IfOk result (λ b. b ≡ rules.is_inquirable scope.now (typed meaning.now)) }
 {
     if is_variable(&meaning.form) {
@@ -145,7 +137,7 @@ fn is_inquirable(
 }
 
 // Whether a typed expression is a variable or a part of one.
-#[tactic(auto, using(checked_tree::specs::ExpressionViews::typed_forms, crate::proofs::Wanting::no_variable))]
+#[tactic(auto, using(checked_tree::specs::ExpressionViews::typed_forms, crate::proofs::Lacking::no_variable))]
 fn is_variable(found: &ExprForm) -> bool
     ensures { result ≡ is_variable (form found.now) }
 {

@@ -14,7 +14,7 @@ use std::alloc::Global;
 
 /// Whether an expression references a function of the program, or HUGE of what is no variable and isn't constant.
 #[cycle(wanting)]
-#[tactic(auto, using(fortran_tree::specs::ExpressionViews::expression_forms, crate::proofs::Wanting::chain_lacks_value))]
+#[tactic(auto, using(fortran_tree::specs::ExpressionViews::expression_forms, crate::proofs::Lacking::chain_lacks_value))]
 pub fn lacks_value(alloc: Global, scope: &Scope<'_>, expr: &Expr) -> Result<bool, NoMemory>
     ensures { IfOk result (λ b. b ≡ rules.lacks_value scope.now (expression expr.now)) }
 {
@@ -52,11 +52,7 @@ pub fn lacks_value(alloc: Global, scope: &Scope<'_>, expr: &Expr) -> Result<bool
 
 /// Whether the operand of a further operator has none.
 #[cycle(wanting)]
-fn link_lacks_value(
-    alloc: Global,
-    scope: &Scope<'_>,
-    links: &[Link],
-) -> Result<bool, NoMemory>
+fn link_lacks_value(alloc: Global, scope: &Scope<'_>, links: &[Link]) -> Result<bool, NoMemory>
     ensures { IfOk result (λ b. b ≡ link_lacks_value scope.now links.now) }
 {
     for link in links {

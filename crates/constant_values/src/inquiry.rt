@@ -11,7 +11,8 @@ ghost use Rattle.constant_values.specs.Views.{known, of_number, part};
 ghost use Rattle.constant_values.specs.Inquiries.{is_designator};
 
 use crate::bounds::{Bounds, dimension_at, extent, shown_bounds, size};
-use crate::known::{Known, is_constant};
+use crate::constancy::is_constant;
+use crate::known::Known;
 use crate::part::Part;
 use caf_base::listing::Listing;
 use caf_base::refusal::NoMemory;

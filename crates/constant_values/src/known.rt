@@ -104,13 +104,3 @@ pub(crate) fn logical(whole: &Known) -> Option<bool>
         Constancy::Value(Value::Int(_)) | Constancy::Values { .. } | Constancy::NoConstant => None,
     }
 }
-
-/// Whether an expression stands for something before the run.
-pub(crate) fn is_constant(found: &Constancy) -> bool
-    ensures { result ≡ rules.is_constant (constancy found.now) }
-{
-    match found {
-        Constancy::Value(_) | Constancy::Values { .. } => true,
-        Constancy::NoConstant => false,
-    }
-}
