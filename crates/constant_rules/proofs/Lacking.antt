@@ -51,6 +51,12 @@ inquirable_is s (t.arithmetic o a b) y r = refl
 inquirable_is s (t.relation o a b) y r = refl
 inquirable_is s (t.logic o a b) y r = refl
 
+pub inquirable_variable : (s : Scope) (x : t.Form) (y : DataType) (r : ℕ) → is_variable x ≡ true → true ≡ is_inquirable s (t.typed x y r)
+inquirable_variable s x y r h = sym (inquirable_is s x y r ∙ ap (λ b. b || is_constant (value_of s (t.typed x y r))) h)
+
+pub inquirable_constant : (s : Scope) (x : t.Form) (y : DataType) (r : ℕ) (b : Bool) → is_variable x ≡ false → b ≡ is_constant (value_of s (t.typed x y r)) → b ≡ is_inquirable s (t.typed x y r)
+inquirable_constant s x y r b h e = e ∙ sym (inquirable_is s x y r ∙ ap (λ c. c || is_constant (value_of s (t.typed x y r))) h)
+
 no_arithmetic : (ks : List ArithmeticLink) (x : t.Form) → is_variable x ≡ false → is_variable (arithmetic_chain ks x) ≡ false
 no_arithmetic [] x h = h
 no_arithmetic (k ∷ ks) x h = no_arithmetic ks (t.arithmetic k.operator (t.typed x k.left_type 0) (typed k.right)) refl

@@ -71,7 +71,10 @@ fn is_called(scope: &Scope<'_>, name: &Name, subscripts: &[Subscript]) -> bool
 fn has_brackets(subscripts: &[Subscript]) -> bool
     ensures { result ≡ rules.has_brackets (section_subscripts subscripts.now) }
 {
-    !subscripts.is_empty()
+    match subscripts {
+        [] => false,
+        [_, ..] => true,
+    }
 }
 
 // Whether HUGE may ask of the first argument.
@@ -125,7 +128,6 @@ fn is_inquired(alloc: Global, scope: &Scope<'_>, expr: &Expr) -> Result<bool, No
 }
 
 // Whether a typed expression is a variable or constant.
-#[tactic(auto, using(crate::proofs::Lacking::inquirable_is))]
 fn is_inquirable(alloc: Global, scope: &Scope<'_>, meaning: &TypedExpr) -> Result<bool, NoMemory>
     ensures { IfOk result (λ b. b ≡ rules.is_inquirable scope.now (typed meaning.now)) }
 {
