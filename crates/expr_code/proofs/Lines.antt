@@ -6,7 +6,7 @@ use Rattle.walk_theory.specs.Made.{parts_size, parts_code}
 use Rattle.image_acts.specs.Acts.{Act}
 use Rattle.image_code.specs.declared.step.Step.{Step}
 use Rattle.image_code.specs.Table.{instr_of, lines_of}
-use Rattle.expr_code.specs.Drafts.{Body, counted, kept, Drafted, body_with, body_with_lines, with_line, with_lines, starts_of, written}
+use Rattle.expr_code.specs.Drafts.{Body, counted, kept, Drafted, lines_in, body_with, body_with_lines, with_line, with_lines, starts_of, written}
 
 -- one step more, with its line
 pub line_pushed : (ts : List (List ℕ)) (ss : List Step) (ls : List ℕ) (s : Step) (l : ℕ) → length ss ≡ length ls → lines_of ts (ss ++ s ∷ []) (ls ++ l ∷ []) ≡ lines_of ts ss ls ++ on l (instr_of ts s) ∷ []
@@ -54,3 +54,33 @@ written_code l (either p q r) d =
     ∙ written_code l r (with_lines ((i ∷ parts_code s l p) ++ (j ∷ parts_code s l q)) d)
     ∙ twice ((i ∷ parts_code s l p) ++ (j ∷ parts_code s l q)) (parts_code s l r) d
     ∙ ap (λ x. with_lines x d) (append_assoc (i ∷ parts_code s l p) (j ∷ parts_code s l q) (parts_code s l r))
+
+-- one line more
+line_counted : (i : Line Act) (b : Body) → lines_in (body_with i b) ≡ lines_in b + 1
+line_counted i (counted n) = refl
+line_counted i (kept is) = let c = length-append is (i ∷ []) in omega arith
+
+-- a draft is longer by the size of what was written
+pub written_long : (l : ℕ) (p : Parts Act) (d : Drafted) → lines_in (written l p d).body ≡ lines_in d.body + parts_size p
+written_long l end_parts d = omega arith
+written_long l (value p q) d =
+    let f = written_long l p d in
+    let g = written_long l q (written l p d) in
+    omega arith
+written_long l (act a q) d =
+    let f = line_counted (on l (does_act a)) d.body in
+    let g = written_long l q (with_line (on l (does_act a)) d) in
+    omega arith
+written_long l (enter k q) d =
+    let f = line_counted (on l (call (starts_of d k))) d.body in
+    let g = written_long l q (with_line (on l (call (starts_of d k))) d) in
+    omega arith
+written_long l (either p q r) d =
+    let i = on l (skip_unless (parts_size p + 1)) in
+    let j = on l (skip (parts_size q)) in
+    let f = line_counted i d.body in
+    let g = written_long l p (with_line i d) in
+    let h = line_counted j (written l p (with_line i d)).body in
+    let k = written_long l q (with_line j (written l p (with_line i d))) in
+    let m = written_long l r (written l q (with_line j (written l p (with_line i d)))) in
+    omega arith

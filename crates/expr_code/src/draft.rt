@@ -63,6 +63,11 @@ impl Draft {
         }
     }
 
+    /// The allocator of the draft.
+    pub fn allocator(&self) -> Global {
+        *self.starts.allocator()
+    }
+
     /// How many steps there are.
     #[tactic(auto, using(crate::proofs::Lines::lines_long))]
     pub fn length(&self) -> u64

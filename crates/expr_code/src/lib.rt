@@ -5,4 +5,11 @@
 //! code, or only counts it, so the size of an expression is known by the same functions. docs/COMPILER.md says how the two serve statements.
 #![tactic(auto)]
 
+pub mod call;
 pub mod draft;
+pub mod env;
+pub mod expr;
+pub mod function;
+pub mod laws;
+pub mod piece;
+pub mod shape;
