@@ -101,7 +101,6 @@ fn argument_passed(argument: &Argument, dummy: u32, rank: u32) -> Result<PassedA
 }
 
 // The arguments of a call as they are passed.
-#[tactic(auto, using(crate::proofs::Calls::ends))]
 fn arguments_passed(alloc: Global, variables: &[Variable], dummies: &[Dummy], arguments: &[Argument]) -> Result<Vec<PassedArgument>, NoMemory>
     ensures { IfOk result (λ ps. map calls.passed_argument ps.items ≡ meaning.passed variables.now dummies.now (view.arguments arguments.now)) }
 {

@@ -8,7 +8,7 @@ ghost use Rattle.tree_meaning.specs.Expressions as meaning;
 ghost use Rattle.expr_code.specs.Calls.{called};
 ghost use Rattle.expr_code.specs.Drafts.{written};
 ghost use Rattle.expr_code.specs.Environments.{environment};
-ghost use Rattle.expr_code.specs.Functions.{extreme_act, section_bounds_of, size_of_array, team_of_level};
+ghost use Rattle.expr_code.specs.Functions.{extreme_act, section_bounds_of};
 ghost use Rattle.expr_code.specs.Pieces.{arithmetic_operators, logic_operators};
 
 use crate::call::{push_calling, push_calling_none, rank_in};
@@ -322,85 +322,11 @@ fn push_team_of(draft: &mut Draft, env: &Env<'_>, team: &Option<Box<TypedExpr>>,
     }
 }
 
-// Two operands, evaluated as they are written, of which the first comes beneath.
-#[cycle(expression)]
-#[tactic(auto, using(crate::proofs::Forms::laws))]
-fn push_pair(draft: &mut Draft, env: &Env<'_>, a: &TypedExpr, p: &TypedExpr, order: WrittenOrder, line: u32) -> Result<(), NoMemory>
-    ensures { OnOk result (draft.new ≡ written line (meaning.as_written order (meaning.expression (environment env.now) (view.expression a.now)) (meaning.expression (environment env.now) (view.expression p.now))) draft.old) }
-{
-    match order {
-        WrittenOrder::Same => {
-            push_expr(draft, env, a, line)?;
-            push_expr(draft, env, p, line)
-        }
-        WrittenOrder::Reversed => {
-            push_expr(draft, env, p, line)?;
-            push_expr(draft, env, a, line)?;
-            draft.push(Step::Bring(1, 1), line)
-        }
-    }
-}
-
-// The same of a number and a team.
-#[cycle(expression)]
-#[tactic(auto, using(crate::proofs::Forms::laws))]
-fn push_with_team(draft: &mut Draft, env: &Env<'_>, number: &TypedExpr, team: &Option<Box<TypedExpr>>, order: WrittenOrder, line: u32) -> Result<(), NoMemory>
-    ensures { OnOk result (draft.new ≡ written line (meaning.as_written order (meaning.expression (environment env.now) (view.expression number.now)) (meaning.team_of (environment env.now) (view.optional_expression team.now))) draft.old) }
-{
-    match order {
-        WrittenOrder::Same => {
-            push_expr(draft, env, number, line)?;
-            push_team_of(draft, env, team, line)
-        }
-        WrittenOrder::Reversed => {
-            push_team_of(draft, env, team, line)?;
-            push_expr(draft, env, number, line)?;
-            draft.push(Step::Bring(1, 1), line)
-        }
-    }
-}
-
-// An array and a team, evaluated as they are written.
-#[cycle(expression)]
-#[tactic(auto, using(crate::proofs::Forms::laws))]
-fn push_array_and_team(draft: &mut Draft, env: &Env<'_>, array: &TypedExpr, team: &Option<Box<TypedExpr>>, order: WrittenOrder, line: u32) -> Result<(), NoMemory>
-    ensures { OnOk result (draft.new ≡ written line (meaning.beside_as_written order (meaning.expression (environment env.now) (view.expression array.now)) (meaning.team_of (environment env.now) (view.optional_expression team.now))) draft.old) }
-{
-    match order {
-        WrittenOrder::Same => {
-            push_expr(draft, env, array, line)?;
-            push_team_of(draft, env, team, line)
-        }
-        WrittenOrder::Reversed => {
-            push_team_of(draft, env, team, line)?;
-            push_expr(draft, env, array, line)
-        }
-    }
-}
-
-// The bounds of an array and a dimension, evaluated as they are written.
-#[cycle(expression)]
-#[tactic(auto, using(crate::proofs::Forms::laws))]
-fn push_bounds_and_dim(draft: &mut Draft, env: &Env<'_>, array: &TypedExpr, dim: &TypedExpr, order: WrittenOrder, line: u32) -> Result<(), NoMemory>
-    ensures { OnOk result (draft.new ≡ written line (meaning.beside_as_written order (meaning.bounds_of (environment env.now) (view.expression array.now)) (meaning.expression (environment env.now) (view.expression dim.now))) draft.old) }
-{
-    match order {
-        WrittenOrder::Same => {
-            push_bounds_of(draft, env, array, line)?;
-            push_expr(draft, env, dim, line)
-        }
-        WrittenOrder::Reversed => {
-            push_expr(draft, env, dim, line)?;
-            push_bounds_of(draft, env, array, line)
-        }
-    }
-}
-
 // The bounds of an array. Of a variable or a part of one nothing is read.
 #[cycle(expression)]
 #[tactic(auto, using(crate::proofs::Functions::laws))]
-fn push_bounds_of(draft: &mut Draft, env: &Env<'_>, array: &TypedExpr, line: u32) -> Result<(), NoMemory>
-    ensures { OnOk result (draft.new ≡ written line (meaning.bounds_of (environment env.now) (view.expression array.now)) draft.old) }
+fn push_bounds_of(draft: &mut Draft, env: &Env<'_>, array: &Box<TypedExpr>, line: u32) -> Result<(), NoMemory>
+    ensures { OnOk result (draft.new ≡ written line (meaning.bounds_of (environment env.now) (view.expression array.now.value)) draft.old) }
 {
     match &array.form {
         ExprForm::Designator(designator) => push_bounds_of_part(draft, env, designator, array.rank, line),
@@ -481,39 +407,6 @@ fn push_section_bounds(draft: &mut Draft, env: &Env<'_>, coarray: u32, rank: u32
     }
 }
 
-// SIZE (16.9.179).
-#[cycle(expression)]
-#[tactic(auto, using(crate::proofs::Forms::laws))]
-fn push_size(draft: &mut Draft, env: &Env<'_>, array: &TypedExpr, dim: &Option<Box<TypedExpr>>, order: WrittenOrder, line: u32) -> Result<(), NoMemory>
-    ensures { OnOk result (draft.new ≡ written line (size_of_array (environment env.now) (view.expression array.now) (view.optional_expression dim.now) order) draft.old) }
-{
-    match dim {
-        None => {
-            push_bounds_of(draft, env, array, line)?;
-            draft.push(Step::Size, line)
-        }
-        Some(dim) => {
-            push_bounds_and_dim(draft, env, array, dim, order, line)?;
-            draft.push(Step::Extent, line)
-        }
-    }
-}
-
-// GET_TEAM (16.9.85).
-#[cycle(expression)]
-#[tactic(auto, using(crate::proofs::Forms::laws))]
-fn push_get_team(draft: &mut Draft, env: &Env<'_>, level: &Option<Box<TypedExpr>>, line: u32) -> Result<(), NoMemory>
-    ensures { OnOk result (draft.new ≡ written line (team_of_level (environment env.now) (view.optional_expression level.now)) draft.old) }
-{
-    match level {
-        None => draft.push(Step::ThisTeam, line),
-        Some(level) => {
-            push_expr(draft, env, level, line)?;
-            draft.push(Step::GetTeam, line)
-        }
-    }
-}
-
 // The intrinsic functions (16.9); the result is of this kind.
 #[cycle(expression)]
 #[tactic(auto, using(crate::proofs::Functions::laws))]
@@ -526,12 +419,34 @@ fn push_intrinsic(draft: &mut Draft, env: &Env<'_>, intrinsic: &Intrinsic, kind:
             draft.push(Step::Absolute(kind), line)
         }
         Intrinsic::Mod { a, p, order } => {
-            push_pair(draft, env, a, p, *order, line)?;
-            draft.push(Step::Remainder, line)
+            match order {
+                WrittenOrder::Same => {
+                    push_expr(draft, env, a, line)?;
+                    push_expr(draft, env, p, line)?;
+                    draft.push(Step::Remainder, line)
+                }
+                WrittenOrder::Reversed => {
+                    push_expr(draft, env, p, line)?;
+                    push_expr(draft, env, a, line)?;
+                    draft.push(Step::Bring(1, 1), line)?;
+                    draft.push(Step::Remainder, line)
+                }
+            }
         }
         Intrinsic::Modulo { a, p, order } => {
-            push_pair(draft, env, a, p, *order, line)?;
-            draft.push(Step::Modulo, line)
+            match order {
+                WrittenOrder::Same => {
+                    push_expr(draft, env, a, line)?;
+                    push_expr(draft, env, p, line)?;
+                    draft.push(Step::Modulo, line)
+                }
+                WrittenOrder::Reversed => {
+                    push_expr(draft, env, p, line)?;
+                    push_expr(draft, env, a, line)?;
+                    draft.push(Step::Bring(1, 1), line)?;
+                    draft.push(Step::Modulo, line)
+                }
+            }
         }
         Intrinsic::Min(values) => push_extreme_of(draft, env, Extreme::Least, values, line),
         Intrinsic::Max(values) => push_extreme_of(draft, env, Extreme::Greatest, values, line),
@@ -540,14 +455,51 @@ fn push_intrinsic(draft: &mut Draft, env: &Env<'_>, intrinsic: &Intrinsic, kind:
             push_expr(draft, env, a, line)?;
             draft.push(Step::Fits(kind, 0), line)
         }
-        Intrinsic::Size { array, dim, order } => push_size(draft, env, array, dim, *order, line),
+        Intrinsic::Size { array, dim, order } => match dim {
+            None => {
+                push_bounds_of(draft, env, array, line)?;
+                draft.push(Step::Size, line)
+            }
+            Some(dim) => match order {
+                WrittenOrder::Same => {
+                    push_bounds_of(draft, env, array, line)?;
+                    push_expr(draft, env, dim, line)?;
+                    draft.push(Step::Extent, line)
+                }
+                WrittenOrder::Reversed => {
+                    push_expr(draft, env, dim, line)?;
+                    push_bounds_of(draft, env, array, line)?;
+                    draft.push(Step::Extent, line)
+                }
+            },
+        },
         Intrinsic::Lbound { array, dim, order } => {
-            push_bounds_and_dim(draft, env, array, dim, *order, line)?;
-            draft.push(Step::LowerBound, line)
+            match order {
+                WrittenOrder::Same => {
+                    push_bounds_of(draft, env, array, line)?;
+                    push_expr(draft, env, dim, line)?;
+                    draft.push(Step::LowerBound, line)
+                }
+                WrittenOrder::Reversed => {
+                    push_expr(draft, env, dim, line)?;
+                    push_bounds_of(draft, env, array, line)?;
+                    draft.push(Step::LowerBound, line)
+                }
+            }
         }
         Intrinsic::Ubound { array, dim, order } => {
-            push_bounds_and_dim(draft, env, array, dim, *order, line)?;
-            draft.push(Step::UpperBound, line)
+            match order {
+                WrittenOrder::Same => {
+                    push_bounds_of(draft, env, array, line)?;
+                    push_expr(draft, env, dim, line)?;
+                    draft.push(Step::UpperBound, line)
+                }
+                WrittenOrder::Reversed => {
+                    push_expr(draft, env, dim, line)?;
+                    push_bounds_of(draft, env, array, line)?;
+                    draft.push(Step::UpperBound, line)
+                }
+            }
         }
         Intrinsic::Allocated { variable } => push_is_there(draft, *variable, line),
         Intrinsic::ThisImage { team } => {
@@ -560,8 +512,19 @@ fn push_intrinsic(draft: &mut Draft, env: &Env<'_>, intrinsic: &Intrinsic, kind:
             team,
             order,
         } => {
-            push_with_team(draft, env, dim, team, *order, line)?;
-            draft.push(Step::Cosubscript(*coarray), line)
+            match order {
+                WrittenOrder::Same => {
+                    push_expr(draft, env, dim, line)?;
+                    push_team_of(draft, env, team, line)?;
+                    draft.push(Step::Cosubscript(*coarray), line)
+                }
+                WrittenOrder::Reversed => {
+                    push_team_of(draft, env, team, line)?;
+                    push_expr(draft, env, dim, line)?;
+                    draft.push(Step::Bring(1, 1), line)?;
+                    draft.push(Step::Cosubscript(*coarray), line)
+                }
+            }
         }
         Intrinsic::NumImages { team } => {
             push_team_of(draft, env, team, line)?;
@@ -578,12 +541,33 @@ fn push_intrinsic(draft: &mut Draft, env: &Env<'_>, intrinsic: &Intrinsic, kind:
             order,
         } => {
             let corank = env.corank(*coarray)?;
-            push_array_and_team(draft, env, sub, team, *order, line)?;
-            draft.push(Step::ImageIndex(*coarray, corank), line)
+            match order {
+                WrittenOrder::Same => {
+                    push_expr(draft, env, sub, line)?;
+                    push_team_of(draft, env, team, line)?;
+                    draft.push(Step::ImageIndex(*coarray, corank), line)
+                }
+                WrittenOrder::Reversed => {
+                    push_team_of(draft, env, team, line)?;
+                    push_expr(draft, env, sub, line)?;
+                    draft.push(Step::ImageIndex(*coarray, corank), line)
+                }
+            }
         }
         Intrinsic::ImageStatus { image, team, order } => {
-            push_with_team(draft, env, image, team, *order, line)?;
-            draft.push(Step::Ask(AskStep::Status), line)
+            match order {
+                WrittenOrder::Same => {
+                    push_expr(draft, env, image, line)?;
+                    push_team_of(draft, env, team, line)?;
+                    draft.push(Step::Ask(AskStep::Status), line)
+                }
+                WrittenOrder::Reversed => {
+                    push_team_of(draft, env, team, line)?;
+                    push_expr(draft, env, image, line)?;
+                    draft.push(Step::Bring(1, 1), line)?;
+                    draft.push(Step::Ask(AskStep::Status), line)
+                }
+            }
         }
         Intrinsic::FailedImages { team } => {
             push_team_of(draft, env, team, line)?;
@@ -597,7 +581,13 @@ fn push_intrinsic(draft: &mut Draft, env: &Env<'_>, intrinsic: &Intrinsic, kind:
             push_team_of(draft, env, team, line)?;
             draft.push(Step::TeamNumber, line)
         }
-        Intrinsic::GetTeam { level } => push_get_team(draft, env, level, line),
+        Intrinsic::GetTeam { level } => match level {
+            None => draft.push(Step::ThisTeam, line),
+            Some(level) => {
+                push_expr(draft, env, level, line)?;
+                draft.push(Step::GetTeam, line)
+            }
+        },
     }
 }
 
