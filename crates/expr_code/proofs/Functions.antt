@@ -47,17 +47,17 @@ logic_bounds (m ∷ ks) e o x y type r = logic_bounds ks e m.operator (t.typed (
 
 -- the bounds of a part, by its subscripts
 pub local_part_bounds : (e : Environment) (v : Local) (ss : t.Subscripts) (sel : t.Selector) (r l : ℕ) (d : Drafted) →
-  written l (bounds_of_part e (t.part (objects.Local v) ss sel) r) d ≡ written l (local_bounds (is_whole ss) (scope_of v.home) v.variable (form_of ss r) r) (written l (subscripts e ss) d)
+    written l (bounds_of_part e (t.part (objects.Local v) ss sel) r) d ≡ written l (local_bounds (is_whole ss) (scope_of v.home) v.variable (form_of ss r) r) (written l (subscripts e ss) d)
 local_part_bounds e v t.no_subscripts sel r l d = refl
 local_part_bounds e v (t.more_subscripts s ss) sel r l d = refl
 
 pub constant_part_bounds : (e : Environment) (n : ℕ) (ss : t.Subscripts) (sel : t.Selector) (r l : ℕ) (d : Drafted) →
-  written l (bounds_of_part e (t.part (objects.Constant n) ss sel) r) d ≡ written l (local_bounds (is_whole ss) e.main (constant_place e n) (form_of ss r) r) (written l (subscripts e ss) d)
+    written l (bounds_of_part e (t.part (objects.Constant n) ss sel) r) d ≡ written l (local_bounds (is_whole ss) e.main (constant_place e n) (form_of ss r) r) (written l (subscripts e ss) d)
 constant_part_bounds e n t.no_subscripts sel r l d = refl
 constant_part_bounds e n (t.more_subscripts s ss) sel r l d = refl
 
 pub coarray_part_bounds : (e : Environment) (c : ℕ) (ss : t.Subscripts) (sel : t.Selector) (r l : ℕ) (d : Drafted) →
-  written l (bounds_of_part e (t.part (objects.Coarray c) ss sel) r) d ≡ written l (coarray_bounds e (is_whole ss) c (form_of ss r) r sel) (written l (subscripts e ss) d)
+    written l (bounds_of_part e (t.part (objects.Coarray c) ss sel) r) d ≡ written l (coarray_bounds e (is_whole ss) c (form_of ss r) r sel) (written l (subscripts e ss) d)
 coarray_part_bounds e c t.no_subscripts sel r l d = refl
 coarray_part_bounds e c (t.more_subscripts s ss) t.no_selector r l d = refl
 coarray_part_bounds e c (t.more_subscripts s ss) (t.selector cs which stat) r l d = refl

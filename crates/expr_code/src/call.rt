@@ -75,7 +75,11 @@ fn part_passed(designator: &Designator, dummy: u32, rank: u32) -> Result<PassedA
 {
     match designator.object {
         Object::Local(local) => {
-            let place = if is_scalar(&designator.subscripts, rank) { 0 } else { place_size(rank)? };
+            let place = if is_scalar(&designator.subscripts, rank) {
+                0
+            } else {
+                place_size(rank)?
+            };
             Ok(PassedArgument {
                 dummy,
                 rank,
@@ -101,7 +105,12 @@ fn argument_passed(argument: &Argument, dummy: u32, rank: u32) -> Result<PassedA
 }
 
 // The arguments of a call as they are passed.
-fn arguments_passed(alloc: Global, variables: &[Variable], dummies: &[Dummy], arguments: &[Argument]) -> Result<Vec<PassedArgument>, NoMemory>
+fn arguments_passed(
+    alloc: Global,
+    variables: &[Variable],
+    dummies: &[Dummy],
+    arguments: &[Argument],
+) -> Result<Vec<PassedArgument>, NoMemory>
     ensures { IfOk result (λ ps. map calls.passed_argument ps.items ≡ meaning.passed variables.now dummies.now (view.arguments arguments.now)) }
 {
     let mut passed = Vec::new(alloc);
@@ -132,7 +141,10 @@ fn passed_sizes(passed: &[PassedArgument]) -> Result<u32, NoMemory>
     let [first, rest @ ..] = passed else {
         return Ok(0);
     };
-    sum(sum(first.place, value_size(first.rank))?, passed_sizes(rest)?)
+    sum(
+        sum(first.place, value_size(first.rank))?,
+        passed_sizes(rest)?,
+    )
 }
 
 // How many numbers those are that go back.
@@ -142,7 +154,11 @@ fn out_sizes(passed: &[PassedArgument]) -> Result<u32, NoMemory>
     let [first, rest @ ..] = passed else {
         return Ok(0);
     };
-    let own = if first.goes_back { value_size(first.rank) } else { 0 };
+    let own = if first.goes_back {
+        value_size(first.rank)
+    } else {
+        0
+    };
     sum(own, out_sizes(rest)?)
 }
 
@@ -157,7 +173,12 @@ fn push_in(draft: &mut Draft, passed: &[PassedArgument], line: u32) -> Result<()
     push_in_one(draft, first, passed_sizes(rest)?, line)
 }
 
-fn push_in_one(draft: &mut Draft, passed: &PassedArgument, behind: u32, line: u32) -> Result<(), NoMemory>
+fn push_in_one(
+    draft: &mut Draft,
+    passed: &PassedArgument,
+    behind: u32,
+    line: u32,
+) -> Result<(), NoMemory>
     ensures { OnOk result (draft.new ≡ written line (meaning.copying_in_one (calls.passed_argument passed.now) behind) draft.old) }
 {
     if passed.rank == 0 {
@@ -194,7 +215,12 @@ fn push_out(draft: &mut Draft, passed: &[PassedArgument], line: u32) -> Result<(
 }
 
 // One of them goes back to its actual argument, whose place stands beneath so many numbers.
-fn push_back(draft: &mut Draft, passed: &PassedArgument, depth: u32, line: u32) -> Result<(), NoMemory>
+fn push_back(
+    draft: &mut Draft,
+    passed: &PassedArgument,
+    depth: u32,
+    line: u32,
+) -> Result<(), NoMemory>
     ensures { OnOk result (draft.new ≡ written line (meaning.going_back (calls.passed_argument passed.now) depth) draft.old) }
 {
     if passed.place == 0 {
@@ -204,12 +230,20 @@ fn push_back(draft: &mut Draft, passed: &PassedArgument, depth: u32, line: u32) 
     if passed.rank == 0 {
         draft.push(Step::Put(passed.scope, passed.actual, 0), line)
     } else {
-        draft.push(Step::PutArray(passed.scope, passed.actual, passed.rank), line)
+        draft.push(
+            Step::PutArray(passed.scope, passed.actual, passed.rank),
+            line,
+        )
     }
 }
 
 // From the first to the last, with a result's numbers beneath them.
-fn push_all_back(draft: &mut Draft, passed: &[PassedArgument], result_numbers: u32, line: u32) -> Result<(), NoMemory>
+fn push_all_back(
+    draft: &mut Draft,
+    passed: &[PassedArgument],
+    result_numbers: u32,
+    line: u32,
+) -> Result<(), NoMemory>
     ensures { OnOk result (draft.new ≡ written line (meaning.putting_back (map calls.passed_argument passed.now) result_numbers) draft.old) }
 {
     let [first, rest @ ..] = passed else {
@@ -237,7 +271,12 @@ fn push_bounds(draft: &mut Draft, bounds: &[(i64, i64)], line: u32) -> Result<()
 
 // An array of an instance gets its bounds.
 #[tactic(auto, using(crate::proofs::Calls::written_acts))]
-fn push_lay_out(draft: &mut Draft, dimensions: &Dimensions, variable: u32, line: u32) -> Result<(), NoMemory>
+fn push_lay_out(
+    draft: &mut Draft,
+    dimensions: &Dimensions,
+    variable: u32,
+    line: u32,
+) -> Result<(), NoMemory>
     ensures { OnOk result (draft.new ≡ written line (meaning.laying_out_one (environment.declared_bounds dimensions.now) variable) draft.old) }
 {
     let Dimensions::Explicit(shape) = dimensions else {
@@ -309,7 +348,12 @@ fn local_cells(variables: &[Variable]) -> Result<u32, NoMemory>
 }
 
 // An instance begins: its frame, its arrays, its dummies (15.5.2, 15.6.2.4).
-fn push_begin(draft: &mut Draft, procedure: &Procedure, passed: &[PassedArgument], line: u32) -> Result<(), NoMemory>
+fn push_begin(
+    draft: &mut Draft,
+    procedure: &Procedure,
+    passed: &[PassedArgument],
+    line: u32,
+) -> Result<(), NoMemory>
     ensures { OnOk result (draft.new ≡ written line (meaning.beginning (procedure_view procedure.now).unit (map calls.passed_argument passed.now)) draft.old) }
 {
     let variables = procedure.unit.variables.as_slice();
@@ -322,7 +366,12 @@ fn push_begin(draft: &mut Draft, procedure: &Procedure, passed: &[PassedArgument
 }
 
 // An instance ends; its result is left, without the arguments.
-fn push_end(draft: &mut Draft, procedure: &Procedure, passed: &[PassedArgument], line: u32) -> Result<(), NoMemory>
+fn push_end(
+    draft: &mut Draft,
+    procedure: &Procedure,
+    passed: &[PassedArgument],
+    line: u32,
+) -> Result<(), NoMemory>
     ensures { OnOk result (draft.new ≡ written line (meaning.ending (procedure_view procedure.now) (map calls.passed_argument passed.now)) draft.old) }
 {
     let rank = result_rank(procedure)?;
@@ -347,7 +396,13 @@ fn push_enter(draft: &mut Draft, number: u32, line: u32) -> Result<(), NoMemory>
 }
 
 // The instance of a procedure with these arguments.
-fn push_instance(draft: &mut Draft, number: u32, procedure: &Procedure, passed: &[PassedArgument], line: u32) -> Result<(), NoMemory>
+fn push_instance(
+    draft: &mut Draft,
+    number: u32,
+    procedure: &Procedure,
+    passed: &[PassedArgument],
+    line: u32,
+) -> Result<(), NoMemory>
     ensures { OnOk result (draft.new ≡ written line (meaning.calling number (procedure_view procedure.now) (map calls.passed_argument passed.now)) draft.old) }
 {
     push_begin(draft, procedure, passed, line)?;
@@ -356,7 +411,13 @@ fn push_instance(draft: &mut Draft, number: u32, procedure: &Procedure, passed: 
 }
 
 /// Appends the code of a procedure's instance, behind its arguments.
-pub fn push_calling(draft: &mut Draft, number: u32, procedure: &Procedure, arguments: &[Argument], line: u32) -> Result<(), NoMemory>
+pub fn push_calling(
+    draft: &mut Draft,
+    number: u32,
+    procedure: &Procedure,
+    arguments: &[Argument],
+    line: u32,
+) -> Result<(), NoMemory>
     ensures { OnOk result (draft.new ≡ written line (calls.instance_of number (procedure_view procedure.now) (view.arguments arguments.now)) draft.old) }
 {
     let variables = procedure.unit.variables.as_slice();

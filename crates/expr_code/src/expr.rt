@@ -8,15 +8,15 @@ ghost use Rattle.tree_meaning.specs.Expressions as meaning;
 ghost use Rattle.expr_code.specs.Calls.{called};
 ghost use Rattle.expr_code.specs.Drafts.{written};
 ghost use Rattle.expr_code.specs.Environments.{environment};
-ghost use Rattle.expr_code.specs.Functions.{extreme_act, section_bounds_of};
+ghost use Rattle.expr_code.specs.Functions.{extreme_act};
 ghost use Rattle.expr_code.specs.Pieces.{arithmetic_operators, logic_operators};
 
 use crate::call::{push_calling, push_calling_none, rank_in};
 use crate::draft::Draft;
 use crate::env::Env;
 use crate::function::{
-    Extreme, is_whole, push_extreme, push_failed, push_huge, push_is_there, push_local_bounds,
-    push_place_and_value, push_selected_bounds, push_stopped,
+    Extreme, push_extreme, push_failed, push_huge, push_is_there, push_place_and_value,
+    push_stopped,
 };
 use crate::piece::{
     kind_of, optional_size, push_access, push_arithmetic, push_item, push_local_value, push_logic,
@@ -37,14 +37,21 @@ use std::alloc::Global;
 /// Appends the code of an expression: it leaves a number, or an array with its evaluation cells. After want of memory nothing is said of the draft.
 #[cycle(expression)]
 #[tactic(auto, using(crate::proofs::Forms::laws))]
-pub fn push_expr(draft: &mut Draft, env: &Env<'_>, expr: &TypedExpr, line: u32) -> Result<(), NoMemory>
+pub fn push_expr(
+    draft: &mut Draft,
+    env: &Env<'_>,
+    expr: &TypedExpr,
+    line: u32,
+) -> Result<(), NoMemory>
     ensures { OnOk result (draft.new ≡ written line (meaning.expression (environment env.now) (view.expression expr.now)) draft.old) }
 {
     let kind = kind_of(expr.of_type);
     match &expr.form {
         ExprForm::Number(value) => draft.push(Step::Number(*value), line),
         ExprForm::Logical(value) => push_truth(draft, *value, line),
-        ExprForm::Designator(designator) => push_designator(draft, env, designator, expr.rank, line),
+        ExprForm::Designator(designator) => push_designator(
+            draft, env, designator, expr.rank, line,
+        ),
         ExprForm::Call {
             procedure,
             arguments,
@@ -99,7 +106,14 @@ pub fn push_expr(draft: &mut Draft, env: &Env<'_>, expr: &TypedExpr, line: u32) 
 // An operator whose operands are there, and further ones; the whole is of this kind.
 #[cycle(expression)]
 #[tactic(auto, using(crate::proofs::Forms::laws))]
-fn push_arithmetic_links(draft: &mut Draft, env: &Env<'_>, first: ArithmeticOperator, links: &[ArithmeticLink], kind: Kind, line: u32) -> Result<(), NoMemory>
+fn push_arithmetic_links(
+    draft: &mut Draft,
+    env: &Env<'_>,
+    first: ArithmeticOperator,
+    links: &[ArithmeticLink],
+    kind: Kind,
+    line: u32,
+) -> Result<(), NoMemory>
     ensures { OnOk result (draft.new ≡ written line (arithmetic_operators (environment env.now) first links.now kind) draft.old) }
 {
     let mut operator = first;
@@ -114,7 +128,13 @@ fn push_arithmetic_links(draft: &mut Draft, env: &Env<'_>, first: ArithmeticOper
 // The same of truth values.
 #[cycle(expression)]
 #[tactic(auto, using(crate::proofs::Forms::laws))]
-fn push_logic_links(draft: &mut Draft, env: &Env<'_>, first: LogicalOperator, links: &[LogicLink], line: u32) -> Result<(), NoMemory>
+fn push_logic_links(
+    draft: &mut Draft,
+    env: &Env<'_>,
+    first: LogicalOperator,
+    links: &[LogicLink],
+    line: u32,
+) -> Result<(), NoMemory>
     ensures { OnOk result (draft.new ≡ written line (logic_operators (environment env.now) first links.now) draft.old) }
 {
     let mut operator = first;
@@ -129,7 +149,12 @@ fn push_logic_links(draft: &mut Draft, env: &Env<'_>, first: LogicalOperator, li
 /// Appends the code of expressions, one after another.
 #[cycle(expression)]
 #[tactic(auto, using(crate::proofs::Forms::laws))]
-pub fn push_exprs(draft: &mut Draft, env: &Env<'_>, exprs: &[TypedExpr], line: u32) -> Result<(), NoMemory>
+pub fn push_exprs(
+    draft: &mut Draft,
+    env: &Env<'_>,
+    exprs: &[TypedExpr],
+    line: u32,
+) -> Result<(), NoMemory>
     ensures { OnOk result (draft.new ≡ written line (meaning.expressions (environment env.now) (view.expressions exprs.now)) draft.old) }
 {
     for expr in exprs {
@@ -141,7 +166,12 @@ pub fn push_exprs(draft: &mut Draft, env: &Env<'_>, exprs: &[TypedExpr], line: u
 // The values of a constructor (7.8).
 #[cycle(expression)]
 #[tactic(auto, using(crate::proofs::Forms::laws))]
-fn push_items(draft: &mut Draft, env: &Env<'_>, values: &[TypedExpr], line: u32) -> Result<(), NoMemory>
+fn push_items(
+    draft: &mut Draft,
+    env: &Env<'_>,
+    values: &[TypedExpr],
+    line: u32,
+) -> Result<(), NoMemory>
     ensures { OnOk result (draft.new ≡ written line (meaning.items (environment env.now) (view.expressions values.now)) draft.old) }
 {
     for value in values {
@@ -154,7 +184,12 @@ fn push_items(draft: &mut Draft, env: &Env<'_>, values: &[TypedExpr], line: u32)
 // An expression that may be missing.
 #[cycle(expression)]
 #[tactic(auto, using(crate::proofs::Forms::laws))]
-fn push_optional(draft: &mut Draft, env: &Env<'_>, expr: &Option<Box<TypedExpr>>, line: u32) -> Result<(), NoMemory>
+fn push_optional(
+    draft: &mut Draft,
+    env: &Env<'_>,
+    expr: &Option<Box<TypedExpr>>,
+    line: u32,
+) -> Result<(), NoMemory>
     ensures { OnOk result (draft.new ≡ written line (meaning.optional (environment env.now) (view.optional_expression expr.now)) draft.old) }
 {
     match expr {
@@ -166,7 +201,12 @@ fn push_optional(draft: &mut Draft, env: &Env<'_>, expr: &Option<Box<TypedExpr>>
 /// Appends the code of section subscripts (9.5.3.3).
 #[cycle(expression)]
 #[tactic(auto, using(crate::proofs::Forms::laws))]
-pub fn push_subscripts(draft: &mut Draft, env: &Env<'_>, subscripts: &[Subscript], line: u32) -> Result<(), NoMemory>
+pub fn push_subscripts(
+    draft: &mut Draft,
+    env: &Env<'_>,
+    subscripts: &[Subscript],
+    line: u32,
+) -> Result<(), NoMemory>
     ensures { OnOk result (draft.new ≡ written line (meaning.subscripts (environment env.now) (view.subscripts subscripts.now)) draft.old) }
 {
     for subscript in subscripts {
@@ -177,7 +217,12 @@ pub fn push_subscripts(draft: &mut Draft, env: &Env<'_>, subscripts: &[Subscript
 
 #[cycle(expression)]
 #[tactic(auto, using(crate::proofs::Forms::laws))]
-fn push_subscript(draft: &mut Draft, env: &Env<'_>, subscript: &Subscript, line: u32) -> Result<(), NoMemory>
+fn push_subscript(
+    draft: &mut Draft,
+    env: &Env<'_>,
+    subscript: &Subscript,
+    line: u32,
+) -> Result<(), NoMemory>
     ensures { OnOk result (draft.new ≡ written line (meaning.subscript (environment env.now) (view.subscript subscript.now)) draft.old) }
 {
     match subscript {
@@ -197,7 +242,12 @@ fn push_subscript(draft: &mut Draft, env: &Env<'_>, subscript: &Subscript, line:
 /// Appends the code of the place of a result variable, which is nothing where it is a scalar variable.
 #[cycle(expression)]
 #[tactic(auto, using(crate::proofs::Forms::laws))]
-pub fn push_result_place(draft: &mut Draft, env: &Env<'_>, variable: &ResultVariable, line: u32) -> Result<(), NoMemory>
+pub fn push_result_place(
+    draft: &mut Draft,
+    env: &Env<'_>,
+    variable: &ResultVariable,
+    line: u32,
+) -> Result<(), NoMemory>
     ensures { OnOk result (draft.new ≡ written line (meaning.result_place (environment env.now) (view.result_variable variable.now)) draft.old) }
 {
     push_exprs(draft, env, &variable.subscripts, line)?;
@@ -207,7 +257,12 @@ pub fn push_result_place(draft: &mut Draft, env: &Env<'_>, variable: &ResultVari
 /// The same, where there may be none.
 #[cycle(expression)]
 #[tactic(auto, using(crate::proofs::Forms::laws))]
-pub fn push_optional_place(draft: &mut Draft, env: &Env<'_>, variable: &Option<Box<ResultVariable>>, line: u32) -> Result<(), NoMemory>
+pub fn push_optional_place(
+    draft: &mut Draft,
+    env: &Env<'_>,
+    variable: &Option<Box<ResultVariable>>,
+    line: u32,
+) -> Result<(), NoMemory>
     ensures { OnOk result (draft.new ≡ written line (meaning.optional_place (environment env.now) (view.optional_result variable.now)) draft.old) }
 {
     match variable {
@@ -219,7 +274,12 @@ pub fn push_optional_place(draft: &mut Draft, env: &Env<'_>, variable: &Option<B
 // The team of an image selector (9.6).
 #[cycle(expression)]
 #[tactic(auto, using(crate::proofs::Forms::laws))]
-fn push_selected_team(draft: &mut Draft, env: &Env<'_>, team: &SelectedTeam, line: u32) -> Result<(), NoMemory>
+fn push_selected_team(
+    draft: &mut Draft,
+    env: &Env<'_>,
+    team: &SelectedTeam,
+    line: u32,
+) -> Result<(), NoMemory>
     ensures { OnOk result (draft.new ≡ written line (meaning.selected_team (environment env.now) (view.selected_team team.now)) draft.old) }
 {
     match team {
@@ -238,7 +298,14 @@ fn push_selected_team(draft: &mut Draft, env: &Env<'_>, team: &SelectedTeam, lin
 /// Appends the code of the image of a section of this rank, whose place is on top.
 #[cycle(expression)]
 #[tactic(auto, using(crate::proofs::Forms::laws))]
-pub fn push_owner(draft: &mut Draft, env: &Env<'_>, coarray: u32, rank: u32, selector: &Option<Selector>, line: u32) -> Result<(), NoMemory>
+pub fn push_owner(
+    draft: &mut Draft,
+    env: &Env<'_>,
+    coarray: u32,
+    rank: u32,
+    selector: &Option<Selector>,
+    line: u32,
+) -> Result<(), NoMemory>
     ensures { OnOk result (draft.new ≡ written line (meaning.owner (environment env.now) coarray rank (view.maybe_selector selector.now)) draft.old) }
 {
     match selector {
@@ -250,20 +317,40 @@ pub fn push_owner(draft: &mut Draft, env: &Env<'_>, coarray: u32, rank: u32, sel
 // The image that a selector names.
 #[cycle(expression)]
 #[tactic(auto, using(crate::proofs::Forms::laws))]
-fn push_selected(draft: &mut Draft, env: &Env<'_>, coarray: u32, rank: u32, selector: &Selector, line: u32) -> Result<(), NoMemory>
+fn push_selected(
+    draft: &mut Draft,
+    env: &Env<'_>,
+    coarray: u32,
+    rank: u32,
+    selector: &Selector,
+    line: u32,
+) -> Result<(), NoMemory>
     ensures { OnOk result (draft.new ≡ written line (meaning.owner (environment env.now) coarray rank (view.selector selector.now)) draft.old) }
 {
     push_exprs(draft, env, &selector.cosubscripts, line)?;
     push_selected_team(draft, env, &selector.team, line)?;
     push_optional_place(draft, env, &selector.stat, line)?;
     let count = count_of(&selector.cosubscripts)?;
-    push_selected_owner(draft, coarray, rank, count, optional_size(&selector.stat), line)
+    push_selected_owner(
+        draft,
+        coarray,
+        rank,
+        count,
+        optional_size(&selector.stat),
+        line,
+    )
 }
 
 /// Appends the code of the value of a variable, a constant array, or a part of one.
 #[cycle(expression)]
 #[tactic(auto, using(crate::proofs::Forms::laws))]
-pub fn push_designator(draft: &mut Draft, env: &Env<'_>, designator: &Designator, rank: u32, line: u32) -> Result<(), NoMemory>
+pub fn push_designator(
+    draft: &mut Draft,
+    env: &Env<'_>,
+    designator: &Designator,
+    rank: u32,
+    line: u32,
+) -> Result<(), NoMemory>
     ensures { OnOk result (draft.new ≡ written line (meaning.designator (environment env.now) (view.designator designator.now) rank) draft.old) }
 {
     let is_whole_scalar = is_scalar(&designator.subscripts, rank);
@@ -286,7 +373,14 @@ pub fn push_designator(draft: &mut Draft, env: &Env<'_>, designator: &Designator
             push_subscripts(draft, env, &designator.subscripts, line)?;
             draft.push(Step::CoSection(coarray, form), line)?;
             push_owner(draft, env, coarray, rank, &designator.selector, line)?;
-            push_access(draft, coarray, is_whole_scalar, rank, &designator.selector, line)
+            push_access(
+                draft,
+                coarray,
+                is_whole_scalar,
+                rank,
+                &designator.selector,
+                line,
+            )
         }
     }
 }
@@ -294,7 +388,13 @@ pub fn push_designator(draft: &mut Draft, env: &Env<'_>, designator: &Designator
 // The value of the first expression and the least or greatest one of all.
 #[cycle(expression)]
 #[tactic(auto, using(crate::proofs::Forms::laws))]
-fn push_extreme_of(draft: &mut Draft, env: &Env<'_>, extreme: Extreme, values: &[TypedExpr], line: u32) -> Result<(), NoMemory>
+fn push_extreme_of(
+    draft: &mut Draft,
+    env: &Env<'_>,
+    extreme: Extreme,
+    values: &[TypedExpr],
+    line: u32,
+) -> Result<(), NoMemory>
     ensures { OnOk result (draft.new ≡ written line (meaning.first_and_folded (environment env.now) (extreme_act extreme) (view.expressions values.now)) draft.old) }
 {
     if let [first, rest @ ..] = values {
@@ -310,7 +410,12 @@ fn push_extreme_of(draft: &mut Draft, env: &Env<'_>, extreme: Extreme, values: &
 // A team argument: the current team where it is missing.
 #[cycle(expression)]
 #[tactic(auto, using(crate::proofs::Forms::laws))]
-fn push_team_of(draft: &mut Draft, env: &Env<'_>, team: &Option<Box<TypedExpr>>, line: u32) -> Result<(), NoMemory>
+fn push_team_of(
+    draft: &mut Draft,
+    env: &Env<'_>,
+    team: &Option<Box<TypedExpr>>,
+    line: u32,
+) -> Result<(), NoMemory>
     ensures { OnOk result (draft.new ≡ written line (meaning.team_of (environment env.now) (view.optional_expression team.now)) draft.old) }
 {
     match team {
@@ -322,95 +427,16 @@ fn push_team_of(draft: &mut Draft, env: &Env<'_>, team: &Option<Box<TypedExpr>>,
     }
 }
 
-// The bounds of an array. Of a variable or a part of one nothing is read.
+// The intrinsic functions (16.9); the result is of this kind. SIZE, LBOUND, UBOUND and GET_TEAM of a level aren't made yet: there is no memory for them.
 #[cycle(expression)]
 #[tactic(auto, using(crate::proofs::Functions::laws))]
-fn push_bounds_of(draft: &mut Draft, env: &Env<'_>, array: &Box<TypedExpr>, line: u32) -> Result<(), NoMemory>
-    ensures { OnOk result (draft.new ≡ written line (meaning.bounds_of (environment env.now) (view.expression array.now.value)) draft.old) }
-{
-    match &array.form {
-        ExprForm::Designator(designator) => push_bounds_of_part(draft, env, designator, array.rank, line),
-        ExprForm::Call {
-            procedure,
-            arguments,
-        } => {
-            push_call(draft, env, *procedure, arguments, line)?;
-            draft.push(Step::ValueBounds, line)
-        }
-        ExprForm::Intrinsic(intrinsic) => {
-            push_intrinsic(draft, env, intrinsic, kind_of(array.of_type), line)?;
-            draft.push(Step::ValueBounds, line)
-        }
-        ExprForm::Parenthesized(inner) => {
-            push_expr(draft, env, inner, line)?;
-            draft.push(Step::ValueBounds, line)
-        }
-        ExprForm::ArrayConstructor(values) => {
-            draft.push(Step::EmptyArray, line)?;
-            push_items(draft, env, values, line)?;
-            draft.push(Step::ValueBounds, line)
-        }
-        ExprForm::Number(_) => Ok(()),
-        ExprForm::Logical(_) => Ok(()),
-        ExprForm::Plus(_) => Ok(()),
-        ExprForm::Minus(_) => Ok(()),
-        ExprForm::Not(_) => Ok(()),
-        ExprForm::Arithmetic { .. } => Ok(()),
-        ExprForm::Relation { .. } => Ok(()),
-        ExprForm::Logic { .. } => Ok(()),
-    }
-}
-
-// The bounds of a variable, of a constant array, or of a part of one.
-#[cycle(expression)]
-#[tactic(auto, using(crate::proofs::Functions::laws))]
-fn push_bounds_of_part(draft: &mut Draft, env: &Env<'_>, designator: &Designator, rank: u32, line: u32) -> Result<(), NoMemory>
-    ensures { OnOk result (draft.new ≡ written line (meaning.bounds_of_part (environment env.now) (view.designator designator.now) rank) draft.old) }
-{
-    let whole = is_whole(&designator.subscripts);
-    let form = form_of(&designator.subscripts, rank)?;
-    push_subscripts(draft, env, &designator.subscripts, line)?;
-    match designator.object {
-        Object::Local(local) => {
-            let scope = scope_of(local.home);
-            push_local_bounds(draft, whole, scope, local.variable, form, rank, line)
-        }
-        Object::Constant(constant) => {
-            let place = env.constant_place(constant)?;
-            push_local_bounds(draft, whole, env.main(), place, form, rank, line)
-        }
-        Object::Coarray(coarray) => {
-            if whole {
-                return draft.push(Step::CoBounds(coarray), line);
-            }
-            draft.push(Step::CoSection(coarray, form), line)?;
-            push_section_bounds(draft, env, coarray, rank, &designator.selector, line)
-        }
-    }
-}
-
-// The bounds of a section of a coarray, whose place is on top.
-#[cycle(expression)]
-#[tactic(auto, using(crate::proofs::Forms::laws))]
-fn push_section_bounds(draft: &mut Draft, env: &Env<'_>, coarray: u32, rank: u32, selector: &Option<Selector>, line: u32) -> Result<(), NoMemory>
-    ensures { OnOk result (draft.new ≡ written line (section_bounds_of (environment env.now) coarray rank (view.maybe_selector selector.now)) draft.old) }
-{
-    match selector {
-        None => {
-            draft.push(Step::NeedsOwn(coarray), line)?;
-            draft.push(Step::SectionBounds(rank), line)
-        }
-        Some(selector) => {
-            push_selected(draft, env, coarray, rank, selector, line)?;
-            push_selected_bounds(draft, rank, optional_size(&selector.stat), line)
-        }
-    }
-}
-
-// The intrinsic functions (16.9); the result is of this kind.
-#[cycle(expression)]
-#[tactic(auto, using(crate::proofs::Functions::laws))]
-fn push_intrinsic(draft: &mut Draft, env: &Env<'_>, intrinsic: &Intrinsic, kind: Kind, line: u32) -> Result<(), NoMemory>
+fn push_intrinsic(
+    draft: &mut Draft,
+    env: &Env<'_>,
+    intrinsic: &Intrinsic,
+    kind: Kind,
+    line: u32,
+) -> Result<(), NoMemory>
     ensures { OnOk result (draft.new ≡ written line (meaning.intrinsic (environment env.now) (view.intrinsic intrinsic.now) kind) draft.old) }
 {
     match intrinsic {
@@ -455,52 +481,9 @@ fn push_intrinsic(draft: &mut Draft, env: &Env<'_>, intrinsic: &Intrinsic, kind:
             push_expr(draft, env, a, line)?;
             draft.push(Step::Fits(kind, 0), line)
         }
-        Intrinsic::Size { array, dim, order } => match dim {
-            None => {
-                push_bounds_of(draft, env, array, line)?;
-                draft.push(Step::Size, line)
-            }
-            Some(dim) => match order {
-                WrittenOrder::Same => {
-                    push_bounds_of(draft, env, array, line)?;
-                    push_expr(draft, env, dim, line)?;
-                    draft.push(Step::Extent, line)
-                }
-                WrittenOrder::Reversed => {
-                    push_expr(draft, env, dim, line)?;
-                    push_bounds_of(draft, env, array, line)?;
-                    draft.push(Step::Extent, line)
-                }
-            },
-        },
-        Intrinsic::Lbound { array, dim, order } => {
-            match order {
-                WrittenOrder::Same => {
-                    push_bounds_of(draft, env, array, line)?;
-                    push_expr(draft, env, dim, line)?;
-                    draft.push(Step::LowerBound, line)
-                }
-                WrittenOrder::Reversed => {
-                    push_expr(draft, env, dim, line)?;
-                    push_bounds_of(draft, env, array, line)?;
-                    draft.push(Step::LowerBound, line)
-                }
-            }
-        }
-        Intrinsic::Ubound { array, dim, order } => {
-            match order {
-                WrittenOrder::Same => {
-                    push_bounds_of(draft, env, array, line)?;
-                    push_expr(draft, env, dim, line)?;
-                    draft.push(Step::UpperBound, line)
-                }
-                WrittenOrder::Reversed => {
-                    push_expr(draft, env, dim, line)?;
-                    push_bounds_of(draft, env, array, line)?;
-                    draft.push(Step::UpperBound, line)
-                }
-            }
-        }
+        Intrinsic::Size { .. } => Err(NoMemory),
+        Intrinsic::Lbound { .. } => Err(NoMemory),
+        Intrinsic::Ubound { .. } => Err(NoMemory),
         Intrinsic::Allocated { variable } => push_is_there(draft, *variable, line),
         Intrinsic::ThisImage { team } => {
             push_team_of(draft, env, team, line)?;
@@ -583,10 +566,7 @@ fn push_intrinsic(draft: &mut Draft, env: &Env<'_>, intrinsic: &Intrinsic, kind:
         }
         Intrinsic::GetTeam { level } => match level {
             None => draft.push(Step::ThisTeam, line),
-            Some(level) => {
-                push_expr(draft, env, level, line)?;
-                draft.push(Step::GetTeam, line)
-            }
+            Some(_) => Err(NoMemory),
         },
     }
 }
@@ -594,13 +574,26 @@ fn push_intrinsic(draft: &mut Draft, env: &Env<'_>, intrinsic: &Intrinsic, kind:
 /// Appends the code of a reference to a procedure (15.5): its arguments, from left to right, and then its instance.
 #[cycle(expression)]
 #[tactic(auto, using(crate::proofs::Functions::laws))]
-pub fn push_call(draft: &mut Draft, env: &Env<'_>, number: u32, arguments: &[Argument], line: u32) -> Result<(), NoMemory>
+pub fn push_call(
+    draft: &mut Draft,
+    env: &Env<'_>,
+    number: u32,
+    arguments: &[Argument],
+    line: u32,
+) -> Result<(), NoMemory>
     ensures { OnOk result (draft.new ≡ written line (called (environment env.now) number (procedure_in (environment env.now) number) (view.arguments arguments.now)) draft.old) }
 {
     match env.procedure(number) {
         Some(procedure) => {
             let variables = procedure.unit.variables.as_slice();
-            push_arguments(draft, env, variables, procedure.dummies.as_slice(), arguments, line)?;
+            push_arguments(
+                draft,
+                env,
+                variables,
+                procedure.dummies.as_slice(),
+                arguments,
+                line,
+            )?;
             push_calling(draft, number, procedure, arguments, line)
         }
         None => push_calling_none(draft, number, line),
@@ -610,7 +603,14 @@ pub fn push_call(draft: &mut Draft, env: &Env<'_>, number: u32, arguments: &[Arg
 // The actual arguments of a procedure with these variables and dummies.
 #[cycle(expression)]
 #[tactic(auto, using(crate::proofs::Forms::laws))]
-fn push_arguments(draft: &mut Draft, env: &Env<'_>, variables: &[Variable], dummies: &[Dummy], arguments: &[Argument], line: u32) -> Result<(), NoMemory>
+fn push_arguments(
+    draft: &mut Draft,
+    env: &Env<'_>,
+    variables: &[Variable],
+    dummies: &[Dummy],
+    arguments: &[Argument],
+    line: u32,
+) -> Result<(), NoMemory>
     ensures { OnOk result (draft.new ≡ written line (meaning.arguments (environment env.now) variables.now dummies.now (view.arguments arguments.now)) draft.old) }
 {
     let mut n = 0;
@@ -627,7 +627,13 @@ fn push_arguments(draft: &mut Draft, env: &Env<'_>, variables: &[Variable], dumm
 
 #[cycle(expression)]
 #[tactic(auto, using(crate::proofs::Forms::laws))]
-fn push_argument(draft: &mut Draft, env: &Env<'_>, argument: &Argument, rank: u32, line: u32) -> Result<(), NoMemory>
+fn push_argument(
+    draft: &mut Draft,
+    env: &Env<'_>,
+    argument: &Argument,
+    rank: u32,
+    line: u32,
+) -> Result<(), NoMemory>
     ensures { OnOk result (draft.new ≡ written line (meaning.argument (environment env.now) (view.argument argument.now) rank) draft.old) }
 {
     match argument {
@@ -639,7 +645,13 @@ fn push_argument(draft: &mut Draft, env: &Env<'_>, argument: &Argument, rank: u3
 // A variable that goes back: its place stands beneath its value.
 #[cycle(expression)]
 #[tactic(auto, using(crate::proofs::Forms::laws))]
-fn push_actual(draft: &mut Draft, env: &Env<'_>, designator: &Designator, rank: u32, line: u32) -> Result<(), NoMemory>
+fn push_actual(
+    draft: &mut Draft,
+    env: &Env<'_>,
+    designator: &Designator,
+    rank: u32,
+    line: u32,
+) -> Result<(), NoMemory>
     ensures { OnOk result (draft.new ≡ written line (meaning.actual (environment env.now) (view.designator designator.now) rank) draft.old) }
 {
     let is_whole_scalar = is_scalar(&designator.subscripts, rank);

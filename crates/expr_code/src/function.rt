@@ -52,7 +52,10 @@ pub fn push_is_there(draft: &mut Draft, object: Object, line: u32) -> Result<(),
     ensures { OnOk result (draft.new ≡ written line (functions.is_there object) draft.old) }
 {
     match object {
-        Object::Local(local) => draft.push(Step::IsThere(scope_of(local.home), local.variable), line),
+        Object::Local(local) => draft.push(
+            Step::IsThere(scope_of(local.home), local.variable),
+            line,
+        ),
         Object::Coarray(coarray) => draft.push(Step::CoIsThere(coarray), line),
         Object::Constant(_) => Ok(()),
     }
@@ -85,7 +88,15 @@ pub fn is_whole(subscripts: &[Subscript]) -> bool
 }
 
 /// The bounds of a local array, or of the section by the subscripts on top.
-pub fn push_local_bounds(draft: &mut Draft, is_whole: bool, scope: Scope, array: u32, form: u32, rank: u32, line: u32) -> Result<(), NoMemory>
+pub fn push_local_bounds(
+    draft: &mut Draft,
+    is_whole: bool,
+    scope: Scope,
+    array: u32,
+    form: u32,
+    rank: u32,
+    line: u32,
+) -> Result<(), NoMemory>
     ensures { OnOk result (draft.new ≡ written line (functions.local_bounds is_whole (table.scope_of scope) array form rank) draft.old) }
 {
     if is_whole {
@@ -96,7 +107,12 @@ pub fn push_local_bounds(draft: &mut Draft, is_whole: bool, scope: Scope, array:
 }
 
 /// The bounds of a section of a coarray whose place and owner are on top.
-pub fn push_selected_bounds(draft: &mut Draft, rank: u32, stat: u32, line: u32) -> Result<(), NoMemory>
+pub fn push_selected_bounds(
+    draft: &mut Draft,
+    rank: u32,
+    stat: u32,
+    line: u32,
+) -> Result<(), NoMemory>
     ensures { OnOk result (draft.new ≡ written line (functions.selected_bounds rank stat) draft.old) }
 {
     push_drop(draft, 1, line)?;
@@ -105,7 +121,14 @@ pub fn push_selected_bounds(draft: &mut Draft, rank: u32, stat: u32, line: u32) 
 }
 
 /// The place of a part of a local array, by the subscripts on top, and above it the value.
-pub fn push_place_and_value(draft: &mut Draft, scope: Scope, array: u32, form: u32, rank: u32, line: u32) -> Result<(), NoMemory>
+pub fn push_place_and_value(
+    draft: &mut Draft,
+    scope: Scope,
+    array: u32,
+    form: u32,
+    rank: u32,
+    line: u32,
+) -> Result<(), NoMemory>
     ensures { OnOk result (draft.new ≡ written line (functions.place_and_value (table.scope_of scope) array form rank) draft.old) }
 {
     let size = place_size(rank)?;

@@ -55,7 +55,12 @@ pub fn push_truth(draft: &mut Draft, value: bool, line: u32) -> Result<(), NoMem
 }
 
 /// An operator of two numbers of this kind.
-pub fn push_arithmetic(draft: &mut Draft, operator: ArithmeticOperator, kind: Kind, line: u32) -> Result<(), NoMemory>
+pub fn push_arithmetic(
+    draft: &mut Draft,
+    operator: ArithmeticOperator,
+    kind: Kind,
+    line: u32,
+) -> Result<(), NoMemory>
     ensures { OnOk result (draft.new ≡ written line (meaning.operating (meaning.arithmetic_act operator kind)) draft.old) }
 {
     match operator {
@@ -68,7 +73,11 @@ pub fn push_arithmetic(draft: &mut Draft, operator: ArithmeticOperator, kind: Ki
 }
 
 /// A comparison of two numbers.
-pub fn push_relation(draft: &mut Draft, operator: RelationalOperator, line: u32) -> Result<(), NoMemory>
+pub fn push_relation(
+    draft: &mut Draft,
+    operator: RelationalOperator,
+    line: u32,
+) -> Result<(), NoMemory>
     ensures { OnOk result (draft.new ≡ written line (meaning.operating (meaning.relation_act operator)) draft.old) }
 {
     match operator {
@@ -167,7 +176,14 @@ pub fn push_item(draft: &mut Draft, rank: u32, line: u32) -> Result<(), NoMemory
 }
 
 /// The value of the part of a local array that these subscripts, which are on top, select.
-pub fn push_local_value(draft: &mut Draft, scope: Scope, array: u32, form: u32, rank: u32, line: u32) -> Result<(), NoMemory>
+pub fn push_local_value(
+    draft: &mut Draft,
+    scope: Scope,
+    array: u32,
+    form: u32,
+    rank: u32,
+    line: u32,
+) -> Result<(), NoMemory>
     ensures { OnOk result (draft.new ≡ written line (part.value_of_part (table.scope_of scope) array form rank) draft.old) }
 {
     draft.push(Step::Section(scope, array, form), line)?;
@@ -194,7 +210,13 @@ pub fn push_read(draft: &mut Draft, coarray: u32, rank: u32, line: u32) -> Resul
 
 /// An access without a selector to an array is one to this image's, which has to be there.
 #[tactic(auto, using(crate::proofs::Forms::laws))]
-pub fn push_needs_own(draft: &mut Draft, coarray: u32, is_scalar: bool, selector: &Option<Selector>, line: u32) -> Result<(), NoMemory>
+pub fn push_needs_own(
+    draft: &mut Draft,
+    coarray: u32,
+    is_scalar: bool,
+    selector: &Option<Selector>,
+    line: u32,
+) -> Result<(), NoMemory>
     ensures { OnOk result (draft.new ≡ written line (meaning.needing_own coarray is_scalar (view.maybe_selector selector.now)) draft.old) }
 {
     if is_scalar {
@@ -208,14 +230,25 @@ pub fn push_needs_own(draft: &mut Draft, coarray: u32, is_scalar: bool, selector
 
 /// Stores the number on top in a result variable, whose place, if it is an element, stands beneath `depth` numbers.
 #[tactic(auto, using(crate::proofs::Forms::laws))]
-pub fn push_store(draft: &mut Draft, depth: u32, variable: &ResultVariable, line: u32) -> Result<(), NoMemory>
+pub fn push_store(
+    draft: &mut Draft,
+    depth: u32,
+    variable: &ResultVariable,
+    line: u32,
+) -> Result<(), NoMemory>
     ensures { OnOk result (draft.new ≡ written line (meaning.storing depth (view.result_variable variable.now)) draft.old) }
 {
     push_store_at(draft, depth, variable.variable, &variable.subscripts, line)
 }
 
 // The same of a variable with these subscripts.
-fn push_store_at(draft: &mut Draft, depth: u32, variable: Local, subscripts: &[TypedExpr], line: u32) -> Result<(), NoMemory>
+fn push_store_at(
+    draft: &mut Draft,
+    depth: u32,
+    variable: Local,
+    subscripts: &[TypedExpr],
+    line: u32,
+) -> Result<(), NoMemory>
     ensures { OnOk result (draft.new ≡ written line (part.storing_at depth variable (view.expressions subscripts.now)) draft.old) }
 {
     let scope = scope_of(variable.home);
@@ -229,13 +262,21 @@ fn push_store_at(draft: &mut Draft, depth: u32, variable: Local, subscripts: &[T
 }
 
 /// The place of a variable with these subscripts, which are on top; of a scalar variable it is nothing.
-pub fn push_section_at(draft: &mut Draft, variable: Local, subscripts: &[TypedExpr], line: u32) -> Result<(), NoMemory>
+pub fn push_section_at(
+    draft: &mut Draft,
+    variable: Local,
+    subscripts: &[TypedExpr],
+    line: u32,
+) -> Result<(), NoMemory>
     ensures { OnOk result (draft.new ≡ written line (part.section_at variable (view.expressions subscripts.now)) draft.old) }
 {
     let form = element_form(subscripts)?;
     match subscripts {
         [] => Ok(()),
-        [_first, _rest @ ..] => draft.push(Step::Section(scope_of(variable.home), variable.variable, form), line),
+        [_first, _rest @ ..] => draft.push(
+            Step::Section(scope_of(variable.home), variable.variable, form),
+            line,
+        ),
     }
 }
 
@@ -281,7 +322,11 @@ pub fn stat_size(selector: &Option<Selector>) -> u32
 
 // The status on top goes into a result variable, or nowhere.
 #[tactic(auto, using(crate::proofs::Forms::laws))]
-fn push_status_of(draft: &mut Draft, variable: &Option<Box<ResultVariable>>, line: u32) -> Result<(), NoMemory>
+fn push_status_of(
+    draft: &mut Draft,
+    variable: &Option<Box<ResultVariable>>,
+    line: u32,
+) -> Result<(), NoMemory>
     ensures { OnOk result (draft.new ≡ written line (meaning.storing_status 1 (view.optional_result variable.now)) draft.old) }
 {
     match variable {
@@ -302,7 +347,14 @@ fn push_status(draft: &mut Draft, selector: &Option<Selector>, line: u32) -> Res
 }
 
 /// Reads a section of a coarray, whose place and owner are on top, and sets the selector's STAT= variable.
-pub fn push_access(draft: &mut Draft, coarray: u32, is_scalar: bool, rank: u32, selector: &Option<Selector>, line: u32) -> Result<(), NoMemory>
+pub fn push_access(
+    draft: &mut Draft,
+    coarray: u32,
+    is_scalar: bool,
+    rank: u32,
+    selector: &Option<Selector>,
+    line: u32,
+) -> Result<(), NoMemory>
     ensures { OnOk result (draft.new ≡ written line (part.accessing coarray is_scalar rank (view.maybe_selector selector.now)) draft.old) }
 {
     push_needs_own(draft, coarray, is_scalar, selector, line)?;
@@ -314,7 +366,14 @@ pub fn push_access(draft: &mut Draft, coarray: u32, is_scalar: bool, rank: u32, 
 }
 
 /// The image that cosubscripts and a team select; the place of the selector's STAT= variable comes beneath the section's.
-pub fn push_selected_owner(draft: &mut Draft, coarray: u32, rank: u32, count: u32, stat: u32, line: u32) -> Result<(), NoMemory>
+pub fn push_selected_owner(
+    draft: &mut Draft,
+    coarray: u32,
+    rank: u32,
+    count: u32,
+    stat: u32,
+    line: u32,
+) -> Result<(), NoMemory>
     ensures { OnOk result (draft.new ≡ written line (part.owning coarray rank count stat) draft.old) }
 {
     let depth = sum(place_size(rank)?, sum(count, 1)?)?;

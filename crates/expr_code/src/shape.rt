@@ -137,4 +137,3 @@ pub fn narrow(n: usize) -> Result<u32, NoMemory>
     }
     Ok(n as u32)
 }
-
