@@ -1,0 +1,3 @@
+pub mod Coshapes
+pub mod EntitiesAsked
+pub mod Telling

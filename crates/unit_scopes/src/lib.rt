@@ -2,3 +2,8 @@
 //! with the rules that they break; the interfaces of the procedures.
 //! It stands on `declaration_rules`, `constant_rules` and `expr_rules`; `rule_checker` stands on it.
 #![tactic(auto)]
+
+pub mod asked;
+pub mod coshape;
+pub mod entity;
+pub mod grown;
