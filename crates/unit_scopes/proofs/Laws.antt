@@ -14,10 +14,11 @@ use Rattle.rule_definitions.specs.Names.{KnownBounds, Scope}
 use Rattle.rule_definitions.specs.Parts.{Placed}
 use Rattle.rule_definitions.specs.Constants.{Constancy, all_bounds}
 use Rattle.rule_definitions.specs.Expressions.{placed}
-use Rattle.rule_definitions.specs.Declarations.{Attributes, Unit', cobounds_value, coshape_breaks, coshape_known, coshape_of_bounds, dimensions_breaks, dimensions_known, effective_coshape, effective_dimensions, entity_breaks, initial_judged, lacks_value, lower_value, raw_bounds_breaks, raw_breaks, raw_coshape_breaks, raw_dimensions_breaks, raw_entity_breaks, repeated_breaks, scope_with, whole_breaks}
+use Rattle.rule_definitions.specs.Declarations.{Attributes, Unit', attribute_breaks, cobounds_value, coshape_breaks, coshape_known, coshape_of_bounds, dimensions_breaks, dimensions_known, effective_coshape, effective_dimensions, entity_breaks, initial_judged, lacks_value, lower_value, raw_bounds_breaks, raw_breaks, raw_coshape_breaks, raw_dimensions_breaks, raw_entity_breaks, repeated_breaks, scope_with, whole_breaks}
 use Rattle.declaration_rules.specs.Asked.{Asked, Worth, asked_of, worth_of}
 use Rattle.declaration_rules.specs.Bounds.{bounds_asked_of, cobounds_asked, lower_asked, maybe_asked_of}
 use Rattle.declaration_rules.specs.Shapes.{AskedDimension, dimension_asked_of, dimensions_asked, raw_asked}
+use Rattle.unit_scopes.specs.Heads.{one_attribute_breaks}
 use Rattle.declaration_rules.proofs.Definitions.{cobounds_is, dimensions_are, initial_is, known_dimensions_are, lower_is, raw_dimensions_are, raw_is}
 use Rattle.unit_scopes.specs.Coshapes.{AskedCoshape, cobounds_breaks, coshape_asked_breaks, coshape_asked_known, known_cobounds, maybe_coshape_of, raw_all_asked, raw_coshape_asked}
 use Rattle.unit_scopes.specs.EntitiesAsked.{AskedEntity, entity_asked_of, initial_of_asked, known_shape, new_entity_breaks, raw_entity_asked, repeated_asked, scope_behind, scope_of_parts}
@@ -138,3 +139,11 @@ unfolding entity_asked_of
 entity_made s a e ds c i p q r =
     ap (λ k. entity_parts k c i) p ∙ ap (λ k. entity_parts (map (dimension_asked_of s) (effective_dimensions a e)) k i) q
     ∙ ap (λ k. entity_parts (map (dimension_asked_of s) (effective_dimensions a e)) (maybe_coshape_of s (effective_coshape a e)) k) r
+
+pub attribute_more : (s : Scope) (x : d.Attribute) (xs : List d.Attribute) → attribute_breaks s (x ∷ xs) ≡ one_attribute_breaks s x ++ attribute_breaks s xs
+attribute_more s (d.dimension ds) xs = refl
+attribute_more s (d.codimension c) xs = refl
+attribute_more s d.parameter xs = refl
+attribute_more s d.allocatable xs = refl
+attribute_more s d.save xs = refl
+attribute_more s (d.intent i) xs = refl

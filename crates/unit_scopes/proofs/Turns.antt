@@ -1,5 +1,5 @@
 -- Turns of loops.
-use Rattle.std.proofs.Common.{◌≡◌, ◌∙◌, ℕ, ◌+◌, List, [], ◌∷◌, ◌++◌, drop, refl, sym, ap, ℤ}
+use Rattle.std.proofs.Common.{◌≡◌, ◌∙◌, ℕ, ◌+◌, ◌≤◌, List, [], ◌∷◌, ◌++◌, drop, length, length-drop, refl, sym, ap, arith, ℤ}
 use Rattle.std.specs.Prelude.{Option, Some, None, map}
 use Rattle.std.specs.Option.{option_map}
 use Rattle.std.proofs.lemmas.List.{append-nil, append_assoc, map-append}
@@ -37,3 +37,14 @@ pub turn_gives : {X Y : Type 0} (one : X → Y) (all : List X → List Y) (more 
 turn_gives one all more xs i x ys zs y end d e r h =
     ap (λ k. k ++ all (drop (i + 1) xs)) (r ∙ ap (λ k. ys ++ k ∷ []) e) ∙ append_assoc ys (one x ∷ []) (all (drop (i + 1) xs))
     ∙ ap (λ k. ys ++ k) (sym (ap all d ∙ more x (drop (i + 1) xs))) ∙ h
+
+empty : {X : Type 0} (xs : List X) → length xs ≡ 0 → xs ≡ []
+empty [] h = refl
+empty (x ∷ xs) h = absurd (omega (arith, h))
+
+-- the end of a loop over the items of a list
+pub finish : {X K : Type 0} (f : List X → K → K) (none : (k : K) → f [] k ≡ k) (xs : List X) (i : ℕ) (k end : K) → length xs ≤ i → f (drop i xs) k ≡ end → k ≡ end
+finish f none xs i k end h e =
+    let l = length-drop i xs in
+    let z : length (drop i xs) ≡ 0 = omega (arith, l, h) in
+    sym (none k) ∙ ap (λ y. f y k) (sym (empty (drop i xs) z)) ∙ e

@@ -1,15 +1,18 @@
 -- Entities, by what is asked of their expressions: the words of the definitions of declarations (8.2, 8.4, 8.5), without the scope.
-use Rattle.std.specs.Prelude.{ℕ, Bool, cond, List, [], ◌∷◌, ◌++◌, Option, Some, None, map}
+use Rattle.std.specs.Prelude.{ℕ, Bool, cond, length, nat_eq, List, [], ◌∷◌, ◌++◌, Option, Some, None, map}
 use Rattle.caf_base.specs.declared.place.Pos.{Pos}
 use Rattle.fortran_tree.specs.Statements as d
 use Rattle.checked_tree.specs.declared.data.DataType.{DataType}
 use Rattle.checked_tree.specs.declared.data.Codimensions.{Codimensions}
+use Rattle.checked_tree.specs.declared.data.Home.TheVariants.{Own}
+use Rattle.checked_tree.specs.declared.data.Object.{Object}
+use Rattle.checked_tree.specs.declared.data.Object.TheVariants as objects
 use Rattle.rule_definitions.specs.declared.broken.Broken.{Broken}
 use Rattle.rule_definitions.specs.Judgements.{Judgement, breaks, fine, is_nothing, made_of}
-use Rattle.rule_definitions.specs.Names.{KnownBounds, Named, Scope, named}
+use Rattle.rule_definitions.specs.Names.{KnownBounds, Named, Scope, named, variables_of}
 use Rattle.rule_definitions.specs.Names
 use Rattle.rule_definitions.specs.Constants.{Constancy}
-use Rattle.rule_definitions.specs.Declarations.{Attributes, Unit', constant_entity, corank_of, effective_coshape, effective_dimensions, initial_of, is_named_constant, object_of, role_of, whole_breaks, with_name}
+use Rattle.rule_definitions.specs.Declarations.{Attributes, Unit', constant_entity, corank_of, effective_coshape, effective_dimensions, initial_of, is_named_constant, count_coarrays, role_of, whole_breaks, with_name}
 use Rattle.declaration_rules.specs.Asked.{Asked}
 use Rattle.declaration_rules.specs.Bounds.{maybe_asked, maybe_asked_of}
 use Rattle.declaration_rules.specs.Initials.{initial_asked}
@@ -48,20 +51,28 @@ abbrev pub initial_of_asked : Unit' → Attributes → List ℕ → Option DataT
 initial_of_asked u a n y ds None = fine None
 initial_of_asked u a n y ds (Some x) = made_of Some (initial_asked u (is_named_constant u a n) a.is_allocatable y ds x)
 
+-- the rules on an entity as a whole, unless something breaks in its expressions
+abbrev pub whole_unless_raw : Unit' → Attributes → Option DataType → d.Entity → AskedEntity → List Broken
+whole_unless_raw u a y e q = cond (is_nothing (raw_entity_asked q)) (whole_breaks u a y e (effective_dimensions a e) (effective_coshape a e)) []
+
 -- all rules that a new entity breaks
 abbrev pub new_entity_breaks : Unit' → Attributes → Option DataType → d.Entity → AskedEntity → List Broken
 new_entity_breaks u a y e q =
-    cond (is_nothing (raw_entity_asked q)) (whole_breaks u a y e (effective_dimensions a e) (effective_coshape a e)) []
+    whole_unless_raw u a y e q
     ++ (dimensions_asked a.is_allocatable q.dimensions
     ++ (coshape_asked_breaks a.is_allocatable q.coshape
     ++ (initial_of_asked u a e.name.text y (known_shape a q) q.initial).breaks))
 
+-- the object that the next variable of a scope with these names is
+abbrev pub object_behind : List Named → ℕ → Object
+object_behind own corank = cond (nat_eq corank 0) (objects.Local (record { home = Own; variable = length (variables_of own) })) (objects.Coarray (count_coarrays (variables_of own)))
+
 -- a variable with these bounds, this coshape and this initial value
-abbrev pub variable_made : Scope → Unit' → Attributes → Option DataType → d.Entity → List KnownBounds → Codimensions → Option (Option Constancy) → Named
-variable_made s u a y e ds c j = named e.name.text (Names.variable (record {
+abbrev pub variable_made : List Named → Unit' → Attributes → Option DataType → d.Entity → List KnownBounds → Codimensions → Option (Option Constancy) → Named
+variable_made own u a y e ds c j = named e.name.text (Names.variable (record {
   name = e.name.text;
   at = e.name.at;
-  object = object_of s (corank_of (effective_coshape a e));
+  object = object_behind own (corank_of (effective_coshape a e));
   of_type = y;
   bounds = ds;
   coshape = c;
@@ -73,7 +84,7 @@ variable_made s u a y e ds c j = named e.name.text (Names.variable (record {
 
 -- the scope behind a new entity with these
 abbrev pub scope_of_parts : Scope → Unit' → Attributes → Option DataType → d.Entity → List KnownBounds → Codimensions → Option (Option Constancy) → Scope
-scope_of_parts s u a y e ds c j = cond (is_named_constant u a e.name.text) (constant_entity s ds y e j) (with_name s (variable_made s u a y e ds c j))
+scope_of_parts s u a y e ds c j = cond (is_named_constant u a e.name.text) (constant_entity s ds y e j) (with_name s (variable_made s.own u a y e ds c j))
 
 abbrev pub scope_behind : Scope → Unit' → Attributes → Option DataType → d.Entity → AskedEntity → Scope
 scope_behind s u a y e q = scope_of_parts s u a y e (known_shape a q) (coshape_asked_known q.coshape) (initial_of_asked u a e.name.text y (known_shape a q) q.initial).meaning

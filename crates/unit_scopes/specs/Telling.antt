@@ -1,11 +1,15 @@
 -- What is known behind declarations: the first of the rules that they break, and the scope that they make.
-use Rattle.std.specs.Prelude.{List, Option}
+use Rattle.std.specs.Prelude.{List, Option, ◌++◌}
 use Rattle.checked_tree.specs.declared.data.DataType.{DataType}
+use Rattle.checked_tree.specs.declared.data.DataType.TheVariants.{Intrinsic}
+use Rattle.fortran_tree.specs.Expressions as f
 use Rattle.fortran_tree.specs.Statements as d
 use Rattle.rule_definitions.specs.declared.broken.Broken.{Broken}
-use Rattle.rule_definitions.specs.Judgements.{first_of}
+use Rattle.rule_definitions.specs.Judgements.{Judgement, first_of, made_of}
 use Rattle.rule_definitions.specs.Names.{Scope}
-use Rattle.rule_definitions.specs.Declarations.{Attributes, Declared, Unit', declared, declared_all, declared_entities, declared_entity}
+use Rattle.rule_definitions.specs.Declarations.{Attributes, Declared, Unit', attribute_breaks, declared, declared_all, declared_entities, declared_entity, declared_kind, type_judged}
+use Rattle.declaration_rules.specs.Bounds.{kinds_of}
+use Rattle.declaration_rules.specs.declared.kind.KindOf.{KindOf}
 use Rattle.unit_scopes.specs.declared.grown.Grown.{Grown}
 
 pub record Told : Type 0 where
@@ -36,3 +40,17 @@ of_declaration u x s = declared u x s
 
 unfoldable pub of_all : Unit' → List d.Declaration → Scope → Declared
 of_all u xs s = declared_all u xs s
+
+-- what breaks before the entities of a declaration: in its type and its attributes
+unfoldable pub of_head : d.Declaration → Scope → Declared
+of_head x s = record { breaks = (type_judged s x.type_spec).breaks ++ attribute_breaks s x.attributes; scope = s }
+
+unfoldable pub head_type : d.Declaration → Told → Option DataType
+head_type x k = (type_judged k.scope x.type_spec).meaning
+
+-- a type of which the kind is written
+abbrev pub kind_judged : Scope → KindOf → f.Expression → Judgement DataType
+kind_judged s k e = made_of Intrinsic (declared_kind s (kinds_of k) e)
+
+abbrev pub told_parts : Option Broken → Scope → Told
+told_parts o s = record { first = o; scope = s }

@@ -1,6 +1,8 @@
 //! Scopes that grow as declarations are read.
 
-ghost use Rattle.std.specs.Prelude.{◌≡◌};
+ghost use Rattle.std.specs.Prelude.{◌≡◌, ◌++◌, map};
+ghost use Rattle.rule_definitions.specs.Units.{hosted};
+ghost use Rattle.scope_table.specs.Scopes.{answer_names};
 
 use checked_tree::data::Constant;
 use rule_definitions::broken::Broken;
@@ -62,6 +64,24 @@ impl<'a> Setting<'a> {
             outside: self.outside,
             interfaces: self.interfaces,
             constants,
+        }
+    }
+
+    /// The setting inside of a procedure, whose host has these names: its own names that come later, and its result where its heading types it.
+    pub fn inside<'b>(
+        &'b self,
+        pending: &'b Pending<'b>,
+        answer: Option<&'b Symbol>,
+        host: &'b Table,
+    ) -> Setting<'b>
+        ensures { result ≡ record self.now { pending = pending.now; host = answer_names answer.entry ++ map hosted host.now } }
+    {
+        Setting {
+            pending: Some(pending),
+            answer,
+            host: Some(host),
+            outside: self.outside,
+            interfaces: self.interfaces,
         }
     }
 }
