@@ -1,20 +1,20 @@
 -- Numbers that are counted no further than a limit.
-use Rattle.std.proofs.Common.{◌≡◌, ◌∙◌, ℕ, zero, suc, ◌+◌, ◌*◌, ◌<◌, ◌≤◌, Bool, true, false, not, ◌&&◌, List, [], ◌∷◌, ◌++◌, map, refl, sym, ap, arith, ℤ}
+use Rattle.std.proofs.Common.{◌≡◌, ◌∙◌, ℕ, zero, suc, ◌+◌, ◌*◌, ◌<◌, ◌≤◌, Bool, true, false, not, ◌&&◌, List, [], ◌∷◌, ◌++◌, drop, map, refl, sym, ap, arith, ℤ}
 use Rattle.std.specs.Prelude.{cond, nat_eq, nat_le, nat_lt, Option, Some, None}
 use Rattle.std.proofs.lemmas.Bool.{le-leb, lt-leb, leb-true, leb-false, lt-ltb}
-use Rattle.std.proofs.Math.Nat.{add_comm, mul-suc, mul-zero, mul_comm, mul_assoc}
+use Rattle.std.proofs.Math.Nat.{add_comm, mul-suc, mul-zero, mul_comm, mul_assoc, zero-mul}
 use Rattle.caf_base.specs.declared.place.Pos.{Pos}
 use Rattle.coarray_types.specs.Places.{extent_of, size_of}
 use Rattle.rule_definitions.specs.declared.broken.Broken.{Broken}
 use Rattle.rule_definitions.specs.Judgements.{first_of, unless}
-use Rattle.rule_definitions.specs.Names.{Named, Symbol, variables_of}
-use Rattle.rule_definitions.specs.Constants.{with_first}
+use Rattle.rule_definitions.specs.Names.{KnownBounds, Named, Symbol, variables_of}
+use Rattle.rule_definitions.specs.Constants.{all_bounds, with_first}
 use Rattle.rule_definitions.specs.Declarations.{cells_breaks, cells_of, coarrays_among, limit_breaks, locals_among, passing_breaks}
 use Rattle.scope_table.proofs.First.{first_of_both}
 use Rattle.scope_table.specs.Symbols.{entry, symbol}
 use Rattle.scope_table.specs.declared.symbol.Entry.{Entry}
 use Rattle.scope_table.specs.declared.symbol.Entry.TheVariants as entries
-use Rattle.unit_scopes.specs.Limits.{capped, cells_from, chosen, is_chosen, next_breaks, next_sum}
+use Rattle.unit_scopes.specs.Limits.{capped, cells_from, chosen, is_chosen, next_breaks, next_sum, with_extent}
 
 small : (n : ℕ) → n ≤ 65536 → capped n ≡ n
 small n h = ap (λ b. cond b n 65537) (le-leb n 65536 h)
@@ -44,6 +44,19 @@ cells_more k m d (Some ds) h =
     ∙ ap capped (ap (λ z. z * size_of ds) (mul_comm k (capped (extent_of d))) ∙ mul_assoc (capped (extent_of d)) k (size_of ds))
     ∙ capped_times (extent_of d) (k * size_of ds)
     ∙ ap capped (sym (mul_assoc (extent_of d) k (size_of ds)) ∙ ap (λ z. z * size_of ds) (mul_comm (extent_of d) k) ∙ mul_assoc k (extent_of d) (size_of ds))
+
+no_cells : (o : Option (List (ℤ × ℤ))) → cells_from 0 o ≡ 0
+no_cells None = refl
+no_cells (Some ds) = ap capped (zero-mul (size_of ds))
+
+between_more : (k : ℕ) (x : KnownBounds) (ds : List KnownBounds) → cells_from (with_extent k x) (all_bounds ds) ≡ cells_from k (all_bounds (x ∷ ds))
+between_more k None ds = no_cells (all_bounds ds)
+between_more k (Some b) ds = cells_more k (capped (k * capped (extent_of b))) b (all_bounds ds) refl
+
+pub turn_between : (ds : List KnownBounds) (i : ℕ) (x : KnownBounds) (k m end : ℕ) → drop i ds ≡ x ∷ drop (i + 1) ds → m ≡ with_extent k x
+    → cells_from k (all_bounds (drop i ds)) ≡ end → cells_from m (all_bounds (drop (i + 1) ds)) ≡ end
+turn_between ds i x k m end d e h =
+    ap (λ z. cells_from z (all_bounds (drop (i + 1) ds))) e ∙ between_more k x (drop (i + 1) ds) ∙ ap (λ z. cells_from k (all_bounds z)) (sym d) ∙ h
 
 sum_cases : (n k : ℕ) (b : Bool) → nat_le n 65536 ≡ b → capped (capped n + k) ≡ capped (n + k)
 sum_cases n k true e = ap (λ z. capped (z + k)) (small n (leb-true n 65536 e))

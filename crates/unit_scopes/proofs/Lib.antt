@@ -8,3 +8,4 @@ pub mod Laws
 pub mod Openings
 pub mod Steps
 pub mod Turns
+pub mod Wholes

@@ -1,7 +1,7 @@
 -- Cells, counted no further than the limit of rule 30.
 use Rattle.std.specs.Prelude.{ℕ, ℤ, ◌+◌, ◌*◌, Bool, true, false, cond, nat_eq, nat_le, List, [], ◌∷◌, Option, Some, None}
-use Rattle.coarray_types.specs.Places.{size_of}
-use Rattle.rule_definitions.specs.Names.{Symbol}
+use Rattle.coarray_types.specs.Places.{extent_of, size_of}
+use Rattle.rule_definitions.specs.Names.{KnownBounds, Symbol}
 use Rattle.rule_definitions.specs.Declarations.{cells_of, coarrays_among, locals_among, passing_breaks}
 use Rattle.rule_definitions.specs.declared.broken.Broken.{Broken}
 use Rattle.scope_table.specs.Symbols.{symbol}
@@ -16,6 +16,11 @@ capped n = cond (nat_le n 65536) n 65537
 abbrev pub cells_from : ℕ → Option (List (ℤ × ℤ)) → ℕ
 cells_from k None = 0
 cells_from k (Some ds) = capped (k * size_of ds)
+
+-- so many cells times those of one dimension more
+abbrev pub with_extent : ℕ → KnownBounds → ℕ
+with_extent k None = 0
+with_extent k (Some d) = capped (k * capped (extent_of d))
 
 -- the coarrays among variables, or the others
 abbrev pub chosen : Bool → List Symbol → List Symbol

@@ -7,7 +7,7 @@ use Rattle.rule_definitions.specs.declared.broken.Broken.{Broken}
 use Rattle.rule_definitions.specs.Judgements.{first_of}
 use Rattle.rule_definitions.specs.Names.{Interface, Named, Scope}
 use Rattle.rule_definitions.specs.Declarations.{names_declared}
-use Rattle.rule_definitions.specs.Units.{Opened, completed, constants_behind, interface_of, opened_breaks, opened_procedures}
+use Rattle.rule_definitions.specs.Units.{Opened, completed, constants_behind, interface_of, main_declared, opened_breaks, opened_procedures}
 use Rattle.scope_table.specs.Outside.{Outer}
 use Rattle.scope_table.specs.Symbols.{interface}
 use Rattle.unit_scopes.specs.declared.program.Procedures.{Procedures}
@@ -44,3 +44,7 @@ passed_through s xs o = passed_of s (opened_procedures s xs) o
 -- the scope of a main program, without names of its own and array constants
 abbrev pub main_scope : Outer → List Interface → List (List ℕ) → Scope
 main_scope o is ps = record { own = []; pending = ps; host = []; procedures = o.procedures; accessible = o.accessible; interfaces = is; constants = [] }
+
+-- the scope of a main program behind its declarations
+abbrev pub main_behind : u.Program → List Interface → Scope
+main_behind p is = record (main_declared p is).scope { pending = [] }

@@ -240,7 +240,6 @@ fn answer_place(heading: &Heading) -> Pos
 }
 
 /// The rules of a heading; its types are those of the host (19.5.1.4).
-#[tactic(auto, using(crate::proofs::Heads::heading_noted))]
 pub fn judge_heading(
     alloc: Global,
     scope: &Scope<'_>,
@@ -258,5 +257,6 @@ pub fn judge_heading(
         first,
         prefixes_in(heading),
         answer_place(heading),
-    )
+    )?;
+    Ok(())
 }

@@ -16,3 +16,4 @@ pub mod interface;
 pub mod limit;
 pub mod procedure;
 pub mod program;
+pub mod scopes;

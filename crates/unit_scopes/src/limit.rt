@@ -7,7 +7,7 @@ ghost use Rattle.rule_definitions.specs.Declarations.{cells_breaks, cells_of, li
 ghost use Rattle.rule_definitions.specs.Judgements.{first_of};
 ghost use Rattle.rule_definitions.specs.Names.{variables_of};
 ghost use Rattle.scope_table.specs.Symbols.{entry, symbol as symbol_seen};
-ghost use Rattle.unit_scopes.specs.Limits.{capped, cells_from, chosen, is_chosen, next_breaks, next_sum};
+ghost use Rattle.unit_scopes.specs.Limits.{capped, cells_from, chosen, is_chosen, next_breaks, next_sum, with_extent};
 
 use caf_base::place::Pos;
 use rule_definitions::broken::Broken;
@@ -60,6 +60,18 @@ fn sum(one: u64, other: u64) -> u64
     all
 }
 
+// So many cells times those of one dimension more; none where its bounds are unknown.
+fn with_dimension(all: u64, next: &KnownBounds) -> u64
+    requires { all ≤ 65537 }
+    ensures cells { result ≡ with_extent all next.now }
+    ensures below { result ≤ 65537 }
+{
+    match next {
+        Some(known) => product(all, extent_between(*known)),
+        None => 0,
+    }
+}
+
 // The cells between bounds, where they are all known.
 fn cells_between(bounds: &[KnownBounds]) -> u64
     ensures cells { result ≡ cells_from 1 (all_bounds bounds.now) }
@@ -67,10 +79,8 @@ fn cells_between(bounds: &[KnownBounds]) -> u64
 {
     let mut all: u64 = 1;
     for next in bounds {
-        let Some(known) = next else {
-            return 0;
-        };
-        all = product(all, extent_between(*known));
+        let more = with_dimension(all, next);
+        all = more;
     }
     all
 }
@@ -144,7 +154,6 @@ fn judge_cells(first: &mut Option<Broken>, entries: &[Entry], of_coarrays: bool)
 }
 
 /// Rule 30: the variable of the main program that passes the limit, at its name; coarrays and other variables apart.
-#[tactic(auto, using(crate::proofs::Caps::limits_noted))]
 pub fn judge_limits(first: &mut Option<Broken>, own: &Table)
     ensures { first.new ≡ first_of first.old (limit_breaks (variables_of own.now)) }
 {

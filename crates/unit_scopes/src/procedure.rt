@@ -98,7 +98,7 @@ fn untyped_answer(heading: &Heading) -> Option<&Name>
 }
 
 fn declaring_unit<'a>(dummies: Dummies<'a>, heading: &'a Heading) -> DeclaringUnit<'a>
-    requires { dummies.entry ≡ name_texts (headed (heading_seen heading.now)).dummies }
+    requires { dummies ≡ name_texts (headed (heading_seen heading.now)).dummies }
     ensures unit { unit result ≡ unit_of (headed (heading_seen heading.now)) }
     ensures dummies { result.dummies ≡ name_texts (headed (heading_seen heading.now)).dummies }
 {
@@ -176,7 +176,6 @@ fn add_untyped(
 }
 
 // The result of a function (15.6.2.2): one that the heading types stands last.
-#[tactic(auto, using(crate::proofs::Chains::answer_typed, crate::proofs::Chains::answer_untyped))]
 fn add_answer(
     alloc: Global,
     grown: &mut Grown,
@@ -186,14 +185,16 @@ fn add_answer(
     ensures { OnOk result ((p : Names) (s : Names) → of_type ≡ (first_type s (headed (heading_seen heading.now)).types).meaning → told p grown.new ≡ behind (of_answer s (headed (heading_seen heading.now))) (told p grown.old)) }
 {
     if is_typed_heading(heading) {
-        return add_typed(alloc, &mut grown.own, of_type, heading);
+        add_typed(alloc, &mut grown.own, of_type, heading)?;
+        return Ok(());
     }
     add_untyped(
         alloc,
         &mut grown.first,
         &mut grown.own,
         answer_in(heading),
-    )
+    )?;
+    Ok(())
 }
 
 // The dummy arguments of a procedure.
@@ -206,7 +207,8 @@ fn add_all_dummies(
 ) -> Result<(), NoMemory>
     ensures { OnOk result ((p : Names) → told p grown.new ≡ behind (of_dummies (unit of.now) dummies.now) (told p grown.old)) }
 {
-    add_dummies(alloc, &mut grown.first, of, &mut grown.own, dummies)
+    add_dummies(alloc, &mut grown.first, of, &mut grown.own, dummies)?;
+    Ok(())
 }
 
 // The rules of a heading, and the type of the result where the heading types it.

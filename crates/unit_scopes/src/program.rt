@@ -61,7 +61,6 @@ fn open_next(
 }
 
 /// Reads the procedures of a program whose main program has these names.
-#[tactic(auto, using(crate::proofs::Steps::steps_none, crate::proofs::Steps::steps_are))]
 pub fn open_all(
     alloc: Global,
     setting: &Setting<'_>,
