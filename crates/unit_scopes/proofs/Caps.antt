@@ -94,7 +94,7 @@ cells_capped n [] = refl
 cells_capped n (x ∷ xs) =
     ap (λ z. z ++ cells_breaks (capped n + cells_of x) xs) (passed_cases n (cells_of x) x.at (nat_le n 65536) refl)
     ∙ ap (λ z. passing_breaks n (cells_of x) x.at ++ z)
-      (sym (cells_capped (capped n + cells_of x) xs) ∙ ap (λ z. cells_breaks z xs) (capped_plus n (cells_of x)) ∙ cells_capped (n + cells_of x) xs)
+    (sym (cells_capped (capped n + cells_of x) xs) ∙ ap (λ z. cells_breaks z xs) (capped_plus n (cells_of x)) ∙ cells_capped (n + cells_of x) xs)
 
 -- one entry and the others
 entry_cases : (b z : Bool) (s : ℕ) (x : Symbol) (xs : List Symbol) → nat_eq x.corank 0 ≡ z

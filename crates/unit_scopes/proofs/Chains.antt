@@ -109,7 +109,7 @@ inside_told t r host cs x v g g' ps hs e p q h =
 abbrev chain : Scope → u.Procedure → Option Broken → Told
 chain s x o =
     behind (of_answer s (headed x.heading)) (behind (of_dummies (unit_of (headed x.heading)) (headed x.heading).dummies) (behind (of_all (unit_of (headed x.heading)) x.body.declarations)
-      (told_parts (first_of o (heading_breaks s (headed x.heading))) (opening s x))))
+    (told_parts (first_of o (heading_breaks s (headed x.heading))) (opening s x))))
 
 chain_told : (s : Scope) (x : u.Procedure) (o : Option Broken) → told_parts (chain s x o).first (closed s (chain s x o).scope) ≡ opened_told s x o
 unfolding behind of_answer of_dummies of_all opening opened_told
@@ -128,7 +128,7 @@ pub opened_whole : (t : Scope) (host : List Named) (x : u.Procedure) (v : Unit')
     → g1 ≡ record g0 { first = first_of g0.first (heading_breaks (host_scope t host g0.constants.items) (headed x.heading)) }
     → v ≡ unit_of (headed x.heading) → ns ≡ (headed x.heading).dummies → y ≡ (first_type (host_scope t host g0.constants.items) (headed x.heading).types).meaning
     → ((cs : List Constant) → y ≡ (first_type (host_scope t host cs) (headed x.heading).types).meaning
-      → told (opening (host_scope t host cs) x) g2 ≡ behind (of_all v x.body.declarations) (told (opening (host_scope t host cs) x) g1))
+    → told (opening (host_scope t host cs) x) g2 ≡ behind (of_all v x.body.declarations) (told (opening (host_scope t host cs) x) g1))
     → ((p : Scope) → told p g3 ≡ behind (of_dummies v ns) (told p g2))
     → ((p s : Scope) → y ≡ (first_type s (headed x.heading).types).meaning → told p g4 ≡ behind (of_answer s (headed x.heading)) (told p g3))
     → told (closing t host) g4 ≡ opened_told (host_scope t host g0.constants.items) x g0.first
@@ -140,8 +140,8 @@ opened_whole t host x v ns y g0 g1 g2 g3 g4 e0 e1 ev en ey h2 h3 h4 =
     let f = first_of g0.first (heading_breaks s h) in
     let k1 : told q g1 ≡ told_parts f q = ap (λ (z : Grown). told_parts z.first (as_grown q z)) e1 ∙ ap (λ o. told_parts f (record q { own = o; constants = g0.constants.items })) e0 in
     let k4 : told q g4 ≡ chain s x g0.first =
-      h4 q s ey ∙ ap (behind (of_answer s h)) (h3 q ∙ ap (λ z. behind (of_dummies z ns) (told q g2)) ev ∙ ap (λ z. behind (of_dummies (unit_of h) z) (told q g2)) en
-      ∙ ap (behind (of_dummies (unit_of h) h.dummies)) (h2 g0.constants.items ey ∙ ap (λ z. behind (of_all z x.body.declarations) (told q g1)) ev ∙ ap (behind (of_all (unit_of h) x.body.declarations)) k1)) in
+    h4 q s ey ∙ ap (behind (of_answer s h)) (h3 q ∙ ap (λ z. behind (of_dummies z ns) (told q g2)) ev ∙ ap (λ z. behind (of_dummies (unit_of h) z) (told q g2)) en
+    ∙ ap (behind (of_dummies (unit_of h) h.dummies)) (h2 g0.constants.items ey ∙ ap (λ z. behind (of_all z x.body.declarations) (told q g1)) ev ∙ ap (behind (of_all (unit_of h) x.body.declarations)) k1)) in
     ap (λ (k : Told). told_parts k.first (closed s k.scope)) k4 ∙ chain_told s x g0.first
 
 abbrev main_parts : Outer → List Interface → List (List ℕ) → Grown → Told

@@ -81,10 +81,10 @@ step_told t host x q q' g i h hi f k ht hj =
     let e2 : as_grown c g ≡ o.scope = ap (λ (z : Told). z.scope) h in
     let e3 : q'.grown.constants.items ≡ o.scope.constants = ap (λ z. z.items) k ∙ ap (λ (z : Scope). z.constants) e2 in
     let e4 : map (owning c) q'.tables.items ≡ map (owning c) q.tables.items ++ scope_of_opened o ∷ [] =
-      ap (map (owning c)) ht ∙ map-append (owning c) q.tables.items (g.own ∷ []) ∙ ap (λ z. map (owning c) q.tables.items ++ bare_scope z ∷ []) e2 in
+    ap (map (owning c)) ht ∙ map-append (owning c) q.tables.items (g.own ∷ []) ∙ ap (λ z. map (owning c) q.tables.items ++ bare_scope z ∷ []) e2 in
     let e5 : map interface q'.interfaces.items ≡ map interface q.interfaces.items ++ interface_of o ∷ [] =
-      ap (map interface) hj ∙ map-append interface q.interfaces.items (i ∷ [])
-      ∙ ap (λ z. map interface q.interfaces.items ++ z ∷ []) (hi ∙ ap (λ (z : Scope). interface_in (headed x.heading) z.own) e2 ∙ interface_is o) in
+    ap (map interface) hj ∙ map-append interface q.interfaces.items (i ∷ [])
+    ∙ ap (λ z. map interface q.interfaces.items ++ z ∷ []) (hi ∙ ap (λ (z : Scope). interface_in (headed x.heading) z.own) e2 ∙ interface_is o) in
     ap (λ z. parts z q'.grown.constants.items (map (owning c) q'.tables.items) (map interface q'.interfaces.items)) (f ∙ e1)
     ∙ ap (λ z. parts (first_of q.grown.first o.breaks) z (map (owning c) q'.tables.items) (map interface q'.interfaces.items)) e3
     ∙ ap (λ z. parts (first_of q.grown.first o.breaks) o.scope.constants z (map interface q'.interfaces.items)) e4

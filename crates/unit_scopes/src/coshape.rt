@@ -73,10 +73,12 @@ pub fn note_raw_coshape(first: &mut Option<Broken>, written: &Option<AskedCoshap
 {
     match written {
         None | Some(AskedCoshape::Deferred { .. }) => true,
-        Some(AskedCoshape::Explicit {
-            cobounds,
-            last_lower,
-        }) => {
+        Some(
+            AskedCoshape::Explicit {
+                cobounds,
+                last_lower,
+            },
+        ) => {
             let are_clean = note_raw_all(first, cobounds.as_slice());
             let is_clean = note_raw(first, last_lower);
             are_clean && is_clean
@@ -173,11 +175,7 @@ fn codimensions(
     }
 }
 
-fn explicit(
-    alloc: Global,
-    cobounds: &[(i64, i64)],
-    last: i64,
-) -> Result<Codimensions, NoMemory>
+fn explicit(alloc: Global, cobounds: &[(i64, i64)], last: i64) -> Result<Codimensions, NoMemory>
     ensures { IfOk result (λ c. c ≡ coshape_of_bounds (Some cobounds.now) (Some last)) }
 {
     let lower = lower_cobounds(alloc, cobounds, last)?;
@@ -218,10 +216,12 @@ pub fn judge_coshape(
     match written {
         None => Ok(Codimensions::Absent),
         Some(AskedCoshape::Deferred { corank }) => Ok(Codimensions::Deferred { corank: *corank }),
-        Some(AskedCoshape::Explicit {
-            cobounds,
-            last_lower,
-        }) => {
+        Some(
+            AskedCoshape::Explicit {
+                cobounds,
+                last_lower,
+            },
+        ) => {
             if !allocates {
                 return judge_explicit(alloc, first, cobounds.as_slice(), last_lower);
             }

@@ -153,10 +153,8 @@ fn note_attribute(
             note_dimensions(alloc, scope, first, dimensions.as_slice())
         }
         Attribute::Codimension(coshape) => note_coshape(alloc, scope, first, coshape),
-        Attribute::Parameter
-        | Attribute::Allocatable
-        | Attribute::Save
-        | Attribute::Intent(_) => Ok(()),
+        Attribute::Parameter | Attribute::Allocatable | Attribute::Save | Attribute::Intent(_) =>
+            Ok(()),
     }
 }
 

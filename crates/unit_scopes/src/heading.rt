@@ -51,7 +51,9 @@ pub fn answer_in(heading: &Heading) -> Option<&Name>
             ..
         } => Some(result),
         Heading::Function {
-            name, result: None, ..
+            name,
+            result: None,
+            ..
         } => Some(name),
     }
 }
@@ -196,7 +198,12 @@ fn names_before(alloc: Global, heading: &Heading) -> Result<Names, NoMemory>
 }
 
 // Rule 21 (19.3.1): a result with the name of a dummy argument.
-fn judge_answer(first: &mut Option<Broken>, dummies: &Dummies<'_>, names_itself: bool, answer: &Name)
+fn judge_answer(
+    first: &mut Option<Broken>,
+    dummies: &Dummies<'_>,
+    names_itself: bool,
+    answer: &Name,
+)
     ensures { first.new ≡ first_of first.old (unless (names_itself || not (is_among dummies.now answer.now.text)) 21 answer.now.at) }
 {
     if !names_itself && dummies.contains(answer.text.as_slice()) {

@@ -17,7 +17,9 @@ ghost use Rattle.unit_scopes.specs.Telling.{behind, of_all, told};
 
 use crate::declare::declare_all;
 use crate::grown::{Grown, Setting};
-use crate::heading::{answer_in, dummies_in, is_typed_heading, judge_first_type, judge_heading, prefixes_in};
+use crate::heading::{
+    answer_in, dummies_in, is_typed_heading, judge_first_type, judge_heading, prefixes_in,
+};
 use caf_base::listing::Listing;
 use caf_base::refusal::NoMemory;
 use checked_tree::data::{Codimensions, DataType, Home, Initial, Local, Object};
@@ -188,12 +190,7 @@ fn add_answer(
         add_typed(alloc, &mut grown.own, of_type, heading)?;
         return Ok(());
     }
-    add_untyped(
-        alloc,
-        &mut grown.first,
-        &mut grown.own,
-        answer_in(heading),
-    )?;
+    add_untyped(alloc, &mut grown.first, &mut grown.own, answer_in(heading))?;
     Ok(())
 }
 

@@ -78,7 +78,9 @@ pub fn find_interfaces(
 {
     let scopes = read_scopes(alloc, outside, &[], program)?;
     let Scopes {
-        own, procedures, ..
+        own,
+        procedures,
+        ..
     } = scopes;
     drop(own);
     let Procedures {

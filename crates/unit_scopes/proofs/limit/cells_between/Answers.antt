@@ -6,7 +6,7 @@ use Rattle.unit_scopes.proofs.limit.cells_between.Goals as goal
 
 pub loop-next-preserved : goal.loop-next-preserved
 loop-next-preserved c = (
-      turn_between c.args.bounds.now c.loop-next.next-index (get_or c.args.bounds.now c.loop-next.next-index None) c.loop-next.all c.with_dimension-more.result _
+  turn_between c.args.bounds.now c.loop-next.next-index (get_or c.args.bounds.now c.loop-next.next-index None) c.loop-next.all c.with_dimension-more.result _
       (drop_at c.args.bounds.now c.loop-next.next-index None c.loop-next-test.true) c.with_dimension-more.ensures.cells c.loop-next.invariant.0,
-      c.with_dimension-more.ensures.below,
-    )
+  c.with_dimension-more.ensures.below,
+)
