@@ -1,6 +1,6 @@
 -- Forms of which a value may be wanting.
-use Rattle.std.proofs.Common.{◌≡◌, ℕ, Bool, true, false, List, [], ◌∷◌, refl, sym, ap, ◌∙◌}
-use Rattle.std.specs.Prelude.{◌||◌, cond}
+use Rattle.std.proofs.Common.{◌≡◌, ℕ, ◌≤◌, length, arith, not, Bool, true, false, List, [], ◌∷◌, refl, sym, ap, ◌∙◌}
+use Rattle.std.specs.Prelude.{◌||◌, ◌&&◌, cond}
 use Rattle.caf_base.specs.declared.place.Pos.{Pos}
 use Rattle.checked_tree.specs.Expressions as t
 use Rattle.checked_tree.specs.declared.data.DataType.{DataType}
@@ -9,11 +9,12 @@ use Rattle.checked_tree.specs.declared.expr.ArithmeticLink.{ArithmeticLink}
 use Rattle.checked_tree.specs.declared.expr.LogicLink.{LogicLink}
 use Rattle.checked_tree.specs.ExpressionViews.{arithmetic_chain, logic_chain, expression as typed}
 use Rattle.fortran_tree.specs.Expressions as f
-use Rattle.fortran_tree.specs.ExpressionViews.{chain, expression}
+use Rattle.fortran_tree.specs.ExpressionViews.{chain, expression, section_subscripts}
+use Rattle.fortran_tree.specs.declared.expr.Subscript.{Subscript as SubscriptType}
 use Rattle.fortran_tree.specs.declared.expr.Link.{Link}
 use Rattle.rule_definitions.specs.Names.{Scope}
 use Rattle.rule_definitions.specs.Constants.{value_of, is_constant}
-use Rattle.rule_definitions.specs.Declarations.{lacks_value, is_inquirable}
+use Rattle.rule_definitions.specs.Declarations.{lacks_value, is_inquirable, has_brackets}
 use Rattle.constant_rules.specs.Wanting.{link_lacks_value, is_variable}
 
 or_assoc : (a b c : Bool) → ((a || b) || c) ≡ (a || (b || c))
@@ -72,3 +73,16 @@ pub logic_no_variable : (ks : List LogicLink) (o : _) (a b : t.Expression) → i
 logic_no_variable ks o a b = no_logic ks (t.logic o a b) refl
 
 pub ruleset no_variable = (arithmetic_no_variable, logic_no_variable)
+
+pub refused_none : (f h i : Bool) → f ≡ false → h ≡ false → false ≡ (f || (h && not i))
+refused_none f h i p q = sym (ap (λ b. b || (h && not i)) p ∙ ap (λ b. b && not i) q)
+
+pub brackets_there : (xs : List SubscriptType) → 1 ≤ length xs → true ≡ has_brackets (section_subscripts xs)
+brackets_there [] h = absurd (omega (arith, h))
+brackets_there (x ∷ xs) h = refl
+
+-- what the further operators of a chain say, where its first two operands have values
+pub links_left : (s : Scope) (ks : List Link) (at : Pos) (o : _) (a b e : f.Expression) (r : Bool) → e ≡ chain ks at (f.binary o a b at)
+    → lacks_value s a ≡ false → lacks_value s b ≡ false → r ≡ link_lacks_value s ks → r ≡ lacks_value s e
+links_left s ks at o a b e r d p q z =
+    z ∙ sym (ap (lacks_value s) d ∙ chain_lacks_value s ks at o a b ∙ ap (λ c. (c || lacks_value s b) || link_lacks_value s ks) p ∙ ap (λ c. c || link_lacks_value s ks) q)

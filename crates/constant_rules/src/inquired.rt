@@ -7,7 +7,7 @@ ghost use Rattle.rule_definitions.specs.Declarations as rules;
 ghost use Rattle.rule_definitions.specs.Names.{denotes};
 ghost use Rattle.constant_rules.specs.Wanting.{is_item_inquired, is_object_variable, is_variable};
 
-use crate::named::{is_function, is_huge};
+use crate::named::{names_function, names_huge};
 use caf_base::refusal::NoMemory;
 use checked_tree::data::Object;
 use checked_tree::expr::{ExprForm, TypedExpr};
@@ -28,10 +28,10 @@ pub(crate) fn is_refused_reference(
 ) -> Result<bool, NoMemory>
     ensures { IfOk result (λ b. b ≡ (rules.is_function (denotes scope.now function.now.text) || (rules.is_huge (denotes scope.now function.now.text) && not (rules.is_argument_inquired scope.now (written_arguments arguments.now))))) }
 {
-    if is_function(scope.denotes(function.text.as_slice())) {
+    if names_function(scope, function) {
         return Ok(true);
     }
-    if is_huge(scope.denotes(function.text.as_slice())) {
+    if names_huge(scope, function) {
         let is_inquired = is_argument_inquired(alloc, scope, arguments)?;
         return Ok(!is_inquired);
     }
@@ -50,7 +50,7 @@ pub(crate) fn is_refused_part(
     if is_called(scope, name, subscripts) {
         return Ok(true);
     }
-    if is_huge(scope.denotes(name.text.as_slice())) {
+    if names_huge(scope, name) {
         let is_inquired = is_subscript_inquired(alloc, scope, subscripts)?;
         return Ok(!is_inquired);
     }
@@ -61,7 +61,7 @@ pub(crate) fn is_refused_part(
 fn is_called(scope: &Scope<'_>, name: &Name, subscripts: &[Subscript]) -> bool
     ensures { result ≡ (rules.is_function (denotes scope.now name.now.text) && rules.has_brackets (section_subscripts subscripts.now)) }
 {
-    if is_function(scope.denotes(name.text.as_slice())) {
+    if names_function(scope, name) {
         has_brackets(subscripts)
     } else {
         false

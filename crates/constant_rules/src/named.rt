@@ -3,15 +3,30 @@
 ghost use Rattle.std.specs.Prelude.{◌≡◌, Some};
 ghost use Rattle.std.specs.Option.{option_map};
 ghost use Rattle.rule_definitions.specs.Declarations as rules;
-ghost use Rattle.rule_definitions.specs.Names.{intrinsic_function};
+ghost use Rattle.rule_definitions.specs.Names.{denotes, intrinsic_function};
 ghost use Rattle.scope_table.specs.Scopes.{denoted};
 ghost use Rattle.scope_table.specs.Symbols.{function_name};
 
-use scope_table::scope::Denoted;
+use fortran_tree::name::Name;
+use scope_table::scope::{Denoted, Scope};
 use scope_table::symbol::FunctionName;
 
 /// Whether a name denotes a function of the program.
-pub(crate) fn is_function(found: Option<Denoted<'_>>) -> bool
+pub(crate) fn names_function(scope: &Scope<'_>, name: &Name) -> bool
+    ensures { result ≡ rules.is_function (denotes scope.now name.now.text) }
+{
+    is_function(scope.denotes(name.text.as_slice()))
+}
+
+/// Whether a name denotes HUGE (16.9.86).
+pub(crate) fn names_huge(scope: &Scope<'_>, name: &Name) -> bool
+    ensures { result ≡ rules.is_huge (denotes scope.now name.now.text) }
+{
+    is_huge(scope.denotes(name.text.as_slice()))
+}
+
+// Whether a function of the program is denoted.
+fn is_function(found: Option<Denoted<'_>>) -> bool
     ensures { result ≡ rules.is_function (option_map denoted found.entry) }
 {
     match found {
@@ -29,8 +44,8 @@ pub(crate) fn is_function(found: Option<Denoted<'_>>) -> bool
     }
 }
 
-/// Whether a name denotes HUGE (16.9.86).
-pub(crate) fn is_huge(found: Option<Denoted<'_>>) -> bool
+// Whether HUGE is denoted.
+fn is_huge(found: Option<Denoted<'_>>) -> bool
     ensures { result ≡ rules.is_huge (option_map denoted found.entry) }
 {
     match found {

@@ -1,5 +1,5 @@
 -- What is known of designators.
-use Rattle.std.proofs.Common.{◌≡◌, ℕ, zero, suc, ◌+◌, ◌-◌, ◌<◌, ◌≤◌, Bool, true, false, List, [], ◌∷◌, ◌++◌, length, get_or, take, drop, map, refl, sym, ap, ◌∙◌, arith, append_assoc}
+use Rattle.std.proofs.Common.{◌≡◌, ℕ, ◌-◌, ◌≤◌, Bool, true, List, [], ◌∷◌, ◌++◌, length, get_or, take, drop, map, refl, sym, ap, ◌∙◌, append_assoc}
 use Rattle.std.specs.Prelude.{ℤ, pos, ◌&&◌, Option, Some, None, is_some}
 use Rattle.caf_base.specs.declared.value.Value.TheVariants.{Int, Bool as Truth}
 use Rattle.coarray_types.specs.Places.{size_of}
@@ -16,7 +16,7 @@ use Rattle.rule_definitions.specs.Constants as k
 use Rattle.constant_values.proofs.Lists.{front_of}
 use Rattle.constant_values.specs.declared.part.Section.{Section}
 use Rattle.constant_values.specs.Sections.{section_dimension}
-use Rattle.constant_values.specs.Views.{subscript, plain_part, plain_subscript, integer_of, of_number, of_numbers, truth_of, as_truth, of_truths, some_selector, is_there_selector}
+use Rattle.constant_values.specs.Views.{subscript, plain_part, plain_subscript, some_selector, is_there_selector}
 
 abbrev rest : {T : Type 0} → List T → List T
 rest xs = take (length xs - 1) (drop 1 xs)
@@ -38,18 +38,6 @@ section_turn old new all ds xs d x h g e q =
     q ∙ ap (λ l. l ++ k.section_bounds (rest ds) (map subscript (rest xs))) e
     ∙ append_assoc old (section_dimension (get_or ds 0 d) (subscript (get_or xs 0 x))) (k.section_bounds (rest ds) (map subscript (rest xs)))
     ∙ ap (λ l. old ++ l) (section_front ds xs d x h g)
-
-pub no_bounds : (xs : List Section) → k.section_bounds [] (map subscript xs) ≡ []
-no_bounds [] = refl
-no_bounds (x ∷ xs) = refl
-
-pub no_sections : (ds : List KnownBounds) → k.section_bounds ds [] ≡ []
-no_sections [] = refl
-no_sections (d ∷ ds) = refl
-
-pub bounds_sections : (ds : List KnownBounds) (xs : List Section) → 1 ≤ length xs → k.bounds_behind ds (map subscript xs) ≡ k.section_bounds ds (map subscript xs)
-bounds_sections ds [] h = absurd (omega (arith, h))
-bounds_sections ds (x ∷ xs) h = refl
 
 -- of a part of a subscript the integer alone counts
 

@@ -1,5 +1,5 @@
 -- What is known of the forms of expressions is said by the integers and logicals of their parts.
-use Rattle.std.proofs.Common.{◌≡◌, ℕ, ◌+◌, ◌<◌, List, [], ◌∷◌, ◌++◌, length, drop, slice_index_or, arith, refl, sym, ap, ◌∙◌, append_assoc}
+use Rattle.std.proofs.Common.{◌≡◌, ℕ, ◌+◌, ◌<◌, List, [], ◌∷◌, length, drop, slice_index_or, arith, refl, sym, ap, ◌∙◌, append_assoc}
 use Rattle.std.specs.Prelude.{ℤ, Bool, map, Option, Some, None, is_some}
 use Rattle.caf_base.specs.declared.value.Kind.TheVariants.{L4}
 use Rattle.caf_base.specs.declared.value.Value.{Value}

@@ -1,7 +1,6 @@
 -- Numbers that fit, and powers.
-use Rattle.std.proofs.Common.{◌≡◌, ℕ, zero, suc, ◌+◌, ◌*◌, ◌%◌, ◌^◌, ◌<◌, ◌≤◌, Bool, true, false, not, refl, ◌≢◌, sym, ap, ◌∙◌, arith}
+use Rattle.std.proofs.Common.{◌≡◌, ℕ, zero, suc, ◌*◌, ◌%◌, ◌^◌, ◌<◌, ◌≤◌, Bool, true, false, not, refl, sym, ap, ◌∙◌, arith}
 use Rattle.std.specs.Prelude.{ℤ, pos, negsuc, neg_ℤ, ◌*ℤ◌, cond, ◌==◌, FitsSigned, unsigned_abs}
-use Rattle.std.specs.Ordering.{int_eq}
 use Rattle.std.specs.Int.{w64, w128, int_pow}
 use Rattle.std.proofs.Math.Nat.{pow-succ'}
 use Rattle.std.proofs.lemmas.Int.{fits_signed_mul}
@@ -9,7 +8,7 @@ use Rattle.std.proofs.lemmas.Grind.{common_steps}
 use Rattle.checked_tree.specs.declared.data.DataType.{DataType}
 use Rattle.checked_tree.specs.declared.data.DataType.TheVariants as types
 use Rattle.caf_base.specs.declared.value.Kind.TheVariants.{I4, I8, L4}
-use Rattle.rule_definitions.specs.Constants.{in_type, is_in_type, power_of, Constancy, no_constant}
+use Rattle.rule_definitions.specs.Constants.{in_type, power_of, no_constant}
 
 -- a product of two numbers of 64 bits fits 128
 pub product_fits : (a b : ℤ) → FitsSigned w64 a → FitsSigned w64 b → FitsSigned w128 (a *ℤ b)

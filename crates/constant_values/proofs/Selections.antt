@@ -72,11 +72,6 @@ pub some_sections : (c : Constant) (xs : List Section) → 1 ≤ length xs
 some_sections c [] h = absurd (omega (arith, h))
 some_sections c (x ∷ xs) h = refl
 
-pub no_dimension : (ds : List (ℤ × ℤ)) (xs : List Section) → length ds ≡ 0 → 1 ≤ length xs → selected ds (map subscript xs) ≡ None
-no_dimension [] [] h g = absurd (omega (arith, g))
-no_dimension [] (x ∷ xs) h g = refl
-no_dimension (d ∷ ds) xs h g = absurd (omega (arith, h))
-
 -- the rows of triplets
 
 pub row_step : (c i : ℕ) (s n : ℤ) → i < c → row (c - i) s n ≡ n ∷ row (c - (i + 1)) s (n +ℤ s)

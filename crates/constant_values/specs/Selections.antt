@@ -1,5 +1,5 @@
 -- The elements of a section of a constant array, by their places in array element order (9.5.3.2).
-use Rattle.std.specs.Prelude.{ℕ, ◌+◌, ◌*◌, ℤ, Bool, false, List, [], ◌∷◌, ◌++◌, Option, Some, None, map, length, get_or}
+use Rattle.std.specs.Prelude.{ℕ, ◌+◌, ◌*◌, ℤ, false, List, [], ◌∷◌, ◌++◌, Option, Some, None, map, length, get_or}
 use Rattle.caf_base.specs.declared.value.Value.{Value}
 use Rattle.caf_base.specs.declared.value.Value.TheVariants.{Bool as Truth}
 use Rattle.coarray_types.specs.Distances.{distance}

@@ -1,5 +1,5 @@
 -- Sizes that 128 bits may not hold.
-use Rattle.std.specs.Prelude.{ℕ, ◌*◌, ℤ, min, Option, Some, None}
+use Rattle.std.specs.Prelude.{ℕ, ◌*◌, min, Option, Some, None}
 use Rattle.coarray_types.specs.Places.{extent_of}
 use Rattle.rule_definitions.specs.Names.{KnownBounds}
 

@@ -1,5 +1,5 @@
 -- What is known of an expression before the run, as the definitions say it.
-use Rattle.std.specs.Prelude.{ℕ, ℤ, min, Bool, true, false, cond, List, [], Option, Some, None}
+use Rattle.std.specs.Prelude.{ℤ, Bool, true, false, cond, Option, Some, None}
 use Rattle.caf_base.specs.declared.value.Value.{Value}
 use Rattle.caf_base.specs.declared.value.Value.TheVariants.{Int, Bool as Truth}
 use Rattle.rule_definitions.specs.Constants as k

@@ -11,4 +11,4 @@ returns-then-is_variable c =
 pub returns : goal.returns
 returns c =
     inquirable_constant c.args.scope.now (form c.args.meaning.now.form) c.args.meaning.now.of_type c.args.meaning.now.rank c.is_constant.result (sym c.is_variable.ensures ∙ c.if-is_variable.false)
-        (c.is_constant.ensures ∙ ap is_constant c.in_ok-value.ensures)
+    (c.is_constant.ensures ∙ ap is_constant c.in_ok-value.ensures)

@@ -1,4 +1,4 @@
-use Rattle.std.proofs.Common.{ap, sym, ◌∙◌, map}
+use Rattle.std.proofs.Common.{ap, ◌∙◌, map}
 use Rattle.std.proofs.lemmas.Result.{IfOk-weaker}
 use Rattle.checked_tree.specs.ExpressionViews.{expression, form, form_arithmetic, form_logic, subscripts}
 use Rattle.rule_definitions.specs.Constants as k

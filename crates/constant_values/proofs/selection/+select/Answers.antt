@@ -1,7 +1,6 @@
-use Rattle.std.proofs.Common.{ap, ◌∙◌, arith, get_or}
-use Rattle.std.proofs.lemmas.Grind.{common_steps}
+use Rattle.std.proofs.Common.{ap, ◌∙◌, arith}
 use Rattle.constant_values.specs.Selections.{with_choice_of}
-use Rattle.constant_values.proofs.Selections.{select_front, no_dimension}
+use Rattle.constant_values.proofs.Selections.{select_front}
 use Rattle.constant_values.proofs.selection.+select.Goals as goal
 
 pub returns : goal.returns
