@@ -1,0 +1,4 @@
+pub mod Clashes
+pub mod Elements
+pub mod Forms
+pub mod Joined

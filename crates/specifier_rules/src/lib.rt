@@ -4,7 +4,10 @@
 #![tactic(auto)]
 
 pub mod condition;
+pub mod keyword;
+pub mod naming;
 pub mod result;
 pub mod selector;
 pub mod specifier;
 pub mod statement;
+pub mod variable;
