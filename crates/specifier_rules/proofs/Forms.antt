@@ -1,13 +1,15 @@
 -- Forms of expressions that are no designators.
 use Rattle.std.proofs.Common.{◌≡◌, refl}
-use Rattle.std.specs.Prelude.{Option, Some, None}
+use Rattle.std.specs.Prelude.{List, [], ◌∷◌, Option, Some, None}
 use Rattle.caf_base.specs.declared.value.Kind.TheVariants.{L4}
 use Rattle.checked_tree.specs.Expressions as t
-use Rattle.checked_tree.specs.ExpressionViews.{form, row_arithmetic_chain, row_logic_chain}
+use Rattle.checked_tree.specs.ExpressionViews.{expression, form, arithmetic_chain, logic_chain, row_arithmetic_chain, row_logic_chain, typed_forms}
 use Rattle.checked_tree.specs.declared.data.DataType.{DataType}
 use Rattle.checked_tree.specs.declared.data.DataType.TheVariants.{Intrinsic}
 use Rattle.checked_tree.specs.declared.expr.ArithmeticOperator.{ArithmeticOperator}
 use Rattle.checked_tree.specs.declared.expr.LogicalOperator.{LogicalOperator}
+use Rattle.checked_tree.specs.declared.expr.ArithmeticLink.{ArithmeticLink}
+use Rattle.checked_tree.specs.declared.expr.LogicLink.{LogicLink}
 use Rattle.checked_tree.specs.declared.expr.Designator.{Designator}
 use Rattle.checked_tree.specs.declared.expr.ExprForm.{ExprForm}
 use Rattle.checked_tree.specs.declared.expr.ExprForm.TheVariants as forms
@@ -41,6 +43,16 @@ other_is_none (forms.Not' p e u r) h = refl
 other_is_none (forms.Arithmetic' o p x u r q y v w m ks) h = row_arithmetic_is_none _ ks o (t.typed (form x) u r) (t.typed (form y) v w)
 other_is_none (forms.Relation' o p x u r q y v w) h = refl
 other_is_none (forms.Logic' o p x u r q y v w m ks) h = row_logic_is_none _ ks o (t.typed (form x) u r) (t.typed (form y) v w)
+
+pub arithmetic_is_none : (ks : List ArithmeticLink) (o : ArithmeticOperator) (x y : t.Expression) → designator_in (arithmetic_chain ks (t.arithmetic o x y)) ≡ None
+arithmetic_is_none [] o x y = refl
+arithmetic_is_none (k ∷ ks) o x y = arithmetic_is_none ks k.operator (t.typed (t.arithmetic o x y) k.left_type 0) (expression k.right)
+
+pub logic_is_none : (ks : List LogicLink) (o : LogicalOperator) (x y : t.Expression) → designator_in (logic_chain ks (t.logic o x y)) ≡ None
+logic_is_none [] o x y = refl
+logic_is_none (k ∷ ks) o x y = logic_is_none ks k.operator (t.typed (t.logic o x y) (Intrinsic L4) 0) (expression k.right)
+
+pub ruleset form_laws = (typed_forms, arithmetic_is_none, logic_is_none)
 
 abbrev pub result_in : Option t.Designator → DataType → Option t.ResultVariable
 result_in None y = None

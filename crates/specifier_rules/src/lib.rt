@@ -10,4 +10,5 @@ pub mod result;
 pub mod selector;
 pub mod specifier;
 pub mod statement;
+pub mod value;
 pub mod variable;

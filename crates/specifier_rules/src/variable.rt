@@ -26,6 +26,28 @@ pub fn designator_in(form: ExprForm) -> Option<Designator>
     }
 }
 
+/// The designator that an expression of this form is, where it is one.
+#[tactic(auto, using(crate::proofs::Forms::form_laws))]
+pub fn as_designator(form: &ExprForm) -> Option<&Designator>
+    ensures { option_map spec.designator_at result ≡ spec.designator_in (form_seen form.now) }
+{
+    match form {
+        ExprForm::Designator(designator) => Some(designator),
+        ExprForm::Number(_)
+        | ExprForm::Logical(_)
+        | ExprForm::Call { .. }
+        | ExprForm::Intrinsic(_)
+        | ExprForm::Parenthesized(_)
+        | ExprForm::ArrayConstructor(_)
+        | ExprForm::Plus(_)
+        | ExprForm::Minus(_)
+        | ExprForm::Not(_)
+        | ExprForm::Arithmetic { .. }
+        | ExprForm::Relation { .. }
+        | ExprForm::Logic { .. } => None,
+    }
+}
+
 /// A part that isn't what is wanted: this rule behind those that are broken in it.
 pub fn missing<T: Drop>(breaks: Vec<Broken>, rule: u8, at: Pos) -> Result<Judged<T>, NoMemory>
     ensures breaks { IfOk result (λ j. j.breaks.items ≡ breaks.items ++ rule_breaks rule at) }
