@@ -5,4 +5,5 @@
 #![tactic(auto)]
 
 pub mod actual;
+pub mod binding;
 pub mod function;
