@@ -1,17 +1,18 @@
 //! Actual arguments bound to the dummies of an intrinsic procedure, by position or keyword (15.5.2.1): rule 59.
 
-ghost use Rattle.std.specs.Prelude.{◌≡◌, ◌++◌, ◌&&◌, [], None, cond, false, IfOk, OnOk, map};
+ghost use Rattle.std.specs.Prelude.{◌≡◌, ◌++◌, ◌&&◌, ◌||◌, [], ◌∷◌, None, cond, false, IfOk, OnOk, length, map};
 ghost use Rattle.std.specs.Option.{option_map};
 ghost use Rattle.rule_definitions.specs.Arguments as rules;
 ghost use Rattle.rule_definitions.specs.IntrinsicSubroutines as subroutines;
 ghost use Rattle.rule_definitions.specs.Judgements.{is_there};
 ghost use Rattle.part_rules.specs.Brackets.{actual_seen};
 ghost use Rattle.part_rules.specs.Views.{placed};
-ghost use Rattle.call_rules.specs.Bindings.{binding_seen, dummy_seen, is_of as is_argument_of, place_from, without};
+ghost use Rattle.call_rules.specs.Bindings.{binding_seen, bound_as, dummy_by, dummy_seen, is_the_number, named_from, place_from, without};
 
 use caf_base::place::Pos;
 use caf_base::refusal::NoMemory;
 use checked_tree::expr::WrittenOrder;
+use fortran_tree::name::Name;
 use part_rules::bracket::{Actual, Item, is_triplet};
 use part_rules::judged::{Judged, add_all, are_none, note_unless};
 use part_rules::part::{Part, plain};
@@ -67,9 +68,8 @@ pub struct Binding {
 }
 
 /// The number of the dummy with this name.
-#[tactic(auto, using(crate::proofs::Bindings::named))]
 fn named_dummy(dummies: &[Dummy], name: &[u8]) -> Option<usize>
-    ensures { result ≡ rules.named_dummy (map dummy_seen dummies.now) name.now }
+    ensures { result ≡ named_from 0 (map dummy_seen dummies.now) name.now }
 {
     for (number, dummy) in dummies.iter().enumerate() {
         if dummy.name == name {
@@ -79,30 +79,55 @@ fn named_dummy(dummies: &[Dummy], name: &[u8]) -> Option<usize>
     None
 }
 
-/// The number of the dummy of an argument: by its keyword, or by its place where no keyword stands before it.
-fn dummy_of(dummies: &[Dummy], place: usize, behind: bool, actual: &Actual) -> Option<usize>
-    ensures { result ≡ rules.dummy_of (map dummy_seen dummies.now) place behind (actual_seen actual.now) }
+/// The number of the dummy of an argument with this keyword: by it, or by the argument's place where no keyword stands before it.
+#[tactic(auto, using(crate::proofs::Bindings::named))]
+fn dummy_of(dummies: &[Dummy], place: usize, behind: bool, keyword: &Option<Name>) -> Option<usize>
+    ensures { result ≡ dummy_by (map dummy_seen dummies.now) place behind keyword.now }
 {
-    match &actual.keyword {
+    match keyword {
         Some(keyword) => named_dummy(dummies, keyword.text.as_slice()),
         None => {
-            if behind || dummies.len() <= place {
-                None
-            } else {
-                Some(place)
+            if behind {
+                return None;
             }
+            if dummies.len() <= place {
+                return None;
+            }
+            Some(place)
         }
     }
 }
 
-/// Whether a keyword stands before an argument.
-pub fn has_keyword(actual: &Actual) -> bool
-    ensures { result ≡ is_there (actual_seen actual.now).keyword }
+/// Whether there is a keyword.
+pub fn is_written(keyword: &Option<Name>) -> bool
+    ensures { result ≡ is_there keyword.now }
 {
-    match &actual.keyword {
+    match keyword {
         Some(_) => true,
         None => false,
     }
+}
+
+/// Whether a keyword stands before an argument or is its own.
+fn is_named_behind(behind: bool, keyword: &Option<Name>) -> bool
+    ensures { result ≡ (behind || is_there keyword.now) }
+{
+    behind || is_written(keyword)
+}
+
+/// Puts an argument, with the number of its dummy, behind the others.
+#[tactic(auto, using(part_rules::proofs::Gathering::mapped_behind))]
+fn bind_next(
+    dummies: &[Dummy],
+    bindings: &mut Vec<Binding>,
+    behind: bool,
+    actual: Actual,
+) -> Result<(), NoMemory>
+    ensures { OnOk result (map binding_seen bindings.new.items ≡ map binding_seen bindings.old.items ++ bound_as (dummy_by (map dummy_seen dummies.now) (length bindings.old.items) behind actual.keyword) (actual_seen actual) ∷ []) }
+{
+    let index = dummy_of(dummies, bindings.len(), behind, &actual.keyword);
+    bindings.push(Binding { index, actual })?;
+    Ok(())
 }
 
 /// The arguments with the numbers of their dummies, in written order.
@@ -116,9 +141,9 @@ pub fn bind(
     let mut bindings = Vec::new(alloc);
     let mut behind = false;
     for actual in actuals {
-        let index = dummy_of(dummies, bindings.len(), behind, &actual);
-        behind = behind || has_keyword(&actual);
-        bindings.push(Binding { index, actual })?;
+        let is_named = is_named_behind(behind, &actual.keyword);
+        bind_next(dummies, &mut bindings, behind, actual)?;
+        behind = is_named;
     }
     Ok(bindings)
 }
@@ -172,11 +197,11 @@ fn are_bound(alloc: Global, bindings: &[Binding]) -> Result<bool, NoMemory>
     Ok(true)
 }
 
-/// Whether an argument is that of the dummy with this number.
-fn is_of(number: usize, binding: &Binding) -> bool
-    ensures { result ≡ is_argument_of number (binding_seen binding.now) }
+/// Whether a number is this one.
+fn is_number(number: usize, index: Option<usize>) -> bool
+    ensures { result ≡ is_the_number number index }
 {
-    match binding.index {
+    match index {
         Some(index) => number == index,
         None => false,
     }
@@ -187,7 +212,7 @@ pub fn has_argument(bindings: &[Binding], number: usize) -> bool
     ensures { result ≡ is_there (rules.bound_to (map binding_seen bindings.now) number) }
 {
     for binding in bindings {
-        if is_of(number, binding) {
+        if is_number(number, binding.index) {
             return true;
         }
     }
@@ -343,27 +368,35 @@ pub fn unbound<T: Drop>(
     })
 }
 
-/// The place of the argument of the dummy with this number.
-fn place_of(bindings: &[Binding], number: usize) -> Option<usize>
+/// The place of the argument of the dummy with this number: the number of all arguments where it has none.
+fn place_of(bindings: &[Binding], number: usize) -> usize
     ensures { result ≡ place_from 0 (map binding_seen bindings.now) number }
 {
     for (place, binding) in bindings.iter().enumerate() {
-        if is_of(number, binding) {
-            return Some(place);
+        if is_number(number, binding.index) {
+            return place;
         }
     }
-    None
+    bindings.len()
 }
 
 /// Takes the argument of the dummy with this number, where it has one, away from the others.
-pub fn take(bindings: &mut Vec<Binding>, number: usize) -> Option<Part>
-    ensures part { option_map placed result ≡ rules.value_for (map binding_seen bindings.old.items) number }
+fn take_actual(bindings: &mut Vec<Binding>, number: usize) -> Option<Actual>
+    ensures found { option_map actual_seen result ≡ rules.bound_to (map binding_seen bindings.old.items) number }
     ensures others { map binding_seen bindings.new.items ≡ without (map binding_seen bindings.old.items) number }
 {
-    let Some(place) = place_of(bindings.as_slice(), number) else {
+    let place = place_of(bindings.as_slice(), number);
+    if bindings.len() <= place {
         return None;
-    };
+    }
     let Binding { actual, .. } = bindings.remove(place);
+    Some(actual)
+}
+
+/// The expression of an argument; a triplet is none.
+fn part_of(actual: Actual) -> Option<Part>
+    ensures { option_map placed result ≡ rules.bound_placed (actual_seen actual) }
+{
     let Actual { item, .. } = actual;
     match item {
         Item::Value(part) => Some(part),
@@ -374,15 +407,27 @@ pub fn take(bindings: &mut Vec<Binding>, number: usize) -> Option<Part>
     }
 }
 
+/// Takes the expression of the dummy with this number, where it has one, away from the others.
+pub fn take(bindings: &mut Vec<Binding>, number: usize) -> Option<Part>
+    ensures part { option_map placed result ≡ rules.value_for (map binding_seen bindings.old.items) number }
+    ensures others { map binding_seen bindings.new.items ≡ without (map binding_seen bindings.old.items) number }
+{
+    match take_actual(bindings, number) {
+        Some(actual) => part_of(actual),
+        None => None,
+    }
+}
+
 /// Whether the argument of a dummy stands before that of another.
+#[tactic(auto, using(crate::proofs::Bindings::stands_first))]
 fn stands_before(bindings: &[Binding], one: usize, other: usize) -> bool
     ensures { result ≡ rules.stands_before (map binding_seen bindings.now) one other }
 {
     for binding in bindings {
-        if is_of(one, binding) {
+        if is_number(one, binding.index) {
             return true;
         }
-        if is_of(other, binding) {
+        if is_number(other, binding.index) {
             return false;
         }
     }
