@@ -1,5 +1,5 @@
 -- Names that stand twice, whatever the order in which they are looked for.
-use Rattle.std.proofs.Common.{◌≡◌, refl, ap, sym, ◌∙◌}
+use Rattle.std.proofs.Common.{◌≡◌, refl, ap, ◌∙◌}
 use Rattle.std.specs.Prelude.{ℕ, Bool, true, false, ◌||◌, ◌&&◌, bytes_eq, List, [], ◌∷◌, ◌++◌}
 use Rattle.rule_definitions.specs.Names.{is_among}
 use Rattle.rule_definitions.specs.Specifiers.{Written, is_team_name, has_team, is_repeated}

@@ -1,6 +1,6 @@
 -- Parts that are judged together under the same rules.
 use Rattle.std.proofs.Common.{◌≡◌, refl, ap, ◌∙◌, sym}
-use Rattle.std.specs.Prelude.{Bool, true, false, cond, List, [], ◌++◌, Option, Some, None}
+use Rattle.std.specs.Prelude.{Bool, true, false, cond, List, ◌++◌, Option, Some, None}
 use Rattle.std.proofs.lemmas.List.{append_assoc}
 use Rattle.rule_definitions.specs.declared.broken.Broken.{Broken}
 use Rattle.rule_definitions.specs.Judgements.{Judgement, is_nothing, ruled, both, three, made_of_both, made_of_three}

@@ -11,7 +11,7 @@ use Rattle.rule_definitions.specs.declared.broken.Broken.{Broken}
 use Rattle.rule_definitions.specs.declared.taken.Taken.TheVariants.{Integers as integers, Logicals as logicals}
 use Rattle.rule_definitions.specs.Judgements.{Judgement, is_nothing, fine, ruled, made, made_of, both, made_of_both}
 use Rattle.rule_definitions.specs.Parts.{Placed, integer, team, result_variable}
-use Rattle.rule_definitions.specs.Specifiers.{Written, all_breaks, selector_specifiers, selected_team, by_number, stat_variable, acquired_variable, number_named, order_written, value_named, meant}
+use Rattle.rule_definitions.specs.Specifiers.{Written, all_breaks, selector_specifiers, selected_team, stat_variable, acquired_variable, number_named, order_written, value_named, meant}
 use Rattle.rule_definitions.specs.Actions.{stat_name, with_stat}
 use Rattle.specifier_rules.specs.Meanings.{TeamAndStat, NumberAndStat, AcquiredAndStat, team_and_stat, team_with, number_and_stat, number_with, acquired_and_stat, acquired_with}
 use Rattle.specifier_rules.specs.Values.{Values, Slot, slot_of, slot, values_named, result_in, expression_in, number_in, team_in}

@@ -1,10 +1,10 @@
 -- The values of specifiers by their names, each under the rule of its name.
-use Rattle.std.specs.Prelude.{ℕ, Bool, cond, bytes_eq, codes, List, [], ◌∷◌, Option, Some, None}
+use Rattle.std.specs.Prelude.{ℕ, cond, bytes_eq, codes, List, [], ◌∷◌, Option, Some, None}
 use Rattle.std.specs.Borrow.{Bor}
 use Rattle.checked_tree.specs.Expressions as t
 use Rattle.rule_definitions.specs.Judgements.{Judgement, made}
 use Rattle.rule_definitions.specs.Parts.{Placed, integer, team, result_variable}
-use Rattle.rule_definitions.specs.Specifiers.{Written, value_named, is_team_name}
+use Rattle.rule_definitions.specs.Specifiers.{Written, value_named}
 use Rattle.rule_definitions.specs.declared.taken.Taken.TheVariants.{Integers as integers, Logicals as logicals}
 use Rattle.specifier_rules.specs.declared.keyword.Keyword.{Keyword}
 use Rattle.specifier_rules.specs.declared.keyword.Keyword.TheVariants as words
