@@ -1,0 +1,3 @@
+pub mod Atoms
+pub mod Parts
+pub mod Variables

@@ -3,4 +3,10 @@
 //! Its main contract: `call::intrinsic_call` gives the judgement that the definition of its name in `rule_definitions` says.
 #![tactic(auto)]
 
+pub mod atom;
 pub mod call;
+pub mod collective;
+pub mod event;
+pub mod form;
+pub mod given;
+pub mod several;
