@@ -7,12 +7,14 @@ ghost use Rattle.fortran_tree.specs.ExpressionViews as tree;
 ghost use Rattle.rule_definitions.specs.Expressions as rules;
 ghost use Rattle.part_rules.specs.Views.{placed};
 ghost use Rattle.part_rules.specs.Brackets.{actual_seen};
+ghost use Rattle.expr_rules.specs.Selections.{selection};
 ghost use Rattle.specifier_rules.specs.Views.{written};
 
 use caf_base::refusal::NoMemory;
 use checked_tree::expr::TypedExpr;
-use fortran_tree::expr::{Argument, Designator, Expr, Specifier, Subscript};
+use fortran_tree::expr::{Argument, Designator, Expr, Selector, Specifier, Subscript};
 use part_rules::bracket::Actual;
+use part_rules::designator::Selection;
 use part_rules::judged::Judged;
 use part_rules::part::Part;
 use scope_table::scope::Scope;
@@ -42,6 +44,17 @@ pub fn judge_designator(
 ) -> Result<Judged<TypedExpr>, NoMemory>
     ensures breaks { IfOk result (λ j. j.breaks.items ≡ (rules.judged_designator scope.now (tree.designator designator.now)).breaks) }
     ensures meaning { IfOk result (λ j. option_map expression j.meaning ≡ (rules.judged_designator scope.now (tree.designator designator.now)).meaning) }
+{
+    Err(NoMemory)
+}
+
+/// An image selector (9.6), where one is written.
+pub fn judge_selector(
+    alloc: Global,
+    scope: &Scope<'_>,
+    selector: &Option<Selector>,
+) -> Result<Selection, NoMemory>
+    ensures { IfOk result (λ s. selection s ≡ rules.judged_selector scope.now (tree.maybe_image_selector selector.now)) }
 {
     Err(NoMemory)
 }
