@@ -1,7 +1,21 @@
 -- What the checker holds of specifiers, as the rules see it.
+use Rattle.checked_tree.specs.ExpressionViews.{maybe_expression, maybe_result, optional_result, selected_team}
 use Rattle.rule_definitions.specs.Specifiers as s
 use Rattle.part_rules.specs.Views.{placed}
+use Rattle.specifier_rules.specs.Meanings as m
 use Rattle.specifier_rules.specs.declared.specifier.Specified.{Specified}
+use Rattle.specifier_rules.specs.declared.selector.TeamAndStat.{TeamAndStat}
+use Rattle.specifier_rules.specs.declared.statement.NumberAndStat.{NumberAndStat}
+use Rattle.specifier_rules.specs.declared.statement.AcquiredAndStat.{AcquiredAndStat}
 
 abbrev pub written : Specified → s.Written
 written x = record { name = x.name; value = placed x.value }
+
+abbrev pub team_and_stat_seen : TeamAndStat → m.TeamAndStat
+team_and_stat_seen x = record { team = selected_team x.team; stat = optional_result x.stat }
+
+abbrev pub number_and_stat_seen : NumberAndStat → m.NumberAndStat
+number_and_stat_seen x = record { number = maybe_expression x.number; stat = maybe_result x.stat; order = x.order }
+
+abbrev pub acquired_and_stat_seen : AcquiredAndStat → m.AcquiredAndStat
+acquired_and_stat_seen x = record { acquired = maybe_result x.acquired; stat = maybe_result x.stat; order = x.order }

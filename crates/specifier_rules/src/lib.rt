@@ -3,5 +3,8 @@
 //! Its main contract: each public function gives the judgement that the definition of its name in `rule_definitions` says.
 #![tactic(auto)]
 
+pub mod condition;
 pub mod result;
+pub mod selector;
 pub mod specifier;
+pub mod statement;
