@@ -13,7 +13,7 @@ use crate::bracket::{breaks_in_all, refused_around};
 use caf_base::place::Pos;
 use caf_base::refusal::NoMemory;
 use call_rules::actual::arguments;
-use call_rules::function::intrinsic_reference;
+use function_rules::function::intrinsic_reference;
 use checked_tree::expr::{Argument, ExprForm, TypedExpr};
 use part_rules::bracket::Actual;
 use part_rules::designator::Selection;
