@@ -218,7 +218,7 @@ fn is_team_number(keyword: &Option<Name>, item: &Item) -> bool
     ensures { result ≡ forms.is_team_number keyword.now (item_seen item.now) }
 {
     match keyword {
-        Some(keyword) => keyword.text.as_slice() == b"team_number",
+        Some(keyword) => keyword.text.as_slice() == b"team_number".as_slice(),
         None => is_integer_item(item),
     }
 }
