@@ -1,0 +1,39 @@
+-- Each function is the row that it stands in.
+use Rattle.std.proofs.Common.{◌≡◌, refl, ℕ, List, ◌∷◌}
+use Rattle.std.specs.Prelude.{Bool, true, false, cond, bytes_eq, codes, Option, Some, None}
+use Rattle.caf_base.specs.declared.place.Pos.{Pos}
+use Rattle.fortran_tree.specs.declared.name.Name.{Name}
+use Rattle.rule_definitions.specs.Arguments.{Actual, Part, expression, triplet}
+use Rattle.rule_definitions.specs.IntrinsicFunctions.{intrinsic_reference, is_of_coarray, is_first_integer, is_first_unnamed, is_integer_argument, is_keyword}
+use Rattle.rule_definitions.specs.Names as n
+use Rattle.function_rules.specs.Forms.{is_integer_part, is_named, is_team_number, referred, row_of}
+use Rattle.function_rules.specs.declared.form.Form.{Form}
+use Rattle.function_rules.specs.declared.form.Form.TheVariants as forms
+use Rattle.function_rules.specs.declared.form.Row.TheVariants as rows
+
+either : (b : Bool) (s : n.Scope) (x y : Form) (as' : List Actual) (p : Pos) → cond b (referred s (rows.Bound x) as' p) (referred s (rows.Bound y) as' p) ≡ referred s (rows.Bound (cond b x y)) as' p
+either true s x y as' p = refl
+either false s x y as' p = refl
+
+pub row_is : (s : n.Scope) (f : n.FunctionName) (as' : List Actual) (p : Pos) → intrinsic_reference s f as' p ≡ referred s (row_of f as') as' p
+row_is s n.this_image as' p = either (is_of_coarray as') s forms.ThisCosubscript forms.ThisImage as' p
+row_is s n.num_images as' p = either (is_first_integer as') s forms.NumImagesOfNumber (forms.NumImages (cond (is_first_unnamed as') 59 51)) as' p
+row_is s f as' p = refl
+
+named : (x : List ℕ) (o : Option Name) → elim o [ None ↦ false | Some k ↦ bytes_eq k.text x ] ≡ is_named x o
+named x None = refl
+named x (Some k) = refl
+
+pub keyword_is : (x : List ℕ) (a : Actual) → is_keyword x a ≡ is_named x a.keyword
+keyword_is x a = named x a.keyword
+
+typed_part : (x : Part) → elim x [ expression e ↦ is_integer_argument e.judged.meaning | triplet j ↦ false ] ≡ is_integer_part x
+typed_part (expression e) = refl
+typed_part (triplet j) = refl
+
+numbered : (o : Option Name) (x : Part) → elim o [ None ↦ elim x [ expression e ↦ is_integer_argument e.judged.meaning | triplet j ↦ false ] | Some k ↦ bytes_eq k.text (codes "team_number") ] ≡ is_team_number o x
+numbered None x = typed_part x
+numbered (Some k) x = refl
+
+pub first_number : (a : Actual) (rest : List Actual) → is_first_integer (a ∷ rest) ≡ is_team_number a.keyword a.part
+first_number a rest = numbered a.keyword a.part

@@ -1,0 +1,297 @@
+//! The forms of references to intrinsic functions, and their dummies.
+
+ghost use Rattle.std.specs.Prelude.{◌≡◌, cond, map};
+ghost use Rattle.rule_definitions.specs.IntrinsicFunctions as rules;
+ghost use Rattle.scope_table.specs.Symbols.{function_name};
+ghost use Rattle.part_rules.specs.Brackets.{actual_seen, item_seen};
+ghost use Rattle.call_rules.specs.Bindings.{dummy_seen};
+ghost use Rattle.function_rules.specs.Forms as forms;
+ghost use Rattle.function_rules.specs.declared.form.Form.TheVariants as heldforms;
+
+use call_rules::binding::{Dummy, is_written};
+use fortran_tree::name::Name;
+use part_rules::bracket::{Actual, Item};
+use part_rules::types::is_integer_type;
+use scope_table::symbol::FunctionName;
+
+/// MIN or MAX.
+#[derive(Clone, Copy)]
+pub enum Extreme {
+    Least,
+    Greatest,
+}
+
+/// A function with dummies, or a form of one.
+#[derive(Clone, Copy)]
+pub enum Form {
+    Abs,
+    Mod,
+    Modulo,
+    Huge,
+    Int,
+    Size,
+    Lbound,
+    Ubound,
+    Allocated,
+    ThisImage,
+    /// `THIS_IMAGE(COARRAY, DIM [, TEAM])`
+    ThisCosubscript,
+    /// With the rule that what is no team breaks.
+    NumImages(u8),
+    /// `NUM_IMAGES(TEAM_NUMBER)`
+    NumImagesOfNumber,
+    ImageIndex,
+    ImageStatus,
+    FailedImages,
+    StoppedImages,
+    TeamNumber,
+    GetTeam,
+}
+
+/// How a function takes its arguments: two or more by position alone, or bound to dummies.
+#[derive(Clone, Copy)]
+pub enum Row {
+    Several(Extreme),
+    Bound(Form),
+}
+
+const A: Dummy = Dummy {
+    name: b"a",
+    is_needed: true,
+    takes_images: false,
+};
+
+const P: Dummy = Dummy {
+    name: b"p",
+    is_needed: true,
+    takes_images: false,
+};
+
+const X: Dummy = Dummy {
+    name: b"x",
+    is_needed: true,
+    takes_images: false,
+};
+
+const KIND: Dummy = Dummy {
+    name: b"kind",
+    is_needed: false,
+    takes_images: false,
+};
+
+const LISTED_ARRAY: Dummy = Dummy {
+    name: b"array",
+    is_needed: true,
+    takes_images: true,
+};
+
+const OPTIONAL_DIM: Dummy = Dummy {
+    name: b"dim",
+    is_needed: false,
+    takes_images: false,
+};
+
+const ARRAY: Dummy = Dummy {
+    name: b"array",
+    is_needed: true,
+    takes_images: false,
+};
+
+const DIM: Dummy = Dummy {
+    name: b"dim",
+    is_needed: true,
+    takes_images: false,
+};
+
+const V: Dummy = Dummy {
+    name: b"v",
+    is_needed: true,
+    takes_images: false,
+};
+
+const TEAM: Dummy = Dummy {
+    name: b"team",
+    is_needed: false,
+    takes_images: false,
+};
+
+const COARRAY: Dummy = Dummy {
+    name: b"coarray",
+    is_needed: true,
+    takes_images: false,
+};
+
+const TEAM_NUMBER: Dummy = Dummy {
+    name: b"team_number",
+    is_needed: true,
+    takes_images: false,
+};
+
+const SUB: Dummy = Dummy {
+    name: b"sub",
+    is_needed: true,
+    takes_images: false,
+};
+
+const IMAGE: Dummy = Dummy {
+    name: b"image",
+    is_needed: true,
+    takes_images: false,
+};
+
+const LEVEL: Dummy = Dummy {
+    name: b"level",
+    is_needed: false,
+    takes_images: false,
+};
+
+/// The dummies of a form.
+pub fn dummies_of(form: Form) -> &'static [Dummy]
+    ensures { map dummy_seen result.now ≡ forms.dummies_of form }
+{
+    match form {
+        Form::Abs => &[A],
+        Form::Mod | Form::Modulo => &[A, P],
+        Form::Huge => &[X],
+        Form::Int => &[A, KIND],
+        Form::Size => &[LISTED_ARRAY, OPTIONAL_DIM],
+        Form::Lbound | Form::Ubound => &[ARRAY, DIM],
+        Form::Allocated => &[V],
+        Form::ThisCosubscript => &[COARRAY, DIM, TEAM],
+        Form::NumImagesOfNumber => &[TEAM_NUMBER],
+        Form::ImageIndex => &[COARRAY, SUB, TEAM],
+        Form::ImageStatus => &[IMAGE, TEAM],
+        Form::ThisImage
+        | Form::NumImages(_)
+        | Form::FailedImages
+        | Form::StoppedImages
+        | Form::TeamNumber => &[TEAM],
+        Form::GetTeam => &[LEVEL],
+    }
+}
+
+/// Whether a keyword is this one.
+fn is_named(name: &[u8], keyword: &Option<Name>) -> bool
+    ensures { result ≡ forms.is_named name.now keyword.now }
+{
+    match keyword {
+        Some(keyword) => keyword.text.as_slice() == name,
+        None => false,
+    }
+}
+
+/// Whether this keyword stands before one of the arguments.
+#[tactic(auto, using(crate::proofs::Forms::keyword_is))]
+fn has_keyword(name: &[u8], actuals: &[Actual]) -> bool
+    ensures { result ≡ rules.has_keyword name.now (map actual_seen actuals.now) }
+{
+    for actual in actuals {
+        if is_named(name, &actual.keyword) {
+            return true;
+        }
+    }
+    false
+}
+
+/// Whether THIS_IMAGE has these arguments with a coarray.
+fn is_of_coarray(actuals: &[Actual]) -> bool
+    ensures { result ≡ rules.is_of_coarray (map actual_seen actuals.now) }
+{
+    2 <= actuals.len() || (has_keyword(b"coarray", actuals) || has_keyword(b"dim", actuals))
+}
+
+/// Whether an item between the brackets is an integer.
+fn is_integer_item(item: &Item) -> bool
+    ensures { result ≡ forms.is_integer_part (item_seen item.now) }
+{
+    match item {
+        Item::Value(part) => match &part.judged.meaning {
+            Some(value) => is_integer_type(value.of_type),
+            None => false,
+        },
+        Item::Triplet(_) => false,
+    }
+}
+
+/// Whether an item with this keyword is a team number: by the keyword, or by its type where there is none.
+fn is_team_number(keyword: &Option<Name>, item: &Item) -> bool
+    ensures { result ≡ forms.is_team_number keyword.now (item_seen item.now) }
+{
+    match keyword {
+        Some(keyword) => keyword.text.as_slice() == b"team_number".as_slice(),
+        None => is_integer_item(item),
+    }
+}
+
+/// Whether the first argument of NUM_IMAGES is a team number.
+#[tactic(auto, using(crate::proofs::Forms::first_number))]
+fn is_first_integer(actuals: &[Actual]) -> bool
+    ensures { result ≡ rules.is_first_integer (map actual_seen actuals.now) }
+{
+    match actuals {
+        [first, ..] => is_team_number(&first.keyword, &first.item),
+        [] => false,
+    }
+}
+
+/// Whether no keyword stands before the first argument.
+fn is_first_unnamed(actuals: &[Actual]) -> bool
+    ensures { result ≡ rules.is_first_unnamed (map actual_seen actuals.now) }
+{
+    match actuals {
+        [first, ..] => !is_written(&first.keyword),
+        [] => false,
+    }
+}
+
+/// The form of THIS_IMAGE with these arguments.
+fn this_image_form(actuals: &[Actual]) -> Form
+    ensures { result ≡ cond (rules.is_of_coarray (map actual_seen actuals.now)) heldforms.ThisCosubscript heldforms.ThisImage }
+{
+    if is_of_coarray(actuals) {
+        Form::ThisCosubscript
+    } else {
+        Form::ThisImage
+    }
+}
+
+/// The form of NUM_IMAGES with these arguments.
+fn num_images_form(actuals: &[Actual]) -> Form
+    ensures { result ≡ cond (rules.is_first_integer (map actual_seen actuals.now)) heldforms.NumImagesOfNumber (heldforms.NumImages (cond (rules.is_first_unnamed (map actual_seen actuals.now)) 59 51)) }
+{
+    if is_first_integer(actuals) {
+        return Form::NumImagesOfNumber;
+    }
+    if is_first_unnamed(actuals) {
+        Form::NumImages(59)
+    } else {
+        Form::NumImages(51)
+    }
+}
+
+/// How a function takes these arguments.
+pub fn row_of(function: FunctionName, actuals: &[Actual]) -> Row
+    ensures { result ≡ forms.row_of (function_name function) (map actual_seen actuals.now) }
+{
+    match function {
+        FunctionName::Abs => Row::Bound(Form::Abs),
+        FunctionName::Mod => Row::Bound(Form::Mod),
+        FunctionName::Modulo => Row::Bound(Form::Modulo),
+        FunctionName::Min => Row::Several(Extreme::Least),
+        FunctionName::Max => Row::Several(Extreme::Greatest),
+        FunctionName::Huge => Row::Bound(Form::Huge),
+        FunctionName::Int => Row::Bound(Form::Int),
+        FunctionName::Size => Row::Bound(Form::Size),
+        FunctionName::Lbound => Row::Bound(Form::Lbound),
+        FunctionName::Ubound => Row::Bound(Form::Ubound),
+        FunctionName::Allocated => Row::Bound(Form::Allocated),
+        FunctionName::ThisImage => Row::Bound(this_image_form(actuals)),
+        FunctionName::NumImages => Row::Bound(num_images_form(actuals)),
+        FunctionName::ImageIndex => Row::Bound(Form::ImageIndex),
+        FunctionName::ImageStatus => Row::Bound(Form::ImageStatus),
+        FunctionName::FailedImages => Row::Bound(Form::FailedImages),
+        FunctionName::StoppedImages => Row::Bound(Form::StoppedImages),
+        FunctionName::TeamNumber => Row::Bound(Form::TeamNumber),
+        FunctionName::GetTeam => Row::Bound(Form::GetTeam),
+    }
+}
