@@ -1,10 +1,10 @@
 -- Each function is the row that it stands in.
-use Rattle.std.proofs.Common.{◌≡◌, refl, ℕ, List, ◌∷◌}
-use Rattle.std.specs.Prelude.{Bool, true, false, cond, bytes_eq, codes, Option, Some, None}
+use Rattle.std.proofs.Common.{◌≡◌, refl, ap, ℕ, List, ◌∷◌}
+use Rattle.std.specs.Prelude.{Bool, true, false, cond, bytes_eq, codes, ◌||◌, Option, Some, None}
 use Rattle.caf_base.specs.declared.place.Pos.{Pos}
 use Rattle.fortran_tree.specs.declared.name.Name.{Name}
 use Rattle.rule_definitions.specs.Arguments.{Actual, Part, expression, triplet}
-use Rattle.rule_definitions.specs.IntrinsicFunctions.{intrinsic_reference, is_of_coarray, is_first_integer, is_first_unnamed, is_integer_argument, is_keyword}
+use Rattle.rule_definitions.specs.IntrinsicFunctions.{intrinsic_reference, is_of_coarray, is_first_integer, is_first_unnamed, is_integer_argument, has_keyword}
 use Rattle.rule_definitions.specs.Names as n
 use Rattle.function_rules.specs.Forms.{is_integer_part, is_named, is_team_number, referred, row_of}
 use Rattle.function_rules.specs.declared.form.Form.{Form}
@@ -24,8 +24,8 @@ named : (x : List ℕ) (o : Option Name) → elim o [ None ↦ false | Some k �
 named x None = refl
 named x (Some k) = refl
 
-pub keyword_is : (x : List ℕ) (a : Actual) → is_keyword x a ≡ is_named x a.keyword
-keyword_is x a = named x a.keyword
+pub keyword_first : (x : List ℕ) (a : Actual) (rest : List Actual) → has_keyword x (a ∷ rest) ≡ (is_named x a.keyword || has_keyword x rest)
+keyword_first x a rest = ap (λ b. b || has_keyword x rest) (named x a.keyword)
 
 typed_part : (x : Part) → elim x [ expression e ↦ is_integer_argument e.judged.meaning | triplet j ↦ false ] ≡ is_integer_part x
 typed_part (expression e) = refl
