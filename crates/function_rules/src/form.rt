@@ -170,23 +170,22 @@ pub fn dummies_of(form: Form) -> &'static [Dummy]
     }
 }
 
-/// Whether a keyword is this one.
-fn is_named(name: &[u8], keyword: &Option<Name>) -> bool
-    ensures { result ≡ forms.is_named name.now keyword.now }
+/// Whether an argument has this keyword.
+fn is_named(name: &[u8], actual: &Actual) -> bool
+    ensures { result ≡ rules.is_keyword name.now (actual_seen actual.now) }
 {
-    match keyword {
+    match &actual.keyword {
         Some(keyword) => keyword.text.as_slice() == name,
         None => false,
     }
 }
 
 /// Whether this keyword stands before one of the arguments.
-#[tactic(auto, using(crate::proofs::Forms::keyword_first))]
 fn has_keyword(name: &[u8], actuals: &[Actual]) -> bool
     ensures { result ≡ rules.has_keyword name.now (map actual_seen actuals.now) }
 {
     for actual in actuals {
-        if is_named(name, &actual.keyword) {
+        if is_named(name, actual) {
             return true;
         }
     }
