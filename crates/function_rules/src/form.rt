@@ -170,22 +170,23 @@ pub fn dummies_of(form: Form) -> &'static [Dummy]
     }
 }
 
-/// Whether an argument has this keyword.
-fn is_named(name: &[u8], actual: &Actual) -> bool
-    ensures { result ≡ rules.is_keyword name.now (actual_seen actual.now) }
+/// Whether a keyword is this one.
+fn is_named(name: &[u8], keyword: &Option<Name>) -> bool
+    ensures { result ≡ forms.is_named name.now keyword.now }
 {
-    match &actual.keyword {
+    match keyword {
         Some(keyword) => keyword.text.as_slice() == name,
         None => false,
     }
 }
 
 /// Whether this keyword stands before one of the arguments.
+#[tactic(auto, using(crate::proofs::Forms::keyword_first))]
 fn has_keyword(name: &[u8], actuals: &[Actual]) -> bool
     ensures { result ≡ rules.has_keyword name.now (map actual_seen actuals.now) }
 {
     for actual in actuals {
-        if is_named(name, actual) {
+        if is_named(name, &actual.keyword) {
             return true;
         }
     }
