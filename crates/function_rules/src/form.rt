@@ -181,7 +181,6 @@ fn is_named(name: &[u8], keyword: &Option<Name>) -> bool
 }
 
 /// Whether this keyword stands before one of the arguments.
-#[tactic(auto, using(crate::proofs::Forms::keyword_first))]
 fn has_keyword(name: &[u8], actuals: &[Actual]) -> bool
     ensures { result ≡ rules.has_keyword name.now (map actual_seen actuals.now) }
 {
