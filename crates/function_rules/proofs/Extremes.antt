@@ -26,3 +26,7 @@ said_if false c p = refl
 
 pub several_said : (as' : List Actual) (p : Pos) → several_breaks as' p ≡ unless (not (is_nothing (breaks_in_all as')) || (nat_le 2 (length as') || not (are_unnamed as'))) 59 p
 several_said as' p = said_if (is_nothing (breaks_in_all as')) (nat_le 2 (length as') || not (are_unnamed as')) p
+
+pub nothing_unless : (b : Bool) (p : Pos) → is_nothing (unless b 59 p) ≡ b
+nothing_unless true p = refl
+nothing_unless false p = refl

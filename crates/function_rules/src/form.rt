@@ -181,7 +181,6 @@ fn is_named(name: &[u8], keyword: &Option<Name>) -> bool
 }
 
 /// Whether this keyword stands before one of the arguments.
-#[tactic(auto, using(crate::proofs::Forms::keyword_is))]
 fn has_keyword(name: &[u8], actuals: &[Actual]) -> bool
     ensures { result ≡ rules.has_keyword name.now (map actual_seen actuals.now) }
 {
@@ -218,7 +217,7 @@ fn is_team_number(keyword: &Option<Name>, item: &Item) -> bool
     ensures { result ≡ forms.is_team_number keyword.now (item_seen item.now) }
 {
     match keyword {
-        Some(keyword) => keyword.text.as_slice() == b"team_number",
+        Some(keyword) => keyword.text.as_slice() == b"team_number".as_slice(),
         None => is_integer_item(item),
     }
 }

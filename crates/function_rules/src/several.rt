@@ -5,10 +5,10 @@ ghost use Rattle.std.specs.Option.{option_map};
 ghost use Rattle.checked_tree.specs.ExpressionViews.{expression, expressions, intrinsic as intrinsic_seen};
 ghost use Rattle.rule_definitions.specs.Arguments as arguments;
 ghost use Rattle.rule_definitions.specs.IntrinsicFunctions as rules;
-ghost use Rattle.rule_definitions.specs.Judgements.{all_made, is_nothing, unless};
+ghost use Rattle.rule_definitions.specs.Judgements.{all_made, is_nothing, made, unless};
 ghost use Rattle.part_rules.specs.Brackets.{actual_seen, item_seen};
 ghost use Rattle.part_rules.specs.Views.{list_of};
-ghost use Rattle.function_rules.specs.Forms.{extreme_of, integer_part};
+ghost use Rattle.function_rules.specs.Forms.{extreme_of as extreme_seen, integer_part};
 
 use crate::form::Extreme;
 use caf_base::place::Pos;
@@ -113,7 +113,7 @@ fn joint_type(values: &[TypedExpr]) -> DataType
 /// MIN or MAX of these.
 #[tactic(auto, using(checked_tree::specs::ExpressionViews::typed_forms))]
 fn extreme(function: Extreme, values: Vec<TypedExpr>) -> Intrinsic
-    ensures { intrinsic_seen result ≡ extreme_of function (expressions values.items) }
+    ensures { intrinsic_seen result ≡ extreme_seen function (expressions values.items) }
 {
     match function {
         Extreme::Least => Intrinsic::Min(values),
@@ -124,7 +124,7 @@ fn extreme(function: Extreme, values: Vec<TypedExpr>) -> Intrinsic
 /// MIN or MAX of these, as an expression.
 #[tactic(auto, using(checked_tree::specs::ExpressionViews::typed_forms))]
 fn extreme_expr(function: Extreme, values: Vec<TypedExpr>) -> TypedExpr
-    ensures { expression result ≡ rules.of_type (rules.joint_type (expressions values.items)) (extreme_of function (expressions values.items)) }
+    ensures { expression result ≡ rules.of_type (rules.joint_type (expressions values.items)) (extreme_seen function (expressions values.items)) }
 {
     let of_type = joint_type(values.as_slice());
     TypedExpr {
@@ -134,22 +134,36 @@ fn extreme_expr(function: Extreme, values: Vec<TypedExpr>) -> TypedExpr
     }
 }
 
+/// MIN or MAX of these arguments, however many they are.
+#[tactic(auto, using(crate::proofs::Extremes::unnamed_breaks, crate::proofs::Extremes::unnamed_meaning, part_rules::proofs::Lists::expressions_seen))]
+fn extreme_of(
+    alloc: Global,
+    function: Extreme,
+    actuals: Vec<Actual>,
+) -> Result<Judged<TypedExpr>, NoMemory>
+    ensures breaks { IfOk result (λ j. j.breaks.items ≡ (rules.unnamed_integers (map actual_seen actuals.items)).breaks) }
+    ensures meaning { IfOk result (λ j. option_map expression j.meaning ≡ made (λ es. rules.of_type (rules.joint_type es) (extreme_seen function es)) (rules.unnamed_integers (map actual_seen actuals.items)).meaning) }
+{
+    let Judged { breaks, meaning } = unnamed_integers(alloc, actuals)?;
+    let meaning = match meaning {
+        Some(values) => Some(extreme_expr(function, values)),
+        None => None,
+    };
+    Ok(Judged { breaks, meaning })
+}
+
 /// A reference to MIN or MAX: rule 59 for fewer than two arguments, for keywords and triplets.
-#[tactic(auto, using(crate::proofs::Extremes::unnamed_breaks, crate::proofs::Extremes::unnamed_meaning, crate::proofs::Extremes::several_said, part_rules::proofs::Lists::expressions_seen))]
+#[tactic(auto, using(crate::proofs::Extremes::several_said, crate::proofs::Extremes::nothing_unless))]
 pub fn several(
     alloc: Global,
     function: Extreme,
     actuals: Vec<Actual>,
     at: Pos,
 ) -> Result<Judged<TypedExpr>, NoMemory>
-    ensures breaks { IfOk result (λ j. j.breaks.items ≡ (rules.several_integers (extreme_of function) (map actual_seen actuals.items) at).breaks) }
-    ensures meaning { IfOk result (λ j. option_map expression j.meaning ≡ (rules.several_integers (extreme_of function) (map actual_seen actuals.items) at).meaning) }
+    ensures breaks { IfOk result (λ j. j.breaks.items ≡ (rules.several_integers (extreme_seen function) (map actual_seen actuals.items) at).breaks) }
+    ensures meaning { IfOk result (λ j. option_map expression j.meaning ≡ (rules.several_integers (extreme_seen function) (map actual_seen actuals.items) at).meaning) }
 {
     let holds = are_enough(actuals.as_slice());
-    let Judged { breaks, meaning } = unnamed_integers(alloc, actuals)?;
-    let meaning = match meaning {
-        Some(values) => Some(extreme_expr(function, values)),
-        None => None,
-    };
-    ruled(Judged { breaks, meaning }, holds, 59, at)
+    let judged = extreme_of(alloc, function, actuals)?;
+    ruled(judged, holds, 59, at)
 }
