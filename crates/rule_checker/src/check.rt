@@ -12,11 +12,20 @@ use fortran_tree::unit::Program;
 use rule_definitions::broken::Broken;
 use std::alloc::Global;
 
+/// The checked program that a program is accepted as, or the first rule that it breaks. The program stays as it is.
+pub fn check_tree(alloc: Global, program: &Program) -> Result<Checked, Refusal<Broken>>
+    ensures accepted { IfOk result (λ c. Accepts (tree.program program.now) (typed.program c)) }
+    ensures broken { IfErr result (λ refusal. IfCause refusal (λ b. first_break (tree.program program.now) ≡ Some b)) }
+{
+    Err(Refusal::NoMemory)
+}
+
 /// The checked program that a program is accepted as, or the first rule that it breaks.
 pub fn check(alloc: Global, program: Program) -> Result<Checked, Refusal<Broken>>
     ensures accepted { IfOk result (λ c. Accepts (tree.program program) (typed.program c)) }
     ensures broken { IfErr result (λ refusal. IfCause refusal (λ b. first_break (tree.program program) ≡ Some b)) }
 {
+    let checked = check_tree(alloc, &program);
     drop(program);
-    Err(Refusal::NoMemory)
+    checked
 }

@@ -5,3 +5,5 @@
 #![tactic(auto)]
 
 pub mod check;
+pub mod note;
+pub mod variable;

@@ -12,7 +12,7 @@ use Rattle.rule_definitions.specs.Units.{interfaces_of, main_declared, main_unit
 use Rattle.scope_table.specs.Outside.{Outer, outer}
 use Rattle.scope_table.specs.Symbols.{interface}
 use Rattle.unit_scopes.specs.Openings.{closing, host_scope}
-use Rattle.unit_scopes.specs.Scopes.{Passed, main_behind, main_scope, passed, passed_of, passed_through}
+use Rattle.unit_scopes.specs.Scopes.{Passed, bare_scope, main_behind, main_scope, owning, passed, passed_of, passed_through}
 use Rattle.unit_scopes.specs.Telling.{Told, behind, grown_scope, of_all, told, told_parts}
 use Rattle.unit_scopes.specs.declared.grown.Grown.{Grown}
 use Rattle.unit_scopes.specs.declared.program.Procedures.{Procedures}
@@ -42,6 +42,10 @@ read_first p is o ds g e w h = ap (λ (k : Told). k.first) (known p is o ds g e 
 pub read_own : (p : u.Program) (is : List Interface) (o : Outer) (ds : List d.Declaration) (g : Grown) → o ≡ outer p.uses (procedures_of p) → ds ≡ p.body.declarations → told (start o is ds) g ≡ behind (of_all main_unit ds) (told_parts None (start o is ds))
     → g.own ≡ (main_declared p is).scope.own
 read_own p is o ds g e w h = ap (λ (k : Told). k.scope.own) (known p is o ds g e w h)
+
+pub read_scope : (p : u.Program) (is : List Interface) (o : Outer) (ds : List d.Declaration) (g : Grown) → o ≡ outer p.uses (procedures_of p) → ds ≡ p.body.declarations → told (start o is ds) g ≡ behind (of_all main_unit ds) (told_parts None (start o is ds))
+    → owning (main_scope o is []) g.own ≡ bare_scope (main_behind p is)
+read_scope p is o ds g e w h = ap (λ (k : Told). bare_scope (record k.scope { pending = [] })) (known p is o ds g e w h)
 
 pub read_procedures : (p : u.Program) (is : List Interface) (o : Outer) (ds : List d.Declaration) (g : Grown) (t : Scope) (xs : List u.Procedure) (q : Procedures) → o ≡ outer p.uses (procedures_of p) → ds ≡ p.body.declarations
     → told (start o is ds) g ≡ behind (of_all main_unit ds) (told_parts None (start o is ds)) → t ≡ main_scope o is [] → xs ≡ procedures_of p

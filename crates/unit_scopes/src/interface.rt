@@ -21,7 +21,8 @@ use scope_table::symbol::{Entry, Interface, Symbol};
 use scope_table::table::Table;
 use std::alloc::Global;
 
-fn copy_codimensions(coshape: &Codimensions) -> Result<Codimensions, NoMemory>
+/// Equal codimensions.
+pub fn copy_codimensions(coshape: &Codimensions) -> Result<Codimensions, NoMemory>
     ensures { IfOk result (λ c. c ≡ coshape.now) }
 {
     match coshape {
@@ -37,7 +38,8 @@ fn copy_codimensions(coshape: &Codimensions) -> Result<Codimensions, NoMemory>
     }
 }
 
-fn copy_initial(initial: &Initial) -> Result<Initial, NoMemory>
+/// Equal initial values.
+pub fn copy_initial(initial: &Initial) -> Result<Initial, NoMemory>
     ensures { IfOk result (λ i. i ≡ initial.now) }
 {
     match initial {

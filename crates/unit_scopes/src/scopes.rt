@@ -7,7 +7,7 @@ ghost use Rattle.rule_definitions.specs.Units.{interfaces_of, main_declared, pro
 ghost use Rattle.scope_table.specs.Outside.{outer};
 ghost use Rattle.scope_table.specs.Symbols.{interface as interface_seen};
 ghost use Rattle.unit_scopes.specs.Openings.{closing};
-ghost use Rattle.unit_scopes.specs.Scopes.{main_behind, main_scope, passed, passed_through};
+ghost use Rattle.unit_scopes.specs.Scopes.{bare_scope, main_behind, main_scope, owning, passed, passed_through};
 
 use crate::grown::Grown;
 use crate::program::{Procedures, declare_main, main_setting, open_all, procedures_in};
@@ -38,6 +38,7 @@ pub fn read_scopes(
     requires { outside.now ≡ outer (program_seen program.now).uses (procedures_of (program_seen program.now)) }
     ensures first { IfOk result (λ s. s.first ≡ first_of None (main_declared (program_seen program.now) (map interface_seen interfaces.now)).breaks) }
     ensures own { IfOk result (λ s. s.own ≡ (main_declared (program_seen program.now) (map interface_seen interfaces.now)).scope.own) }
+    ensures scope { IfOk result (λ s. owning (main_scope outside.now (map interface_seen interfaces.now) []) s.own ≡ bare_scope (main_behind (program_seen program.now) (map interface_seen interfaces.now))) }
     ensures procedures { IfOk result (λ s. passed (closing (main_scope outside.now (map interface_seen interfaces.now) []) s.own) s.procedures ≡ passed_through (main_behind (program_seen program.now) (map interface_seen interfaces.now)) (procedures_of (program_seen program.now)) None) }
 {
     let main = declare_main(

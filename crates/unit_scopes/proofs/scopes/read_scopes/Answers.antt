@@ -2,7 +2,7 @@ use Rattle.std.proofs.Common.{ap, map}
 use Rattle.fortran_tree.specs.DeclarationViews.{declaration}
 use Rattle.fortran_tree.specs.UnitViews.{procedure, program}
 use Rattle.scope_table.specs.Symbols.{interface}
-use Rattle.unit_scopes.proofs.Wholes.{read_first, read_own, read_procedures}
+use Rattle.unit_scopes.proofs.Wholes.{read_first, read_own, read_procedures, read_scope}
 use Rattle.unit_scopes.proofs.scopes.read_scopes.Goals as goal
 
 pub returns-clause-first : goal.returns-clause-first
@@ -12,6 +12,10 @@ returns-clause-first c =
 pub returns-clause-own : goal.returns-clause-own
 returns-clause-own c =
     read_own (program c.args.program.now) (map interface c.args.interfaces.now) c.args.outside.now (map declaration c.as_slice.result.now) c.in_ok-main.main c.requires (ap (map declaration) c.as_slice.ensures.value) c.in_ok-main.ensures
+
+pub returns-clause-scope : goal.returns-clause-scope
+returns-clause-scope c =
+    read_scope (program c.args.program.now) (map interface c.args.interfaces.now) c.args.outside.now (map declaration c.as_slice.result.now) c.in_ok-main.main c.requires (ap (map declaration) c.as_slice.ensures.value) c.in_ok-main.ensures
 
 pub returns-clause-procedures : goal.returns-clause-procedures
 returns-clause-procedures c =
