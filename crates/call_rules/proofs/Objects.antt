@@ -1,12 +1,14 @@
 -- What is no object, by its form.
-use Rattle.std.proofs.Common.{◌≡◌, refl, ℕ, List, [], ◌∷◌}
+use Rattle.std.proofs.Common.{◌≡◌, refl, arith, ℕ, ◌≤◌, length, List, [], ◌∷◌}
 use Rattle.std.specs.Prelude.{Option, Some, None, cond}
 use Rattle.caf_base.specs.declared.value.Kind.TheVariants.{L4}
 use Rattle.checked_tree.specs.Expressions as t
-use Rattle.checked_tree.specs.ExpressionViews.{expression, arithmetic_chain, logic_chain, typed_forms}
+use Rattle.checked_tree.specs.ExpressionViews.{expression, subscripts, arithmetic_chain, logic_chain, typed_forms}
 use Rattle.checked_tree.specs.declared.data.DataType.{DataType}
 use Rattle.checked_tree.specs.declared.data.DataType.TheVariants.{Intrinsic}
+use Rattle.checked_tree.specs.declared.data.Object.{Object}
 use Rattle.checked_tree.specs.declared.data.Object.TheVariants as objects
+use Rattle.checked_tree.specs.declared.expr.Subscript.{Subscript}
 use Rattle.checked_tree.specs.declared.expr.ArithmeticOperator.{ArithmeticOperator}
 use Rattle.checked_tree.specs.declared.expr.LogicalOperator.{LogicalOperator}
 use Rattle.checked_tree.specs.declared.expr.ArithmeticLink.{ArithmeticLink}
@@ -50,3 +52,8 @@ allocatable_is s (t.typed f y r) = refl
 pub allocatable_seen : (h : Home) (x : Symbol) → (seen_from h x).is_allocatable ≡ x.is_allocatable
 allocatable_seen Own x = refl
 allocatable_seen Host x = refl
+
+-- a part with subscripts is no whole object
+pub no_whole : (o : Object) (xs : List Subscript) (c : t.Selector) → 1 ≤ length xs → None ≡ whole_part (t.part o (subscripts xs) c)
+no_whole o [] c e = absurd (grind (arith))
+no_whole o (x ∷ xs) c e = refl

@@ -3,9 +3,4 @@
 //! Its main contract: `function::intrinsic_reference` gives the judgement that the definition of its name in `rule_definitions` says.
 #![tactic(auto)]
 
-pub mod form;
 pub mod function;
-pub mod image;
-pub mod inquiry;
-pub mod numeric;
-pub mod several;
