@@ -8,9 +8,9 @@ ghost use Rattle.call_rules.specs.Bindings.{binding_seen, dummy_seen};
 ghost use Rattle.subroutine_rules.specs.Parts as spec;
 ghost use Rattle.subroutine_rules.specs.Views.{found_seen, parts_seen};
 
-use call_rules::binding::{Binding, Dummy, are_all_bound, bind, numbers_of, take, unbound};
 use caf_base::place::Pos;
 use caf_base::refusal::NoMemory;
+use call_rules::binding::{Binding, Dummy, are_all_bound, bind, numbers_of, take, unbound};
 use checked_tree::action::WrittenArguments;
 use part_rules::bracket::Actual;
 use part_rules::judged::Judged;
@@ -56,13 +56,7 @@ fn cells(numbers: &[usize]) -> Result<[u8; 5], NoMemory>
         [a, b] => Ok([small(*a)?, small(*b)?, 0, 0, 0]),
         [a, b, c] => Ok([small(*a)?, small(*b)?, small(*c)?, 0, 0]),
         [a, b, c, d] => Ok([small(*a)?, small(*b)?, small(*c)?, small(*d)?, 0]),
-        [a, b, c, d, e] => Ok([
-            small(*a)?,
-            small(*b)?,
-            small(*c)?,
-            small(*d)?,
-            small(*e)?,
-        ]),
+        [a, b, c, d, e] => Ok([small(*a)?, small(*b)?, small(*c)?, small(*d)?, small(*e)?]),
         [_, _, _, _, _, _, ..] => Err(NoMemory),
     }
 }

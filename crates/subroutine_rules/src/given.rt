@@ -26,7 +26,11 @@ use specifier_rules::result::result_variable;
 use std::alloc::Global;
 
 /// An ATOM of a type that the call takes.
-pub fn given_atom(breaks: &mut Vec<Broken>, taken: Taken, part: Option<Part>) -> Result<Option<Atom>, NoMemory>
+pub fn given_atom(
+    breaks: &mut Vec<Broken>,
+    taken: Taken,
+    part: Option<Part>,
+) -> Result<Option<Atom>, NoMemory>
     ensures breaks { OnOk result (breaks.new.items ≡ breaks.old.items ++ (given (rules.an_atom taken) (option_map placed part)).breaks) }
     ensures meaning { IfOk result (λ m. option_map atom_seen m ≡ (given (rules.an_atom taken) (option_map placed part)).meaning) }
 {
@@ -37,7 +41,11 @@ pub fn given_atom(breaks: &mut Vec<Broken>, taken: Taken, part: Option<Part>) ->
 }
 
 /// A value beside an ATOM.
-pub fn given_value(breaks: &mut Vec<Broken>, taken: Taken, part: Option<Part>) -> Result<Option<TypedExpr>, NoMemory>
+pub fn given_value(
+    breaks: &mut Vec<Broken>,
+    taken: Taken,
+    part: Option<Part>,
+) -> Result<Option<TypedExpr>, NoMemory>
     ensures breaks { OnOk result (breaks.new.items ≡ breaks.old.items ++ (given (rules.an_atom_value taken) (option_map placed part)).breaks) }
     ensures meaning { IfOk result (λ m. option_map expression m ≡ (given (rules.an_atom_value taken) (option_map placed part)).meaning) }
 {
@@ -48,7 +56,12 @@ pub fn given_value(breaks: &mut Vec<Broken>, taken: Taken, part: Option<Part>) -
 }
 
 /// A variable that the call sets.
-pub fn given_result(alloc: Global, breaks: &mut Vec<Broken>, taken: Taken, part: Option<Part>) -> Result<Option<ResultVariable>, NoMemory>
+pub fn given_result(
+    alloc: Global,
+    breaks: &mut Vec<Broken>,
+    taken: Taken,
+    part: Option<Part>,
+) -> Result<Option<ResultVariable>, NoMemory>
     ensures breaks { OnOk result (breaks.new.items ≡ breaks.old.items ++ (given (parts.result_variable taken) (option_map placed part)).breaks) }
     ensures meaning { IfOk result (λ m. option_map result_seen m ≡ (given (parts.result_variable taken) (option_map placed part)).meaning) }
 {
@@ -59,7 +72,10 @@ pub fn given_result(alloc: Global, breaks: &mut Vec<Broken>, taken: Taken, part:
 }
 
 /// An event of this image.
-pub fn given_event(breaks: &mut Vec<Broken>, part: Option<Part>) -> Result<Option<Designator>, NoMemory>
+pub fn given_event(
+    breaks: &mut Vec<Broken>,
+    part: Option<Part>,
+) -> Result<Option<Designator>, NoMemory>
     ensures breaks { OnOk result (breaks.new.items ≡ breaks.old.items ++ (given rules.an_own_event (option_map placed part)).breaks) }
     ensures meaning { IfOk result (λ m. option_map designator_seen m ≡ (given rules.an_own_event (option_map placed part)).meaning) }
 {
@@ -70,7 +86,11 @@ pub fn given_event(breaks: &mut Vec<Broken>, part: Option<Part>) -> Result<Optio
 }
 
 /// The argument A of a collective.
-pub fn given_collected(breaks: &mut Vec<Broken>, takes_logicals: bool, part: Option<Part>) -> Result<Option<Collected>, NoMemory>
+pub fn given_collected(
+    breaks: &mut Vec<Broken>,
+    takes_logicals: bool,
+    part: Option<Part>,
+) -> Result<Option<Collected>, NoMemory>
     ensures breaks { OnOk result (breaks.new.items ≡ breaks.old.items ++ (given (rules.a_collected takes_logicals) (option_map placed part)).breaks) }
     ensures meaning { IfOk result (λ m. option_map collected_seen m ≡ (given (rules.a_collected takes_logicals) (option_map placed part)).meaning) }
 {
@@ -81,7 +101,10 @@ pub fn given_collected(breaks: &mut Vec<Broken>, takes_logicals: bool, part: Opt
 }
 
 /// An image: rule 59 for what is no integer.
-pub fn given_image(breaks: &mut Vec<Broken>, part: Option<Part>) -> Result<Option<TypedExpr>, NoMemory>
+pub fn given_image(
+    breaks: &mut Vec<Broken>,
+    part: Option<Part>,
+) -> Result<Option<TypedExpr>, NoMemory>
     ensures breaks { OnOk result (breaks.new.items ≡ breaks.old.items ++ (given an_integer (option_map placed part)).breaks) }
     ensures meaning { IfOk result (λ m. option_map expression m ≡ (given an_integer (option_map placed part)).meaning) }
 {
@@ -92,7 +115,10 @@ pub fn given_image(breaks: &mut Vec<Broken>, part: Option<Part>) -> Result<Optio
 }
 
 /// An image that may be missing.
-pub fn given_number(breaks: &mut Vec<Broken>, part: Option<Part>) -> Result<Option<Option<TypedExpr>>, NoMemory>
+pub fn given_number(
+    breaks: &mut Vec<Broken>,
+    part: Option<Part>,
+) -> Result<Option<Option<TypedExpr>>, NoMemory>
     ensures breaks { OnOk result (breaks.new.items ≡ breaks.old.items ++ (number_given (option_map placed part)).breaks) }
     ensures meaning { IfOk result (λ m. option_map maybe_expression m ≡ (number_given (option_map placed part)).meaning) }
 {
@@ -106,7 +132,11 @@ pub fn given_number(breaks: &mut Vec<Broken>, part: Option<Part>) -> Result<Opti
 }
 
 /// The variable STAT, which may be missing.
-pub fn given_stat(alloc: Global, breaks: &mut Vec<Broken>, part: Option<Part>) -> Result<Option<Option<ResultVariable>>, NoMemory>
+pub fn given_stat(
+    alloc: Global,
+    breaks: &mut Vec<Broken>,
+    part: Option<Part>,
+) -> Result<Option<Option<ResultVariable>>, NoMemory>
     ensures breaks { OnOk result (breaks.new.items ≡ breaks.old.items ++ (stat_given (option_map placed part)).breaks) }
     ensures meaning { IfOk result (λ m. option_map maybe_result m ≡ (stat_given (option_map placed part)).meaning) }
 {
