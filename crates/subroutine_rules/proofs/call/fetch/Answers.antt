@@ -1,4 +1,4 @@
-use Rattle.std.proofs.Common.{◌≡◌, refl}
+use Rattle.std.proofs.Common.{refl}
 use Rattle.subroutine_rules.proofs.call.fetch.Goals as goal
 
 pub returns-clause-meaning : goal.returns-clause-meaning

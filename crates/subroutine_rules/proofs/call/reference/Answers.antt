@@ -1,4 +1,4 @@
-use Rattle.std.proofs.Common.{◌≡◌, refl, append_assoc}
+use Rattle.std.proofs.Common.{refl, append_assoc}
 use Rattle.subroutine_rules.proofs.call.reference.Goals as goal
 
 pub returns-clause-breaks : goal.returns-clause-breaks
