@@ -1,6 +1,6 @@
 -- Calls by the arguments that are found.
 use Rattle.std.proofs.Common.{◌≡◌, refl}
-use Rattle.std.specs.Prelude.{Bool, true, false, cond, ◌&&◌, List, [], Option, Some, None}
+use Rattle.std.specs.Prelude.{Bool, true, false, cond, ◌&&◌, List, []}
 use Rattle.caf_base.specs.declared.place.Pos.{Pos}
 use Rattle.checked_tree.specs.Statements as ts
 use Rattle.rule_definitions.specs.Judgements.{Judgement}

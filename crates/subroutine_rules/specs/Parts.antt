@@ -1,5 +1,5 @@
 -- The arguments of a call by the numbers of their dummies, and what each subroutine makes of them.
-use Rattle.std.specs.Prelude.{ℕ, Bool, true, false, cond, codes, ◌&&◌, List, [], ◌∷◌, Option, Some, None}
+use Rattle.std.specs.Prelude.{true, false, cond, codes, ◌&&◌, List, [], ◌∷◌, Option, Some, None}
 use Rattle.caf_base.specs.declared.place.Pos.{Pos}
 use Rattle.checked_tree.specs.Expressions as t
 use Rattle.checked_tree.specs.Statements as ts

@@ -1,5 +1,5 @@
 -- Variables by their designators: atoms, events, the arguments of collectives.
-use Rattle.std.specs.Prelude.{ℕ, Bool, true, false, cond, nat_eq, ◌&&◌, Option, Some, None}
+use Rattle.std.specs.Prelude.{ℕ, Bool, true, false, cond, Option, Some, None}
 use Rattle.caf_base.specs.declared.value.Kind.{Kind}
 use Rattle.checked_tree.specs.Expressions as t
 use Rattle.checked_tree.specs.Statements as ts

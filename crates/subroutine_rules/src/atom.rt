@@ -4,9 +4,9 @@ ghost use Rattle.std.specs.Prelude.{◌≡◌, IfOk, Some};
 ghost use Rattle.std.specs.Option.{option_map};
 ghost use Rattle.checked_tree.specs.ExpressionViews.{designator as designator_seen, expression};
 ghost use Rattle.rule_definitions.specs.IntrinsicSubroutines as rules;
-ghost use Rattle.part_rules.specs.Views.{judgement, placed};
+ghost use Rattle.part_rules.specs.Views.{placed};
 ghost use Rattle.subroutine_rules.specs.Variables as spec;
-ghost use Rattle.subroutine_rules.specs.Atoms.{atom_seen};
+ghost use Rattle.subroutine_rules.specs.Atoms.{atom_seen, known};
 
 use caf_base::refusal::NoMemory;
 use caf_base::value::Kind;
@@ -104,10 +104,10 @@ pub fn an_atom(taken: Taken, part: Part) -> Result<Judged<Atom>, NoMemory>
 }
 
 /// The type that VALUE, OLD, COMPARE and NEW have beside an ATOM: its own, either where it isn't known.
-pub fn taken_with(atom: &Judged<Atom>) -> Taken
-    ensures { result ≡ rules.taken_with (judgement atom_seen atom.now) }
+pub fn taken_with(atom: &Option<Atom>) -> Taken
+    ensures { result ≡ rules.taken_with (known (option_map atom_seen atom.now)) }
 {
-    match &atom.meaning {
+    match atom {
         None => Taken::IntegersOrLogicals,
         Some(atom) => match atom.kind {
             Kind::I4 | Kind::I8 => Taken::Integers,

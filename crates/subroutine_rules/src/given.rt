@@ -1,6 +1,6 @@
-//! The arguments of a call, each under the rule of its dummy.
+//! The arguments of a call, each under the rule of its dummy. What breaks in one is put behind what breaks in those before it.
 
-ghost use Rattle.std.specs.Prelude.{◌≡◌, IfOk};
+ghost use Rattle.std.specs.Prelude.{◌≡◌, ◌++◌, IfOk, OnOk};
 ghost use Rattle.std.specs.Option.{option_map};
 ghost use Rattle.checked_tree.specs.ExpressionViews.{designator as designator_seen, expression, maybe_expression, maybe_result, result_variable as result_seen};
 ghost use Rattle.checked_tree.specs.StatementViews.{collected as collected_seen};
@@ -14,128 +14,137 @@ ghost use Rattle.subroutine_rules.specs.Parts.{given, given_number as number_giv
 use crate::atom::{Atom, an_atom, an_atom_value};
 use crate::collective::a_collected;
 use crate::event::an_own_event;
+use crate::several::noted;
 use caf_base::refusal::NoMemory;
 use checked_tree::action::Collected;
 use checked_tree::expr::{Designator, ResultVariable, TypedExpr};
-use part_rules::judged::{Judged, fine, unknown};
 use part_rules::operand::integer;
 use part_rules::part::Part;
+use rule_definitions::broken::Broken;
 use rule_definitions::taken::Taken;
 use specifier_rules::result::result_variable;
 use std::alloc::Global;
 
 /// An ATOM of a type that the call takes.
-pub fn given_atom(alloc: Global, taken: Taken, part: Option<Part>) -> Result<Judged<Atom>, NoMemory>
-    ensures breaks { IfOk result (λ j. j.breaks.items ≡ (given (rules.an_atom taken) (option_map placed part)).breaks) }
-    ensures meaning { IfOk result (λ j. option_map atom_seen j.meaning ≡ (given (rules.an_atom taken) (option_map placed part)).meaning) }
+pub fn given_atom(
+    breaks: &mut Vec<Broken>,
+    taken: Taken,
+    part: Option<Part>,
+) -> Result<Option<Atom>, NoMemory>
+    ensures breaks { OnOk result (breaks.new.items ≡ breaks.old.items ++ (given (rules.an_atom taken) (option_map placed part)).breaks) }
+    ensures meaning { IfOk result (λ m. option_map atom_seen m ≡ (given (rules.an_atom taken) (option_map placed part)).meaning) }
 {
     match part {
-        Some(part) => an_atom(taken, part),
-        None => Ok(unknown(alloc)),
+        Some(part) => noted(breaks, an_atom(taken, part)?),
+        None => Ok(None),
     }
 }
 
 /// A value beside an ATOM.
 pub fn given_value(
-    alloc: Global,
+    breaks: &mut Vec<Broken>,
     taken: Taken,
     part: Option<Part>,
-) -> Result<Judged<TypedExpr>, NoMemory>
-    ensures breaks { IfOk result (λ j. j.breaks.items ≡ (given (rules.an_atom_value taken) (option_map placed part)).breaks) }
-    ensures meaning { IfOk result (λ j. option_map expression j.meaning ≡ (given (rules.an_atom_value taken) (option_map placed part)).meaning) }
+) -> Result<Option<TypedExpr>, NoMemory>
+    ensures breaks { OnOk result (breaks.new.items ≡ breaks.old.items ++ (given (rules.an_atom_value taken) (option_map placed part)).breaks) }
+    ensures meaning { IfOk result (λ m. option_map expression m ≡ (given (rules.an_atom_value taken) (option_map placed part)).meaning) }
 {
     match part {
-        Some(part) => an_atom_value(taken, part),
-        None => Ok(unknown(alloc)),
+        Some(part) => noted(breaks, an_atom_value(taken, part)?),
+        None => Ok(None),
     }
 }
 
 /// A variable that the call sets.
 pub fn given_result(
     alloc: Global,
+    breaks: &mut Vec<Broken>,
     taken: Taken,
     part: Option<Part>,
-) -> Result<Judged<ResultVariable>, NoMemory>
-    ensures breaks { IfOk result (λ j. j.breaks.items ≡ (given (parts.result_variable taken) (option_map placed part)).breaks) }
-    ensures meaning { IfOk result (λ j. option_map result_seen j.meaning ≡ (given (parts.result_variable taken) (option_map placed part)).meaning) }
+) -> Result<Option<ResultVariable>, NoMemory>
+    ensures breaks { OnOk result (breaks.new.items ≡ breaks.old.items ++ (given (parts.result_variable taken) (option_map placed part)).breaks) }
+    ensures meaning { IfOk result (λ m. option_map result_seen m ≡ (given (parts.result_variable taken) (option_map placed part)).meaning) }
 {
     match part {
-        Some(part) => result_variable(alloc, taken, part),
-        None => Ok(unknown(alloc)),
+        Some(part) => noted(breaks, result_variable(alloc, taken, part)?),
+        None => Ok(None),
     }
 }
 
 /// An event of this image.
-pub fn given_event(alloc: Global, part: Option<Part>) -> Result<Judged<Designator>, NoMemory>
-    ensures breaks { IfOk result (λ j. j.breaks.items ≡ (given rules.an_own_event (option_map placed part)).breaks) }
-    ensures meaning { IfOk result (λ j. option_map designator_seen j.meaning ≡ (given rules.an_own_event (option_map placed part)).meaning) }
+pub fn given_event(
+    breaks: &mut Vec<Broken>,
+    part: Option<Part>,
+) -> Result<Option<Designator>, NoMemory>
+    ensures breaks { OnOk result (breaks.new.items ≡ breaks.old.items ++ (given rules.an_own_event (option_map placed part)).breaks) }
+    ensures meaning { IfOk result (λ m. option_map designator_seen m ≡ (given rules.an_own_event (option_map placed part)).meaning) }
 {
     match part {
-        Some(part) => an_own_event(part),
-        None => Ok(unknown(alloc)),
+        Some(part) => noted(breaks, an_own_event(part)?),
+        None => Ok(None),
     }
 }
 
 /// The argument A of a collective.
 pub fn given_collected(
-    alloc: Global,
+    breaks: &mut Vec<Broken>,
     takes_logicals: bool,
     part: Option<Part>,
-) -> Result<Judged<Collected>, NoMemory>
-    ensures breaks { IfOk result (λ j. j.breaks.items ≡ (given (rules.a_collected takes_logicals) (option_map placed part)).breaks) }
-    ensures meaning { IfOk result (λ j. option_map collected_seen j.meaning ≡ (given (rules.a_collected takes_logicals) (option_map placed part)).meaning) }
+) -> Result<Option<Collected>, NoMemory>
+    ensures breaks { OnOk result (breaks.new.items ≡ breaks.old.items ++ (given (rules.a_collected takes_logicals) (option_map placed part)).breaks) }
+    ensures meaning { IfOk result (λ m. option_map collected_seen m ≡ (given (rules.a_collected takes_logicals) (option_map placed part)).meaning) }
 {
     match part {
-        Some(part) => a_collected(takes_logicals, part),
-        None => Ok(unknown(alloc)),
+        Some(part) => noted(breaks, a_collected(takes_logicals, part)?),
+        None => Ok(None),
     }
 }
 
 /// An image: rule 59 for what is no integer.
-pub fn given_image(alloc: Global, part: Option<Part>) -> Result<Judged<TypedExpr>, NoMemory>
-    ensures breaks { IfOk result (λ j. j.breaks.items ≡ (given an_integer (option_map placed part)).breaks) }
-    ensures meaning { IfOk result (λ j. option_map expression j.meaning ≡ (given an_integer (option_map placed part)).meaning) }
+pub fn given_image(
+    breaks: &mut Vec<Broken>,
+    part: Option<Part>,
+) -> Result<Option<TypedExpr>, NoMemory>
+    ensures breaks { OnOk result (breaks.new.items ≡ breaks.old.items ++ (given an_integer (option_map placed part)).breaks) }
+    ensures meaning { IfOk result (λ m. option_map expression m ≡ (given an_integer (option_map placed part)).meaning) }
 {
     match part {
-        Some(part) => integer(59, part),
-        None => Ok(unknown(alloc)),
+        Some(part) => noted(breaks, integer(59, part)?),
+        None => Ok(None),
     }
 }
 
 /// An image that may be missing.
 pub fn given_number(
-    alloc: Global,
+    breaks: &mut Vec<Broken>,
     part: Option<Part>,
-) -> Result<Judged<Option<TypedExpr>>, NoMemory>
-    ensures breaks { IfOk result (λ j. j.breaks.items ≡ (number_given (option_map placed part)).breaks) }
-    ensures meaning { IfOk result (λ j. option_map maybe_expression j.meaning ≡ (number_given (option_map placed part)).meaning) }
+) -> Result<Option<Option<TypedExpr>>, NoMemory>
+    ensures breaks { OnOk result (breaks.new.items ≡ breaks.old.items ++ (number_given (option_map placed part)).breaks) }
+    ensures meaning { IfOk result (λ m. option_map maybe_expression m ≡ (number_given (option_map placed part)).meaning) }
 {
     let Some(part) = part else {
-        return Ok(fine(alloc, None));
+        return Ok(Some(None));
     };
-    let Judged { breaks, meaning } = integer(59, part)?;
-    let meaning = match meaning {
-        Some(number) => Some(Some(number)),
-        None => None,
-    };
-    Ok(Judged { breaks, meaning })
+    match noted(breaks, integer(59, part)?)? {
+        Some(number) => Ok(Some(Some(number))),
+        None => Ok(None),
+    }
 }
 
 /// The variable STAT, which may be missing.
 pub fn given_stat(
     alloc: Global,
+    breaks: &mut Vec<Broken>,
     part: Option<Part>,
-) -> Result<Judged<Option<ResultVariable>>, NoMemory>
-    ensures breaks { IfOk result (λ j. j.breaks.items ≡ (stat_given (option_map placed part)).breaks) }
-    ensures meaning { IfOk result (λ j. option_map maybe_result j.meaning ≡ (stat_given (option_map placed part)).meaning) }
+) -> Result<Option<Option<ResultVariable>>, NoMemory>
+    ensures breaks { OnOk result (breaks.new.items ≡ breaks.old.items ++ (stat_given (option_map placed part)).breaks) }
+    ensures meaning { IfOk result (λ m. option_map maybe_result m ≡ (stat_given (option_map placed part)).meaning) }
 {
     let Some(part) = part else {
-        return Ok(fine(alloc, None));
+        return Ok(Some(None));
     };
-    let Judged { breaks, meaning } = result_variable(alloc, Taken::Integers, part)?;
-    let meaning = match meaning {
-        Some(variable) => Some(Some(variable)),
-        None => None,
-    };
-    Ok(Judged { breaks, meaning })
+    match noted(breaks, result_variable(alloc, Taken::Integers, part)?)? {
+        Some(variable) => Ok(Some(Some(variable))),
+        None => Ok(None),
+    }
 }

@@ -1,31 +1,20 @@
 //! What breaks in several arguments.
 
-ghost use Rattle.std.specs.Prelude.{◌≡◌, ◌++◌, IfOk};
+ghost use Rattle.std.specs.Prelude.{◌≡◌, ◌++◌, IfOk, OnOk};
 
 use caf_base::refusal::NoMemory;
-use part_rules::judged::{Judged, add_all, joined};
+use part_rules::judged::{Judged, add_all};
 use rule_definitions::broken::Broken;
 
-/// What is made of three parts of which these rules are broken.
-pub fn three<T: Drop>(
-    first: Vec<Broken>,
-    second: Vec<Broken>,
-    third: Vec<Broken>,
-    meaning: Option<T>,
-) -> Result<Judged<T>, NoMemory>
-    ensures breaks { IfOk result (λ j. j.breaks.items ≡ first.items ++ (second.items ++ third.items)) }
-    ensures meaning { IfOk result (λ j. j.meaning ≡ meaning) }
+/// Puts what breaks in a part behind what breaks in others, and gives what the part stands for.
+pub fn noted<T: Drop>(breaks: &mut Vec<Broken>, part: Judged<T>) -> Result<Option<T>, NoMemory>
+    ensures breaks { OnOk result (breaks.new.items ≡ breaks.old.items ++ part.breaks.items) }
+    ensures meaning { IfOk result (λ m. m ≡ part.meaning) }
 {
-    let mut further = second;
-    add_all(&mut further, third)?;
-    joined(first, further, meaning)
-}
-
-/// A further part behind others.
-pub fn behind<T: Drop>(part: Judged<T>, further: Vec<Broken>) -> Result<Judged<T>, NoMemory>
-    ensures breaks { IfOk result (λ j. j.breaks.items ≡ part.breaks.items ++ further.items) }
-    ensures meaning { IfOk result (λ j. j.meaning ≡ part.meaning) }
-{
-    let Judged { breaks, meaning } = part;
-    joined(breaks, further, meaning)
+    let Judged {
+        breaks: own,
+        meaning,
+    } = part;
+    add_all(breaks, own)?;
+    Ok(meaning)
 }
