@@ -1,0 +1,5 @@
+pub mod Formats
+pub mod Pairs
+pub mod Printed
+pub mod Refused
+pub mod Targets

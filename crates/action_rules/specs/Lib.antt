@@ -1,1 +1,4 @@
+pub mod Assignments
+pub mod Branches
+pub mod Items
 pub mod Sites

@@ -1,0 +1,25 @@
+use Rattle.std.proofs.Common.{ap, drop, map, ◌+◌, ◌∷◌}
+use Rattle.std.specs.Option.{option_map}
+use Rattle.checked_tree.specs.StatementViews.{item as item_seen}
+use Rattle.fortran_tree.specs.ActionViews.{item}
+use Rattle.rule_definitions.specs.Actions.{printed_all}
+use Rattle.scope_table.proofs.Orders.{item_drop}
+use Rattle.part_rules.specs.Views.{list_of}
+use Rattle.image_control_rules.proofs.Turns.{turn_breaks, turn_meaning}
+use Rattle.action_rules.specs.Items.{output_item}
+use Rattle.action_rules.proofs.Printed.{next_breaks, next_meaning}
+use Rattle.action_rules.proofs.print.judge_items.Goals as goal
+
+pub loop-item-preserved : goal.loop-item-preserved
+loop-item-preserved c =
+    let d = ap (map item) (item_drop c.args.items.now c.loop-item.item-index c.item-item.result c.item-item.is c.loop-item-test.true) in
+    let left = map item (drop c.loop-item.item-index c.args.items.now) in
+    let after = map item (drop (c.loop-item.item-index + 1) c.args.items.now) in
+    let y = item c.item-item.result in
+    let found = output_item c.args.scope.now c.loop-item.number y in
+    let rest = printed_all c.args.scope.now c.in_ok-add_item.value after in (
+      turn_breaks c.loop-item.list.breaks.items found.breaks c.add_item.new.list.breaks.items _ rest.breaks _ c.in_ok-add_item.ensures.breaks
+          (next_breaks c.args.scope.now c.loop-item.number c.in_ok-add_item.value y left after d c.in_ok-add_item.ensures.number) c.loop-item.invariant.0,
+      turn_meaning (option_map (map item_seen) (option_map list_of c.loop-item.list.meaning)) (option_map (map item_seen) (option_map list_of c.add_item.new.list.meaning)) found.meaning _ rest.meaning _
+          c.in_ok-add_item.ensures.meaning (next_meaning c.args.scope.now c.loop-item.number c.in_ok-add_item.value y left after d c.in_ok-add_item.ensures.number) c.loop-item.invariant.1,
+    )
