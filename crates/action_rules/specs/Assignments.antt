@@ -1,7 +1,6 @@
 -- Assignments, part by part.
 use Rattle.std.specs.Prelude.{ℕ, Bool, true, false, not, cond, nat_eq, List, [], ◌∷◌, ◌++◌, ◌||◌, ◌&&◌, Option, Some, None}
 use Rattle.caf_base.specs.declared.place.Pos.{Pos}
-use Rattle.fortran_tree.specs.Expressions as f
 use Rattle.checked_tree.specs.Expressions as t
 use Rattle.checked_tree.specs.Statements as ts
 use Rattle.caf_base.specs.declared.value.Kind.{Kind}
@@ -11,10 +10,10 @@ use Rattle.checked_tree.specs.declared.data.Object.{Object}
 use Rattle.action_rules.specs.declared.assignment.ListPlace.{ListPlace}
 use Rattle.checked_tree.specs.declared.data.Object.TheVariants as objects
 use Rattle.rule_definitions.specs.declared.broken.Broken.{Broken}
-use Rattle.rule_definitions.specs.Actions.{Site, bracket_breaks, is_selected, is_definable, is_definable_object, is_value_type, is_plain_array, is_listed_value, assigned_breaks, images_assigned, listed_assignment, plain_assignment}
+use Rattle.rule_definitions.specs.Actions.{Site, is_definable, is_definable_object, is_value_type, is_plain_array, is_listed_value, assigned_breaks, images_assigned, listed_assignment, plain_assignment}
 use Rattle.rule_definitions.specs.IntrinsicFunctions.{is_allocatable_symbol}
-use Rattle.rule_definitions.specs.Judgements.{Judgement, breaks, is_nothing, refused_around, unless}
-use Rattle.rule_definitions.specs.Names.{Scope, is_integer, symbol_of}
+use Rattle.rule_definitions.specs.Judgements.{breaks, is_nothing, unless}
+use Rattle.rule_definitions.specs.Names.{is_integer, symbol_of}
 use Rattle.rule_definitions.specs.Parts.{is_listed, rank_of}
 
 abbrev pub definable_part : Site → Option t.Designator → DataType → Bool
@@ -71,14 +70,6 @@ pair_form x v = None
 abbrev pub target_holds : Site → List Broken → Option t.Expression → Option t.Expression → Bool
 target_holds s bs v None = true
 target_holds s bs v (Some x) = not (is_nothing bs) || (is_definable s x || is_listed_value v)
-
--- what breaks in the parts of a designator
-abbrev pub parts_of : Scope → f.Designator → List Broken
-parts_of s (f.part_ref n ss c) = bracket_breaks s ss c
-
--- a left side that is a procedure
-abbrev pub procedure_side : Scope → f.Designator → Judgement t.Expression
-procedure_side s (f.part_ref n ss c) = refused_around (bracket_breaks s ss c) (cond (is_selected c) 34 47) n.at
 
 -- what an array value breaks at a variable of like type
 abbrev pub rank_breaks : Pos → t.Expression → t.Expression → List Broken

@@ -1,4 +1,5 @@
 pub mod Assignments
 pub mod Branches
 pub mod Items
+pub mod Sides
 pub mod Sites

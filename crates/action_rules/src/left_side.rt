@@ -7,7 +7,7 @@ ghost use Rattle.fortran_tree.specs.ExpressionViews.{designator as written, mayb
 ghost use Rattle.rule_definitions.specs.Actions as rules;
 ghost use Rattle.rule_definitions.specs.Arguments as given;
 ghost use Rattle.rule_definitions.specs.Expressions.{judged_brackets, judged_selector};
-ghost use Rattle.action_rules.specs.Assignments.{parts_of, procedure_side};
+ghost use Rattle.action_rules.specs.Sides.{parts_of, procedure_side};
 
 use crate::refusal::refused_form;
 use caf_base::refusal::NoMemory;
