@@ -1,17 +1,8 @@
-//! Action statements, judged (ISO/IEC 1539-1:2018, 5.4.2): assignments, calls, output, branches and stops, with the image control statements of the crate below;
-//! rules 20, 32, 34, 37 to 39, 41 to 43, 47 and 56 to 58.
-//! It stands on `expr_rules`, `subroutine_rules`, `format_rules` and `image_control_rules`; the rules of constructs stand on it.
+//! Action statements, judged (ISO/IEC 1539-1:2018, 5.4.2): assignments, calls, output, branches, allocation and image control; rules 32 to 38, 41 to 43, 47, 48,
+//! 51, 52, 55, 56 and 58.
+//! It stands on `expr_rules`, `subroutine_rules` and `format_rules`; the rules of constructs stand on it.
 //! Its main contract: `action::judge_action` gives the judgement that the definition `judged_action` says.
 #![tactic(auto)]
 
 pub mod action;
-pub mod assignment;
-pub mod branch;
-pub mod call;
-pub mod control;
-pub mod left_side;
-pub mod print;
-pub mod refusal;
 pub mod site;
-pub mod stop;
-pub mod target;

@@ -4,6 +4,4 @@
 //! Its main contract: `expr::judge` gives the judgement that the definition `judged` says: all rules that are broken, and the typed expression.
 #![tactic(auto)]
 
-pub mod bracket;
 pub mod expr;
-pub mod place;

@@ -50,7 +50,7 @@ lock_breaks s d ws = assoc_three (a_lock (placed_designator s d)).breaks (acquir
 pub lock_meaning : (s : Scope) (d : f.Designator) (ws : List Written) → (lock_judged s d ws).meaning ≡ both lock_with (a_lock (placed_designator s d)).meaning (acquired_and_stat ws).meaning
 lock_meaning s d ws =
     three_joined (λ l a r. ts.lock l a r (order_written (codes "acquired_lock") (codes "stat") ws)) (acquired_with (order_written (codes "acquired_lock") (codes "stat") ws)) lock_with (λ a b c. refl)
-      (is_nothing (all_breaks (codes "acquired_lock" ∷ stat_name) ws)) (a_lock (placed_designator s d)).meaning (acquired_variable ws).meaning (stat_variable ws).meaning
+    (is_nothing (all_breaks (codes "acquired_lock" ∷ stat_name) ws)) (a_lock (placed_designator s d)).meaning (acquired_variable ws).meaning (stat_variable ws).meaning
 
 pub wait_breaks : (s : Scope) (d : f.Designator) (ws : List Written) → (wait_judged s d ws).breaks ≡ (an_own_event (placed_designator s d)).breaks ++ (number_and_stat (codes "until_count") ws).breaks
 wait_breaks s d ws = assoc_three (an_own_event (placed_designator s d)).breaks (number_named (codes "until_count") ws).breaks (stat_variable ws).breaks (all_breaks (codes "until_count" ∷ stat_name) ws)
@@ -58,7 +58,7 @@ wait_breaks s d ws = assoc_three (an_own_event (placed_designator s d)).breaks (
 pub wait_meaning : (s : Scope) (d : f.Designator) (ws : List Written) → (wait_judged s d ws).meaning ≡ both event_wait_with (an_own_event (placed_designator s d)).meaning (number_and_stat (codes "until_count") ws).meaning
 wait_meaning s d ws =
     three_joined (λ v n r. ts.event_wait v n r (order_written (codes "until_count") (codes "stat") ws)) (number_with (order_written (codes "until_count") (codes "stat") ws)) event_wait_with (λ a b c. refl)
-      (is_nothing (all_breaks (codes "until_count" ∷ stat_name) ws)) (an_own_event (placed_designator s d)).meaning (number_named (codes "until_count") ws).meaning (stat_variable ws).meaning
+    (is_nothing (all_breaks (codes "until_count" ∷ stat_name) ws)) (an_own_event (placed_designator s d)).meaning (number_named (codes "until_count") ws).meaning (stat_variable ws).meaning
 
 pub form_team_breaks : (s : Scope) (e : f.Expression) (n : Name) (ws : List Written)
     → (form_team s e n ws).breaks ≡ (integer 39 (placed s e)).breaks ++ ((team_variable (denotes s n.text) n.at).breaks ++ (number_and_stat (codes "new_index") ws).breaks)
@@ -69,4 +69,4 @@ pub form_team_meaning : (s : Scope) (e : f.Expression) (n : Name) (ws : List Wri
     → (form_team s e n ws).meaning ≡ three form_team_with (integer 39 (placed s e)).meaning (team_variable (denotes s n.text) n.at).meaning (number_and_stat (codes "new_index") ws).meaning
 form_team_meaning s e n ws =
     four_joined (λ a l i r. ts.form_team a l i r (order_written (codes "new_index") (codes "stat") ws)) (number_with (order_written (codes "new_index") (codes "stat") ws)) form_team_with (λ a b c d. refl)
-      (is_nothing (all_breaks (codes "new_index" ∷ stat_name) ws)) (integer 39 (placed s e)).meaning (team_variable (denotes s n.text) n.at).meaning (number_named (codes "new_index") ws).meaning (stat_variable ws).meaning
+    (is_nothing (all_breaks (codes "new_index" ∷ stat_name) ws)) (integer 39 (placed s e)).meaning (team_variable (denotes s n.text) n.at).meaning (number_named (codes "new_index") ws).meaning (stat_variable ws).meaning

@@ -204,18 +204,17 @@ fn judge_cobounds(
     ensures meaning { IfOk result (λ j. option_map cobounds_seen j.meaning ≡ (rules.allocated_cobounds scope.now (maybe_coarray_spec coshape.now)).meaning) }
 {
     match coshape {
-        Some(Coshape::Explicit {
-            cobounds,
-            last_lower,
-        }) => judge_explicit(alloc, scope, cobounds.as_slice(), last_lower),
+        Some(
+            Coshape::Explicit {
+                cobounds,
+                last_lower,
+            },
+        ) => judge_explicit(alloc, scope, cobounds.as_slice(), last_lower),
         Some(Coshape::Deferred { .. }) | None => Ok(fine(alloc, no_cobounds(alloc))),
     }
 }
 
-fn shape_of_two(
-    bounds: Option<Vec<AllocatedBounds>>,
-    cobounds: Option<Cobounds>,
-) -> Option<Shape>
+fn shape_of_two(bounds: Option<Vec<AllocatedBounds>>, cobounds: Option<Cobounds>) -> Option<Shape>
     ensures { option_map shape_seen result ≡ both shape_with (option_map (map bounds_seen) (option_map list_of bounds)) (option_map cobounds_seen cobounds) }
 {
     let Some(bounds) = bounds else {

@@ -10,6 +10,7 @@ ghost use Rattle.fortran_tree.specs.ExpressionViews.{expression as written, spec
 ghost use Rattle.rule_definitions.specs.Actions as rules;
 ghost use Rattle.rule_definitions.specs.Expressions.{judged_specifiers, placed};
 ghost use Rattle.rule_definitions.specs.Judgements.{both, made, made_of, made_of_both, three};
+ghost use Rattle.rule_definitions.specs.Names.{denotes};
 ghost use Rattle.rule_definitions.specs.Parts as parts;
 ghost use Rattle.scope_table.specs.Scopes.{denoted as meaning_of, visible as symbol_seen};
 ghost use Rattle.part_rules.specs.Views.{placed as part_seen};
@@ -17,6 +18,7 @@ ghost use Rattle.specifier_rules.specs.Meanings.{number_and_stat};
 ghost use Rattle.specifier_rules.specs.Views.{number_and_stat_seen};
 ghost use Rattle.image_control_rules.specs.Statements.{form_team_with, image_part, local_in};
 
+use crate::form::is_coindexed;
 use crate::optional::scalar_integer;
 use crate::stat::{maybe_stat, stat_of};
 use caf_base::place::Pos;
@@ -37,7 +39,6 @@ use scope_table::scope::{Denoted, Scope, Visible};
 use specifier_rules::condition::team;
 use specifier_rules::statement::{NumberAndStat, form_team_specifiers};
 use std::alloc::Global;
-use crate::form::is_coindexed;
 
 #[tactic(auto, using(checked_tree::specs::StatementViews::typed_statement_forms))]
 fn sync_all_form(stat: Option<Option<ResultVariable>>) -> Option<StatementForm>
@@ -210,11 +211,7 @@ fn sync_team_form(
     Some(StatementForm::SyncTeam { team, stat })
 }
 
-fn judge_team(
-    alloc: Global,
-    scope: &Scope<'_>,
-    expr: &Expr,
-) -> Result<Judged<TypedExpr>, NoMemory>
+fn judge_team(alloc: Global, scope: &Scope<'_>, expr: &Expr) -> Result<Judged<TypedExpr>, NoMemory>
     ensures breaks { IfOk result (λ j. j.breaks.items ≡ (parts.team (placed scope.now (written expr.now))).breaks) }
     ensures meaning { IfOk result (λ j. option_map expression j.meaning ≡ (parts.team (placed scope.now (written expr.now))).meaning) }
 {
@@ -253,11 +250,7 @@ fn local_of(object: Object) -> Option<Local>
 }
 
 // The team variable of FORM TEAM, of this type: rule 51 for another type than TEAM_TYPE, rule 37 for an array.
-fn team_local(
-    alloc: Global,
-    visible: Visible<'_>,
-    at: Pos,
-) -> Result<Judged<Local>, NoMemory>
+fn team_local(alloc: Global, visible: Visible<'_>, at: Pos) -> Result<Judged<Local>, NoMemory>
     ensures breaks { IfOk result (λ j. j.breaks.items ≡ (rules.team_local (symbol_seen visible.entry) at).breaks) }
     ensures meaning { IfOk result (λ j. j.meaning ≡ (rules.team_local (symbol_seen visible.entry) at).meaning) }
 {
@@ -298,11 +291,7 @@ fn team_variable(
 }
 
 #[tactic(auto, using(checked_tree::specs::StatementViews::typed_statement_forms))]
-fn form_team_of(
-    number: TypedExpr,
-    team: Local,
-    specified: NumberAndStat,
-) -> StatementForm
+fn form_team_of(number: TypedExpr, team: Local, specified: NumberAndStat) -> StatementForm
     ensures { statement_form result ≡ form_team_with (expression number) team (number_and_stat_seen specified) }
 {
     let NumberAndStat {
@@ -375,17 +364,16 @@ fn specified_behind(
     Ok(meaning)
 }
 
-/// FORM TEAM.
-#[tactic(auto, using(crate::proofs::Specified::form_team_breaks, crate::proofs::Specified::form_team_meaning))]
-pub fn judge_form_team(
+// FORM TEAM by its parts.
+fn judge_form_parts(
     alloc: Global,
     scope: &Scope<'_>,
     number: &Expr,
     name: &Name,
     specifiers: &[Specifier],
 ) -> Result<Judged<StatementForm>, NoMemory>
-    ensures breaks { IfOk result (λ j. j.breaks.items ≡ (rules.form_team scope.now (written number.now) name.now (judged_specifiers scope.now (specifiers_written specifiers.now))).breaks) }
-    ensures meaning { IfOk result (λ j. option_map statement_form j.meaning ≡ (rules.form_team scope.now (written number.now) name.now (judged_specifiers scope.now (specifiers_written specifiers.now))).meaning) }
+    ensures breaks { IfOk result (λ j. j.breaks.items ≡ (parts.integer 39 (placed scope.now (written number.now))).breaks ++ ((rules.team_variable (denotes scope.now name.now.text) name.now.at).breaks ++ (number_and_stat (codes "new_index") (judged_specifiers scope.now (specifiers_written specifiers.now))).breaks)) }
+    ensures meaning { IfOk result (λ j. option_map statement_form j.meaning ≡ three form_team_with (parts.integer 39 (placed scope.now (written number.now))).meaning (rules.team_variable (denotes scope.now name.now.text) name.now.at).meaning (number_and_stat (codes "new_index") (judged_specifiers scope.now (specifiers_written specifiers.now))).meaning) }
 {
     let Judged {
         breaks: of_team,
@@ -400,4 +388,19 @@ pub fn judge_form_team(
         breaks,
         meaning: form_team_form(number, team, specified),
     })
+}
+
+/// FORM TEAM.
+pub fn judge_form_team(
+    alloc: Global,
+    scope: &Scope<'_>,
+    number: &Expr,
+    name: &Name,
+    specifiers: &[Specifier],
+) -> Result<Judged<StatementForm>, NoMemory>
+    ensures breaks { IfOk result (λ j. j.breaks.items ≡ (rules.form_team scope.now (written number.now) name.now (judged_specifiers scope.now (specifiers_written specifiers.now))).breaks) }
+    ensures meaning { IfOk result (λ j. option_map statement_form j.meaning ≡ (rules.form_team scope.now (written number.now) name.now (judged_specifiers scope.now (specifiers_written specifiers.now))).meaning) }
+{
+    let judged = judge_form_parts(alloc, scope, number, name, specifiers)?;
+    Ok(judged)
 }

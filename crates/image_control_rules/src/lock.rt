@@ -27,17 +27,15 @@ use fortran_tree::expr::{Designator, Specifier};
 use part_rules::judged::{Judged, joined, ruled};
 use part_rules::part::{Part, plain};
 use scope_table::scope::Scope;
-use specifier_rules::statement::{AcquiredAndStat, NumberAndStat, event_wait_specifiers, lock_specifiers};
+use specifier_rules::statement::{
+    AcquiredAndStat, NumberAndStat, event_wait_specifiers, lock_specifiers,
+};
 use std::alloc::Global;
 use subroutine_rules::event as events;
 
 // The variable of a statement, at its name.
 #[tactic(auto, using(fortran_tree::specs::ExpressionViews::expression_forms))]
-fn judge_variable(
-    alloc: Global,
-    scope: &Scope<'_>,
-    variable: &Designator,
-) -> Result<Part, NoMemory>
+fn judge_variable(alloc: Global, scope: &Scope<'_>, variable: &Designator) -> Result<Part, NoMemory>
     ensures { IfOk result (λ p. part_seen p ≡ part_of scope.now (written variable.now)) }
 {
     let judged = judge_designator(alloc, scope, variable)?;
