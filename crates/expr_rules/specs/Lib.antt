@@ -1,1 +1,4 @@
+pub mod Brackets
+pub mod Chains
+pub mod Objects
 pub mod Selections

@@ -4,4 +4,15 @@
 //! Its main contract: `expr::judge` gives the judgement that the definition `judged` says: all rules that are broken, and the typed expression.
 #![tactic(auto)]
 
+pub mod bracket;
+
+pub mod constant;
+pub mod designated;
 pub mod expr;
+pub mod link;
+pub mod named;
+pub mod place;
+pub mod procedure;
+pub mod selector;
+pub mod subscript;
+pub mod variable;
