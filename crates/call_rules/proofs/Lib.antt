@@ -1,0 +1,5 @@
+pub mod Bindings
+pub mod Objects
+pub mod Pairs
+pub mod Taking
+pub mod Values

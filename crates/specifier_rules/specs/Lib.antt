@@ -1,2 +1,5 @@
+pub mod Clashes
 pub mod Meanings
+pub mod Values
+pub mod Variables
 pub mod Views

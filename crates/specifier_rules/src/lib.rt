@@ -4,7 +4,11 @@
 #![tactic(auto)]
 
 pub mod condition;
+pub mod keyword;
+pub mod naming;
 pub mod result;
 pub mod selector;
 pub mod specifier;
 pub mod statement;
+pub mod value;
+pub mod variable;

@@ -1,0 +1,4 @@
+pub mod Atoms
+pub mod Parts
+pub mod Variables
+pub mod Views

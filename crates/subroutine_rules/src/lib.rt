@@ -3,5 +3,12 @@
 //! Its main contract: `call::intrinsic_call` gives the judgement that the definition of its name in `rule_definitions` says.
 #![tactic(auto)]
 
+pub mod arguments;
+pub mod atom;
 pub mod call;
+pub mod collective;
+pub mod dummies;
 pub mod event;
+pub mod form;
+pub mod given;
+pub mod several;
