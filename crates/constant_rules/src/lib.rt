@@ -3,4 +3,6 @@
 //! Its main contract: `wanting::lacks_value` is the definition of its name.
 #![tactic(auto)]
 
+mod inquired;
+mod named;
 pub mod wanting;

@@ -1,7 +1,9 @@
 //! What expressions stand for before the run.
 
 ghost use Rattle.std.specs.Prelude.{◌≡◌};
+ghost use Rattle.rule_definitions.specs.Constants as rules;
 ghost use Rattle.rule_definitions.specs.Constants.{is_in_kind, is_in_type};
+ghost use Rattle.constant_values.specs.Views.{constancy};
 
 use caf_base::listing::Listing;
 use caf_base::value::{Kind, Value};
@@ -19,6 +21,16 @@ pub enum Constancy {
     },
     /// A part of it isn't constant, or the evaluation would leave its kind, divide by zero or pass a bound.
     NoConstant,
+}
+
+/// Whether an expression stands for something before the run.
+pub fn is_constant(found: &Constancy) -> bool
+    ensures { result ≡ rules.is_constant (constancy found.now) }
+{
+    match found {
+        Constancy::Value(_) | Constancy::Values { .. } => true,
+        Constancy::NoConstant => false,
+    }
 }
 
 /// Whether an integer of this kind can hold a number (ISO/IEC 1539-1:2018, 7.4.3.1).

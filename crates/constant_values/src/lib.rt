@@ -3,5 +3,19 @@
 //! Its main contract: `value::value_of` gives what the definition of its name says.
 #![tactic(auto)]
 
+mod agreement;
+mod arithmetic;
+mod bounds;
+mod chosen;
 pub mod constancy;
+mod designator;
+mod expression;
+mod extreme;
+mod inquiry;
+mod items;
+mod known;
+mod operation;
+mod part;
+mod relation;
+mod selection;
 pub mod value;

@@ -7,7 +7,9 @@ ghost use Rattle.rule_definitions.specs.Constants.{known_extent};
 ghost use Rattle.rule_definitions.specs.Arguments.{all_agree};
 ghost use Rattle.constant_values.specs.Views.{constancy};
 
+use crate::agreement::all_agree;
 use crate::constancy::Constancy;
+use crate::expression::known;
 use caf_base::refusal::NoMemory;
 use checked_tree::expr::TypedExpr;
 use scope_table::scope::Scope;
@@ -15,14 +17,11 @@ use scope_table::symbol::KnownBounds;
 use std::alloc::Global;
 
 /// What an expression stands for before the run.
-pub fn value_of(
-    alloc: Global,
-    scope: &Scope<'_>,
-    expr: &TypedExpr,
-) -> Result<Constancy, NoMemory>
+pub fn value_of(alloc: Global, scope: &Scope<'_>, expr: &TypedExpr) -> Result<Constancy, NoMemory>
     ensures { IfOk result (λ c. constancy c ≡ rules.value_of scope.now (expression expr.now)) }
 {
-    Err(NoMemory)
+    let whole = known(alloc, scope, expr)?;
+    Ok(whole.constancy)
 }
 
 /// Whether the extents of an expression are those of these bounds, as far as both are known before the run.
@@ -34,5 +33,6 @@ pub fn extents_agree(
 ) -> Result<bool, NoMemory>
     ensures { IfOk result (λ b. b ≡ all_agree (map known_extent bounds.now) (rules.known_extents scope.now (expression expr.now))) }
 {
-    Err(NoMemory)
+    let whole = known(alloc, scope, expr)?;
+    Ok(all_agree(bounds, whole.bounds.as_slice()))
 }

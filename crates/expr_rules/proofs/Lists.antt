@@ -10,7 +10,7 @@ use Rattle.checked_tree.specs.declared.expr.Subscript.{Subscript}
 use Rattle.checked_tree.specs.declared.expr.TypedExpr.{TypedExpr}
 use Rattle.rule_definitions.specs.Arguments.{Actual}
 use Rattle.rule_definitions.specs.Expressions.{cosubscripts, subscript_of, subscripts_of}
-use Rattle.rule_definitions.specs.Judgements.{Judgement, all_made, both}
+use Rattle.rule_definitions.specs.Judgements.{all_made, both}
 use Rattle.rule_definitions.specs.Parts.{Placed, integer}
 use Rattle.part_rules.specs.Brackets.{subscripts_in}
 use Rattle.part_rules.specs.Views.{expressions_of, list_of}

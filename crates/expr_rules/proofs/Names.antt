@@ -1,5 +1,5 @@
 -- Names of procedures, with what stands behind them.
-use Rattle.std.proofs.Common.{◌≡◌, ◌<◌, ◌≤◌, refl, ap, sym, ◌∙◌, arith}
+use Rattle.std.proofs.Common.{◌≡◌, ◌<◌, ◌≤◌, refl, ap, ◌∙◌, arith}
 use Rattle.std.specs.Prelude.{ℕ, Bool, true, false, not, cond, ◌||◌, ◌&&◌, List, [], ◌∷◌, ◌++◌, Option, Some, None, length}
 use Rattle.std.proofs.lemmas.List.{append-nil}
 use Rattle.caf_base.specs.declared.place.Pos.{Pos}
@@ -98,4 +98,4 @@ pub subroutine_is : (p : Pos) (ss : List Actual) (c : WrittenSelector)
     → subroutine_named p ss c ≡ unselected_by (is_nothing (breaks_in_all ss)) (record { breaks = breaks_of_subroutine p ss c; meaning = None }) c p
 subroutine_is p ss c =
     ap (λ b. made_of_both {A = t.Expression} {B = t.Selector} {C = t.Expression} (λ x k. x) (ruled (record { breaks = cond b (breaks 47 p) (breaks_in_all ss); meaning = None }) (cond b (unless (not (is_there c.count)) 34 p) [])) c.judged)
-        (nothing_in_both (breaks_in_all ss) c.judged.breaks)
+    (nothing_in_both (breaks_in_all ss) c.judged.breaks)

@@ -1,6 +1,6 @@
 -- Variables, named constants and references by what is judged of their brackets.
 use Rattle.std.proofs.Common.{◌≡◌, ◌<◌, ◌≤◌, refl, ap, sym, ◌∙◌, arith, rules, tests}
-use Rattle.std.specs.Prelude.{ℕ, ℤ, Bool, true, false, cond, nat_eq, List, [], ◌∷◌, ◌++◌, Option, Some, None, length}
+use Rattle.std.specs.Prelude.{ℕ, ℤ, false, cond, nat_eq, List, [], ◌∷◌, ◌++◌, Option, Some, None, length}
 use Rattle.std.proofs.lemmas.List.{append-nil}
 use Rattle.caf_base.specs.declared.place.Pos.{Pos}
 use Rattle.caf_base.specs.declared.value.Value.{Value}
@@ -83,7 +83,7 @@ pub constant_breaks : (x : ConstantSymbol) (p : Pos) (ss : List Actual) (c : Wri
     → (constant_part x p ss c).breaks ≡ in_brackets ss c ++ count_breaks (in_brackets ss c) (length x.bounds) 0 (length ss) c.count p
 constant_breaks x p ss c =
     silent_behind (in_brackets ss c ++ count_breaks (in_brackets ss c) (length x.bounds) 0 (length ss) c.count p) (constant_of x (rank_behind (length x.bounds) ss)) (constant_silent x.value x (rank_behind (length x.bounds) ss))
-        (cond (is_nothing (count_breaks (in_brackets ss c) (length x.bounds) 0 (length ss) c.count p)) (both first_of_both (subscripts_of ss).meaning c.judged.meaning) None)
+    (cond (is_nothing (count_breaks (in_brackets ss c) (length x.bounds) 0 (length ss) c.count p)) (both first_of_both (subscripts_of ss).meaning c.judged.meaning) None)
 
 pub constant_meaning : (x : ConstantSymbol) (p : Pos) (ss : List Actual) (c : WrittenSelector)
     → (constant_part x p ss c).meaning ≡ (then_made (constant_of x (rank_behind (length x.bounds) ss)) (cond (is_nothing (count_breaks (in_brackets ss c) (length x.bounds) 0 (length ss) c.count p)) (both first_of_both (subscripts_of ss).meaning c.judged.meaning) None)).meaning

@@ -1,10 +1,8 @@
 -- An image selector by its cosubscripts and its specifiers.
 use Rattle.std.proofs.Common.{◌≡◌, refl, ap, sym, ◌∙◌}
-use Rattle.std.specs.Prelude.{ℕ, Bool, true, false, cond, List, [], ◌∷◌, ◌++◌, Option, Some, None, length, map}
-use Rattle.std.specs.Option.{option_map}
+use Rattle.std.specs.Prelude.{ℕ, Bool, true, false, cond, List, ◌++◌, Option, Some, None, length}
 use Rattle.std.proofs.lemmas.List.{append_assoc}
 use Rattle.checked_tree.specs.Expressions as t
-use Rattle.checked_tree.specs.ExpressionViews.{maybe_selector}
 use Rattle.rule_definitions.specs.declared.broken.Broken.{Broken}
 use Rattle.rule_definitions.specs.Expressions.{WrittenSelector, cosubscripts, selector_written}
 use Rattle.rule_definitions.specs.Judgements.{both, is_nothing, three}

@@ -22,7 +22,9 @@ use crate::subscript::{Bound, Ends, bound, triplet_at};
 use caf_base::place::Pos;
 use caf_base::refusal::NoMemory;
 use checked_tree::expr::TypedExpr;
-use fortran_tree::expr::{Argument, Designator, Expr, Link, Operator, Selector, Specifier, Subscript};
+use fortran_tree::expr::{
+    Argument, Designator, Expr, Link, Operator, Selector, Specifier, Subscript,
+};
 use part_rules::bracket::{Actual, Item};
 use part_rules::constructor::constructor;
 use part_rules::designator::Selection;
@@ -63,7 +65,9 @@ pub fn judge(alloc: Global, scope: &Scope<'_>, expr: &Expr) -> Result<Judged<Typ
             constructor(alloc, parts)
         }
         Expr::Prefix {
-            operator, operand, ..
+            operator,
+            operand,
+            ..
         } => {
             let part = judge_part(alloc, scope, operand)?;
             prefix(alloc, *operator, part)
@@ -155,7 +159,14 @@ pub fn judge_designator(
     let selection = judge_selector(alloc, scope, &designator.selector)?;
     let actuals = judge_brackets(alloc, scope, designator.subscripts.as_slice())?;
     let denoted = scope.denotes(designator.name.text.as_slice());
-    designated(alloc, scope, denoted, designator.name.at, actuals, selection)
+    designated(
+        alloc,
+        scope,
+        denoted,
+        designator.name.at,
+        actuals,
+        selection,
+    )
 }
 
 /// An image selector (9.6), where one is written.

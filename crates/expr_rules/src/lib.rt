@@ -5,7 +5,6 @@
 #![tactic(auto)]
 
 pub mod bracket;
-
 pub mod constant;
 pub mod designated;
 pub mod expr;

@@ -10,10 +10,10 @@ ghost use Rattle.scope_table.specs.Symbols.{interface as interface_seen, symbol}
 ghost use Rattle.expr_rules.specs.Selections.{breaks_of_subroutine, selection as selection_seen};
 
 use crate::bracket::{breaks_in_all, refused_around};
-use call_rules::actual::arguments;
-use call_rules::function::intrinsic_reference;
 use caf_base::place::Pos;
 use caf_base::refusal::NoMemory;
+use call_rules::actual::arguments;
+use function_rules::function::intrinsic_reference;
 use checked_tree::expr::{Argument, ExprForm, TypedExpr};
 use part_rules::bracket::Actual;
 use part_rules::designator::Selection;
@@ -79,7 +79,13 @@ fn function_called(
             meaning: None,
         });
     };
-    let Judged { breaks, meaning } = arguments(alloc, scope, interface.dummies.as_slice(), actuals, at)?;
+    let Judged { breaks, meaning } = arguments(
+        alloc,
+        scope,
+        interface.dummies.as_slice(),
+        actuals,
+        at,
+    )?;
     let meaning = match meaning {
         Some(arguments) => call(&interface.result, procedure, arguments)?,
         None => None,
@@ -155,8 +161,7 @@ pub fn subroutine_breaks(
     ensures { IfOk result (λ v. v.items ≡ breaks_of_subroutine at (map actual_seen actuals.items) (selection_seen selection.now)) }
 {
     let mut breaks = breaks_in_all(alloc, actuals)?;
-    let is_clean =
-        are_none(breaks.as_slice()) && are_none(selection.judged.breaks.as_slice());
+    let is_clean = are_none(breaks.as_slice()) && are_none(selection.judged.breaks.as_slice());
     note_unless(&mut breaks, !is_clean, 47, at)?;
     Ok(breaks)
 }

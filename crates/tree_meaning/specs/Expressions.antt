@@ -45,7 +45,7 @@ logic_act logics.Or = a.any_of
 logic_act logics.Eqv = a.equal
 logic_act logics.Neqv = a.differ
 
-abbrev operating : a.OperatorAct → Parts Act
+abbrev pub operating : a.OperatorAct → Parts Act
 operating o = doing (operator o ∷ [])
 
 -- two operands that are put down in this order, evaluated as they are written
@@ -59,20 +59,20 @@ beside_as_written orders.Same p q = p ▸ q
 beside_as_written orders.Reversed p q = q ▸ p
 
 -- the digit of a form's dimension
-abbrev one_if : ℕ → t.OptionalExpression → ℕ
+abbrev pub one_if : ℕ → t.OptionalExpression → ℕ
 one_if n t.missing = 0
 one_if n (t.given e) = n
 
-abbrev digit_of : t.Subscript → ℕ
+abbrev pub digit_of : t.Subscript → ℕ
 digit_of (t.element e) = 1
 digit_of (t.triplet l u s) = 2 + one_if 1 l + one_if 2 u + one_if 4 s
 
 -- the form of a designator's subscripts; a whole array is the section of all its elements
-abbrev whole_form : ℕ → ℕ
+abbrev pub whole_form : ℕ → ℕ
 whole_form zero = 0
 whole_form (suc n) = 2 + (10 * whole_form n)
 
-abbrev digits_of : t.Subscripts → ℕ
+abbrev pub digits_of : t.Subscripts → ℕ
 digits_of t.no_subscripts = 0
 digits_of (t.more_subscripts s ss) = digit_of s + (10 * digits_of ss)
 
@@ -90,7 +90,7 @@ count_of t.no_expressions = 0
 count_of (t.more_expressions e es) = suc (count_of es)
 
 -- subscripts that are all single
-abbrev element_form : t.Expressions → ℕ
+abbrev pub element_form : t.Expressions → ℕ
 element_form t.no_expressions = 0
 element_form (t.more_expressions e es) = 1 + (10 * element_form es)
 
@@ -150,25 +150,25 @@ pub record Passed : Type 0 where
   pub goes_back : Bool
 
 -- how many numbers are put down for a value, for an argument, for all
-abbrev value_size : ℕ → ℕ
+abbrev pub value_size : ℕ → ℕ
 value_size rank = cond (rank == 0) 1 0
 
-abbrev passed_size : Passed → ℕ
+abbrev pub passed_size : Passed → ℕ
 passed_size p = p.place + value_size p.rank
 
 abbrev pub passed_sizes : List Passed → ℕ
 passed_sizes [] = 0
 passed_sizes (p ∷ ps) = passed_size p + passed_sizes ps
 
-abbrev place_size_of : t.Subscripts → ℕ → ℕ
+abbrev pub place_size_of : t.Subscripts → ℕ → ℕ
 place_size_of ss rank = cond (is_scalar ss rank) 0 (place_size rank)
 
-abbrev passed_part : t.Designator → ℕ → ℕ → Passed
+abbrev pub passed_part : t.Designator → ℕ → ℕ → Passed
 passed_part (t.part (objects.Local v) ss sel) d rank = record { dummy = d; rank = rank; scope = scope_of v.home; actual = v.variable; place = place_size_of ss rank; goes_back = true }
 passed_part (t.part (objects.Coarray c) ss sel) d rank = record { dummy = d; rank = rank; scope = here; actual = 0; place = 0; goes_back = false }
 passed_part (t.part (objects.Constant n) ss sel) d rank = record { dummy = d; rank = rank; scope = here; actual = 0; place = 0; goes_back = false }
 
-abbrev passed_as : t.Argument → ℕ → ℕ → Passed
+abbrev pub passed_as : t.Argument → ℕ → ℕ → Passed
 passed_as (t.value e) d rank = record { dummy = d; rank = rank; scope = here; actual = 0; place = 0; goes_back = false }
 passed_as (t.variable v) d rank = passed_part v d rank
 
@@ -178,7 +178,7 @@ passed vs (d ∷ ds) t.no_arguments = []
 passed vs (d ∷ ds) (t.more_arguments e es) = passed_as e d.variable (rank_in vs d.variable) ∷ passed vs ds es
 
 -- the values go into the dummies, the last one first
-abbrev copying_in_one : Passed → ℕ → Parts Act
+abbrev pub copying_in_one : Passed → ℕ → Parts Act
 copying_in_one p behind = cond (p.rank == 0) (copying behind 1 ▸ doing (variable (a.store here p.dummy) ∷ [])) (doing (call (a.copy_in p.dummy) ∷ []))
 
 abbrev pub copying_in : List Passed → Parts Act
@@ -186,7 +186,7 @@ copying_in [] = nothing
 copying_in (p ∷ ps) = copying_in ps ▸ copying_in_one p (passed_sizes ps)
 
 -- a variable of the instance is put down
-abbrev copying_out_one : ℕ → ℕ → Parts Act
+abbrev pub copying_out_one : ℕ → ℕ → Parts Act
 copying_out_one zero x = doing (variable (a.cell here x) ∷ [])
 copying_out_one (suc r) x = doing (call (a.copy_out x) ∷ [])
 
@@ -196,12 +196,12 @@ copying_out [] = nothing
 copying_out (p ∷ ps) = copying_out ps ▸ cond p.goes_back (copying_out_one p.rank p.dummy) nothing
 
 -- how many numbers those are
-abbrev out_sizes : List Passed → ℕ
+abbrev pub out_sizes : List Passed → ℕ
 out_sizes [] = 0
 out_sizes (p ∷ ps) = cond p.goes_back (value_size p.rank) 0 + out_sizes ps
 
 -- one of them goes back to its actual argument, whose place stands beneath so many numbers
-abbrev going_back : Passed → ℕ → Parts Act
+abbrev pub going_back : Passed → ℕ → Parts Act
 going_back p depth =
     cond (p.place == 0) (doing (variable (a.store p.scope p.actual) ∷ []))
     (copying depth p.place ▸ cond (p.rank == 0) (doing (variable (a.put p.scope p.actual 0) ∷ [])) (doing (variable (a.put_array p.scope p.actual p.rank) ∷ [])))
@@ -212,11 +212,11 @@ putting_back [] result = nothing
 putting_back (p ∷ ps) result = cond p.goes_back (going_back p (out_sizes (p ∷ ps) + (result + (passed_sizes ps + value_size p.rank)))) nothing ▸ putting_back ps result
 
 -- the arrays of an instance get their bounds
-abbrev bounds_acts : List (ℤ × ℤ) → List Act
+abbrev pub bounds_acts : List (ℤ × ℤ) → List Act
 bounds_acts [] = []
 bounds_acts (b ∷ bs) = a.constant b.0 ∷ a.constant b.1 ∷ bounds_acts bs
 
-abbrev laying_out_one : Option (List (ℤ × ℤ)) → ℕ → Parts Act
+abbrev pub laying_out_one : Option (List (ℤ × ℤ)) → ℕ → Parts Act
 laying_out_one None x = nothing
 laying_out_one (Some []) x = nothing
 laying_out_one (Some (b ∷ bs)) x = doing (bounds_acts (b ∷ bs) ++ (allocation (a.lay_out x (length (b ∷ bs))) ∷ []))
@@ -226,24 +226,24 @@ laying_out [] x = nothing
 laying_out (v ∷ vs) x = laying_out_one (declared_bounds v.dimensions) x ▸ laying_out vs (suc x)
 
 -- an instance begins: its frame, its arrays, its dummies (15.5.2, 15.6.2.4)
-abbrev beginning : Unit' → List Passed → Parts Act
+abbrev pub beginning : Unit' → List Passed → Parts Act
 beginning u ps = doing (call (a.begin_frame (cells_in_frame u) (length u.variables) (total_cells u.variables)) ∷ []) ▸ laying_out u.variables 0 ▸ copying_in ps
 
 -- the result is put down beneath what goes back; its rank
-abbrev result_rank : Unit' → Option ℕ → ℕ
+abbrev pub result_rank : Unit' → Option ℕ → ℕ
 result_rank u None = 0
 result_rank u (Some x) = rank_in u.variables x
 
-abbrev result_numbers : Unit' → Option ℕ → ℕ
+abbrev pub result_numbers : Unit' → Option ℕ → ℕ
 result_numbers u None = 0
 result_numbers u (Some x) = value_size (rank_in u.variables x)
 
-abbrev resulting : Unit' → Option ℕ → Parts Act
+abbrev pub resulting : Unit' → Option ℕ → Parts Act
 resulting u None = nothing
 resulting u (Some x) = copying_out_one (rank_in u.variables x) x
 
 -- an instance ends; the result is left, without the arguments
-abbrev ending : Procedure → List Passed → Parts Act
+abbrev pub ending : Procedure → List Passed → Parts Act
 ending p ps =
     resulting p.unit p.answer ▸ copying_out ps ▸ doing (call a.end_frame ∷ []) ▸ putting_back ps (result_numbers p.unit p.answer)
     ▸ bringing (result_numbers p.unit p.answer) (passed_sizes ps) ▸ dropping (passed_sizes ps) ▸ taking_cells (result_rank p.unit p.answer)
@@ -282,21 +282,21 @@ module _ (e : Environment) where
     expressions (t.more_expressions x es) = expression x ▸ expressions es
 
     -- the values of a constructor (7.8): each element takes an evaluation cell
-    items : t.Expressions → Parts Act
+    pub items : t.Expressions → Parts Act
     items t.no_expressions = nothing
     items (t.more_expressions (t.typed f type zero) es) = form f (kind_of type) 0 ▸ doing (stack a.take_cell ∷ stack a.append ∷ []) ▸ items es
     items (t.more_expressions (t.typed f type (suc r)) es) = form f (kind_of type) (suc r) ▸ doing (stack a.take_cells ∷ stack a.append_array ∷ []) ▸ items es
 
     -- each behind the first, with the value so far (MIN, MAX)
-    folded : a.OperatorAct → t.Expressions → Parts Act
+    pub folded : a.OperatorAct → t.Expressions → Parts Act
     folded o t.no_expressions = nothing
     folded o (t.more_expressions x es) = expression x ▸ operating o ▸ folded o es
 
-    first_and_folded : a.OperatorAct → t.Expressions → Parts Act
+    pub first_and_folded : a.OperatorAct → t.Expressions → Parts Act
     first_and_folded o t.no_expressions = nothing
     first_and_folded o (t.more_expressions x es) = expression x ▸ folded o es
 
-    optional : t.OptionalExpression → Parts Act
+    pub optional : t.OptionalExpression → Parts Act
     optional t.missing = nothing
     optional (t.given x) = expression x
 
@@ -305,7 +305,7 @@ module _ (e : Environment) where
     subscripts t.no_subscripts = nothing
     subscripts (t.more_subscripts s ss) = subscript s ▸ subscripts ss
 
-    subscript : t.Subscript → Parts Act
+    pub subscript : t.Subscript → Parts Act
     subscript (t.element x) = expression x
     subscript (t.triplet l u s) = optional l ▸ optional u ▸ optional s
 
@@ -319,7 +319,7 @@ module _ (e : Environment) where
     optional_place (t.result r) = result_place r
 
     -- the team of a selector (9.6)
-    selected_team : t.SelectedTeam → Parts Act
+    pub selected_team : t.SelectedTeam → Parts Act
     selected_team t.current = doing (selector a.this_team ∷ [])
     selected_team (t.team x) = expression x ▸ doing (selector a.team_value ∷ [])
     selected_team (t.team_number x) = expression x ▸ doing (selector a.sibling_team ∷ [])
@@ -345,11 +345,11 @@ module _ (e : Environment) where
     arguments vs [] (t.more_arguments x es) = nothing
     arguments vs (d ∷ ds) (t.more_arguments x es) = argument x (rank_in vs d.variable) ▸ arguments vs ds es
 
-    argument : t.Argument → ℕ → Parts Act
+    pub argument : t.Argument → ℕ → Parts Act
     argument (t.value x) rank = expression x
     argument (t.variable d) rank = actual d rank
 
-    actual : t.Designator → ℕ → Parts Act
+    pub actual : t.Designator → ℕ → Parts Act
     actual (t.part (objects.Local v) ss sel) rank =
         cond (is_scalar ss rank) (doing (variable (a.cell (scope_of v.home) v.variable) ∷ []))
         (subscripts ss ▸ doing (bounded (a.section (scope_of v.home) v.variable (form_of ss rank)) ∷ []) ▸ copying 0 (place_size rank) ▸ doing (variable (a.load (scope_of v.home) v.variable rank) ∷ []) ▸ taking_cells rank)
@@ -357,12 +357,12 @@ module _ (e : Environment) where
     actual (t.part (objects.Coarray c) ss sel) rank = nothing
 
     -- a team argument: the current team where it is missing
-    team_of : t.OptionalExpression → Parts Act
+    pub team_of : t.OptionalExpression → Parts Act
     team_of t.missing = doing (selector a.this_team ∷ [])
     team_of (t.given x) = expression x ▸ doing (selector a.team_value ∷ [])
 
     -- The bounds of an array. Of a variable or a part of one nothing is read.
-    bounds_of : t.Expression → Parts Act
+    pub bounds_of : t.Expression → Parts Act
     bounds_of (t.typed (t.designator d) type rank) = bounds_of_part d rank
     bounds_of (t.typed (t.number z) type rank) = nothing
     bounds_of (t.typed (t.logical b) type rank) = nothing
@@ -372,7 +372,7 @@ module _ (e : Environment) where
     bounds_of (t.typed (t.array_constructor es) type rank) = doing (stack a.empty_array ∷ []) ▸ items es ▸ doing (bounded a.value_bounds ∷ [])
     bounds_of (t.typed f type rank) = nothing
 
-    bounds_of_part : t.Designator → ℕ → Parts Act
+    pub bounds_of_part : t.Designator → ℕ → Parts Act
     bounds_of_part (t.part (objects.Local v) t.no_subscripts sel) rank = doing (bounded (a.bounds (scope_of v.home) v.variable) ∷ [])
     bounds_of_part (t.part (objects.Local v) (t.more_subscripts s ss) sel) rank =
         subscript s ▸ subscripts ss ▸ doing (bounded (a.section (scope_of v.home) v.variable (form_of (t.more_subscripts s ss) rank)) ∷ bounded (a.section_bounds rank) ∷ [])
@@ -387,7 +387,7 @@ module _ (e : Environment) where
         ▸ dropping 1 ▸ doing (bounded (a.section_bounds rank) ∷ []) ▸ dropping (optional_size stat)
 
     -- the intrinsic functions
-    intrinsic : t.Intrinsic → Kind → Parts Act
+    pub intrinsic : t.Intrinsic → Kind → Parts Act
     intrinsic (t.abs x) k = expression x ▸ operating (a.absolute k)
     intrinsic (t.remainder x p o) k = as_written o (expression x) (expression p) ▸ operating a.remainder
     intrinsic (t.modulo x p o) k = as_written o (expression x) (expression p) ▸ operating a.modulo

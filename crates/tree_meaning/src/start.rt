@@ -224,8 +224,8 @@ fn first_coarray(variables: &[Variable], variable: u32) -> Result<Option<OwnCoar
     }))
 }
 
-// The local cells of variables.
-fn sum_of_locals(variables: &[Variable]) -> Result<u64, NoMemory>
+/// The local cells of variables.
+pub fn sum_of_locals(variables: &[Variable]) -> Result<u64, NoMemory>
     ensures { IfOk result (λ n. n ≡ total_cells variables.now) }
 {
     let mut total = 0;

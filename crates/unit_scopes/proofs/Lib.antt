@@ -1,0 +1,11 @@
+pub mod Asks
+pub mod Caps
+pub mod Chains
+pub mod Facts
+pub mod Folds
+pub mod Heads
+pub mod Laws
+pub mod Openings
+pub mod Steps
+pub mod Turns
+pub mod Wholes

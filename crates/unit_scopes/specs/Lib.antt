@@ -1,0 +1,10 @@
+pub mod Coshapes
+pub mod EntitiesAsked
+pub mod Founds
+pub mod Headings
+pub mod Heads
+pub mod Limits
+pub mod Openings
+pub mod Scopes
+pub mod Stepping
+pub mod Telling

@@ -1,6 +1,6 @@
 use Rattle.std.proofs.Common.{ap, sym, ◌∙◌}
 use Rattle.std.specs.Prelude.{map, ◌++◌}
-use Rattle.rule_definitions.specs.Arguments.{breaks_in, breaks_in_all}
+use Rattle.rule_definitions.specs.Arguments.{breaks_in_all}
 use Rattle.part_rules.specs.Brackets.{actual_seen}
 use Rattle.part_rules.proofs.Gathering.{mapped_behind}
 use Rattle.expr_rules.proofs.Around.{breaks_behind}

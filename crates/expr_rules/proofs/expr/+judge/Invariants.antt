@@ -1,4 +1,4 @@
-use Rattle.std.proofs.Common.{◌≡◌, ◌+◌, ◌≤◌, drop, take, map}
+use Rattle.std.proofs.Common.{◌≡◌, drop, take, map}
 use Rattle.fortran_tree.specs.ExpressionViews as tree
 use Rattle.checked_tree.specs.ExpressionViews.{expression}
 use Rattle.rule_definitions.specs.Expressions as rules

@@ -7,7 +7,6 @@ use Rattle.rule_definitions.specs.Judgements.{all_made}
 use Rattle.part_rules.specs.Brackets.{actual_seen}
 use Rattle.part_rules.specs.Views.{list_of}
 use Rattle.part_rules.proofs.Gathering.{breaks_gathered, mapped_behind, meaning_gathered}
-use Rattle.expr_rules.proofs.Lists.{subscripts_breaks, subscripts_meaning, subscripts_whole}
 use Rattle.expr_rules.proofs.subscript.subscripts.Goals as goal
 
 pub loop-actual-preserved : goal.loop-actual-preserved

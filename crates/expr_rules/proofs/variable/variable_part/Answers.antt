@@ -1,4 +1,4 @@
-use Rattle.std.proofs.Common.{◌≡◌, length, sym, ◌∙◌, subst, arith}
+use Rattle.std.proofs.Common.{◌≡◌, length, subst, arith}
 use Rattle.std.proofs.lemmas.Grind.{common_steps}
 use Rattle.std.proofs.lemmas.List.{length-map}
 use Rattle.std.specs.Prelude.{IfOk, map}
@@ -18,8 +18,8 @@ returns-clause-breaks c =
     let r : c.len-2.result ≡ length x.bounds = grind (arith, common_steps) in
     let k : c.len-count.result ≡ length ss = grind (arith, common_steps, length-map) in
     subst (λ bs. IfOk c.object_with.result (λ j. j.breaks.items ≡ bs))
-        (variable_found_breaks c.args.variable.home x c.args.at ss (selection_seen c.args.selection) c.in_ok-subscripts.subscripts.breaks.items c.len-2.result c.len-count.result c.in_ok-subscripts.ensures.breaks r k)
-        c.object_with.ensures.breaks
+    (variable_found_breaks c.args.variable.home x c.args.at ss (selection_seen c.args.selection) c.in_ok-subscripts.subscripts.breaks.items c.len-2.result c.len-count.result c.in_ok-subscripts.ensures.breaks r k)
+    c.object_with.ensures.breaks
 
 pub returns-clause-meaning : goal.returns-clause-meaning
 returns-clause-meaning c =
@@ -29,6 +29,6 @@ returns-clause-meaning c =
     let k : c.len-count.result ≡ length ss = grind (arith, common_steps, length-map) in
     let q : c.in_ok-rank.rank ≡ rank_behind (length x.bounds) ss = grind (arith, common_steps) in
     subst (λ o. IfOk c.object_with.result (λ j. option_map expression j.meaning ≡ o))
-        (variable_found_meaning c.args.variable.home x c.args.at ss (selection_seen c.args.selection) c.in_ok-subscripts.subscripts.breaks.items (option_map subscripts_in c.in_ok-subscripts.subscripts.meaning) c.len-2.result c.len-count.result c.in_ok-rank.rank c.object_from.result
-            c.in_ok-subscripts.ensures.breaks c.in_ok-subscripts.ensures.meaning r k q c.object_from.ensures)
-        c.object_with.ensures.meaning
+    (variable_found_meaning c.args.variable.home x c.args.at ss (selection_seen c.args.selection) c.in_ok-subscripts.subscripts.breaks.items (option_map subscripts_in c.in_ok-subscripts.subscripts.meaning) c.len-2.result c.len-count.result c.in_ok-rank.rank c.object_from.result
+    c.in_ok-subscripts.ensures.breaks c.in_ok-subscripts.ensures.meaning r k q c.object_from.ensures)
+    c.object_with.ensures.meaning
