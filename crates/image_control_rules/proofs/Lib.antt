@@ -1,5 +1,3 @@
-pub mod Allocations
 pub mod Forms
-pub mod Shapes
 pub mod Specified
 pub mod Turns

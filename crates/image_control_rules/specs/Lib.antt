@@ -1,3 +1,2 @@
-pub mod Allocations
 pub mod Forms
 pub mod Statements

@@ -3,46 +3,24 @@
 ghost use Rattle.std.specs.Prelude.{◌≡◌};
 ghost use Rattle.std.specs.Option.{option_map};
 ghost use Rattle.checked_tree.specs.ExpressionViews.{designator as designator_seen, expression, form as form_seen, intrinsic};
-ghost use Rattle.rule_definitions.specs.IntrinsicSubroutines.{is_coindexed_form};
 ghost use Rattle.rule_definitions.specs.Parts as parts;
 ghost use Rattle.image_control_rules.specs.Forms.{designator_in, is_plain_form, scalar_designator};
 
 use checked_tree::expr::{Designator, ExprForm, Intrinsic, TypedExpr};
+use specifier_rules::variable::{as_designator, designator_in as taken_designator};
 
 /// The designator that a form is.
-#[tactic(auto, using(crate::proofs::Forms::form_laws))]
 pub fn designator_of(form: &ExprForm) -> Option<&Designator>
     ensures { option_map (λ d. designator_seen d.now) result ≡ designator_in (form_seen form.now) }
 {
-    match form {
-        ExprForm::Designator(designator) => Some(designator),
-        ExprForm::Number(_)
-        | ExprForm::Logical(_)
-        | ExprForm::Call { .. }
-        | ExprForm::Intrinsic(_)
-        | ExprForm::Parenthesized(_)
-        | ExprForm::ArrayConstructor(_)
-        | ExprForm::Plus(_)
-        | ExprForm::Minus(_)
-        | ExprForm::Not(_)
-        | ExprForm::Arithmetic { .. }
-        | ExprForm::Relation { .. }
-        | ExprForm::Logic { .. } => None,
-    }
+    as_designator(form)
 }
 
 /// The designator that a form is, taken out of it.
-#[tactic(auto, using(crate::proofs::Forms::form_laws))]
 pub fn into_designator(form: ExprForm) -> Option<Designator>
     ensures { option_map designator_seen result ≡ designator_in (form_seen form) }
 {
-    match form {
-        ExprForm::Designator(designator) => Some(designator),
-        other => {
-            drop(other);
-            None
-        }
-    }
+    taken_designator(form)
 }
 
 /// Whether a form is a designator or an array constructor.
@@ -114,17 +92,6 @@ pub fn is_listed(value: &TypedExpr) -> bool
         | ExprForm::Arithmetic { .. }
         | ExprForm::Relation { .. }
         | ExprForm::Logic { .. } => false,
-    }
-}
-
-/// Whether an expression is a designator with an image selector.
-#[tactic(auto, using(crate::proofs::Forms::coindexed_by, checked_tree::specs::ExpressionViews::typed_forms))]
-pub fn is_coindexed(value: &TypedExpr) -> bool
-    ensures { result ≡ is_coindexed_form (expression value.now) }
-{
-    match designator_of(&value.form) {
-        Some(designator) => designator.selector.is_some(),
-        None => false,
     }
 }
 

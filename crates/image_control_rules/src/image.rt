@@ -18,7 +18,6 @@ ghost use Rattle.specifier_rules.specs.Meanings.{number_and_stat};
 ghost use Rattle.specifier_rules.specs.Views.{number_and_stat_seen};
 ghost use Rattle.image_control_rules.specs.Statements.{form_team_with, image_part, local_in};
 
-use crate::form::is_coindexed;
 use crate::optional::scalar_integer;
 use crate::stat::{maybe_stat, stat_of};
 use caf_base::place::Pos;
@@ -39,6 +38,7 @@ use scope_table::scope::{Denoted, Scope, Visible};
 use specifier_rules::condition::team;
 use specifier_rules::statement::{NumberAndStat, form_team_specifiers};
 use std::alloc::Global;
+use subroutine_rules::event::is_coindexed_form;
 
 #[tactic(auto, using(checked_tree::specs::StatementViews::typed_statement_forms))]
 fn sync_all_form(stat: Option<Option<ResultVariable>>) -> Option<StatementForm>
@@ -102,7 +102,7 @@ fn is_image_set(value: &TypedExpr) -> bool
     if value.rank == 0 {
         return true;
     }
-    value.rank == 1 && !is_coindexed(value)
+    value.rank == 1 && !is_coindexed_form(value)
 }
 
 // The images of a set: rule 51 for a team, rule 52 for what else is none.

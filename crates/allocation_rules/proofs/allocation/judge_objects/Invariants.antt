@@ -6,7 +6,7 @@ use Rattle.rule_definitions.specs.Actions.{allocation_judged}
 use Rattle.rule_definitions.specs.Judgements.{all_made}
 use Rattle.part_rules.specs.Views.{list_of}
 use Rattle.image_control_rules.proofs.Turns.{behind}
-use Rattle.image_control_rules.proofs.allocation.judge_objects.Given as goal
+use Rattle.allocation_rules.proofs.allocation.judge_objects.Given as goal
 
 abbrev pub invariant-loop-object : goal.invariant-loop-object
 invariant-loop-object l =

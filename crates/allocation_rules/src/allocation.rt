@@ -14,10 +14,9 @@ ghost use Rattle.rule_definitions.specs.Judgements.{all_made, both, breaks, is_n
 ghost use Rattle.rule_definitions.specs.Names.{variable};
 ghost use Rattle.scope_table.specs.Scopes.{denoted as meaning_of, visible as symbol_seen};
 ghost use Rattle.part_rules.specs.Views.{judgement, list_of, one_more};
-ghost use Rattle.image_control_rules.specs.Allocations.{allocated_as, allocation_with, explicit_said, name_of, noted, object_of, shape_seen, variable_breaks};
+ghost use Rattle.allocation_rules.specs.Allocations.{allocated_as, allocation_with, explicit_said, name_of, noted, object_of, shape_seen, variable_breaks};
 
 use crate::bounds::{Cobounds, Shape, judge_shape};
-use crate::stat::stat_of;
 use caf_base::place::Pos;
 use caf_base::refusal::NoMemory;
 use checked_tree::action::Allocation as TypedAllocation;
@@ -28,6 +27,7 @@ use fortran_tree::action::Allocation;
 use fortran_tree::declaration::{Coshape, Dimension};
 use fortran_tree::expr::Specifier;
 use fortran_tree::name::Name;
+use image_control_rules::stat::stat_of;
 use part_rules::judged::{Judged, are_none, fine, joined, keep, note_unless, refused, ruled};
 use rule_definitions::broken::Broken;
 use scope_table::object::object_from;
@@ -320,7 +320,7 @@ fn add_object(
     keep(list, item)
 }
 
-#[tactic(auto, using(crate::proofs::Turns::turn_laws))]
+#[tactic(auto, using(image_control_rules::proofs::Turns::turn_laws))]
 fn judge_objects(
     alloc: Global,
     scope: &Scope<'_>,
@@ -417,7 +417,7 @@ fn add_name(
     keep(list, item)
 }
 
-#[tactic(auto, using(crate::proofs::Turns::turn_laws))]
+#[tactic(auto, using(image_control_rules::proofs::Turns::turn_laws))]
 fn judge_names(
     alloc: Global,
     scope: &Scope<'_>,

@@ -9,15 +9,15 @@ ghost use Rattle.fortran_tree.specs.DeclarationViews.{bounds as bounds_written, 
 ghost use Rattle.rule_definitions.specs.Actions as rules;
 ghost use Rattle.rule_definitions.specs.Judgements.{all_made, both};
 ghost use Rattle.part_rules.specs.Views.{list_of, one_more};
-ghost use Rattle.image_control_rules.specs.Allocations.{bounds_with, cobounds_seen, cobounds_with, explicit_cobounds, shape_seen, shape_with};
+ghost use Rattle.allocation_rules.specs.Allocations.{bounds_with, cobounds_seen, cobounds_with, explicit_cobounds, shape_seen, shape_with};
 
-use crate::optional::{maybe_integer, scalar_integer};
 use caf_base::refusal::NoMemory;
 use checked_tree::action::AllocatedBounds;
 use checked_tree::expr::TypedExpr;
 use fortran_tree::action::Allocation;
 use fortran_tree::declaration::{Bounds, Coshape, Dimension};
 use fortran_tree::expr::Expr;
+use image_control_rules::optional::{maybe_integer, scalar_integer};
 use part_rules::judged::{Judged, fine, joined, keep, unknown};
 use scope_table::scope::Scope;
 use std::alloc::Global;
@@ -102,7 +102,7 @@ fn add_dimension(
     keep(list, item)
 }
 
-#[tactic(auto, using(crate::proofs::Turns::turn_laws))]
+#[tactic(auto, using(image_control_rules::proofs::Turns::turn_laws))]
 fn judge_dimensions(
     alloc: Global,
     scope: &Scope<'_>,
@@ -132,7 +132,7 @@ fn add_bounds(
     keep(list, item)
 }
 
-#[tactic(auto, using(crate::proofs::Turns::turn_laws))]
+#[tactic(auto, using(image_control_rules::proofs::Turns::turn_laws))]
 fn judge_all_bounds(
     alloc: Global,
     scope: &Scope<'_>,

@@ -14,8 +14,8 @@ use Rattle.rule_definitions.specs.Actions as a
 use Rattle.rule_definitions.specs.Judgements.{breaks, unless, Judgement, all_made, formed, made_of, made_of_both, then}
 use Rattle.rule_definitions.specs.Names.{Meaning, Scope, Symbol}
 use Rattle.rule_definitions.specs.Parts.{integer}
-use Rattle.image_control_rules.specs.declared.bounds.Cobounds.{Cobounds}
-use Rattle.image_control_rules.specs.declared.bounds.Shape.{Shape}
+use Rattle.allocation_rules.specs.declared.bounds.Cobounds.{Cobounds}
+use Rattle.allocation_rules.specs.declared.bounds.Shape.{Shape}
 
 abbrev pub bounds_with : t.OptionalExpression → t.Expression → ts.AllocatedBounds
 bounds_with l u = record { lower = l; upper = u }

@@ -12,7 +12,7 @@ use Rattle.rule_definitions.specs.declared.broken.Broken.{Broken}
 use Rattle.rule_definitions.specs.Actions.{AllocatedCobounds, AllocatedShape, allocation_of, local_allocation}
 use Rattle.rule_definitions.specs.Judgements.{Judgement, both, is_nothing, then_made}
 use Rattle.rule_definitions.specs.Names.{Symbol, variable}
-use Rattle.image_control_rules.specs.Allocations.{allocated_as, allocation_with, variable_breaks}
+use Rattle.allocation_rules.specs.Allocations.{allocated_as, allocation_with, variable_breaks}
 
 local_breaks : (l : Local) (y : Option DataType) (bs : List ts.AllocatedBounds) → (local_allocation l y bs).breaks ≡ []
 local_breaks l None bs = refl
