@@ -1,5 +1,5 @@
 -- The objects of ALLOCATE that are variables.
-use Rattle.std.proofs.Common.{◌≡◌, ◌∙◌, Bool, true, false, List, [], ◌∷◌, ◌++◌, refl, sym, ap}
+use Rattle.std.proofs.Common.{◌≡◌, ◌∙◌, List, [], ◌++◌, refl, ap}
 use Rattle.std.specs.Prelude.{Option, Some, None, cond}
 use Rattle.std.proofs.lemmas.List.{append-nil}
 use Rattle.fortran_tree.specs.Statements as fs
@@ -8,7 +8,6 @@ use Rattle.checked_tree.specs.declared.data.DataType.{DataType}
 use Rattle.checked_tree.specs.declared.data.Local.{Local}
 use Rattle.checked_tree.specs.declared.data.Object.{Object}
 use Rattle.checked_tree.specs.declared.data.Object.TheVariants as objects
-use Rattle.rule_definitions.specs.declared.broken.Broken.{Broken}
 use Rattle.rule_definitions.specs.Actions.{AllocatedCobounds, AllocatedShape, allocation_of, local_allocation}
 use Rattle.rule_definitions.specs.Judgements.{Judgement, both, is_nothing, then_made}
 use Rattle.rule_definitions.specs.Names.{Symbol, variable}

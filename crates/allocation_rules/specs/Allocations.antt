@@ -1,5 +1,5 @@
 -- Objects of ALLOCATE, part by part.
-use Rattle.std.specs.Prelude.{ℕ, Bool, cond, nat_eq, length, ◌+◌, List, [], ◌∷◌, ◌++◌, Option, Some, None, map}
+use Rattle.std.specs.Prelude.{ℕ, cond, nat_eq, length, ◌+◌, List, [], ◌∷◌, ◌++◌, Option, Some, None, map}
 use Rattle.caf_base.specs.declared.place.Pos.{Pos}
 use Rattle.checked_tree.specs.Expressions as t
 use Rattle.checked_tree.specs.ExpressionViews.{maybe_expression}

@@ -1,4 +1,4 @@
-use Rattle.std.proofs.Common.{ap, drop, map, ◌+◌, ◌∷◌}
+use Rattle.std.proofs.Common.{ap, drop, map, ◌+◌}
 use Rattle.std.specs.Option.{option_map}
 use Rattle.rule_definitions.specs.Actions.{deallocated}
 use Rattle.rule_definitions.specs.Judgements.{all_made}

@@ -1,4 +1,4 @@
-use Rattle.std.proofs.Common.{◌≡◌, drop, map}
+use Rattle.std.proofs.Common.{◌≡◌, drop}
 use Rattle.rule_definitions.specs.Actions.{any_coarray}
 use Rattle.allocation_rules.proofs.allocation.names_coarray.Given as goal
 

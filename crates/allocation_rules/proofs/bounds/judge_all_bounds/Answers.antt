@@ -1,4 +1,4 @@
-use Rattle.std.proofs.Common.{ap, drop, map, ◌+◌, ◌∷◌}
+use Rattle.std.proofs.Common.{ap, drop, map, ◌+◌}
 use Rattle.std.specs.Option.{option_map}
 use Rattle.checked_tree.specs.StatementViews.{allocated_bounds}
 use Rattle.fortran_tree.specs.DeclarationViews.{bounds}
