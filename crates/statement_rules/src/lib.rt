@@ -3,5 +3,9 @@
 //! Its main contract: `statement::judge_statements` gives the judgement that the definition `judged_statements` says.
 #![tactic(auto)]
 
+pub mod case;
+pub mod control;
 pub mod numbering;
+pub mod pair;
+pub mod range;
 pub mod statement;

@@ -30,8 +30,8 @@ pub fn judge_statements(
     position: Position<'_>,
     statements: &[Statement],
 ) -> Result<Judged<Vec<TypedStatement>>, NoMemory>
-    ensures breaks { IfOk result (λ j. j.breaks.items ≡ (rules.judged_statements (seen position) (statement_list statements.now)).breaks) }
-    ensures meaning { IfOk result (λ j. option_map (λ v. statements_seen v.items) j.meaning ≡ (rules.judged_statements (seen position) (statement_list statements.now)).meaning) }
+    ensures breaks { IfOk result (λ j. j.breaks.items ≡ (rules.judged_statements (seen position.entry) (statement_list statements.now)).breaks) }
+    ensures meaning { IfOk result (λ j. option_map (λ v. statements_seen v.items) j.meaning ≡ (rules.judged_statements (seen position.entry) (statement_list statements.now)).meaning) }
 {
     Err(NoMemory)
 }
