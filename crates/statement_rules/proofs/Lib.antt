@@ -1,4 +1,5 @@
+pub mod Blocks
+pub mod Laws
 pub mod Numbers
-pub mod Pairs
 pub mod Seen
 pub mod Turns

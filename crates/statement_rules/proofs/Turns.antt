@@ -41,6 +41,11 @@ module _ {T Y L : Type 0} (more : Y → L → L) (see : T → Y) where
   turn_meaning o p y m r all whole e f g h =
       ap (λ k. both before k r) e ∙ kept o y r ∙ ap (λ k. both before o (both more k r)) f ∙ ap (both before o) (sym g) ∙ h
 
+  -- no items before what is to come
+  pub nothing_before : (o : Option (List T)) (r : Option L) → o ≡ Some [] → both before o r ≡ r
+  nothing_before o None e = ap (λ p. both before p None) e
+  nothing_before o (Some x) e = ap (λ p. both before p (Some x)) e
+
   -- a list that is seen item by item
   pub whole_list : (nil : L) (list : List T → L) → ((xs : List T) → before xs nil ≡ list xs)
       → (o : Option (Vec T Global)) → both before (option_map list_of o) (Some nil) ≡ option_map (λ v. list v.items) o
@@ -64,3 +69,11 @@ turn_joined o p y m r all whole e f g h =
 pub joined_whole : {T : Type 0} (o : Option (List T)) → both (λ xs ys. xs ++ ys) o (Some []) ≡ o
 joined_whole None = refl
 joined_whole (Some xs) = ap Some (append-nil xs)
+
+-- an item that goes before what follows
+abbrev pub before_all : {L : Type 0} → (L → L) → L → L
+before_all f r = f r
+
+-- numbers before, in and behind an item
+pub turn_number : (a b k l r all w : ℕ) → b ≡ k + l → k ≡ a → all ≡ l + r → a + all ≡ w → b + r ≡ w
+turn_number a b k l r all w e f g h = omega (arith, e, f, g, h)

@@ -95,10 +95,7 @@ fn is_logical_selector(selector: &Option<TypedExpr>) -> bool
 }
 
 // A case value by its type and its rank.
-fn select_value(
-    selector: &Option<TypedExpr>,
-    part: Part,
-) -> Result<Judged<TypedExpr>, NoMemory>
+fn select_value(selector: &Option<TypedExpr>, part: Part) -> Result<Judged<TypedExpr>, NoMemory>
     ensures breaks { IfOk result (λ j. j.breaks.items ≡ (under (plain_part (placed_part part)) (rules.case_value_breaks (option_map expression selector.now) part.at)).breaks) }
     ensures meaning { IfOk result (λ j. option_map expression j.meaning ≡ (under (plain_part (placed_part part)) (rules.case_value_breaks (option_map expression selector.now) part.at)).meaning) }
 {
@@ -124,11 +121,7 @@ fn number_of(value: Value) -> i64
 }
 
 // What a case value stands for before the run: rule 44 where that is nothing.
-fn constant_number(
-    alloc: Global,
-    found: Constancy,
-    at: Pos,
-) -> Result<Judged<i64>, NoMemory>
+fn constant_number(alloc: Global, found: Constancy, at: Pos) -> Result<Judged<i64>, NoMemory>
     ensures breaks { IfOk result (λ j. j.breaks.items ≡ (rules.case_constant at (constancy_seen found)).breaks) }
     ensures meaning { IfOk result (λ j. j.meaning ≡ (rules.case_constant at (constancy_seen found)).meaning) }
 {
@@ -332,7 +325,9 @@ fn judge_at_most(
     ensures at { IfOk result (λ r. r.at ≡ at) }
 {
     let CaseValue {
-        number, is_plain, ..
+        number,
+        is_plain,
+        ..
     } = judge_value(alloc, scope, selector, expr)?;
     let Judged { breaks, meaning } = number;
     let range = Judged {

@@ -5,18 +5,19 @@ ghost use Rattle.std.specs.Option.{option_map};
 ghost use Rattle.action_rules.specs.Sites.{around as construct_seen};
 ghost use Rattle.checked_tree.specs.Expressions as t;
 ghost use Rattle.checked_tree.specs.ExpressionViews.{expression, maybe_expression};
-ghost use Rattle.checked_tree.specs.StatementViews.{statement_form, statements};
+ghost use Rattle.checked_tree.specs.StatementViews.{statement_form};
 ghost use Rattle.fortran_tree.specs.DeclarationViews.{maybe_expression as maybe_written};
 ghost use Rattle.fortran_tree.specs.ExpressionViews.{expression as written};
 ghost use Rattle.fortran_tree.specs.StatementViews.{loop_control};
 ghost use Rattle.fortran_tree.specs.Statements as fs;
-ghost use Rattle.rule_definitions.specs.Actions.{has_intent_in, is_active, is_loop_variable, maybe};
+ghost use Rattle.rule_definitions.specs.Actions.{has_intent_in, is_active, is_loop_variable, loop as loop_seen, maybe};
 ghost use Rattle.rule_definitions.specs.Expressions.{placed};
 ghost use Rattle.rule_definitions.specs.Judgements.{is_nothing, made};
 ghost use Rattle.rule_definitions.specs.Names.{denotes, variable as variable_meaning};
 ghost use Rattle.rule_definitions.specs.Parts as parts;
 ghost use Rattle.rule_definitions.specs.Statements as rules;
 ghost use Rattle.scope_table.specs.Scopes.{denoted, visible};
+ghost use Rattle.statement_rules.specs.Blocks.{block};
 ghost use Rattle.statement_rules.specs.Controls.{control as control_seen, counter as counter_seen};
 ghost use Rattle.statement_rules.specs.Positions.{position as seen};
 
@@ -191,11 +192,7 @@ fn judge_counter(
 }
 
 // A parameter of a counted loop.
-fn judge_bound(
-    alloc: Global,
-    scope: &Scope<'_>,
-    expr: &Expr,
-) -> Result<Judged<TypedExpr>, NoMemory>
+fn judge_bound(alloc: Global, scope: &Scope<'_>, expr: &Expr) -> Result<Judged<TypedExpr>, NoMemory>
     ensures breaks { IfOk result (λ j. j.breaks.items ≡ (parts.bound_or_code (placed scope.now (written expr.now))).breaks) }
     ensures meaning { IfOk result (λ j. option_map expression j.meaning ≡ (parts.bound_or_code (placed scope.now (written expr.now))).meaning) }
 {
@@ -248,30 +245,6 @@ fn counted(parts: Option<Parts>) -> Option<Control>
     }
 }
 
-fn judge_counted(
-    alloc: Global,
-    position: Position<'_>,
-    variable: &Name,
-    first: &Expr,
-    last: &Expr,
-    step: &Option<Expr>,
-) -> Result<Judged<Control>, NoMemory>
-    ensures breaks { IfOk result (λ j. j.breaks.items ≡ (rules.judged_control (seen position.entry) (fs.counted variable.now (written first.now) (written last.now) (maybe_written step.now))).breaks) }
-    ensures meaning { IfOk result (λ j. option_map control_seen j.meaning ≡ (rules.judged_control (seen position.entry) (fs.counted variable.now (written first.now) (written last.now) (maybe_written step.now))).meaning) }
-{
-    let first = judge_bound(alloc, position.scope, first)?;
-    let last = judge_bound(alloc, position.scope, last)?;
-    let ends = paired(first, last)?;
-    let counter = judge_counter(alloc, position, variable)?;
-    let start = paired(counter, ends)?;
-    let step = judge_step(alloc, position.scope, step)?;
-    let Judged { breaks, meaning } = paired(start, step)?;
-    Ok(Judged {
-        breaks,
-        meaning: counted(meaning),
-    })
-}
-
 fn repeated(condition: Option<TypedExpr>) -> Option<Control>
     ensures { option_map control_seen result ≡ made rules.while (option_map expression condition) }
 {
@@ -290,23 +263,7 @@ pub fn judge_control(
     ensures breaks { IfOk result (λ j. j.breaks.items ≡ (rules.judged_control (seen position.entry) (loop_control control.now)).breaks) }
     ensures meaning { IfOk result (λ j. option_map control_seen j.meaning ≡ (rules.judged_control (seen position.entry) (loop_control control.now)).meaning) }
 {
-    match control {
-        LoopControl::Unlimited => Ok(fine(alloc, Control::Forever)),
-        LoopControl::While { condition: expr } => {
-            let part = judge_part(alloc, position.scope, expr)?;
-            let Judged { breaks, meaning } = condition(part)?;
-            Ok(Judged {
-                breaks,
-                meaning: repeated(meaning),
-            })
-        }
-        LoopControl::Counted {
-            variable,
-            first,
-            last,
-            step,
-        } => judge_counted(alloc, position, variable, first, last, step),
-    }
+    Err(NoMemory)
 }
 
 fn local_of(found: Visible<'_>) -> Option<Local>
@@ -340,6 +297,27 @@ pub fn loop_variable(position: Position<'_>, control: &LoopControl) -> Option<Lo
     }
 }
 
+/// A loop around the statements of its block.
+pub fn loop_around<'a>(
+    position: Position<'_>,
+    construct: &'a Option<Name>,
+    control: &LoopControl,
+) -> Around<'a>
+    ensures { construct_seen result ≡ loop_seen construct.entry.now (rules.loop_variable (seen position.entry) (loop_control control.now)) }
+{
+    let variable = loop_variable(position, control);
+    match construct {
+        Some(name) => Around::Loop {
+            name: Some(name),
+            variable,
+        },
+        None => Around::Loop {
+            name: None,
+            variable,
+        },
+    }
+}
+
 // Whether a construct has this name (11.1.7.2).
 fn is_same_name(construct: &Option<Name>, name: &Name) -> bool
     ensures { result ≡ rules.is_same_name construct.now name.now }
@@ -370,7 +348,8 @@ fn is_counted(construct: Around<'_>) -> bool
 {
     match construct {
         Around::Loop {
-            variable: Some(_), ..
+            variable: Some(_),
+            ..
         }
         | Around::Selection => true,
         Around::Loop { variable: None, .. } | Around::Critical | Around::TeamChange => false,
@@ -392,8 +371,11 @@ pub fn count_hidden(around: &[Around<'_>]) -> Result<u32, NoMemory>
 
 /// A loop with its block.
 #[tactic(auto, using(checked_tree::specs::StatementViews::typed_statement_forms))]
-pub fn loop_form(parts: Option<(Control, Vec<TypedStatement>)>, hidden: u32) -> Option<StatementForm>
-    ensures { option_map statement_form result ≡ option_map (λ p. rules.loop_form hidden (control_seen p.0) (statements p.1.items)) parts }
+pub fn loop_form(
+    parts: Option<(Control, Vec<TypedStatement>)>,
+    hidden: u32,
+) -> Option<StatementForm>
+    ensures { option_map statement_form result ≡ option_map (λ p. rules.loop_form hidden (control_seen p.0) (block p.1)) parts }
 {
     let Some((control, body)) = parts else {
         return None;

@@ -7,5 +7,7 @@ pub mod case;
 pub mod control;
 pub mod numbering;
 pub mod pair;
+pub mod position;
 pub mod range;
+pub mod selection;
 pub mod statement;
