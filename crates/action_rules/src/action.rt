@@ -22,8 +22,8 @@ pub fn judge_action(
     action: &ActionForm,
     at: Pos,
 ) -> Result<Judged<StatementForm>, NoMemory>
-    ensures breaks { IfOk result (λ j. j.breaks.items ≡ (rules.judged_action (seen site) (tree.action_statement action.now) at).breaks) }
-    ensures meaning { IfOk result (λ j. option_map statement_form j.meaning ≡ (rules.judged_action (seen site) (tree.action_statement action.now) at).meaning) }
+    ensures breaks { IfOk result (λ j. j.breaks.items ≡ (rules.judged_action (seen site.entry) (tree.action_statement action.now) at).breaks) }
+    ensures meaning { IfOk result (λ j. option_map statement_form j.meaning ≡ (rules.judged_action (seen site.entry) (tree.action_statement action.now) at).meaning) }
 {
     Err(NoMemory)
 }

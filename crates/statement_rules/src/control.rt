@@ -245,6 +245,31 @@ fn counted(parts: Option<Parts>) -> Option<Control>
     }
 }
 
+#[tactic(auto, using(crate::proofs::Parts::part_laws))]
+fn judge_counted(
+    alloc: Global,
+    position: Position<'_>,
+    variable: &Name,
+    first: &Expr,
+    last: &Expr,
+    step: &Option<Expr>,
+) -> Result<Judged<Control>, NoMemory>
+    ensures breaks { IfOk result (λ j. j.breaks.items ≡ (rules.judged_control (seen position.entry) (fs.counted variable.now (written first.now) (written last.now) (maybe_written step.now))).breaks) }
+    ensures meaning { IfOk result (λ j. option_map control_seen j.meaning ≡ (rules.judged_control (seen position.entry) (fs.counted variable.now (written first.now) (written last.now) (maybe_written step.now))).meaning) }
+{
+    let first = judge_bound(alloc, position.scope, first)?;
+    let last = judge_bound(alloc, position.scope, last)?;
+    let ends = paired(first, last)?;
+    let counter = judge_counter(alloc, position, variable)?;
+    let start = paired(counter, ends)?;
+    let step = judge_step(alloc, position.scope, step)?;
+    let Judged { breaks, meaning } = paired(start, step)?;
+    Ok(Judged {
+        breaks,
+        meaning: counted(meaning),
+    })
+}
+
 fn repeated(condition: Option<TypedExpr>) -> Option<Control>
     ensures { option_map control_seen result ≡ made rules.while (option_map expression condition) }
 {
@@ -263,7 +288,23 @@ pub fn judge_control(
     ensures breaks { IfOk result (λ j. j.breaks.items ≡ (rules.judged_control (seen position.entry) (loop_control control.now)).breaks) }
     ensures meaning { IfOk result (λ j. option_map control_seen j.meaning ≡ (rules.judged_control (seen position.entry) (loop_control control.now)).meaning) }
 {
-    Err(NoMemory)
+    match control {
+        LoopControl::Unlimited => Ok(fine(alloc, Control::Forever)),
+        LoopControl::While { condition: expr } => {
+            let part = judge_part(alloc, position.scope, expr)?;
+            let Judged { breaks, meaning } = condition(part)?;
+            Ok(Judged {
+                breaks,
+                meaning: repeated(meaning),
+            })
+        }
+        LoopControl::Counted {
+            variable,
+            first,
+            last,
+            step,
+        } => judge_counted(alloc, position, variable, first, last, step),
+    }
 }
 
 fn local_of(found: Visible<'_>) -> Option<Local>

@@ -4,6 +4,7 @@
 #![tactic(auto)]
 
 pub mod case;
+pub mod construct;
 pub mod control;
 pub mod numbering;
 pub mod pair;
