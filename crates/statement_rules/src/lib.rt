@@ -3,5 +3,12 @@
 //! Its main contract: `statement::judge_statements` gives the judgement that the definition `judged_statements` says.
 #![tactic(auto)]
 
+pub mod case;
+pub mod construct;
+pub mod control;
 pub mod numbering;
+pub mod pair;
+pub mod position;
+pub mod range;
+pub mod selection;
 pub mod statement;
