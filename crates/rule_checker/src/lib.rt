@@ -5,3 +5,8 @@
 #![tactic(auto)]
 
 pub mod check;
+pub mod note;
+pub mod procedure;
+pub mod program;
+pub mod unit;
+pub mod variable;
