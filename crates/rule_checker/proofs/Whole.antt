@@ -98,12 +98,12 @@ opened_length s (x ∷ xs) =
 pub tables_length : (p : u.Program) (s c : Scope) (q : Procedures) → passed c q ≡ passed_through s (procedures_of p) None → length q.tables.items ≡ length (procedures_of p)
 unfolding passed passed_through passed_of
 tables_length p s c q h =
-    sym (length-map (owning c) q.tables.items) ∙ ap (λ (k : Passed). length k.scopes) h ∙ length-map scope_of_opened (opened_procedures s (procedures_of p)) ∙ opened_length s (procedures_of p)
+    sym (length-map q.tables.items (owning c)) ∙ ap (λ (k : Passed). length k.scopes) h ∙ length-map (opened_procedures s (procedures_of p)) scope_of_opened ∙ opened_length s (procedures_of p)
 
 pub interfaces_length : (p : u.Program) (s c : Scope) (q : Procedures) → passed c q ≡ passed_through s (procedures_of p) None → length q.interfaces.items ≡ length (procedures_of p)
 unfolding passed passed_through passed_of
 interfaces_length p s c q h =
-    sym (length-map interface q.interfaces.items) ∙ ap (λ (k : Passed). length k.interfaces) h ∙ length-map interface_of (opened_procedures s (procedures_of p)) ∙ opened_length s (procedures_of p)
+    sym (length-map q.interfaces.items interface) ∙ ap (λ (k : Passed). length k.interfaces) h ∙ length-map (opened_procedures s (procedures_of p)) interface_of ∙ opened_length s (procedures_of p)
 
 counted_first : (c : Counted) → behind no_count c ≡ c
 counted_first c =
@@ -247,6 +247,18 @@ scoped_is o x p j k e m c q h =
     ∙ ap (λ z. all j.main (rest_first p x.own x.procedures.grown.first x.first j.units.first) z k.units.procedures) c
     ∙ ap (all j.main (rest_first p x.own x.procedures.grown.first x.first j.units.first) j.units.counts) q
     ∙ ap (with_rest p x.own x.procedures.grown.first x.first) e
+
+-- what is found, from what was judged
+pub seen_first : (j : Judged) → j.units.first ≡ (seen j).units.first
+unfolding seen units
+seen_first j = refl
+
+pub formed_seen : (p : u.Program) (ns ms : List ℕ) (cs : List Constant) (j : Judged) (m : Option ts.Program) → ns ≡ ms
+    → m ≡ both (formed p ns cs (counted j.units.counts)) (option_map typed.unit j.main) (option_map (map typed.procedure) (option_map list_of j.units.procedures))
+    → m ≡ both (formed p ms cs (seen j).units.counted) (seen j).main (seen j).units.procedures
+unfolding seen units
+formed_seen p ns ms cs j m e h =
+    h ∙ ap (λ z. both (formed p z cs (counted j.units.counts)) (option_map typed.unit j.main) (option_map (map typed.procedure) (option_map list_of j.units.procedures))) e
 
 -- what check_tree answers
 pub accepts : (p : u.Program) (f : Option Broken) (c : Option Checked) (k : Checked) → f ≡ first_of None (program_judged p).breaks → (f ≡ None → option_map typed.program c ≡ (program_judged p).meaning)

@@ -14,7 +14,6 @@ use rule_definitions::broken::Broken;
 use std::alloc::Global;
 
 /// The checked program that a program is accepted as, or the first rule that it breaks. The program stays as it is.
-#[tactic(auto, using(crate::proofs::Whole::accepts))]
 pub fn check_tree(alloc: Global, program: &Program) -> Result<Checked, Refusal<Broken>>
     ensures accepted { IfOk result (λ c. Accepts (tree.program program.now) (typed.program c)) }
     ensures broken { IfErr result (λ refusal. IfCause refusal (λ b. first_break (tree.program program.now) ≡ Some b)) }

@@ -1,4 +1,4 @@
-use Rattle.std.proofs.Common.{ℕ, ◌<◌, ◌≤◌, [], arith, length, map}
+use Rattle.std.proofs.Common.{◌∙◌, ℕ, ◌<◌, ◌≤◌, [], ap, arith, length, map, sym}
 use Rattle.fortran_tree.specs.UnitViews.{procedure}
 use Rattle.scope_table.specs.Symbols.{interface}
 use Rattle.scope_table.proofs.Orders.{item_drop}
@@ -6,7 +6,7 @@ use Rattle.unit_scopes.proofs.Turns.{finish}
 use Rattle.unit_scopes.specs.Openings.{closing}
 use Rattle.unit_scopes.specs.Scopes.{main_scope, owning}
 use Rattle.std.proofs.Common.{drop}
-use Rattle.rule_checker.specs.Units.{all_further, units}
+use Rattle.rule_checker.specs.Units.{all_further, one_further, units}
 use Rattle.rule_checker.proofs.Units.{further_none, turn_further}
 use Rattle.rule_checker.proofs.procedure.judge_each.Goals as goal
 
@@ -23,7 +23,7 @@ loop-index-preserved c =
     (item_drop c.args.procedures.now c.loop-index.index c.index-procedures-index.result c.index-procedures-index.is n)
     (item_drop c.args.tables.now c.loop-index.index c.index-tables-index.result c.index-tables-index.is m)
     (item_drop c.args.common.interfaces.now c.loop-index.index c.index-common-index.result c.index-common-index.is k)
-    c.in_ok-judge_next.ensures c.loop-index.invariant
+    (c.in_ok-judge_next.ensures ∙ ap (λ j. one_further (map interface c.args.common.interfaces.now) c.args.common.constants.now (procedure c.index-procedures-index.result) (owning (closing (main_scope c.args.common.outside.now [] []) c.args.host.now) c.index-tables-index.result) (interface j) (units c.loop-index.all)) (sym c.index-common-index.is)) c.loop-index.invariant
 
 pub returns : goal.returns
 returns c =
