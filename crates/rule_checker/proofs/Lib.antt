@@ -1,2 +1,4 @@
 pub mod Firsts
 pub mod Typing
+pub mod Units
+pub mod Whole

@@ -5,14 +5,20 @@ use Rattle.std.proofs.lemmas.List.{append-nil, append_assoc}
 use Rattle.checked_tree.specs.declared.data.DataType.{DataType}
 use Rattle.checked_tree.specs.declared.data.Dimensions.TheVariants as shapes
 use Rattle.rule_definitions.specs.Constants.{all_bounds}
-use Rattle.rule_definitions.specs.Judgements.{all_made, fine, unknown}
-use Rattle.rule_definitions.specs.Names.{Symbol, variables_of}
+use Rattle.rule_definitions.specs.Judgements.{all_made, both, fine, first_of, unknown}
+use Rattle.rule_definitions.specs.Names.{Named, Symbol, variables_of}
+use Rattle.rule_definitions.specs.declared.broken.Broken.{Broken}
+use Rattle.rule_definitions.specs.Statements.{Position, judged_statements, most_hidden_of}
+use Rattle.checked_tree.specs.Statements as ts
+use Rattle.checked_tree.specs.declared.data.Variable.{Variable}
+use Rattle.fortran_tree.specs.Statements as fs
+use Rattle.rule_checker.specs.Units.{unit_here}
 use Rattle.rule_definitions.specs.Units.{coarray_numbers, dimensions_of, type_known, variable_of}
 use Rattle.scope_table.specs.Counts.{variable_count}
 use Rattle.scope_table.specs.Symbols.{entry, symbol}
 use Rattle.scope_table.specs.declared.symbol.Entry.{Entry}
 use Rattle.scope_table.specs.declared.symbol.Entry.TheVariants as entries
-use Rattle.rule_checker.specs.Typing.{coarray_number}
+use Rattle.rule_checker.specs.Typing.{coarray_number, typed_variables}
 
 pub nothing_behind : {T : Type 0} (xs : List T) → xs ++ [] ≡ xs
 nothing_behind xs = append-nil xs
@@ -56,3 +62,17 @@ pub turn_numbered : (es : List Entry) (i : ℕ) (e : Entry) (n m : ℕ) (ns ms e
 turn_numbered es i e n m ns ms end d k l h =
     ap (λ z. z ++ numbers_all m (drop (i + 1) es)) k ∙ ap (λ z. (ns ++ coarray_number n e) ++ numbers_all z (drop (i + 1) es)) l
     ∙ entry_number n e (drop (i + 1) es) ns ∙ ap (λ z. ns ++ numbers_all n z) (sym d) ∙ h
+
+-- a unit, from its parts
+pub unit_first : (own : List Named) (x : Position) (ss : fs.Statements) (f g : Option Broken) (bs : List Broken) → bs ≡ (judged_statements x ss).breaks → g ≡ first_of f bs → g ≡ first_of f (unit_here own x ss).breaks
+unfolding unit_here
+unit_first own x ss f g bs e h = h ∙ ap (first_of f) (e ∙ sym (ap (λ k. k ++ (judged_statements x ss).breaks) (no_breaks (variables_of own))))
+
+abbrev unit_with : ℕ → Option (List Variable) → Option ts.Statements → Option ts.Unit'
+unit_with h vs m = both (λ ws body. record { variables = ws; hidden = h; statements = body }) vs m
+
+pub unit_meaning : (own : List Named) (x : Position) (ss : fs.Statements) (h : ℕ) (vs : Option (List Variable)) (m : Option ts.Statements) (o : Option ts.Unit')
+    → h ≡ most_hidden_of ss → vs ≡ typed_variables (variables_of own) → m ≡ (judged_statements x ss).meaning → o ≡ unit_with h vs m → o ≡ (unit_here own x ss).meaning
+unfolding unit_here
+unit_meaning own x ss h vs m o e v j k =
+    k ∙ ap (λ z. unit_with z vs m) e ∙ ap (λ z. unit_with (most_hidden_of ss) z m) v ∙ ap (unit_with (most_hidden_of ss) (typed_variables (variables_of own))) j

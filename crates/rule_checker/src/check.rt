@@ -6,6 +6,7 @@ ghost use Rattle.fortran_tree.specs.UnitViews as tree;
 ghost use Rattle.checked_tree.specs.StatementViews as typed;
 ghost use Rattle.rule_definitions.specs.Acceptance.{Accepts, first_break};
 
+use crate::program::{Found, judge_program};
 use caf_base::refusal::Refusal;
 use checked_tree::program::Checked;
 use fortran_tree::unit::Program;
@@ -17,7 +18,16 @@ pub fn check_tree(alloc: Global, program: &Program) -> Result<Checked, Refusal<B
     ensures accepted { IfOk result (λ c. Accepts (tree.program program.now) (typed.program c)) }
     ensures broken { IfErr result (λ refusal. IfCause refusal (λ b. first_break (tree.program program.now) ≡ Some b)) }
 {
-    Err(Refusal::NoMemory)
+    let Found { first, checked } = judge_program(alloc, program)?;
+    if let Some(broken) = first {
+        drop(checked);
+        return Err(Refusal::Cause(broken));
+    }
+    match checked {
+        Some(checked) => Ok(checked),
+        // That this can't come, no break and no meaning, isn't proved yet.
+        None => Err(Refusal::NoMemory),
+    }
 }
 
 /// The checked program that a program is accepted as, or the first rule that it breaks.

@@ -6,4 +6,7 @@
 
 pub mod check;
 pub mod note;
+pub mod procedure;
+pub mod program;
+pub mod unit;
 pub mod variable;
