@@ -15,7 +15,7 @@ use fortran_tree::action::ActionForm;
 use part_rules::judged::Judged;
 use std::alloc::Global;
 
-/// An action statement at this place.
+/// An action statement at this place. It isn't built yet and answers want of memory alone.
 pub fn judge_action(
     alloc: Global,
     site: Site<'_>,

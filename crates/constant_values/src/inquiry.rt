@@ -1,4 +1,4 @@
-//! The inquiries SIZE, LBOUND and UBOUND (ISO/IEC 1539-1:2018, 16.9.163, 16.9.109 and 16.9.196), as far as bounds are known before the run.
+//! The inquiries SIZE, LBOUND and UBOUND (ISO/IEC 1539-1:2018, 16.9.179, 16.9.109 and 16.9.196), as far as bounds are known before the run.
 
 ghost use Rattle.std.specs.Prelude.{◌≡◌, IfOk};
 ghost use Rattle.caf_base.specs.declared.value.Value.TheVariants.{Int};

@@ -35,6 +35,7 @@ use image_code::step::{AskStep, Step};
 use std::alloc::Global;
 
 /// Appends the code of an expression: it leaves a number, or an array with its evaluation cells. After want of memory nothing is said of the draft.
+/// SIZE, LBOUND, UBOUND and GET_TEAM with a level aren't built yet: an expression with one of them is want of memory.
 #[cycle(expression)]
 #[tactic(auto, using(crate::proofs::Forms::laws))]
 pub fn push_expr(

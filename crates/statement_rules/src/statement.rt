@@ -24,7 +24,7 @@ pub struct Position<'a> {
     pub literals: u32,
 }
 
-/// A list of statements.
+/// A list of statements. The recursion isn't built yet, and this answers want of memory alone.
 pub fn judge_statements(
     alloc: Global,
     position: Position<'_>,
