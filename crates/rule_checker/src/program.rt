@@ -208,7 +208,9 @@ fn form_found(
 {
     let coarrays = number_coarrays(alloc, &scopes.own)?;
     let Scopes {
-        own, procedures, ..
+        own,
+        procedures,
+        ..
     } = scopes;
     drop(own);
     let Procedures {

@@ -1,0 +1,34 @@
+-- An option with its number is read, and then the rest.
+use Rattle.std.proofs.Common.{◌≡◌, ℕ, suc, ◌+◌, List, ◌∷◌, length, ap, ◌∙◌, arith, Result, Ok, Err, IfOk, IfErr, String, Global}
+use Rattle.std.specs.Prelude.{string_bytes}
+use Rattle.caf_base.specs.declared.refusal.Refusal.{Refusal}
+use Rattle.caf_base.specs.declared.refusal.Refusal.TheVariants.{Cause}
+use Rattle.caf_words.specs.Usages.{Word}
+use Rattle.caf_words.specs.Words.{words_in}
+use Rattle.caf_words.specs.Readings.{Rests, IsNextKey, Gives, RunsFrom, IsRefusedFrom}
+use Rattle.caf_words.specs.declared.words.Usage.{Usage}
+use Rattle.caf_words.specs.declared.words.Given.{Given}
+use Rattle.caf_words.specs.declared.words.Key.{Key}
+use Rattle.caf_words.specs.declared.words.Command.{Command}
+use Rattle.caf_words.proofs.Options.{usage_option, runs_option}
+
+pub stepped : (g h : Given) (k : Key) (word number : Word) (words : List Word) (place last : ℕ) (r : Result Command (Refusal Usage)) → IsNextKey g word k → Gives g k number h → IfOk r (RunsFrom h words last) → IfOk r (RunsFrom g (word ∷ number ∷ words) last)
+stepped g h k word number words place last (Ok c) is gives runs = runs_option g h k word number words last c is gives runs
+stepped g h k word number words place last (Err e) is gives runs = runs
+
+pub misstepped : (g h : Given) (k : Key) (word number : Word) (words : List Word) (place : ℕ) (r : Result Command (Refusal Usage)) → IsNextKey g word k → Gives g k number h → IfErr r (IsRefusedFrom (Rests h) words (place + 2)) → IfErr r (IsRefusedFrom (Rests g) (word ∷ number ∷ words) place)
+misstepped g h k word number words place (Ok c) is gives refused = refused
+misstepped g h k word number words place (Err e) is gives (n, usage, told) =
+    let far : place + 2 + n ≡ place + suc (suc n) = omega arith in
+    (suc (suc n), usage_option g h k word number words n is gives usage, told ∙ ap (λ m. Cause (record { word = m })) far)
+
+pub stepped_from : (g h : Given) (k : Key) (words behind rest : List (String Global)) (first second : String Global) (place : ℕ) (r : Result Command (Refusal Usage)) → words ≡ first ∷ behind → behind ≡ second ∷ rest
+    → IsNextKey g (string_bytes first) k → Gives g k (string_bytes second) h → IfOk r (RunsFrom h (words_in rest) (place + 2 + length rest)) → IfOk r (RunsFrom g (words_in words) (place + length words))
+stepped_from g h k words behind rest first second place r e f is gives runs =
+    let far : place + suc (suc (length rest)) ≡ place + 2 + length rest = omega arith in
+    rw (e, f, far) (stepped g h k (string_bytes first) (string_bytes second) (words_in rest) place (place + 2 + length rest) r is gives runs)
+
+pub misstepped_from : (g h : Given) (k : Key) (words behind rest : List (String Global)) (first second : String Global) (place : ℕ) (r : Result Command (Refusal Usage)) → words ≡ first ∷ behind → behind ≡ second ∷ rest
+    → IsNextKey g (string_bytes first) k → Gives g k (string_bytes second) h → IfErr r (IsRefusedFrom (Rests h) (words_in rest) (place + 2)) → IfErr r (IsRefusedFrom (Rests g) (words_in words) place)
+misstepped_from g h k words behind rest first second place r e f is gives refused =
+    rw (e, f) (misstepped g h k (string_bytes first) (string_bytes second) (words_in rest) place r is gives refused)
