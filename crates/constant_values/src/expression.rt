@@ -320,13 +320,13 @@ fn known_intrinsic(
         Intrinsic::Lbound { array, dim, .. } => {
             let dim = known_integer(alloc, scope, dim)?;
             let bounds = known_bounds(alloc, scope, array)?;
-            let bound = lower_bound(bounds.as_slice(), dim)?;
+            let bound = lower_bound(bounds.as_slice(), dim);
             Ok(number(alloc, bound))
         }
         Intrinsic::Ubound { array, dim, .. } => {
             let dim = known_integer(alloc, scope, dim)?;
             let bounds = known_bounds(alloc, scope, array)?;
-            let bound = upper_bound(bounds.as_slice(), dim)?;
+            let bound = upper_bound(bounds.as_slice(), dim);
             Ok(number(alloc, bound))
         }
         Intrinsic::FailedImages { .. } | Intrinsic::StoppedImages { .. } => {

@@ -1,21 +1,22 @@
 //! The inquiries SIZE, LBOUND and UBOUND (ISO/IEC 1539-1:2018, 16.9.179, 16.9.109 and 16.9.196), as far as bounds are known before the run.
 
-ghost use Rattle.std.specs.Prelude.{◌≡◌, IfOk};
-ghost use Rattle.caf_base.specs.declared.value.Value.TheVariants.{Int};
+ghost use Rattle.std.specs.Prelude.{◌≡◌};
 ghost use Rattle.checked_tree.specs.ExpressionViews.{expression, form};
 ghost use Rattle.rule_definitions.specs.Judgements.{made};
 ghost use Rattle.rule_definitions.specs.Constants as rules;
 ghost use Rattle.rule_definitions.specs.Constants.{as_constant};
 ghost use Rattle.constant_values.specs.Sizes.{capped};
 ghost use Rattle.constant_values.specs.Views.{known, of_number, part};
-ghost use Rattle.constant_values.specs.Inquiries.{is_designator};
+ghost use Rattle.constant_values.specs.Inquiries.{is_variable, is_variable_object};
 
+use crate::arithmetic::in_type;
 use crate::bounds::{Bounds, dimension_at, extent, shown_bounds, size};
 use crate::constancy::is_constant;
 use crate::known::Known;
 use crate::part::Part;
 use caf_base::listing::Listing;
-use caf_base::refusal::NoMemory;
+use caf_base::value::Kind;
+use checked_tree::data::{DataType, Object};
 use checked_tree::expr::{ExprForm, TypedExpr};
 use std::alloc::Global;
 
@@ -24,7 +25,7 @@ use std::alloc::Global;
 pub(crate) fn inquired_bounds(alloc: Global, expr: &TypedExpr, whole: Known) -> Listing<Bounds>
     ensures { result ≡ rules.inquired_bounds (expression expr.now) (known whole) }
 {
-    if is_designator(&expr.form) {
+    if is_variable(&expr.form) {
         return whole.bounds;
     }
     if is_constant(&whole.constancy) {
@@ -34,13 +35,23 @@ pub(crate) fn inquired_bounds(alloc: Global, expr: &TypedExpr, whole: Known) -> 
     }
 }
 
-// Whether an expression is a designator.
-#[tactic(auto, using(checked_tree::specs::ExpressionViews::typed_forms, crate::proofs::Inquiries::no_designator))]
-fn is_designator(found: &ExprForm) -> bool
-    ensures { result ≡ is_designator (form found.now) }
+// Whether an object isn't a named constant.
+fn is_variable_object(object: Object) -> bool
+    ensures { result ≡ is_variable_object object }
+{
+    match object {
+        Object::Constant(_) => false,
+        Object::Local(_) | Object::Coarray(_) => true,
+    }
+}
+
+// Whether an expression is a variable.
+#[tactic(auto, using(checked_tree::specs::ExpressionViews::typed_forms, checked_tree::specs::ExpressionViews::designator_is, crate::proofs::Inquiries::no_variable))]
+fn is_variable(found: &ExprForm) -> bool
+    ensures { result ≡ is_variable (form found.now) }
 {
     match found {
-        ExprForm::Designator(_) => true,
+        ExprForm::Designator(designator) => is_variable_object(designator.object),
         ExprForm::Number(_)
         | ExprForm::Logical(_)
         | ExprForm::Call { .. }
@@ -97,38 +108,22 @@ fn size_constant(size: Option<u128>) -> Option<i64>
     }
 }
 
-/// LBOUND of a dimension, where 64 bits can hold it.
-pub(crate) fn lower_bound(bounds: &[Bounds], dim: Option<i64>) -> Result<Option<i64>, NoMemory>
-    ensures { IfOk result (λ o. as_constant o ≡ of_number (λ n. as_constant (rules.lower_of (rules.shown_bounds (rules.dimension_at bounds.now n)))) dim) }
+/// LBOUND of a dimension, where it is a number of kind 4.
+pub(crate) fn lower_bound(bounds: &[Bounds], dim: Option<i64>) -> Option<i64>
+    ensures { as_constant result ≡ of_number (λ n. rules.bound_constant (rules.lower_of (rules.shown_bounds (rules.dimension_at bounds.now n)))) dim }
 {
-    let Some(number) = dim else {
-        return Ok(None);
-    };
-    match shown_bounds(dimension_at(bounds, number)) {
-        Some((lower, _)) => held(lower),
-        None => Ok(None),
+    match shown_bounds(dimension_at(bounds, dim?)) {
+        Some((lower, _)) => in_type(DataType::Intrinsic(Kind::I4), lower),
+        None => None,
     }
 }
 
-/// UBOUND of a dimension, where 64 bits can hold it.
-pub(crate) fn upper_bound(bounds: &[Bounds], dim: Option<i64>) -> Result<Option<i64>, NoMemory>
-    ensures { IfOk result (λ o. as_constant o ≡ of_number (λ n. as_constant (rules.upper_of (rules.shown_bounds (rules.dimension_at bounds.now n)))) dim) }
+/// UBOUND of a dimension, where it is a number of kind 4.
+pub(crate) fn upper_bound(bounds: &[Bounds], dim: Option<i64>) -> Option<i64>
+    ensures { as_constant result ≡ of_number (λ n. rules.bound_constant (rules.upper_of (rules.shown_bounds (rules.dimension_at bounds.now n)))) dim }
 {
-    let Some(number) = dim else {
-        return Ok(None);
-    };
-    match shown_bounds(dimension_at(bounds, number)) {
-        Some((_, upper)) => held(upper),
-        None => Ok(None),
-    }
-}
-
-// A bound as a number of 64 bits.
-fn held(bound: i128) -> Result<Option<i64>, NoMemory>
-    ensures { IfOk result (λ o. as_constant o ≡ rules.value (Int bound)) }
-{
-    match i64::try_from(bound) {
-        Ok(number) => Ok(Some(number)),
-        Err(_) => Err(NoMemory),
+    match shown_bounds(dimension_at(bounds, dim?)) {
+        Some((_, upper)) => in_type(DataType::Intrinsic(Kind::I4), upper),
+        None => None,
     }
 }

@@ -366,6 +366,11 @@ abbrev pub as_constant : Option ℤ → Constancy
 as_constant None = no_constant
 as_constant (Some n) = value (Int n)
 
+-- a bound that an inquiry gives is of default kind
+abbrev pub bound_constant : Option ℤ → Constancy
+bound_constant None = no_constant
+bound_constant (Some n) = in_type (Intrinsic I4) n
+
 abbrev pub size_constant : Option ℕ → Constancy
 size_constant None = no_constant
 size_constant (Some n) = in_type (Intrinsic I4) (pos n)
@@ -380,8 +385,9 @@ abbrev pub is_constant : Constancy → Bool
 is_constant no_constant = false
 is_constant c = true
 
--- an inquiry is constant of a variable and of a constant expression alone (10.1.12)
+-- an inquiry is constant of a variable and of a constant expression alone (10.1.12): a part of a named constant is constant where its subscripts are
 abbrev pub inquired_bounds : t.Expression → Known → List KnownBounds
+inquired_bounds (t.typed (t.designator (t.part (objects.Constant n) ss c)) y r) k = cond (is_constant k.constancy) k.bounds []
 inquired_bounds (t.typed (t.designator d) y r) k = k.bounds
 inquired_bounds e k = cond (is_constant k.constancy) k.bounds []
 
@@ -440,8 +446,8 @@ abbrev mutual
   known_intrinsic s t.huge y = scalar (huge_of y)
   known_intrinsic s (t.int a) y = scalar (of_integer (in_type y) (known s a).constancy)
   known_intrinsic s (t.size a d o) y = scalar (known_sizes (inquired_bounds a (known s a)) (known_optional s d))
-  known_intrinsic s (t.lbound a d o) y = scalar (of_integer (λ n. as_constant (lower_of (shown_bounds (dimension_at (inquired_bounds a (known s a)) n)))) (known s d).constancy)
-  known_intrinsic s (t.ubound a d o) y = scalar (of_integer (λ n. as_constant (upper_of (shown_bounds (dimension_at (inquired_bounds a (known s a)) n)))) (known s d).constancy)
+  known_intrinsic s (t.lbound a d o) y = scalar (of_integer (λ n. bound_constant (lower_of (shown_bounds (dimension_at (inquired_bounds a (known s a)) n)))) (known s d).constancy)
+  known_intrinsic s (t.ubound a d o) y = scalar (of_integer (λ n. bound_constant (upper_of (shown_bounds (dimension_at (inquired_bounds a (known s a)) n)))) (known s d).constancy)
   known_intrinsic s (t.failed_images m) y = record { constancy = no_constant; bounds = None ∷ [] }
   known_intrinsic s (t.stopped_images m) y = record { constancy = no_constant; bounds = None ∷ [] }
   known_intrinsic s i y = never
