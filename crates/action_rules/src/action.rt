@@ -5,9 +5,9 @@ ghost use Rattle.std.specs.Option.{option_map};
 ghost use Rattle.checked_tree.specs.StatementViews.{statement_form};
 ghost use Rattle.fortran_tree.specs.ActionViews as tree;
 ghost use Rattle.rule_definitions.specs.Actions as rules;
-ghost use Rattle.action_rules.specs.Sites.{site as seen};
+ghost use Rattle.branch_rules.specs.Sites.{site as seen};
 
-use crate::site::Site;
+use branch_rules::site::Site;
 use caf_base::place::Pos;
 use caf_base::refusal::NoMemory;
 use checked_tree::statement::StatementForm;

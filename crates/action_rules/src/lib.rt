@@ -5,4 +5,5 @@
 #![tactic(auto)]
 
 pub mod action;
-pub mod site;
+pub mod call;
+pub mod stop;

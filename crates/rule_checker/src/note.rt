@@ -3,7 +3,7 @@
 ghost use Rattle.std.specs.Prelude.{◌≡◌};
 ghost use Rattle.rule_definitions.specs.Judgements.{first_of, is_nothing};
 ghost use Rattle.rule_definitions.specs.Statements.{end_breaks, is_same_name};
-ghost use Rattle.action_rules.specs.Sites.{maybe_name};
+ghost use Rattle.branch_rules.specs.Sites.{maybe_name};
 ghost use Rattle.rule_checker.specs.Noted.{noted};
 
 use fortran_tree::name::Name;

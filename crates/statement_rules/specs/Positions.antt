@@ -2,7 +2,7 @@
 use Rattle.std.specs.Prelude.{map}
 use Rattle.rule_definitions.specs.Actions as a
 use Rattle.rule_definitions.specs.Statements as s
-use Rattle.action_rules.specs.Sites.{around}
+use Rattle.branch_rules.specs.Sites.{around}
 use Rattle.statement_rules.specs.declared.position.Numbers.{Numbers}
 use Rattle.statement_rules.specs.declared.statement.Position.{Position}
 

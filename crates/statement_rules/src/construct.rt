@@ -2,7 +2,7 @@
 
 ghost use Rattle.std.specs.Prelude.{◌≡◌, ◌+◌, IfOk, length, map};
 ghost use Rattle.std.specs.Option.{option_map};
-ghost use Rattle.action_rules.specs.Sites.{around as construct_seen};
+ghost use Rattle.branch_rules.specs.Sites.{around as construct_seen};
 ghost use Rattle.checked_tree.specs.ExpressionViews.{expression, maybe_result};
 ghost use Rattle.checked_tree.specs.Statements as ts;
 ghost use Rattle.checked_tree.specs.StatementViews.{statement as statement_seen, statement_form};
@@ -28,7 +28,7 @@ use crate::position::{Numbers, Passed};
 use crate::selection::Selection;
 use crate::statement::Position;
 use action_rules::action::judge_action;
-use action_rules::site::{Around, Site};
+use branch_rules::site::{Around, Site};
 use caf_base::place::Pos;
 use caf_base::refusal::NoMemory;
 use checked_tree::expr::{ResultVariable, TypedExpr};

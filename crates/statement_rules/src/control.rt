@@ -2,7 +2,7 @@
 
 ghost use Rattle.std.specs.Prelude.{◌≡◌, ◌++◌, cond, IfOk, None, Some, map};
 ghost use Rattle.std.specs.Option.{option_map};
-ghost use Rattle.action_rules.specs.Sites.{around as construct_seen};
+ghost use Rattle.branch_rules.specs.Sites.{around as construct_seen};
 ghost use Rattle.checked_tree.specs.Expressions as t;
 ghost use Rattle.checked_tree.specs.ExpressionViews.{expression, maybe_expression};
 ghost use Rattle.checked_tree.specs.StatementViews.{statement_form};
@@ -24,7 +24,7 @@ ghost use Rattle.statement_rules.specs.Positions.{position as seen};
 use crate::numbering::one_more;
 use crate::pair::paired;
 use crate::statement::Position;
-use action_rules::site::Around;
+use branch_rules::site::Around;
 use caf_base::place::Pos;
 use caf_base::refusal::NoMemory;
 use caf_base::value::Kind;

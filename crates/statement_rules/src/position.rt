@@ -1,11 +1,11 @@
 //! Positions behind statements and within constructs.
 
 ghost use Rattle.std.specs.Prelude.{◌≡◌, ◌∷◌, ◌++◌, [], IfOk, map};
-ghost use Rattle.action_rules.specs.Sites.{around as construct_seen};
+ghost use Rattle.branch_rules.specs.Sites.{around as construct_seen};
 ghost use Rattle.statement_rules.specs.Positions.{numbered, position as seen};
 
 use crate::statement::Position;
-use action_rules::site::Around;
+use branch_rules::site::Around;
 use caf_base::refusal::NoMemory;
 use part_rules::judged::Judged;
 use std::alloc::Global;

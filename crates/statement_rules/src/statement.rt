@@ -7,7 +7,7 @@ ghost use Rattle.fortran_tree.specs.StatementViews.{statement_list};
 ghost use Rattle.rule_definitions.specs.Statements as rules;
 ghost use Rattle.statement_rules.specs.Positions.{position as seen};
 
-use action_rules::site::Around;
+use branch_rules::site::Around;
 use caf_base::refusal::NoMemory;
 use checked_tree::statement::TypedStatement;
 use fortran_tree::statement::Statement;

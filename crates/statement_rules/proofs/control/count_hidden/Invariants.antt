@@ -1,5 +1,5 @@
 use Rattle.std.proofs.Common.{◌≡◌, ◌+◌, drop, map}
-use Rattle.action_rules.specs.Sites.{around}
+use Rattle.branch_rules.specs.Sites.{around}
 use Rattle.rule_definitions.specs.Statements.{hidden_of}
 use Rattle.statement_rules.proofs.control.count_hidden.Given as goal
 

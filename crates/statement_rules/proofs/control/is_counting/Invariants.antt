@@ -1,5 +1,5 @@
 use Rattle.std.proofs.Common.{◌≡◌, drop, map}
-use Rattle.action_rules.specs.Sites.{around}
+use Rattle.branch_rules.specs.Sites.{around}
 use Rattle.rule_definitions.specs.Actions.{is_active}
 use Rattle.statement_rules.proofs.control.is_counting.Given as goal
 

@@ -3,9 +3,9 @@ use Rattle.std.specs.Prelude.{map, Option, Some, None}
 use Rattle.std.specs.Borrow.{Bor}
 use Rattle.fortran_tree.specs.declared.name.Name.{Name}
 use Rattle.rule_definitions.specs.Actions as a
-use Rattle.action_rules.specs.declared.site.Around.{Around}
-use Rattle.action_rules.specs.declared.site.Around.TheVariants as arounds
-use Rattle.action_rules.specs.declared.site.Site.{Site}
+use Rattle.branch_rules.specs.declared.site.Around.{Around}
+use Rattle.branch_rules.specs.declared.site.Around.TheVariants as arounds
+use Rattle.branch_rules.specs.declared.site.Site.{Site}
 
 abbrev pub maybe_name : Option (Bor Name) → Option Name
 maybe_name None = None
