@@ -72,8 +72,12 @@ fn judge_written(
     ensures breaks { IfOk result (λ j. j.breaks.items ≡ (written_format number format.now has_values).breaks) }
     ensures meaning { IfOk result (λ j. option_map format_seen j.meaning ≡ (written_format number format.now has_values).meaning) }
 {
-    let JudgedFormat { breaks, meaning } =
-        judge_format(alloc, format.text.as_slice(), has_values, format.at)?;
+    let JudgedFormat { breaks, meaning } = judge_format(
+        alloc,
+        format.text.as_slice(),
+        has_values,
+        format.at,
+    )?;
     Ok(Judged {
         breaks,
         meaning: format_of(number, meaning),
@@ -213,10 +217,7 @@ fn judge_items(
 }
 
 #[tactic(auto, using(checked_tree::specs::StatementViews::typed_statement_forms))]
-fn print_form(
-    format: Option<TypedFormat>,
-    items: Option<Vec<TypedItem>>,
-) -> Option<StatementForm>
+fn print_form(format: Option<TypedFormat>, items: Option<Vec<TypedItem>>) -> Option<StatementForm>
     ensures { option_map statement_form result ≡ both ts.print (option_map format_seen format) (option_map (map item_seen) (option_map list_of items)) }
 {
     let Some(format) = format else {
