@@ -10,6 +10,7 @@ ghost use Rattle.rule_definitions.specs.Parts as parts;
 use caf_base::refusal::NoMemory;
 use checked_tree::expr::TypedExpr;
 use fortran_tree::expr::Expr;
+use image_control_rules::optional::maybe_code;
 use part_rules::judged::Judged;
 use scope_table::scope::Scope;
 use std::alloc::Global;
@@ -23,5 +24,5 @@ pub fn judge_code(
     ensures breaks { IfOk result (λ j. j.breaks.items ≡ (rules.maybe parts.bound_or_code scope.now (maybe_expression code.now)).breaks) }
     ensures meaning { IfOk result (λ j. option_map code_seen j.meaning ≡ (rules.maybe parts.bound_or_code scope.now (maybe_expression code.now)).meaning) }
 {
-    Err(NoMemory)
+    maybe_code(alloc, scope, code)
 }
