@@ -1,5 +1,6 @@
 pub mod Frames
 pub mod Taking
-pub mod DivisionLaws
+pub mod KindLaws
 pub mod PowerLaws
 pub mod LoopLaws
+pub mod StackLaws

@@ -4,7 +4,7 @@ use Rattle.std.specs.Prelude.{neg_ℤ, ◌*ℤ◌, ◌==◌, FitsSigned, unsigne
 use Rattle.std.specs.Int.{w64, int_pow}
 use Rattle.std.proofs.lemmas.Bool.{cases_Bool}
 use Rattle.std.proofs.Math.Nat.{pow-succ', pow-le-pow_right}
-use Rattle.std.proofs.lemmas.Int.{unsigned_abs-mul}
+use Rattle.std.proofs.lemmas.Int.{unsigned_abs-mul, ints}
 use Rattle.std.proofs.lemmas.Nat.{mul-le}
 use Rattle.std.proofs.lemmas.Grind.{common_steps}
 use Rattle.walk_theory.specs.Terms.{Found, found, at_fault}
@@ -13,7 +13,7 @@ use Rattle.caf_base.specs.declared.value.Kind.TheVariants as kinds
 use Rattle.caf_base.specs.Arithmetic.{fits_kind, power_of}
 use Rattle.image_acts.specs.Operate.Operators.{in_kind, quotient, raised}
 use Rattle.image_state.specs.Plain.{IsInteger}
-use Rattle.image_state.proofs.DivisionLaws.{outside}
+use Rattle.image_state.proofs.KindLaws.{outside}
 
 pow_more : (a n : ℕ) → a ^ suc n ≡ a * a ^ n
 pow_more a n = pow-succ' a n
@@ -50,7 +50,7 @@ pub no_factor : (x : ℤ) (n : ℕ) → n ≡ 0 → pos 1 ≡ power_of x n
 no_factor x n h = ap (power_of x) (sym h)
 
 power_of_zero : (n : ℕ) → power_of (pos 0) (suc n) ≡ pos 0
-power_of_zero n = pos_power 0 (suc n) ∙ ap pos (pow_more 0 n)
+power_of_zero n = (let z : 0 * 0 ^ n ≡ 0 = omega arith in pos_power 0 (suc n) ∙ ap pos (pow_more 0 n ∙ z))
 
 one_to : (n : ℕ) → 1 ^ n ≡ 1
 one_to zero = refl
@@ -74,13 +74,13 @@ odd_unit (negsuc zero) n h o = sym (power_of_minus_one n ∙ ap (λ (b : Bool). 
 odd_unit (negsuc (suc a)) n h o = absurd (omega arith)
 
 pub even_unit : (x : ℤ) (n : ℕ) → unsigned_abs x < 2 → n % 2 ≢ 1 → x <ℤ pos 0 → pos 1 ≡ power_of x n
-even_unit (pos a) n h o s = absurd (omega arith)
+even_unit (pos a) n h o s = absurd (omega (arith, ints))
 even_unit (negsuc zero) n h o s = (let e : n % 2 ≡ 0 = omega arith in sym (power_of_minus_one n ∙ ap (λ (b : Bool). cond b (pos 1) (negsuc 0)) (ap (λ m. m == 0) e)))
 even_unit (negsuc (suc a)) n h o s = absurd (omega arith)
 
 pub even_natural : (x : ℤ) (n : ℕ) → unsigned_abs x < 2 → n ≢ 0 → pos 0 ≤ℤ x → x ≡ power_of x n
 even_natural (pos a) n h z s = natural_unit a n h z
-even_natural (negsuc a) n h z s = absurd (omega arith)
+even_natural (negsuc a) n h z s = absurd (omega (arith, ints))
 
 -- powers of other numbers
 two_to : (x : ℤ) (n : ℕ) → 2 ≤ unsigned_abs x → 2 ^ n ≤ unsigned_abs (power_of x n)
@@ -120,11 +120,14 @@ fault_where : (k : Kind) (z : ℤ) (f : ℕ) (b : Bool) → fits_kind k z ≡ b 
 fault_where k z f true e h = absurd (cc)
 fault_where k z f false e h = (cc, e)
 
-raised_where : (k : Kind) (x n : ℤ) (s : Bool) → fits_kind k (power_of x (nat_abs n)) ≡ false → at_fault {X = ℤ} 1 ≡ cond s (cond (fits_kind k (power_of x (nat_abs n))) (quotient k (pos 1) (power_of x (nat_abs n))) (at_fault 1)) (in_kind k (power_of x (nat_abs n)))
+abbrev faulty : ℕ → Found ℤ
+faulty k = at_fault k
+
+raised_where : (k : Kind) (x n : ℤ) (s : Bool) → fits_kind k (power_of x (nat_abs n)) ≡ false → faulty 1 ≡ cond s (cond (fits_kind k (power_of x (nat_abs n))) (quotient k (pos 1) (power_of x (nat_abs n))) (at_fault 1)) (in_kind k (power_of x (nat_abs n)))
 raised_where k x n true f = sym (ap (λ (b : Bool). cond b (quotient k (pos 1) (power_of x (nat_abs n))) (at_fault 1)) f)
 raised_where k x n false f = sym (ap (λ (b : Bool). cond b (found (power_of x (nat_abs n))) (at_fault 1)) f)
 
 pub raised_faults : (k : Kind) (x n : ℤ) (f : ℕ) → at_fault f ≡ in_kind k (power_of x (nat_abs n)) → at_fault f ≡ raised k x n
 raised_faults k x n f h =
     let w = fault_where k (power_of x (nat_abs n)) f (fits_kind k (power_of x (nat_abs n))) refl h in
-    ap (λ (g : ℕ). at_fault g) w.0 ∙ raised_where k x n (int_lt n (pos 0)) w.1
+    ap faulty w.0 ∙ raised_where k x n (int_lt n (pos 0)) w.1

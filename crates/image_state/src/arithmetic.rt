@@ -81,7 +81,6 @@ pub(crate) fn product(kind: Kind, v: i64, w: i64) -> Computed
 }
 
 /// A number without its sign (16.9.2).
-#[tactic(auto, using(crate::proofs::DivisionLaws::magnitude_negative, crate::proofs::DivisionLaws::magnitude_other))]
 pub(crate) fn absolute(kind: Kind, v: i64) -> Computed
     requires { IsInteger kind }
     ensures { as_found result ≡ in_kind kind (magnitude v) }

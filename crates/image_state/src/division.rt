@@ -27,7 +27,6 @@ pub(crate) fn quotient(kind: Kind, v: i64, w: i64) -> Computed
 }
 
 /// A quotient by a number other than 0.
-#[tactic(auto, using(crate::proofs::DivisionLaws::no_quotient))]
 fn divided(kind: Kind, v: i64, w: i64) -> Computed
     requires integer { IsInteger kind }
     requires divisor { int_eq w (pos 0) ≡ false }

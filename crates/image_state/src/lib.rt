@@ -8,4 +8,5 @@ mod division;
 mod loops;
 mod operators;
 mod powers;
+mod stack;
 pub mod state;

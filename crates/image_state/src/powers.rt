@@ -78,7 +78,7 @@ fn checked_power(x: i64, n: u32) -> Option<i64>
 }
 
 /// A number times itself.
-#[tactic(auto, using(crate::proofs::DivisionLaws::outside))]
+#[tactic(auto, using(crate::proofs::KindLaws::outside))]
 fn multiplied(kind: Kind, x: i64, n: u32) -> Computed
     requires { IsInteger kind }
     ensures { as_found result ≡ in_kind kind (power_of x n) }
