@@ -114,7 +114,7 @@ raised_below k x n p y h s q =
     let f = found_where k (power_of x (nat_abs n)) p (fits_kind k (power_of x (nat_abs n))) refl h in
     q ∙ ap (quotient k (pos 1)) f.0
     ∙ sym (ap (λ (b : Bool). cond b (cond (fits_kind k (power_of x (nat_abs n))) (quotient k (pos 1) (power_of x (nat_abs n))) (at_fault 1)) (in_kind k (power_of x (nat_abs n)))) s
-        ∙ ap (λ (b : Bool). cond b (quotient k (pos 1) (power_of x (nat_abs n))) (at_fault 1)) f.1)
+    ∙ ap (λ (b : Bool). cond b (quotient k (pos 1) (power_of x (nat_abs n))) (at_fault 1)) f.1)
 
 fault_where : (k : Kind) (z : ℤ) (f : ℕ) (b : Bool) → fits_kind k z ≡ b → at_fault f ≡ cond b (found z) (at_fault 1) → (f ≡ 1) × (fits_kind k z ≡ false)
 fault_where k z f true e h = absurd (cc)

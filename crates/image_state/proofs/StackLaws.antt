@@ -51,7 +51,7 @@ module _ (m : Kept) (d n : ℕ) where
       let t = taken_down d m.core.values [] (omega arith) in
       let u = taken_down n (drop d m.core.values) [] (omega (arith, length-drop d m.core.values)) in
       let s : put_down u.0 (put_down t.0 (drop n (drop d m.core.values))) ≡ take n (drop d m.core.values) ++ (take d m.core.values ++ drop (d + n) m.core.values)
-          = u.2 (put_down t.0 (drop n (drop d m.core.values))) ∙ ap (λ ws. take n (drop d m.core.values) ++ ws) (t.2 (drop n (drop d m.core.values)) ∙ ap (λ ws. take d m.core.values ++ ws) (drop_twice m.core.values d n)) in
+      = u.2 (put_down t.0 (drop n (drop d m.core.values))) ∙ ap (λ ws. take n (drop d m.core.values) ++ ws) (t.2 (drop n (drop d m.core.values)) ∙ ap (λ ws. take d m.core.values ++ ws) (drop_twice m.core.values d n)) in
       subst (λ o. Acts m (given o (λ p. given (taken n p.1 []) (λ q. goes_to (with_values m.core (put_down q.0 (put_down p.0 q.1)))))) e actings.Done) (sym t.1)
       (subst (λ o. Acts m (given o (λ q. goes_to (with_values m.core (put_down q.0 (put_down t.0 q.1))))) e actings.Done) (sym u.1)
       (refl, g ∙ ap (λ vs. with_core m (with_values m.core vs)) (sym s)))

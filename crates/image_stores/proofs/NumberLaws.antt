@@ -238,8 +238,8 @@ bring_view s s' used d n h e w f r =
     let lr : length (drop n (between s start used)) ≡ d = omega (arith, length-drop n (between s start used)) in
     let lp : length (take start s) ≡ start = omega (arith, length-take start s) in
     let x : below s' used ≡ brought d n h.values = ap (λ t. below t used) r
-        ∙ turned_around (take start s) (take n (between s start used)) (drop n (between s start used)) (drop used s) n d used lq lr (omega arith)
-        ∙ ap (λ t. brought d n (below t used)) (sym (in_parts s start used n (omega arith)))
-        ∙ ap (brought d n) (sym (ap (λ (x : Pile). x.values) e)) in
+    ∙ turned_around (take start s) (take n (between s start used)) (drop n (between s start used)) (drop used s) n d used lq lr (omega arith)
+    ∙ ap (λ t. brought d n (below t used)) (sym (in_parts s start used n (omega arith)))
+    ∙ ap (brought d n) (sym (ap (λ (x : Pile). x.values) e)) in
     let y : length s' ≡ h.size = ap length r ∙ rotated_long s start used n (omega arith) w ∙ sym (ap (λ (x : Pile). x.size) e) in
     rw (x, y) refl
