@@ -3,5 +3,10 @@
 //! Its main contract is `ImageState::act`: the core becomes what `operate` says of the step's act, or stays where that faults, asks or has no operand.
 #![tactic(auto)]
 
+mod arithmetic;
+mod division;
+mod loops;
 mod operators;
+mod powers;
+mod stack;
 pub mod state;

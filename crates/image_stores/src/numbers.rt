@@ -1,6 +1,6 @@
 //! A stack of numbers in room that is made once.
 
-ghost use Rattle.std.specs.Prelude.{◌≡◌, ◌+◌, ◌<◌, ◌≤◌, ◌∷◌, [], pos, drop, slice_index_or, IfSome, IfNone, IsTrue, IsFalse, length, slice_get, slice_set, ℤ, List};
+ghost use Rattle.std.specs.Prelude.{◌≡◌, ◌+◌, ◌-◌, ◌^◌, ◌<◌, ◌≤◌, ◌∷◌, ◌++◌, [], pos, take, drop, slice_index_or, IfSome, IfNone, IsTrue, IsFalse, length, slice_get, slice_set, ℤ, List};
 ghost use Rattle.image_stores.specs.Numbers.{Pile, below};
 
 use crate::rows::{read, write};
@@ -178,4 +178,56 @@ impl Numbers {
         write(&mut self.cells, used - 2, v);
         self.used = used - 1;
     }
+
+    /// Whether so many numbers stand beneath so many others.
+    #[tactic(auto, using(crate::proofs::NumberLaws::below_length))]
+    pub fn has(&self, depth: usize, n: usize) -> bool
+        ensures there { IsTrue result → depth + n ≤ length self.now.values }
+        ensures not { IsFalse result → length self.now.values < depth + n }
+    {
+        let used = self.used;
+        depth <= used && n <= used - depth
+    }
+
+    /// Puts the number beneath so many others on top once more.
+    #[tactic(auto, using(crate::proofs::NumberLaws::below_index, crate::proofs::NumberLaws::below_length))]
+    fn push_again(&mut self, depth: usize)
+        requires there { depth < length self.old.values }
+        requires room { length self.old.values < self.old.size }
+        ensures { self.new ≡ record { values = slice_index_or self.old.values depth (pos 0) ∷ self.old.values; size = self.old.size } }
+    {
+        let v = read(&self.cells, self.used - 1 - depth);
+        self.push(v);
+    }
+
+    /// Puts the `n` numbers beneath `depth` others on top once more, in their order.
+    pub fn repeat(&mut self, depth: usize, n: usize)
+        requires there { depth + n ≤ length self.old.values }
+        requires small { depth + n < 2 ^ 64 }
+        requires room { length self.old.values + n ≤ self.old.size }
+        ensures { self.new ≡ record { values = take n (drop depth self.old.values) ++ self.old.values; size = self.old.size } }
+    {
+        for i in 0..n {
+            let _ = i;
+            self.push_again(depth + n - 1);
+        }
+    }
+
+    /// Brings the `n` numbers beneath `depth` others to the top, in their order.
+    pub fn bring(&mut self, depth: usize, n: usize)
+        requires { depth + n ≤ length self.old.values }
+        ensures { self.new ≡ record { values = take n (drop depth self.old.values) ++ (take depth self.old.values ++ drop (depth + n) self.old.values); size = self.old.size } }
+    {
+        let used = self.used;
+        rotate(&mut self.cells, used - depth - n, used, n);
+    }
+}
+
+/// The first `n` of the cells from `start` to `end` come behind the others.
+fn rotate(cells: &mut Vec<i64>, start: usize, end: usize, n: usize)
+    requires within { end ≤ length cells.old.items }
+    requires some { start + n ≤ end }
+    ensures { cells.new.items ≡ take start cells.old.items ++ ((drop n (take (end - start) (drop start cells.old.items)) ++ take n (take (end - start) (drop start cells.old.items))) ++ drop end cells.old.items) }
+{
+    cells[start..end].rotate_left(n);
 }
