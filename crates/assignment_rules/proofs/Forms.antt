@@ -59,7 +59,6 @@ procedure_means s d = no_meaning s (tree.designator d)
 pub procedure_breaks : (s : Scope) (d : WrittenDesignator)
     → (procedure_target s (tree.designator d)).breaks ≡ refused_breaks (parts_breaks s (tree.designator d)) (cond (is_selected (tree.maybe_image_selector (out-Designator d).selector)) 34 47) (out-Designator d).name.at
 procedure_breaks s d =
-    let x = f.part_ref (out-Designator d).name (tree.section_subscripts (out-Designator d).subscripts.items) (tree.maybe_image_selector (out-Designator d).selector) in
     ap (λ y. (procedure_target s y).breaks) (tree.designator_is d)
     ∙ ap (λ y. refused_breaks (parts_breaks s y) (cond (is_selected (tree.maybe_image_selector (out-Designator d).selector)) 34 47) (out-Designator d).name.at) (sym (tree.designator_is d))
 

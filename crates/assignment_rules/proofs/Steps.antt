@@ -24,7 +24,10 @@ assigned_says s p q m = judged_form_breaks (assignment_form m.0 m.1) (assigned_b
 pub assigned_means : (s : Site) (p q : Pos) (m : t.Expression × t.Expression) → (assigned_to s p q m).meaning ≡ cond (is_nothing (assigned_breaks s p q m.0 m.1)) (assignment_form m.0 m.1) None
 assigned_means s p q m = ap (λ o. cond (is_nothing (assigned_breaks s p q m.0 m.1)) o None) (judged_form_means (assignment_form m.0 m.1))
 
-no_break : (b : Bool) → cond b ([] {A = Broken}) [] ≡ []
+abbrev nothing_broken : List Broken
+nothing_broken = []
+
+no_break : (b : Bool) → cond b nothing_broken nothing_broken ≡ nothing_broken
 no_break true = refl
 no_break false = refl
 

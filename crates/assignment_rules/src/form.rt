@@ -10,10 +10,10 @@ ghost use Rattle.assignment_rules.specs.Assignments.{assignment_form as form_of_
 ghost use Rattle.assignment_rules.specs.Targets.{local_in, local_part};
 
 use crate::assigned::Sides;
+use caf_base::value::Kind;
 use checked_tree::data::{DataType, Local, Object};
 use checked_tree::expr::{Designator, ExprForm, Intrinsic, TypedExpr};
 use checked_tree::statement::{ListedImages, StatementForm};
-use caf_base::value::Kind;
 use image_control_rules::form::is_listed;
 use specifier_rules::variable::{as_designator, designator_in as into_designator};
 
