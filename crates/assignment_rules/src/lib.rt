@@ -3,4 +3,8 @@
 //! Its main contract: `assignment::judge_assignment` gives the judgement that the definition `assignment` says.
 #![tactic(auto)]
 
+pub mod assigned;
 pub mod assignment;
+pub mod definable;
+pub mod form;
+pub mod target;
