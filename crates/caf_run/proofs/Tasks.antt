@@ -20,16 +20,16 @@ asks_valid words (Run n seed) file asked = inl (n, seed, file, asked)
 
 -- the same task of the same file
 pub record Same (task : Task) (file : Word) (task' : Task) (file' : Word) : Type 0 where
-  pub task : task ≡ task'
-  pub file : file ≡ file'
+  pub of_task : task ≡ task'
+  pub of_file : file ≡ file'
 
 pub one_task : (words : List Word) (task task' : Task) (file file' : Word) → Asks words task file → Asks words task' file' → Same task file task' file'
-one_task words Check Check file file' first second = record { task = refl; file = cc (first.form, second.form) }
+one_task words Check Check file file' first second = record { of_task = refl; of_file = cc (first.form, second.form) }
 one_task words Check (Run n seed) file file' first second = absurd (not_both words n seed file' file second first)
 one_task words (Run n seed) Check file file' first second = absurd (not_both words n seed file file' first second)
 one_task words (Run n seed) (Run n' seed') file file' first second =
     let same = one_run words n seed file n' seed' file' first second in
-    record { task = cc (same.images, same.order); file = same.name }
+    record { of_task = cc (same.images, same.order); of_file = same.name }
 
 -- a command that the words mean is for the task that they ask for, and has its file
 pub means_at : (words : List Word) (command : Command) → Means words command → AsksAt words (task_of command) (place_of_file command)

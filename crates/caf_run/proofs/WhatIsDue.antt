@@ -106,37 +106,6 @@ whole_file files file task left' faults faults' bytes status text report whole f
         by_known (inr s) (inr (inl k)) = omega arith
         by_known (inr s) (inr (inr k)) = omega arith
 
--- a file that was not read: with 10, or with 13
-pub fault_file : (files : Option Files) (file : Word) (task : Task) (left' : Option (List ℕ)) (faults faults' status : ℕ) (text : List ℕ) (report : Option Report) → MayNotBegin files file faults faults' → status ≡ 10 → text ≡ codes "read fault\n" → report ≡ None
-    → FileDue files file task left' faults faults' status text report
-fault_file files file task left' faults faults' status text report fault s t e = record {
-  usage = λ k. omega arith;
-  refused = λ k. absurd (omega arith);
-  accepted = λ r. absurd (not_run status r (inr (inr (inl s))));
-  input = λ h. absurd (elim h [ inl r ↦ not_run status r (inr (inr (inl s))) | inr k ↦ omega arith ]);
-  read_fault = λ _. (fault, t);
-  too_long = λ k. absurd (omega arith);
-  absent = λ _. s;
-  settled = λ bytes has. inr (s, fault_settles files file bytes faults faults' fault has);
-  told = subst (λ v. IsTold task v status text) (sym e) (inr (inr (inl s)));
-  ran = subst (RanAs task _) (sym e) tt;
-}
-
-pub longer_file : (files : Option Files) (file : Word) (task : Task) (left' : Option (List ℕ)) (faults faults' status : ℕ) (text : List ℕ) (report : Option Report) → IsLonger files file 65536 → status ≡ 13 → text ≡ codes "too long\n" → report ≡ None
-    → FileDue files file task left' faults faults' status text report
-longer_file files file task left' faults faults' status text report longer s t e = record {
-  usage = λ k. omega arith;
-  refused = λ k. absurd (omega arith);
-  accepted = λ r. absurd (not_run status r (inr (inr (inr s))));
-  input = λ h. absurd (elim h [ inl r ↦ not_run status r (inr (inr (inr s))) | inr k ↦ omega arith ]);
-  read_fault = λ k. absurd (omega arith);
-  too_long = λ _. (longer, t);
-  absent = λ none. absurd (longer_has files file 65536 longer none);
-  settled = λ bytes has. inl (longer_settles files file bytes task status longer has s);
-  told = subst (λ v. IsTold task v status text) (sym e) (inr (inr (inr (inl s))));
-  ran = subst (RanAs task _) (sym e) tt;
-}
-
 told_words : (words : List Word) (task : Task) (file : Word) (report : Option Report) (status : ℕ) (text : List ℕ) → Asks words task file → IsTold task report status text → ReportClause words report status text
 told_words words Check file None status text asked (inr (inr (inr (inr (s, t))))) = inr (inr (inr (inr (s, (file, asked), t))))
 told_words words (Run n seed) file None status text asked (inr (inr (inr (inr h)))) = absurd h
@@ -163,7 +132,7 @@ file_named words task file files left' faults faults' status text report asked f
     too_long = λ s. (let h = f.too_long s in (file, (task, asked), h.0, h.1));
   };
   exact = record {
-    absent = λ other named none. f.absent (subst (HaveNot files) (one_task words named.0 task other file named.1 asked).file none);
+    absent = λ other named none. f.absent (subst (HaveNot files) (one_task words named.0 task other file named.1 asked).of_file none);
     settled = λ task' other bytes asked' has. settled task' other bytes (one_task words task' task other file asked' asked) has;
   };
   reported = told_words words task file report status text asked f.told;
@@ -172,7 +141,7 @@ file_named words task file files left' faults faults' status text report asked f
   where
     settled : (task' : Task) (other : Word) (bytes : List ℕ) → Same task' other task file → HasBytes files other bytes → Settle task' bytes status ⊎ ((status ≡ 10) × Rose faults faults')
     settled task' other bytes same has =
-        subst (λ v. Settle v bytes status ⊎ ((status ≡ 10) × Rose faults faults')) (sym same.task) (f.settled bytes (subst (λ v. HasBytes files v bytes) same.file has))
+        subst (λ v. Settle v bytes status ⊎ ((status ≡ 10) × Rose faults faults')) (sym same.of_task) (f.settled bytes (subst (λ v. HasBytes files v bytes) same.of_file has))
 
 -- words that are no valid list
 pub usage_wrong : (words : List Word) (k : ℕ) (files : Option Files) (left' : Option (List ℕ)) (faults faults' status : ℕ) (text : List ℕ) (report : Option Report) → UsageIs words k → status ≡ 2 → text ≡ usage_text k → report ≡ None → IsDue words files left' faults faults' status text report

@@ -30,7 +30,7 @@ report_there words n seed file status text (Some r) asked clause run = (r, refl,
 -- no report, where they check
 report_none : (words : List Word) (file : Word) (files : Option Files) (report : Option Report) → IsCheck words file → RunClause words files report → report ≡ None
 report_none words file files None asked ran = refl
-report_none words file files (Some r) asked (n, seed, other, bytes, p, run, rest) = absurd (not_both words n seed other file run asked)
+report_none words file files (Some r) asked (n, seed, other, bytes, p, run, whole, stands, of) = absurd (not_both words n seed other file run asked)
 
 task_done : (words : List Word) (task : Task) (file : Word) (files : Option Files) (status : ℕ) (text : List ℕ) (report : Option Report) → Asks words task file → ReportClause words report status text → RunClause words files report → IsDoneStatus task status → IsTaskDone task report status
 task_done words Check file files status text report asked clause ran done = (rw (report_none words file files report asked ran) refl, done)
