@@ -399,7 +399,15 @@ fn faults_of_a_check(rt: HostRuntime) {
         broken: &[4],
         failing: &[2],
     };
-    says(&rt, rt.alloc(), &CHECK, NEIGHBOUR, broken, 10, "read fault\n");
+    says(
+        &rt,
+        rt.alloc(),
+        &CHECK,
+        NEIGHBOUR,
+        broken,
+        10,
+        "read fault\n",
+    );
     says(&rt, rt.alloc(), &CHECK, NEIGHBOUR, short, 11, "ok");
     says(
         &rt,
