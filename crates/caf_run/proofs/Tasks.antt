@@ -1,10 +1,10 @@
 -- Words ask for one task of one file.
-use Rattle.std.proofs.Common.{◌≡◌, ℕ, ◌<◌, ◌≤◌, ◌-◌, ◌⊎◌, inl, inr, List, length, Some, String, Global, refl, sym, subst, arith}
+use Rattle.std.proofs.Common.{◌≡◌, ℕ, ◌<◌, ◌≤◌, ◌-◌, inl, inr, List, length, Some, String, Global, refl, subst, arith}
 use Rattle.std.specs.Prelude.{slice_get}
 use Rattle.std.proofs.lemmas.List.{length-map}
 use Rattle.std.proofs.lemmas.Option.{slice_get_within}
 use Rattle.caf_words.specs.Usages.{Word}
-use Rattle.caf_words.specs.Words.{words_in, IsRun, IsCheck, IsValid, Means}
+use Rattle.caf_words.specs.Words.{words_in, IsValid, Means}
 use Rattle.caf_words.specs.declared.words.Command.{Command}
 use Rattle.caf_words.specs.declared.words.Command.TheVariants as commands
 use Rattle.caf_words.specs.declared.words.Input.TheVariants.{File}

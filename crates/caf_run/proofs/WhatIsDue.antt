@@ -1,26 +1,25 @@
 -- What is due, case by case.
-use Rattle.std.proofs.Common.{◌≡◌, ℕ, ◌≤◌, length, ap, List, ◌⊎◌, inl, inr, sym, ◌∙◌, subst, arith}
-use Rattle.std.specs.Prelude.{Option, None, Some, codes, Result, Ok, Err, IfOk}
+use Rattle.std.proofs.Common.{◌≡◌, ℕ, ◌≤◌, length, ap, List, ◌⊎◌, inl, inr, sym, subst, arith}
+use Rattle.std.specs.Prelude.{Option, None, Some, Result, Ok, Err, IfOk}
 use Rattle.caf_base.specs.declared.place.Pos.{Pos}
 use Rattle.caf_base.specs.declared.thin.ThinProgram.{ThinProgram}
-use Rattle.caf_base.specs.Outside.{Files, Rose, HaveNot, MayNotBegin}
+use Rattle.caf_base.specs.Outside.{Files, Rose, HaveNot}
 use Rattle.caf_report.specs.declared.report.Report.{Report}
 use Rattle.fortran_tree.specs.Units.{Program}
 use Rattle.source_reader.specs.Sources.{IsRead}
 use Rattle.source_reader.specs.Refusals.{IsRefused, number, place}
 use Rattle.source_reader.specs.declared.fault.ReadFault.{ReadFault}
 use Rattle.source_reader.proofs.OneAnswer.{read_once, read_not_refused}
-use Rattle.thin_form.specs.ThinForms.{thin_of}
 use Rattle.caf_words.specs.Usages.{Word}
 use Rattle.caf_words.specs.Words.{IsValid, UsageIs}
 use Rattle.caf_words.proofs.Usages.{usage_invalid}
 use Rattle.caf_run.specs.declared.task.Task.{Task}
 use Rattle.caf_run.specs.declared.task.Task.TheVariants.{Check, Run}
-use Rattle.caf_run.specs.Reading.{HasBytesIfTold, HasBytes, HasNothingLeft, IsLonger}
+use Rattle.caf_run.specs.Reading.{HasBytesIfTold, HasBytes, HasNothingLeft}
 use Rattle.caf_run.specs.Tasks.{Asks}
-use Rattle.caf_run.specs.Dues.{usage_text, IsRunStatus, IsDoneStatus, IsBad, Settle, IsDue, IsTold, RanAs, TreeDue, BytesDue, FileDue, ReportClause, RunClause}
-use Rattle.caf_run.specs.Sources.{BreaksNone, BreaksFirst, StandsFor, IsBuilt, IsGood, IsRefusedAs, IsRefusal, refusal_text}
-use Rattle.caf_run.proofs.Settled.{not_run, not_done, done_run, run_done, whole_has, longer_has, fault_settles, whole_settles, longer_settles}
+use Rattle.caf_run.specs.Dues.{usage_text, IsDoneStatus, IsBad, Settle, IsDue, IsTold, RanAs, TreeDue, BytesDue, FileDue, ReportClause, RunClause}
+use Rattle.caf_run.specs.Sources.{BreaksFirst, StandsFor, IsBuilt, IsRefusedAs, IsRefusal, refusal_text}
+use Rattle.caf_run.proofs.Settled.{not_run, not_done, run_done, whole_has, whole_settles}
 use Rattle.caf_run.proofs.Tasks.{Same, asks_valid, one_task}
 use Rattle.caf_run.proofs.Trees.{none_first, not_built_none}
 
