@@ -27,7 +27,7 @@ function explain(entry,   kind) {
     if (entry in standard) print "    " (standard[entry] ~ /^[0-9]/ ? "ISO/IEC 1539-1:2018, " : "") standard[entry]
     if (entry in example) show_example(example[entry], place[entry])
     if ((kind == "status" || kind == "refusal" || kind == "fault") && !(entry in is_told) && entry != "status 1") {
-        print "    today's program doesn't tell it yet" (kind == "refusal" ? ": where the example runs, it answers 10 at what isn't built" : "")
+        print "    today's program doesn't tell it yet"
     }
 }
 

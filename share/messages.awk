@@ -42,8 +42,8 @@ function take_refusal(number, at,   entry, parts) {
     hint = number
 }
 
-# The words of the call with a caret below the wrong one, and what the help text says of the word before it.
-function take_usage(number,   i, said, line, w, of_option) {
+# The words of the call with a caret below the wrong one, the form of its command, or all forms where it has none, and what the help text says of the word before it.
+function take_usage(number,   i, said, line, w, form, forms, of_option) {
     if (number >= ARGC) print "caf: word " number " is missing"
     else print "caf: word " number " is wrong: " ARGV[number]
     said = "caf"
@@ -53,9 +53,11 @@ function take_usage(number,   i, said, line, w, of_option) {
     print_excerpt("    ", line, length(said) + 2)
     while ((getline line < ENVIRON["CAF_HELP"]) > 0 && line !~ /^Examples/) {
         split(line, w, " ")
-        if (line ~ /^    caf [a-z]/) print line
+        if (line ~ /^    caf [a-z]/) forms = forms line "\n"
+        if (line ~ /^    caf [a-z]/ && number > 1 && w[2] == ARGV[1]) form = line "\n"
         if (line ~ /^    -/ && number > 1 && w[1] == ARGV[number - 1]) of_option = line
     }
+    printf "%s", form == "" ? forms : form
     if (of_option != "") print of_option
 }
 

@@ -1,5 +1,5 @@
-# Says what is wrong with the tables of docs/REFUSALS.md, and writes the example of each entry that today's program tells, and
-# its answer, to the folder CAF_TO: NAME.f90 and NAME.wanted.
+# Says what is wrong with the tables of docs/REFUSALS.md, and writes the example of each entry that today's program tells, what a run
+# of it answers and what a check does, to the folder CAF_TO: NAME.f90, NAME.wanted and NAME.checked.
 
 BEGIN {
     read_tables(ENVIRON["CAF_TABLES"])
@@ -34,4 +34,6 @@ function write_example(entry, text,   file) {
     print text >(file ".f90")
     if (kind_at[entry] == "fault") print "fault image 1 " key_at[entry] >(file ".wanted")
     else print "refused " key_at[entry] " at " place[entry] >(file ".wanted")
+    if (kind_at[entry] == "fault" || key_at[entry] == 10) print "ok" >(file ".checked")
+    else print "refused " key_at[entry] " at " place[entry] >(file ".checked")
 }

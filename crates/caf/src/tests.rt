@@ -29,6 +29,9 @@ pub(crate) const WHOLE: Pace = Pace {
 pub(crate) const NEIGHBOUR: &[u8] =
     b"integer :: x[*]\nx = this_image()\nsync all\nif (this_image() == 1) print *, x[4]\nend\n";
 
+// The words of a check of the one file.
+const CHECK: [&str; 2] = ["check", "a.f90"];
+
 // The words of a call.
 fn words_of<R: Abort>(rt: &R, alloc: Global, words: &[&str]) -> Vec<String> {
     let mut texts = Vec::new(alloc);
@@ -192,7 +195,7 @@ fn undeclared_name(rt: HostRuntime) {
         b"y = 1\nend\n",
         WHOLE,
         3,
-        "refused 10 at 1:1\n",
+        "refused 20 at 1:1\n",
     );
 }
 
@@ -252,19 +255,16 @@ fn misread(rt: HostRuntime) {
     }
 }
 
-// What is read and isn't of the thin form: the first statement, declaration or term that isn't.
+// What is read, breaks no rule and isn't of the thin form: the first statement, declaration or term that isn't. A check takes it.
 #[test]
 fn not_built(rt: HostRuntime) {
     let words = ["run", "-n", "1", "--order", "0", "a.f90"];
-    let table: [(&str, &[u8]); 27] = [
+    let table: [(&str, &[u8]); 22] = [
         ("refused 10 at 2:5\n", b"integer :: a\na = 2 * a\nend\n"),
-        ("refused 10 at 2:5\n", b"integer :: a\na = b\nend\n"),
-        ("refused 10 at 2:1\n", b"integer :: a\nb = 1\nend\n"),
         (
             "refused 10 at 2:14\n",
             b"integer :: a\nprint *, a - (a)\nend\n",
         ),
-        ("refused 10 at 1:15\n", b"integer :: a, a\nend\n"),
         ("refused 10 at 1:1\n", b"integer :: a(3)\nend\n"),
         ("refused 10 at 1:1\n", b"integer(4) :: a\nend\n"),
         ("refused 10 at 1:1\n", b"integer, save :: a\nend\n"),
@@ -277,7 +277,6 @@ fn not_built(rt: HostRuntime) {
         ("refused 10 at 1:1\n", b"implicit none\nend\n"),
         ("refused 10 at 1:1\n", b"use iso_fortran_env\nend\n"),
         ("refused 10 at 1:9\n", b"program p\nend\n"),
-        ("refused 10 at 1:1\n", b"call s\nend\n"),
         ("refused 10 at 1:1\n", b"do; end do; end\n"),
         (
             "refused 10 at 1:24\n",
@@ -288,27 +287,138 @@ fn not_built(rt: HostRuntime) {
             b"if (1 == this_image()) print *, 1\nend\n",
         ),
         (
-            "refused 10 at 2:10\n",
-            b"integer :: x\nprint *, x[1]\nend\n",
-        ),
-        (
             "refused 10 at 2:14\n",
             b"integer :: x[*]\nprint *, 1 + x[this_image()]\nend\n",
         ),
         ("refused 10 at 1:1\n", b"print *, 1, 2\nend\n"),
-        ("refused 10 at 1:10\n", b"print *, 3000000000\nend\n"),
+        ("refused 10 at 1:10\n", b"print *, 3000000000_8\nend\n"),
         ("refused 10 at 1:10\n", b"print *, -1\nend\n"),
         ("refused 10 at 1:1\n", b"sync all ()\nend\n"),
-        ("refused 10 at 1:1\n", b"end program a\n"),
         ("refused 10 at 2:1\n", b"contains\nend\n"),
         (
             "refused 10 at 3:1\n",
             b"sync all\ncontains\nsubroutine s\nend\nend\n",
         ),
+        (
+            "refused 10 at 1:1\n",
+            b"call s\ncontains\nsubroutine s\nend\nend\n",
+        ),
     ];
     for (wanted, file) in table {
         says(&rt, rt.alloc(), &words, file, WHOLE, 3, wanted);
+        says(&rt, rt.alloc(), &CHECK, file, WHOLE, 0, "ok\n");
     }
+}
+
+// What breaks a rule from 20 to 59 is refused by a check and by a run alike, before what isn't built is told.
+#[test]
+fn broken_rules(rt: HostRuntime) {
+    let words = ["run", "--order", "0", "a.f90"];
+    let table: [(&str, &[u8]); 13] = [
+        ("refused 20 at 1:1\n", b"y = 1\nend\n"),
+        ("refused 20 at 2:5\n", b"integer :: a\na = b\nend\n"),
+        ("refused 20 at 2:1\n", b"integer :: a\nb = 1\nend\n"),
+        ("refused 20 at 1:6\n", b"call s\nend\n"),
+        ("refused 21 at 1:15\n", b"integer :: a, a\nend\n"),
+        ("refused 23 at 1:10\n", b"print *, 3000000000\nend\n"),
+        (
+            "refused 31 at 3:5\n",
+            b"integer :: a\nlogical :: b\na = b + 1\nend\n",
+        ),
+        ("refused 32 at 2:1\n", b"integer :: a\na = .true.\nend\n"),
+        (
+            "refused 34 at 2:10\n",
+            b"integer :: x\nprint *, x[1]\nend\n",
+        ),
+        ("refused 41 at 1:13\n", b"end program a\n"),
+        ("refused 41 at 2:1\n", b"do; end do\nexit\nend\n"),
+        (
+            "refused 43 at 2:1\n",
+            b"critical\nsync all\nend critical\nend\n",
+        ),
+        ("refused 57 at 1:7\n", b"print '(F8.2)', 1\nend\n"),
+    ];
+    for (wanted, file) in table {
+        says(&rt, rt.alloc(), &words, file, WHOLE, 3, wanted);
+        says(&rt, rt.alloc(), &CHECK, file, WHOLE, 3, wanted);
+    }
+}
+
+/// A halo exchange as users write it: a ring of cells that go on from image to image, and their sums.
+const RING: &[u8] = b"program ring
+  implicit none
+  integer :: u(1000), edge[*], me, n, left, k, i, s, t
+  me = this_image()
+  n = num_images()
+  left = me - 1
+  if (left == 0) left = n
+  do i = 1, 1000
+    u(i) = (me - 1) * 1000 + i
+  end do
+  do k = 1, 50
+    edge = u(1000)   ! my last cell, for my right neighbour
+    sync all
+    t = edge[left]
+    sync all
+    do i = 1000, 2, -1
+      u(i) = u(i - 1)
+    end do
+    u(1) = t
+  end do
+  s = 0
+  do i = 1, 1000
+    s = s + u(i)
+  end do
+  t = s
+  call co_sum(t)
+  if (me == 1) print *, s, t
+end program ring
+";
+
+// What breaks no rule, of whatever form.
+#[test]
+fn accepted_sources(rt: HostRuntime) {
+    let files: [&[u8]; 3] = [b"end\n", NEIGHBOUR, RING];
+    for file in files {
+        says(&rt, rt.alloc(), &CHECK, file, WHOLE, 0, "ok\n");
+    }
+}
+
+// A check reads its file to the end and writes its text as a run does, with the same faults.
+#[test]
+fn faults_of_a_check(rt: HostRuntime) {
+    let broken = Pace {
+        read: 4096,
+        write: 4096,
+        broken: &[3],
+        failing: &[2],
+    };
+    let short = Pace {
+        read: 4096,
+        write: 2,
+        broken: &[4],
+        failing: &[2],
+    };
+    says(
+        &rt,
+        rt.alloc(),
+        &CHECK,
+        NEIGHBOUR,
+        broken,
+        10,
+        "read fault\n",
+    );
+    says(&rt, rt.alloc(), &CHECK, NEIGHBOUR, short, 11, "ok");
+    says(
+        &rt,
+        rt.alloc(),
+        &["check", "b.f90"],
+        NEIGHBOUR,
+        WHOLE,
+        10,
+        "read fault\n",
+    );
+    says(&rt, rt.alloc(), &CHECK, b"", WHOLE, 3, "refused 7 at 1:1\n");
 }
 
 #[test]
@@ -352,6 +462,16 @@ fn valid_words(rt: HostRuntime) {
     }
 }
 
+// Options stand in any order, and a run without -n has four images.
+#[test]
+fn options_in_any_order(rt: HostRuntime) {
+    let turned = ["run", "--order", "0", "-n", "5", "a.f90"];
+    let four = ["run", "--order", "0", "a.f90"];
+    let file = b"if (this_image() == 5) print *, 5\nif (this_image() == 4) print *, 4\nend\n";
+    says(&rt, rt.alloc(), &turned, file, WHOLE, 0, "4: 4\n5: 5\n");
+    says(&rt, rt.alloc(), &four, file, WHOLE, 0, "4: 4\n");
+}
+
 // No valid list begins with these words up to the one of the number. No call of the source is made.
 #[test]
 fn usage(rt: HostRuntime) {
@@ -361,11 +481,24 @@ fn usage(rt: HostRuntime) {
         broken: &[1],
         failing: &[2],
     };
-    let table: [(&str, &[&str]); 22] = [
+    let table: [(&str, &[&str]); 29] = [
         ("usage: word 1\n", &[]),
-        ("usage: word 1\n", &["check", "a.f90"]),
+        ("usage: word 1\n", &["chek", "a.f90"]),
+        ("usage: word 2\n", &["check"]),
+        ("usage: word 2\n", &["check", "-n", "2", "a.f90"]),
+        ("usage: word 3\n", &["check", "a.f90", "b.f90"]),
         ("usage: word 2\n", &["run"]),
         ("usage: word 2\n", &["run", "a.f90"]),
+        ("usage: word 3\n", &["run", "--order"]),
+        ("usage: word 4\n", &["run", "--order", "0"]),
+        (
+            "usage: word 4\n",
+            &["run", "--order", "0", "--order", "1", "a.f90"],
+        ),
+        (
+            "usage: word 4\n",
+            &["run", "-n", "2", "-n", "3", "--order", "0", "a.f90"],
+        ),
         ("usage: word 3\n", &["run", "-n"]),
         (
             "usage: word 3\n",

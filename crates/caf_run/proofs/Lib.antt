@@ -1,10 +1,9 @@
 pub mod Held
-pub mod Numbers
-pub mod Places
 pub mod Readings
 pub mod Runs
 pub mod Settled
-pub mod Usages
+pub mod Tasks
+pub mod Trees
 pub mod Written
 pub mod WhatIsDue
 pub mod Ended

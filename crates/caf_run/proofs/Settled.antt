@@ -1,11 +1,13 @@
 -- How a file's bytes settle the status.
-use Rattle.std.proofs.Common.{◌≡◌, ℕ, ◌≤◌, ◌<◌, List, length, ◌⊎◌, inl, inr, sym, ◌∙◌, subst, arith}
+use Rattle.std.proofs.Common.{◌≡◌, ℕ, ◌≤◌, ◌<◌, List, length, ◌⊎◌, inl, inr, subst, arith}
 use Rattle.std.specs.Prelude.{Option, None, Some}
 use Rattle.caf_base.specs.Outside.{Files, Rose, HaveNot, MayNotBegin}
 use Rattle.caf_report.specs.declared.report.Report.{Report}
-use Rattle.caf_run.specs.Words.{Word}
+use Rattle.caf_words.specs.Usages.{Word}
+use Rattle.caf_run.specs.declared.task.Task.{Task}
+use Rattle.caf_run.specs.declared.task.Task.TheVariants.{Check, Run}
 use Rattle.caf_run.specs.Reading.{HasBytesIfTold, HasBytes, IsLonger}
-use Rattle.caf_run.specs.Dues.{IsRunStatus, NamesFile, Settle, BytesDue}
+use Rattle.caf_run.specs.Dues.{IsRunStatus, IsDoneStatus, Settle, BytesDue}
 
 -- the status of a run is none of the others
 pub not_run : (s : ℕ) → IsRunStatus s → (s ≡ 2) ⊎ (s ≡ 3) ⊎ (s ≡ 10) ⊎ (s ≡ 13) → ⊥
@@ -17,6 +19,19 @@ not_run s (inr h) (inl k) = omega arith
 not_run s (inr h) (inr (inl k)) = omega arith
 not_run s (inr h) (inr (inr (inl k))) = omega arith
 not_run s (inr h) (inr (inr (inr k))) = omega arith
+
+-- a status with which a task is done is one of a run, and the other way round where it is known
+pub done_run : (task : Task) (s : ℕ) → IsDoneStatus task s → IsRunStatus s
+done_run Check s done = inl done
+done_run (Run n seed) s done = done
+
+pub run_done : (task : Task) (s : ℕ) → IsDoneStatus task s ⊎ (s ≡ 3) → IsRunStatus s → IsDoneStatus task s
+run_done task s (inl done) run = done
+run_done task s (inr three) run = absurd (not_run s run (inr (inl three)))
+
+-- it is none of the others
+pub not_done : (task : Task) (s : ℕ) → IsDoneStatus task s → (s ≡ 2) ⊎ (s ≡ 3) ⊎ (s ≡ 10) ⊎ (s ≡ 13) → ⊥
+not_done task s done other = not_run s (done_run task s done) other
 
 -- files that have bytes under a name have the name
 pub whole_has : (files : Option Files) (file : Word) (bytes : List ℕ) → HasBytesIfTold files file bytes → HaveNot files file → ⊥
@@ -37,11 +52,11 @@ fault_settles files file bytes faults faults' (inl rose) has = rose
 fault_settles files file bytes faults faults' (inr none) has = absurd (told_has files file bytes has none)
 
 -- bytes that were read settle the status
-bytes_settle : (bytes : List ℕ) (n seed status : ℕ) (text : List ℕ) (report : Option Report) → length bytes ≤ 65536 → BytesDue bytes n seed status text report → Settle bytes status
-bytes_settle bytes n seed status text report few b = record {
-  too_long = (λ s. absurd (elim b.known [ inl r ↦ not_run status r (inr (inr (inr s))) | inr k ↦ omega arith ]), λ long. absurd (omega arith));
-  refused = (λ s. (few, (b.refused s).0), λ h. elim b.known [ inl r ↦ absurd (h.1 (b.run r).0 (b.run r).1) | inr s ↦ s ]);
-  run = (λ r. (few, (b.run r).0, (b.run r).1), λ h. elim b.known [ inl r ↦ r | inr s ↦ absurd ((b.refused s).0 h.1 h.2) ]);
+bytes_settle : (bytes : List ℕ) (task : Task) (status : ℕ) (text : List ℕ) (report : Option Report) → length bytes ≤ 65536 → BytesDue bytes task status text report → Settle task bytes status
+bytes_settle bytes task status text report few b = record {
+  too_long = (λ s. absurd (elim b.known [ inl d ↦ not_done task status d (inr (inr (inr s))) | inr k ↦ omega arith ]), λ long. absurd (omega arith));
+  refused = (λ s. (few, (b.refused s).0), λ h. elim b.known [ inl d ↦ absurd (h.1 (b.done d).0) | inr s ↦ s ]);
+  done = (λ d. (few, (b.done d).0), λ h. elim b.known [ inl d ↦ d | inr s ↦ absurd ((b.refused s).0 h.1) ]);
 }
 
 -- they are the file's
@@ -49,9 +64,9 @@ same_bytes : (files : Option Files) (file : Word) (bytes told : List ℕ) → Ha
 same_bytes None file bytes told whole has = absurd has
 same_bytes (Some fs) file bytes told whole has = cc
 
-pub whole_settles : (files : Option Files) (file : Word) (bytes told : List ℕ) (n seed status : ℕ) (text : List ℕ) (report : Option Report) → HasBytesIfTold files file bytes → HasBytes files file told → length bytes ≤ 65536 → BytesDue bytes n seed status text report → Settle told status
-whole_settles files file bytes told n seed status text report whole has few b =
-    subst (λ v. Settle v status) (same_bytes files file bytes told whole has) (bytes_settle bytes n seed status text report few b)
+pub whole_settles : (files : Option Files) (file : Word) (bytes told : List ℕ) (task : Task) (status : ℕ) (text : List ℕ) (report : Option Report) → HasBytesIfTold files file bytes → HasBytes files file told → length bytes ≤ 65536 → BytesDue bytes task status text report → Settle task told status
+whole_settles files file bytes told task status text report whole has few b =
+    subst (λ v. Settle task v status) (same_bytes files file bytes told whole has) (bytes_settle bytes task status text report few b)
 
 -- a longer file settles it too
 long_bytes : (files : Option Files) (file : Word) (told : List ℕ) (limit : ℕ) → IsLonger files file limit → HasBytes files file told → limit < length told
@@ -60,17 +75,11 @@ long_bytes (Some fs) file told limit longer has =
     let same : longer.0 ≡ told = cc (longer.1, has) in
     subst (λ v. limit < length v) same longer.2
 
-pub longer_settles : (files : Option Files) (file : Word) (told : List ℕ) (status : ℕ) → IsLonger files file 65536 → HasBytes files file told → status ≡ 13 → Settle told status
-longer_settles files file told status longer has s =
+pub longer_settles : (files : Option Files) (file : Word) (told : List ℕ) (task : Task) (status : ℕ) → IsLonger files file 65536 → HasBytes files file told → status ≡ 13 → Settle task told status
+longer_settles files file told task status longer has s =
     let long : 65536 < length told = long_bytes files file told 65536 longer has in
     record {
       too_long = (λ _. long, λ _. s);
       refused = (λ k. absurd (omega arith), λ h. absurd (omega (arith, h.0)));
-      run = (λ r. absurd (not_run status r (inr (inr (inr s)))), λ h. absurd (omega (arith, h.0)));
+      done = (λ d. absurd (not_done task status d (inr (inr (inr s)))), λ h. absurd (omega (arith, h.0)));
     }
-
--- valid words name one file
-pub one_file : (words : List Word) (file file' : Word) → NamesFile words file → NamesFile words file' → file ≡ file'
-one_file words file file' first second =
-    let forms = sym first.2.form ∙ second.2.form in
-    cc forms

@@ -1,151 +1,166 @@
 -- What is due, case by case.
-use Rattle.std.proofs.Common.{◌≡◌, ℕ, ◌≤◌, ◌-◌, length, ap, List, ◌⊎◌, inl, inr, sym, ◌∙◌, subst, refl, arith}
-use Rattle.std.specs.Prelude.{Option, None, Some, codes, Result, Ok, Err, IfOk, slice_get}
+use Rattle.std.proofs.Common.{◌≡◌, ℕ, ◌≤◌, length, ap, List, ◌⊎◌, inl, inr, sym, subst, arith}
+use Rattle.std.specs.Prelude.{Option, None, Some, Result, Ok, Err, IfOk}
 use Rattle.caf_base.specs.declared.place.Pos.{Pos}
 use Rattle.caf_base.specs.declared.thin.ThinProgram.{ThinProgram}
-use Rattle.caf_base.specs.Outside.{Files, HaveNot, MayNotBegin}
+use Rattle.caf_base.specs.Outside.{Files, Rose, HaveNot}
 use Rattle.caf_report.specs.declared.report.Report.{Report}
 use Rattle.fortran_tree.specs.Units.{Program}
 use Rattle.source_reader.specs.Sources.{IsRead}
 use Rattle.source_reader.specs.Refusals.{IsRefused, number, place}
 use Rattle.source_reader.specs.declared.fault.ReadFault.{ReadFault}
 use Rattle.source_reader.proofs.OneAnswer.{read_once, read_not_refused}
-use Rattle.thin_form.specs.Answers.{Found, not_built}
-use Rattle.thin_form.specs.ThinForms.{thin_of}
-use Rattle.caf_run.specs.declared.words.Command.{Command}
-use Rattle.caf_run.specs.declared.words.Command.TheVariants.{Run}
-use Rattle.caf_run.specs.declared.words.Input.TheVariants.{File}
-use Rattle.caf_run.specs.declared.words.Way.TheVariants.{Order}
-use Rattle.caf_run.specs.Words.{Word, IsRun, UsageIs, Means, IsRunAt, place_of_file, count_of_images, seed_of}
-use Rattle.caf_run.specs.Reading.{HasBytesIfTold, HasBytes, HasNothingLeft, IsLonger}
-use Rattle.caf_run.specs.Dues.{usage_text, IsRunStatus, IsNoProgram, IsDue, RanTree, TreeDue, RanBytes, BytesDue, RanFile, FileDue, ReportClause, RunClause}
-use Rattle.caf_run.specs.Sources.{StandsFor, IsRefusedAs, IsRefusal, refusal_text}
-use Rattle.caf_run.proofs.Usages.{usage_invalid}
-use Rattle.caf_run.proofs.Settled.{not_run, whole_has, longer_has, fault_settles, whole_settles, longer_settles, one_file}
+use Rattle.caf_words.specs.Usages.{Word}
+use Rattle.caf_words.specs.Words.{IsValid, UsageIs}
+use Rattle.caf_words.proofs.Usages.{usage_invalid}
+use Rattle.caf_run.specs.declared.task.Task.{Task}
+use Rattle.caf_run.specs.declared.task.Task.TheVariants.{Check, Run}
+use Rattle.caf_run.specs.Reading.{HasBytesIfTold, HasBytes, HasNothingLeft}
+use Rattle.caf_run.specs.Tasks.{Asks}
+use Rattle.caf_run.specs.Dues.{usage_text, IsDoneStatus, IsBad, Settle, IsDue, IsTold, RanAs, TreeDue, BytesDue, FileDue, ReportClause, RunClause}
+use Rattle.caf_run.specs.Sources.{BreaksFirst, StandsFor, IsBuilt, IsRefusedAs, IsRefusal, refusal_text}
+use Rattle.caf_run.proofs.Settled.{not_run, not_done, run_done, whole_has, whole_settles}
+use Rattle.caf_run.proofs.Tasks.{Same, asks_valid, one_task}
+use Rattle.caf_run.proofs.Trees.{none_first, not_built_none}
 
--- a tree is one thin program, and isn't told as not built then
-not_both : (found : Found ThinProgram) (p : ThinProgram) (at : Pos) → found ≡ Ok p → found ≡ not_built at → ⊥
-not_both found p at h k = cc
-
--- bytes that are refused stand for no program
-refused_none : (bytes : List ℕ) (r : ℕ) (at : Pos) → IsRefusedAs bytes r at → IsNoProgram bytes
-refused_none bytes r at (inl m) p reads = read_not_refused bytes reads.tree m.fault reads.read m.refused
-refused_none bytes r at (inr u) p reads = not_both (thin_of u.tree) p at (ap thin_of (read_once bytes u.tree reads.tree u.read reads.read) ∙ reads.thin) u.thin
+-- bytes that are refused aren't good
+refused_none : (task : Task) (bytes : List ℕ) (r : ℕ) (at : Pos) → IsRefusedAs task bytes r at → IsBad task bytes
+refused_none task bytes r at (inl m) good = read_not_refused bytes good.tree m.fault good.read m.refused
+refused_none task bytes r at (inr (inl b)) good =
+    let same = read_once bytes b.tree good.tree b.read good.read in
+    none_first good.tree r at good.unbroken (subst (λ x. BreaksFirst x r at) same b.first)
+refused_none task bytes r at (inr (inr u)) good =
+    let same = read_once bytes u.tree good.tree u.read good.read in
+    not_built_none task u.tree at u.built (subst (IsBuilt task) (sym same) good.built)
 
 -- the bytes are refused
-pub refused_bytes : (bytes : List ℕ) (n seed status : ℕ) (text : List ℕ) (report : Option Report) → IsRefusal bytes text → status ≡ 3 → report ≡ None → BytesDue bytes n seed status text report
-refused_bytes bytes n seed status text report is s r = record {
+refused_bytes : (bytes : List ℕ) (task : Task) (status : ℕ) (text : List ℕ) (report : Option Report) → IsRefusal task bytes text → status ≡ 3 → report ≡ None → BytesDue bytes task status text report
+refused_bytes bytes task status text report is s e = record {
   known = inr s;
-  refused = λ _. (refused_none bytes is.number is.at is.refused, is);
-  run = λ h. absurd (not_run status h (inr (inl s)));
-  reported = subst (λ v. ReportClause v status text) (sym r) (inr (inl s));
-  ran = subst (RanBytes bytes n seed) (sym r) tt;
+  refused = λ _. (refused_none task bytes is.number is.at is.refused, is);
+  done = λ d. absurd (not_done task status d (inr (inl s)));
+  told = subst (λ v. IsTold task v status text) (sym e) (inr (inl s));
+  ran = subst (RanAs task (StandsFor bytes)) (sym e) tt;
 }
 
-ran_file : (files : Option Files) (file : Word) (n seed : ℕ) (bytes : List ℕ) (report : Option Report) → HasBytesIfTold files file bytes → RanBytes bytes n seed report → RanFile files file n seed report
-ran_file files file n seed bytes None whole ran = tt
-ran_file files file n seed bytes (Some r) whole (p, reads, of) = (bytes, p, whole, reads, of)
+-- a source that the reader refuses
+pub misread_bytes : (bytes : List ℕ) (f : ReadFault) (r : ℕ) (task : Task) (status : ℕ) (at : Pos) (text : List ℕ) (report : Option Report) → IsRefused bytes f → r ≡ number f → at ≡ place f → status ≡ 3 → text ≡ refusal_text r at → report ≡ None → BytesDue bytes task status text report
+misread_bytes bytes f r task status at text report is nr pl s t e =
+    refused_bytes bytes task status text report (record { number = r; at = at; refused = inl (record { fault = f; refused = is; number = nr; place = pl }); said = t }) s e
+
+-- what holds of each report of one kind of thin program holds of a wider kind
+ran_map : (task : Task) (K L : ThinProgram → Type 0) (report : Option Report) → ((p : ThinProgram) → K p → L p) → RanAs task K report → RanAs task L report
+ran_map task K L None wider ran = tt
+ran_map Check K L (Some r) wider ran = ran
+ran_map (Run n seed) K L (Some r) wider (p, is, of) = (p, wider p is, of)
+
+-- a source that is read
+pub read_bytes : (bytes : List ℕ) (x : Program) (task : Task) (status : ℕ) (text : List ℕ) (report : Option Report) → IsRead bytes x → TreeDue x task status text report → BytesDue bytes task status text report
+read_bytes bytes x task status text report read t = record {
+  known = t.known;
+  refused = λ s. (let is = refused s in (refused_none task bytes is.number is.at is.refused, is));
+  done = λ d. (let (built, checked, accepts) = t.done d in
+      (record { tree = x; read = read; unbroken = accepts.unbroken; built = built }, record { tree = x; checked = checked; read = read; accepts = accepts }));
+  told = t.told;
+  ran = ran_map task _ (StandsFor bytes) report (λ p (none, found). record { tree = x; read = read; unbroken = none; thin = found }) t.ran;
+}
+  where
+    refused : status ≡ 3 → IsRefusal task bytes text
+    refused s =
+        let h = t.refused s in
+        record {
+          number = h.number;
+          at = h.at;
+          refused = elim h.refused [
+            | inl first ↦ inr (inl (record { tree = x; read = read; first = first }))
+            | inr u ↦ inr (inr (record { tree = x; read = read; unbroken = u.0; built = u.1; number = u.2 }))
+          ];
+          said = h.said;
+        }
 
 -- a file that was read whole
-pub whole_file : (files : Option Files) (file : Word) (n seed : ℕ) (left' : Option (List ℕ)) (faults faults' : ℕ) (bytes : List ℕ) (status : ℕ) (text : List ℕ) (report : Option Report) → HasBytesIfTold files file bytes → length bytes ≤ 65536 → HasNothingLeft files left' → BytesDue bytes n seed status text report → FileDue files file n seed left' faults faults' status text report
-whole_file files file n seed left' faults faults' bytes status text report whole few nothing b = record {
+pub whole_file : (files : Option Files) (file : Word) (task : Task) (left' : Option (List ℕ)) (faults faults' : ℕ) (bytes : List ℕ) (status : ℕ) (text : List ℕ) (report : Option Report) → HasBytesIfTold files file bytes → length bytes ≤ 65536 → HasNothingLeft files left' → BytesDue bytes task status text report
+    → FileDue files file task left' faults faults' status text report
+whole_file files file task left' faults faults' bytes status text report whole few nothing b = record {
   usage = λ s. other (inl s);
   refused = λ s. (bytes, whole, (b.refused s).0, (b.refused s).1);
+  accepted = λ r. (bytes, whole, (b.done (run_done task status b.known r)).1);
   input = λ _. nothing;
   read_fault = λ s. absurd (other (inr (inl s)));
   too_long = λ s. absurd (other (inr (inr s)));
   absent = λ none. absurd (whole_has files file bytes whole none);
-  settled = λ told has. inl (whole_settles files file bytes told n seed status text report whole has few b);
-  reported = b.reported;
-  ran = ran_file files file n seed bytes report whole b.ran;
+  settled = λ told has. inl (whole_settles files file bytes told task status text report whole has few b);
+  told = b.told;
+  ran = ran_map task (StandsFor bytes) _ report (λ p stands. (bytes, whole, stands)) b.ran;
 }
   where
     other : (status ≡ 2) ⊎ (status ≡ 10) ⊎ (status ≡ 13) → ⊥
     other h = by_known b.known h
       where
-        by_known : IsRunStatus status ⊎ (status ≡ 3) → (status ≡ 2) ⊎ (status ≡ 10) ⊎ (status ≡ 13) → ⊥
-        by_known (inl r) (inl k) = not_run status r (inl k)
-        by_known (inl r) (inr (inl k)) = not_run status r (inr (inr (inl k)))
-        by_known (inl r) (inr (inr k)) = not_run status r (inr (inr (inr k)))
+        by_known : IsDoneStatus task status ⊎ (status ≡ 3) → (status ≡ 2) ⊎ (status ≡ 10) ⊎ (status ≡ 13) → ⊥
+        by_known (inl d) (inl k) = not_done task status d (inl k)
+        by_known (inl d) (inr (inl k)) = not_done task status d (inr (inr (inl k)))
+        by_known (inl d) (inr (inr k)) = not_done task status d (inr (inr (inr k)))
         by_known (inr s) (inl k) = omega arith
         by_known (inr s) (inr (inl k)) = omega arith
         by_known (inr s) (inr (inr k)) = omega arith
 
-ran_words : (words : List Word) (files : Option Files) (n seed : ℕ) (file : Word) (report : Option Report) → IsRun words n seed file → RanFile files file n seed report → RunClause words files report
-ran_words words files n seed file None valid ran = tt
-ran_words words files n seed file (Some r) valid (bytes, p, whole, reads, of) = (n, seed, file, bytes, p, valid, whole, reads, of)
+told_words : (words : List Word) (task : Task) (file : Word) (report : Option Report) (status : ℕ) (text : List ℕ) → Asks words task file → IsTold task report status text → ReportClause words report status text
+told_words words Check file None status text asked (inr (inr (inr (inr (s, t))))) = inr (inr (inr (inr (s, (file, asked), t))))
+told_words words (Run n seed) file None status text asked (inr (inr (inr (inr h)))) = absurd h
+told_words words task file None status text asked (inl s) = inl s
+told_words words task file None status text asked (inr (inl s)) = inr (inl s)
+told_words words task file None status text asked (inr (inr (inl s))) = inr (inr (inl s))
+told_words words task file None status text asked (inr (inr (inr (inl s)))) = inr (inr (inr (inl s)))
+told_words words task file (Some r) status text asked told = told
 
--- words that name a file
-pub file_named : (words : List Word) (n seed : ℕ) (file : Word) (files : Option Files) (left' : Option (List ℕ)) (faults faults' status : ℕ) (text : List ℕ) (report : Option Report) → IsRun words n seed file → FileDue files file n seed left' faults faults' status text report → IsDue words files left' faults faults' status text report
-file_named words n seed file files left' faults faults' status text report valid f = record {
-  usage = record { wrong = λ s. absurd (f.usage s); valid = λ _. (n, seed, file, valid) };
-  refusal = record { refused = λ s. (let h = f.refused s in (file, h.0, (n, seed, valid), h.1, h.2, h.3)) };
+ran_words : (words : List Word) (files : Option Files) (task : Task) (file : Word) (report : Option Report) → Asks words task file → RanAs task (λ p. (bytes : List ℕ) × HasBytesIfTold files file bytes × StandsFor bytes p) report → RunClause words files report
+ran_words words files task file None asked ran = tt
+ran_words words files Check file (Some r) asked ran = absurd ran
+ran_words words files (Run n seed) file (Some r) asked (p, (bytes, whole, stands), of) = (n, seed, file, bytes, p, asked, whole, stands, of)
+
+-- words that ask for a task of a file
+pub file_named : (words : List Word) (task : Task) (file : Word) (files : Option Files) (left' : Option (List ℕ)) (faults faults' status : ℕ) (text : List ℕ) (report : Option Report) → Asks words task file → FileDue files file task left' faults faults' status text report → IsDue words files left' faults faults' status text report
+file_named words task file files left' faults faults' status text report asked f = record {
+  usage = record { wrong = λ s. absurd (f.usage s); valid = λ _. asks_valid words task file asked };
+  refusal = record { refused = λ s. (let h = f.refused s in (task, file, h.0, asked, h.1, h.2, h.3)) };
+  acceptance = record { accepted = λ r. (let h = f.accepted r in (file, h.0, (task, asked), h.1, h.2)) };
   input = f.input;
   causes = record {
-    read_fault = λ s. (let h = f.read_fault s in (file, (n, seed, valid), h.0, h.1));
-    too_long = λ s. (let h = f.too_long s in (file, (n, seed, valid), h.0, h.1));
+    read_fault = λ s. (let h = f.read_fault s in (file, (task, asked), h.0, h.1));
+    too_long = λ s. (let h = f.too_long s in (file, (task, asked), h.0, h.1));
   };
   exact = record {
-    absent = λ other named none. f.absent (subst (HaveNot files) (one_file words other file named (n, seed, valid)) none);
-    settled = λ other bytes named has. f.settled bytes (subst (λ v. HasBytes files v bytes) (one_file words other file named (n, seed, valid)) has);
+    absent = λ other named none. f.absent (subst (HaveNot files) (one_task words named.0 task other file named.1 asked).of_file none);
+    settled = λ task' other bytes asked' has. settled task' other bytes (one_task words task' task other file asked' asked) has;
   };
-  reported = f.reported;
-  ran = ran_words words files n seed file report valid f.ran;
+  reported = told_words words task file report status text asked f.told;
+  ran = ran_words words files task file report asked f.ran;
 }
+  where
+    settled : (task' : Task) (other : Word) (bytes : List ℕ) → Same task' other task file → HasBytes files other bytes → Settle task' bytes status ⊎ ((status ≡ 10) × Rose faults faults')
+    settled task' other bytes same has =
+        subst (λ v. Settle v bytes status ⊎ ((status ≡ 10) × Rose faults faults')) (sym same.of_task) (f.settled bytes (subst (λ v. HasBytes files v bytes) same.of_file has))
 
 -- words that are no valid list
 pub usage_wrong : (words : List Word) (k : ℕ) (files : Option Files) (left' : Option (List ℕ)) (faults faults' status : ℕ) (text : List ℕ) (report : Option Report) → UsageIs words k → status ≡ 2 → text ≡ usage_text k → report ≡ None → IsDue words files left' faults faults' status text report
 usage_wrong words k files left' faults faults' status text report usage s t r = record {
   usage = record { wrong = λ _. (k, usage, t); valid = λ h. absurd (h s) };
   refusal = record { refused = λ h. absurd (omega arith) };
+  acceptance = record { accepted = λ h. absurd (not_run status h (inl s)) };
   input = λ h. absurd (elim h [ inl a ↦ not_run status a (inl s) | inr q ↦ omega arith ]);
   causes = record { read_fault = λ h. absurd (omega arith); too_long = λ h. absurd (omega arith) };
   exact = record {
-    absent = λ file named none. absurd (usage_invalid words k usage (named.0, named.1, file, named.2));
-    settled = λ file bytes named has. absurd (usage_invalid words k usage (named.0, named.1, file, named.2));
+    absent = λ file named none. absurd (invalid named.0 file named.1);
+    settled = λ task file bytes asked has. absurd (invalid task file asked);
   };
-  reported = subst (λ v. ReportClause v status text) (sym r) (inl s);
+  reported = subst (λ v. ReportClause words v status text) (sym r) (inl s);
   ran = subst (RunClause words files) (sym r) tt;
 }
+  where
+    invalid : (task : Task) (file : Word) → Asks words task file → ⊥
+    invalid task file asked = usage_invalid IsValid words k usage (asks_valid words task file asked)
 
 pub if_ok_map : {A E : Type 0} (v : Result A E) (P Q : A → Type 0) → ((a : A) → P a → Q a) → IfOk v P → IfOk v Q
 if_ok_map (Ok a) P Q f h = f a h
 if_ok_map (Err e) P Q f h = h
-
--- a command that the words mean runs the file that it names
-pub means_at : (words : List Word) (command : Command) → Means words command → IsRunAt words (place_of_file command) (count_of_images command) (seed_of command)
-means_at words (Run (File word) n (Order seed)) means = means
-
--- the file is the last of the words
-pub last_word : (words : List Word) (number n seed : ℕ) (name : Word) (r : IsRunAt words number n seed) → slice_get words (number - 1) ≡ Some name → name ≡ r.0
-last_word words number n seed name (file, valid, last) h =
-    let f = valid.form in
-    let e : number ≡ 6 = last ∙ ap length f in
-    let g = subst (λ m. slice_get words (m - 1) ≡ Some name) e h in
-    let k = subst (λ ws. slice_get ws 5 ≡ Some name) f g in
-    cc
-
-pub images_within : (words : List Word) (number n seed : ℕ) → IsRunAt words number n seed → (1 ≤ n) × (n ≤ 64)
-images_within words number n seed (file, valid, last) = valid.images
-
--- the report of a source that is read
-ran_bytes : (bytes : List ℕ) (x : Program) (n seed : ℕ) (report : Option Report) → IsRead bytes x → RanTree x n seed report → RanBytes bytes n seed report
-ran_bytes bytes x n seed None read ran = tt
-ran_bytes bytes x n seed (Some r) read (p, found, of) = (p, record { tree = x; read = read; thin = found }, of)
-
--- a source that is read
-pub read_bytes : (bytes : List ℕ) (x : Program) (n seed status : ℕ) (text : List ℕ) (report : Option Report) → IsRead bytes x → TreeDue x n seed status text report → BytesDue bytes n seed status text report
-read_bytes bytes x n seed status text report read t = record {
-  known = t.known;
-  refused = λ s. (let h = t.refused s in
-      let is : IsRefusedAs bytes 10 h.0 = inr (record { tree = x; read = read; thin = h.1; number = refl }) in
-      (refused_none bytes 10 h.0 is, record { number = 10; at = h.0; refused = is; said = h.2 }));
-  run = λ r. (let h = t.run r in (h.0, record { tree = x; read = read; thin = h.1 }));
-  reported = t.reported;
-  ran = ran_bytes bytes x n seed report read t.ran;
-}
-
--- a source that the reader refuses
-pub misread_bytes : (bytes : List ℕ) (f : ReadFault) (r n seed status : ℕ) (at : Pos) (text : List ℕ) (report : Option Report) → IsRefused bytes f → r ≡ number f → at ≡ place f → status ≡ 3 → text ≡ refusal_text r at → report ≡ None → BytesDue bytes n seed status text report
-misread_bytes bytes f r n seed status at text report is nr pl s t e =
-    refused_bytes bytes n seed status text report (record { number = r; at = at; refused = inl (record { fault = f; refused = is; number = nr; place = pl }); said = t }) s e

@@ -2,5 +2,5 @@ pub mod Dues
 pub mod Reading
 pub mod Runs
 pub mod Sources
-pub mod Words
+pub mod Tasks
 pub mod Writing

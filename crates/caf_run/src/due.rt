@@ -1,27 +1,29 @@
 //! What is due for the words and the source: a status, a text, and the report of a run.
 
-ghost use Rattle.std.specs.Prelude.{◌≡◌, ◌≤◌, ◌<◌, ◌+◌, ◌^◌, ◌++◌, ℕ, List, Option, IfOk, OnOk, OnErr, Some, None, length, codes, slice_get, ◌-◌};
-ghost use Rattle.std.specs.Fmt.{decimal};
+ghost use Rattle.std.specs.Prelude.{◌≡◌, ◌≤◌, ◌<◌, IfOk, Some, None, length, slice_get, ◌-◌};
 ghost use Rattle.caf_base.specs.Thin.{IsDeclared, most_moves};
-ghost use Rattle.caf_report.specs.Ends.{status_of};
-ghost use Rattle.caf_report.specs.ReportText.{report_text};
-ghost use Rattle.caf_run.specs.Dues.{usage_text, IsDue, BytesDue, FileDue, TreeDue, ReportClause};
+ghost use Rattle.caf_report.specs.declared.report.Report.{Report};
+ghost use Rattle.caf_run.specs.Dues.{usage_text, IsDue, IsTold, IsVerdict, BytesDue, FileDue, TreeDue};
 ghost use Rattle.caf_run.specs.Runs.{IsReportOf};
 ghost use Rattle.caf_run.specs.Sources.{refusal_text};
+ghost use Rattle.caf_run.specs.Tasks.{IsTask, AsksAt};
+ghost use Rattle.caf_run.specs.declared.task.Task.TheVariants as tasks;
+ghost use Rattle.caf_words.specs.Words.{words_in, IsValid};
 ghost use Rattle.fortran_tree.specs.UnitViews.{program};
-ghost use Rattle.caf_run.specs.Words.{words_in, IsValid, IsRunAt, place_of_file, count_of_images, seed_of};
-ghost use Rattle.caf_report.specs.declared.report.Report.{Report};
 
 use crate::reading::{ReadEnd, read_file};
 use crate::running::run_program;
-use crate::words::{Command, Input, Way, words_of};
+use crate::task::{Task, file_place, task_of};
 use caf_base::outside::Source;
 use caf_base::place::Pos;
 use caf_base::refusal::{NoMemory, Refusal};
 use caf_base::thin::{THIN_SOURCE_BYTES, ThinProgram};
 use caf_report::report::{Report, Shown};
 use caf_text::push_number;
+use caf_words::words::words_of;
 use fortran_tree::unit::Program;
+use rule_checker::check::check_tree;
+use rule_definitions::broken::Broken;
 use source_reader::fault::{at, number};
 use source_reader::source::read;
 use std::alloc::Global;
@@ -65,7 +67,7 @@ fn run_due(alloc: Global, program: ThinProgram, n: u32, seed: u32) -> Result<Due
     requires images { (1 ≤ n) × (n ≤ 64) }
     requires few { most_moves program ≤ 262000 }
     requires declared { IsDeclared program }
-    ensures { IfOk result (λ d. (r : Report) × (d.report ≡ Some r) × ReportClause d.report d.status d.text.items × IsReportOf program n seed r) }
+    ensures { IfOk result (λ d. (r : Report) × (d.report ≡ Some r) × IsTold (tasks.Run n seed) d.report d.status d.text.items × IsReportOf program n seed r) }
 {
     let report = run_program(alloc, program, n, seed)?;
     let shown = Shown {
@@ -98,10 +100,25 @@ fn refused_due(alloc: Global, number: u32, at: Pos) -> Result<Due, NoMemory>
     })
 }
 
-// What is due for the program that a source is read as.
-fn tree_due(alloc: Global, tree: Program, n: u32, seed: u32) -> Result<Due, NoMemory>
-    requires { (1 ≤ n) × (n ≤ 64) }
-    ensures { IfOk result (λ d. TreeDue (program tree) n seed d.status d.text.items d.report) }
+// The first rule that a program breaks, where it breaks one.
+fn broken_rule(alloc: Global, tree: &Program) -> Result<Option<Broken>, NoMemory>
+    ensures { IfOk result (IsVerdict (program tree.now)) }
+{
+    match check_tree(alloc, tree) {
+        Ok(checked) => {
+            drop(checked);
+            Ok(None)
+        }
+        Err(Refusal::Cause(broken)) => Ok(Some(broken)),
+        Err(Refusal::NoMemory) => Err(NoMemory),
+    }
+}
+
+// What is due for a program that is to be run and breaks no rule.
+fn thin_due(alloc: Global, tree: Program, n: u32, seed: u32) -> Result<Due, NoMemory>
+    requires images { (1 ≤ n) × (n ≤ 64) }
+    requires accepted { IsVerdict (program tree) None }
+    ensures { IfOk result (λ d. TreeDue (program tree) (tasks.Run n seed) d.status d.text.items d.report) }
 {
     let thin = thin(alloc, &tree);
     drop(tree);
@@ -112,14 +129,47 @@ fn tree_due(alloc: Global, tree: Program, n: u32, seed: u32) -> Result<Due, NoMe
     }
 }
 
+// What is due for a program that breaks no rule.
+fn accepted_due(alloc: Global, tree: Program, task: Task) -> Result<Due, NoMemory>
+    requires task { IsTask task }
+    requires accepted { IsVerdict (program tree) None }
+    ensures { IfOk result (λ d. TreeDue (program tree) task d.status d.text.items d.report) }
+{
+    match task {
+        Task::Check => {
+            drop(tree);
+            said(alloc, 0, b"ok\n")
+        }
+        Task::Run { n, seed } => thin_due(alloc, tree, n, seed),
+    }
+}
+
+// What is due for the program that a source is read as.
+fn tree_due(alloc: Global, tree: Program, task: Task) -> Result<Due, NoMemory>
+    requires { IsTask task }
+    ensures { IfOk result (λ d. TreeDue (program tree) task d.status d.text.items d.report) }
+{
+    match broken_rule(alloc, &tree) {
+        Ok(None) => accepted_due(alloc, tree, task),
+        Ok(Some(broken)) => {
+            drop(tree);
+            refused_due(alloc, u32::from(broken.rule), broken.at)
+        }
+        Err(NoMemory) => {
+            drop(tree);
+            Err(NoMemory)
+        }
+    }
+}
+
 // What is due for the bytes of a file.
-fn bytes_due(alloc: Global, bytes: &[u8], n: u32, seed: u32) -> Result<Due, NoMemory>
-    requires images { (1 ≤ n) × (n ≤ 64) }
+fn bytes_due(alloc: Global, bytes: &[u8], task: Task) -> Result<Due, NoMemory>
+    requires task { IsTask task }
     requires short { length bytes.now ≤ 65536 }
-    ensures { IfOk result (λ d. BytesDue bytes.now n seed d.status d.text.items d.report) }
+    ensures { IfOk result (λ d. BytesDue bytes.now task d.status d.text.items d.report) }
 {
     match read(alloc, bytes) {
-        Ok(tree) => tree_due(alloc, tree, n, seed),
+        Ok(tree) => tree_due(alloc, tree, task),
         Err(Refusal::Cause(fault)) => refused_due(alloc, number(fault), at(fault)),
         Err(Refusal::NoMemory) => Err(NoMemory),
     }
@@ -130,52 +180,18 @@ fn file_due<S: Source>(
     alloc: Global,
     source: &mut S,
     name: &str,
-    n: u32,
-    seed: u32,
+    task: Task,
 ) -> Result<Due, NoMemory>
-    requires images { (1 ≤ n) × (n ≤ 64) }
+    requires { IsTask task }
     ensures files { S.files source.new ≡ S.files source.old }
     ensures later { S.faults source.old ≤ S.faults source.new }
-    ensures due { IfOk result (λ d. FileDue (S.files source.old) name.now n seed (S.left source.new) (S.faults source.old) (S.faults source.new) d.status d.text.items d.report) }
+    ensures due { IfOk result (λ d. FileDue (S.files source.old) name.now task (S.left source.new) (S.faults source.old) (S.faults source.new) d.status d.text.items d.report) }
 {
     match read_file(alloc, source, name, THIN_SOURCE_BYTES) {
-        Ok(bytes) => bytes_due(alloc, bytes.as_slice(), n, seed),
+        Ok(bytes) => bytes_due(alloc, bytes.as_slice(), task),
         Err(ReadEnd::Fault) => said(alloc, 10, b"read fault\n"),
         Err(ReadEnd::TooLong) => said(alloc, 13, b"too long\n"),
         Err(ReadEnd::NoMemory) => Err(NoMemory),
-    }
-}
-
-// The place of FILE among the words that a command was made of, from 1.
-fn file_place(command: &Command) -> u32
-    ensures { result ≡ place_of_file command.now }
-{
-    match command {
-        Command::Run {
-            input: Input::File { word },
-            ..
-        } => *word,
-    }
-}
-
-// The number of images that a command wants.
-fn image_count(command: &Command) -> u32
-    ensures { result ≡ count_of_images command.now }
-{
-    match command {
-        Command::Run { n, .. } => *n,
-    }
-}
-
-// The seed of a command's order.
-fn order_seed(command: &Command) -> u32
-    ensures { result ≡ seed_of command.now }
-{
-    match command {
-        Command::Run {
-            way: Way::Order(seed),
-            ..
-        } => *seed,
     }
 }
 
@@ -187,21 +203,20 @@ fn word_at(words: &[String], number: u32) -> &str
     words[(number - 1) as usize].as_str()
 }
 
-// What is due for words whose last one is a file's name.
-fn run_named<S: Source>(
+// What is due for words that ask for a task, of the file whose name has this number among them.
+fn task_due<S: Source>(
     alloc: Global,
     words: &[String],
     source: &mut S,
     number: u32,
-    n: u32,
-    seed: u32,
+    task: Task,
 ) -> Result<Due, NoMemory>
-    requires { IsRunAt (words_in words.now) number n seed }
+    requires { AsksAt (words_in words.now) task number }
     ensures files { S.files source.new ≡ S.files source.old }
     ensures later { S.faults source.old ≤ S.faults source.new }
     ensures due { IfOk result (λ d. IsDue (words_in words.now) (S.files source.old) (S.left source.new) (S.faults source.old) (S.faults source.new) d.status d.text.items d.report) }
 {
-    file_due(alloc, source, word_at(words, number), n, seed)
+    file_due(alloc, source, word_at(words, number), task)
 }
 
 /// What is due for the words over a source. Words that aren't valid leave the source as it was.
@@ -216,13 +231,12 @@ pub fn what_is_due<S: Source>(
     ensures due { IfOk result (λ d. IsDue (words_in words.now) (S.files source.old) (S.left source.new) (S.faults source.old) (S.faults source.new) d.status d.text.items d.report) }
 {
     match words_of(words) {
-        Ok(command) => run_named(
+        Ok(command) => task_due(
             alloc,
             words,
             source,
             file_place(&command),
-            image_count(&command),
-            order_seed(&command),
+            task_of(&command),
         ),
         Err(Refusal::Cause(usage)) => usage_due(alloc, usage.word),
         Err(Refusal::NoMemory) => Err(NoMemory),

@@ -3,7 +3,7 @@
 ghost use Rattle.std.specs.Prelude.{◌≡◌, ◌≤◌, ℕ, List, Option};
 ghost use Rattle.caf_base.specs.Outside.{Rose};
 ghost use Rattle.caf_run.specs.Dues.{IsAnswer, CompletenessClause};
-ghost use Rattle.caf_run.specs.Words.{words_in, IsValid};
+ghost use Rattle.caf_words.specs.Words.{words_in, IsValid};
 
 use crate::due::{Due, what_is_due};
 use crate::writing::write_all;
@@ -19,9 +19,9 @@ pub struct Done {
 }
 
 /// All that the program does with the words behind its name: it judges them, reads the file that they name to its end,
-/// reads the program, runs it, and writes what is due. Status 0 Finished, 2 usage, 3 refused, 8 run fault, 10 read fault,
-/// 11 write fault, 12 want of memory, 13 too long; the others, 4 error stop, 5 race, 6 stuck, 7 limit and 9 clash, can't
-/// come in the present form.
+/// reads the program, checks it, runs it where the words say so, and writes what is due. Status 0 finished, of a check that the
+/// program breaks no rule, 2 usage, 3 refused, 8 run fault, 10 read fault, 11 write fault, 12 want of memory, 13 too long; the
+/// others, 4 error stop, 5 race, 6 stuck, 7 limit and 9 clash, can't come in the present form.
 ///
 /// Where the source tells its files and its count of faults doesn't rise in this call, the words and the file settle the status
 /// that is due; where the sink's doesn't rise either, that is the answer, or 12.

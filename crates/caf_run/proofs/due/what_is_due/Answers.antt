@@ -1,11 +1,11 @@
 use Rattle.std.proofs.Common.{subst}
-use Rattle.caf_run.specs.Words.{words_in, IsRefusalOf}
-use Rattle.caf_run.proofs.WhatIsDue.{usage_wrong, means_at, if_ok_map}
+use Rattle.caf_words.specs.Words.{words_in, IsRefusalOf}
+use Rattle.caf_run.proofs.Tasks.{means_at}
+use Rattle.caf_run.proofs.WhatIsDue.{usage_wrong, if_ok_map}
 use Rattle.caf_run.proofs.due.what_is_due.Goals as goal
 
-pub run_named-requires : goal.run_named-requires
-run_named-requires g c =
-    rw (c.file_place.ensures, c.image_count.ensures, c.order_seed.ensures) (means_at (words_in c.args.words.now) c.in-Ok.command c.in-Ok.ensures.means)
+pub task_due-requires : goal.task_due-requires
+task_due-requires g c = rw (c.file_place.ensures, c.task_of.ensures) (means_at (words_in c.args.words.now) c.in-Ok.command c.in-Ok.ensures.means)
 
 pub returns-in-Err-Cause-clause-due : goal.returns-in-Err-Cause-clause-due
 returns-in-Err-Cause-clause-due g c =
