@@ -25,7 +25,7 @@ use Rattle.statement_rules.proofs.Sequences.{past_both, past_nothing}
 use Rattle.statement_rules.proofs.Turns.{item_drop}
 
 -- no blocks so far
-joined_list : Option (List Case) → Option Selected → Option Selected
+abbrev joined_list : Option (List Case) → Option Selected → Option Selected
 joined_list None r = None
 joined_list (Some cs) r = made (with_cases cs) r
 

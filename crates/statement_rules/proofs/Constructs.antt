@@ -76,13 +76,13 @@ if_found x y z s e body others o at end b ei el nb ne is first after at_y second
     ∙ ap (λ j. on_line at (four if_form c (judged_statements x (statement_list body.items)) (judged_else_ifs (past x cb) (else_ifs others.items)) j)) (last ∙ ap (λ p. judged_else p (else_block o)) z_is)
     ∙ sym (ap (statement_judged x) is ∙ ap (judged_statement x) (statement_if e body others o at end) ∙ if_judged x (expression e) (statement_list body.items) (else_ifs others.items) (else_block o) at end)
 
-pub if_behind : (x y z : Position) (s : Statement) (e : Expr) (body : Vec Statement Global) (others : Vec ElseIf Global) (o : Option Otherwise) (at end : Pos) (nb ne no : Numbers)
+pub if_behind : (x y z : Position) (s : Statement) (e : Expr) (body : Vec Statement Global) (others : Vec ElseIf Global) (o : Option Otherwise) (at end : Pos) (nb ne nl : Numbers)
     → s ≡ statements.If e body others o at end
     → nb ≡ numbers_past x (counted_statements (statement_list body.items))
     → y ≡ numbered x nb → ne ≡ numbers_past y (counted_else_ifs (else_ifs others.items))
-    → z ≡ numbered x ne → no ≡ numbers_past z (counted_else (else_block o))
-    → no ≡ numbers_past x (statement_counted s)
-if_behind x y z s e body others o at end nb ne no is after at_y further at_z last =
+    → z ≡ numbered x ne → nl ≡ numbers_past z (counted_else (else_block o))
+    → nl ≡ numbers_past x (statement_counted s)
+if_behind x y z s e body others o at end nb ne nl is after at_y further at_z last =
     let cb = counted_statements (statement_list body.items) in
     let ce = counted_else_ifs (else_ifs others.items) in
     let co = counted_else (else_block o) in
