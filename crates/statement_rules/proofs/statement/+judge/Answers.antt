@@ -34,8 +34,8 @@ judge_statement-returns-in-Action-clause-behind t' c =
 pub judge_statement-returns-in_ok-otherwise-in-If-clause-judged : goal.judge_statement-returns-in_ok-otherwise-in-If-clause-judged
 judge_statement-returns-in_ok-otherwise-in-If-clause-judged t' c =
     let x = position c.args.position in
-    let y = position c.moved-in-If.result in
-    let z = position c.moved-in-If-2.result in
+    let y = position c.moved.result in
+    let z = position c.moved-in-If.result in
     let w = c.in-If in
     let b = c.in_ok-body-in-If in
     let e = c.in_ok-else_ifs-in-If in
@@ -44,29 +44,29 @@ judge_statement-returns-in_ok-otherwise-in-If-clause-judged t' c =
     (if_found x y z c.args.statement.now w.condition w.body w.else_ifs w.otherwise w.at w.end
     (judgement block b.body.judged) (judgement else_if_list e.else_ifs.judged) (judgement block o.otherwise.judged) b.body.behind e.else_ifs.behind
     w.is
-    (b.ensures.judged ∙ ap (λ l. judged_statements x (statement_list l)) c.deref-in-If.ensures.value)
-    (b.ensures.behind ∙ ap (λ l. numbers_past x (counted_statements (statement_list l))) c.deref-in-If.ensures.value)
-    c.moved-in-If.ensures
-    (e.ensures.judged ∙ ap (λ l. judged_else_ifs y (else_ifs l)) c.deref-in-If-2.ensures.value)
-    (e.ensures.behind ∙ ap (λ l. numbers_past y (counted_else_ifs (else_ifs l))) c.deref-in-If-2.ensures.value)
-    c.moved-in-If-2.ensures o.ensures.judged)
+    (b.ensures.judged ∙ ap (λ l. judged_statements x (statement_list l)) c.deref.ensures.value)
+    (b.ensures.behind ∙ ap (λ l. numbers_past x (counted_statements (statement_list l))) c.deref.ensures.value)
+    c.moved.ensures
+    (e.ensures.judged ∙ ap (λ l. judged_else_ifs y (else_ifs l)) c.deref-in-If.ensures.value)
+    (e.ensures.behind ∙ ap (λ l. numbers_past y (counted_else_ifs (else_ifs l))) c.deref-in-If.ensures.value)
+    c.moved-in-If.ensures o.ensures.judged)
     c.if_statement.ensures.breaks c.if_statement.ensures.meaning
 
 pub judge_statement-returns-in_ok-otherwise-in-If-clause-behind : goal.judge_statement-returns-in_ok-otherwise-in-If-clause-behind
 judge_statement-returns-in_ok-otherwise-in-If-clause-behind t' c =
     let x = position c.args.position in
-    let y = position c.moved-in-If.result in
-    let z = position c.moved-in-If-2.result in
+    let y = position c.moved.result in
+    let z = position c.moved-in-If.result in
     let w = c.in-If in
     let b = c.in_ok-body-in-If in
     let e = c.in_ok-else_ifs-in-If in
     let o = c.in_ok-otherwise-in-If in
     let counts = if_behind x y z c.args.statement.now w.condition w.body w.else_ifs w.otherwise w.at w.end b.body.behind e.else_ifs.behind o.otherwise.behind
           w.is
-          (b.ensures.behind ∙ ap (λ l. numbers_past x (counted_statements (statement_list l))) c.deref-in-If.ensures.value)
-          c.moved-in-If.ensures
-          (e.ensures.behind ∙ ap (λ l. numbers_past y (counted_else_ifs (else_ifs l))) c.deref-in-If-2.ensures.value)
-          c.moved-in-If-2.ensures o.ensures.behind in
+          (b.ensures.behind ∙ ap (λ l. numbers_past x (counted_statements (statement_list l))) c.deref.ensures.value)
+          c.moved.ensures
+          (e.ensures.behind ∙ ap (λ l. numbers_past y (counted_else_ifs (else_ifs l))) c.deref-in-If.ensures.value)
+          c.moved-in-If.ensures o.ensures.behind in
     IfOk-weaker c.if_statement.result _ _ (λ p h. h ∙ counts) c.if_statement.ensures.behind
 
 pub judge_statement-returns-in-Do-clause-judged : goal.judge_statement-returns-in-Do-clause-judged
