@@ -12,7 +12,7 @@ use Rattle.fortran_tree.specs.declared.statement.CaseBlock.{CaseBlock}
 use Rattle.part_rules.specs.Views.{judgement, list_of}
 use Rattle.part_rules.specs.declared.judged.Judged.{Judged}
 use Rattle.rule_definitions.specs.Judgements.{Judgement, fine, made, is_there}
-use Rattle.rule_definitions.specs.Statements.{Position, Selected, Cases, no_selected, past, judged_cases, judged_statements, counted_cases, counted_statements, case_joined, behind_case}
+use Rattle.rule_definitions.specs.Statements.{Position, Selected, no_selected, past, judged_cases, judged_statements, counted_cases, counted_statements, case_joined, behind_case}
 use Rattle.statement_rules.specs.Blocks.{backwards, known, joined_cases, selection, with_cases, with_otherwise, whole}
 use Rattle.statement_rules.specs.Parts.{no_cases_known}
 use Rattle.statement_rules.specs.Positions.{numbered, numbers, numbers_past}
@@ -85,7 +85,7 @@ cases_go_on x y list new n m e all i s is lt at_y adds knows counts sofar =
     let k' : known e new ≡ behind_case x.scope k c = knows ∙ ap (λ (p : Position). behind_case p.scope k c) at_y in
     let j = judged_cases (numbered x m) (known e new) (case_blocks rest) in
     let after : j ≡ judged_cases (past z (counted_statements body)) (behind_case x.scope k c) (case_blocks rest)
-          = ap (λ p. judged_cases (numbered x p) (known e new) (case_blocks rest)) b ∙ ap (λ q. judged_cases (past z (counted_statements body)) q (case_blocks rest)) k' in
+    = ap (λ p. judged_cases (numbered x p) (known e new) (case_blocks rest)) b ∙ ap (λ q. judged_cases (past z (counted_statements body)) q (case_blocks rest)) k' in
     record {
       judged = adds j
           ∙ ap (λ (p : Position). whole list (case_joined p.scope k c s.at (judged_statements p body) j)) at_y

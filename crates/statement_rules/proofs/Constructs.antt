@@ -1,5 +1,5 @@
 -- What is found of a construct and of its parts is what the definitions say of it.
-use Rattle.std.proofs.Common.{◌≡◌, ◌∙◌, ℕ, ◌+◌, List, [], ◌∷◌, ◌++◌, length, map, refl, sym, ap, arith}
+use Rattle.std.proofs.Common.{◌≡◌, ◌∙◌, ℕ, ◌+◌, List, [], ◌∷◌, ◌++◌, length, refl, sym, ap, arith}
 use Rattle.std.specs.Prelude.{Option, Some, None, IfOk, Result, Ok, Err}
 use Rattle.std.specs.Option.{option_map}
 use Rattle.std.specs.declared.alloc.Global.{Global}
@@ -12,7 +12,7 @@ use Rattle.checked_tree.specs.declared.statement.TypedStatement.{TypedStatement}
 use Rattle.fortran_tree.specs.ActionViews.{action_statement}
 use Rattle.fortran_tree.specs.ExpressionViews.{expression, specifiers}
 use Rattle.fortran_tree.specs.Expressions as f
-use Rattle.fortran_tree.specs.StatementViews.{statement, statement_list, else_ifs, else_block, case_blocks, loop_control, bracketed_specifier, statement_action, statement_if, statement_do, statement_select, statement_critical, statement_change_team}
+use Rattle.fortran_tree.specs.StatementViews.{statement_list, else_ifs, else_block, case_blocks, loop_control, bracketed_specifier, statement_action, statement_if, statement_do, statement_select, statement_critical, statement_change_team}
 use Rattle.fortran_tree.specs.Statements as fs
 use Rattle.fortran_tree.specs.declared.action.Action.{Action}
 use Rattle.fortran_tree.specs.declared.expr.Expr.{Expr}
@@ -147,7 +147,7 @@ pub critical_found : (x y : Position) (n : ℕ) (bs : fs.BracketedSpecifier) (bo
 critical_found x y n bs body at end b one at_y judged =
     ap (λ m. on_line at (controlled (site_of x) at (made_of_both (critical_form m end.line) (with_stat (bracketed x.scope bs)) b))) one
     ∙ ap (λ j. on_line at (controlled (site_of x) at (made_of_both (critical_form (x.criticals + 1) end.line) (with_stat (bracketed x.scope bs)) j)))
-      (judged ∙ ap (λ p. judged_statements (within p critical) body) (at_y ∙ ap (λ m. numbered x (record { criticals = m; literals = x.literals })) one))
+    (judged ∙ ap (λ p. judged_statements (within p critical) body) (at_y ∙ ap (λ m. numbered x (record { criticals = m; literals = x.literals })) one))
     ∙ sym (critical_judged x bs body at end)
 
 pub critical_behind : (x y : Position) (n : ℕ) (body : fs.Statements) (m : Numbers)
@@ -191,7 +191,7 @@ pub select_found : (x y : Position) (e : f.Expression) (cs : fs.CaseBlocks) (at 
 select_found x y e cs at value blocks bs m at_y judged =
     ap (λ j. on_line at (made_of_both (select_form (hidden_of x.around)) j blocks)) (alike _ _ _ _ bs m)
     ∙ ap (λ j. on_line at (made_of_both (select_form (hidden_of x.around)) (selecting (placed x.scope e)) j))
-      (judged ∙ ap (λ p. judged_cases p (no_cases_known value.meaning) cs) at_y ∙ ap (λ o. judged_cases (within x selection) (no_cases_known o) cs) m)
+    (judged ∙ ap (λ p. judged_cases p (no_cases_known value.meaning) cs) at_y ∙ ap (λ o. judged_cases (within x selection) (no_cases_known o) cs) m)
 
 pub select_seen : (x : Position) (s : Statement) (e : Expr) (blocks : Vec CaseBlock Global) (at end : Pos) → s ≡ statements.SelectCase e blocks at end
     → select_judged x (expression e) (case_blocks blocks.items) at ≡ statement_judged x s

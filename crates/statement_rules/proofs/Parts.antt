@@ -1,13 +1,12 @@
 -- What is made of the parts of a construct that were judged two by two.
-use Rattle.std.proofs.Common.{◌≡◌, ℕ, refl}
-use Rattle.std.specs.Prelude.{Option, Some, None}
+use Rattle.std.proofs.Common.{◌≡◌, ℕ}
+use Rattle.std.specs.Prelude.{Option}
 use Rattle.std.specs.Option.{option_map}
 use Rattle.std.specs.declared.alloc.Global.{Global}
 use Rattle.std.specs.declared.vec.Vec.{Vec}
 use Rattle.checked_tree.specs.Expressions as t
 use Rattle.checked_tree.specs.Statements as ts
 use Rattle.checked_tree.specs.ExpressionViews.{expression, maybe_expression, maybe_result}
-use Rattle.checked_tree.specs.StatementViews.{typed_statement_forms}
 use Rattle.checked_tree.specs.declared.expr.ResultVariable.{ResultVariable}
 use Rattle.checked_tree.specs.declared.expr.TypedExpr.{TypedExpr}
 use Rattle.checked_tree.specs.declared.statement.ElseIf.{ElseIf}

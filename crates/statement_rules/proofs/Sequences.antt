@@ -1,8 +1,6 @@
 -- Parts that were judged one behind the other, with those that follow; parts and the numbers behind them.
 use Rattle.std.proofs.Common.{◌≡◌, ◌∙◌, ℕ, ◌+◌, ◌<◌, ◌≤◌, List, [], ◌∷◌, ◌++◌, length, drop, slice_index_or, refl, sym, ap, arith}
-use Rattle.std.proofs.Math.Path.{ap₂}
 use Rattle.std.proofs.lemmas.List.{append_assoc, append-nil, drop_all, length-append}
-use Rattle.std.proofs.lemmas.Result.{IfOk-weaker}
 use Rattle.std.specs.Prelude.{Option, Some, None, IfOk, Result, Ok, Err}
 use Rattle.std.specs.Option.{option_map}
 use Rattle.std.specs.declared.alloc.Global.{Global}
@@ -16,18 +14,16 @@ use Rattle.fortran_tree.specs.StatementViews.{statement, statement_list, else_if
 use Rattle.fortran_tree.specs.declared.statement.ElseIf.{ElseIf}
 use Rattle.fortran_tree.specs.declared.statement.Statement.{Statement}
 use Rattle.part_rules.specs.Views.{judgement, list_of, one_more}
-use Rattle.part_rules.specs.declared.judged.Judged.{Judged}
 use Rattle.rule_definitions.specs.Expressions.{placed}
 use Rattle.rule_definitions.specs.Judgements.{Judgement, both, three, fine, made_of_both, made_of_three}
 use Rattle.rule_definitions.specs.Parts.{condition}
 use Rattle.rule_definitions.specs.Statements.{Position, Counted, past, behind, no_count, judged_statements, judged_else_ifs, counted_statements, counted_else_ifs, more_else_ifs}
-use Rattle.rule_definitions.specs.declared.broken.Broken.{Broken}
 use Rattle.statement_rules.specs.Blocks.{block, else_if_list, else_if_parts}
 use Rattle.statement_rules.specs.Parts.{statement_judged, statement_counted, else_if_judged, else_if_counted}
 use Rattle.statement_rules.specs.Positions.{numbered, numbers, numbers_past}
 use Rattle.statement_rules.specs.declared.position.Numbers.{Numbers}
 use Rattle.statement_rules.specs.declared.position.Passed.{Passed}
-use Rattle.statement_rules.proofs.Blocks.{found, alike}
+use Rattle.statement_rules.proofs.Blocks.{alike}
 use Rattle.statement_rules.proofs.Laws.{none_judged, more_judged, no_else_ifs_judged, more_else_ifs_judged}
 use Rattle.statement_rules.proofs.Turns.{before, before_all, item_drop, nothing_before, turn_breaks, turn_meaning, whole_list}
 

@@ -86,10 +86,7 @@ pub fn no_parts<T>(alloc: Global, position: Position<'_>) -> Passed<Vec<T>>
 }
 
 /// Puts a part behind the earlier ones of a list; there is no list where a part has no meaning.
-pub fn keep_passed<T: Drop>(
-    list: &mut Passed<Vec<T>>,
-    item: Passed<T>,
-) -> Result<(), NoMemory>
+pub fn keep_passed<T: Drop>(list: &mut Passed<Vec<T>>, item: Passed<T>) -> Result<(), NoMemory>
     ensures breaks { OnOk result (list.new.judged.breaks.items ≡ list.old.judged.breaks.items ++ item.judged.breaks.items) }
     ensures meaning { OnOk result (option_map list_of list.new.judged.meaning ≡ both one_more (option_map list_of list.old.judged.meaning) item.judged.meaning) }
     ensures behind { OnOk result (list.new.behind ≡ item.behind) }

@@ -87,7 +87,15 @@ fn judge_statement(
             let body = judge_block(body, alloc, position)?;
             let else_ifs = judge_else_ifs(else_ifs, alloc, moved(position, body.behind))?;
             let otherwise = judge_else(otherwise, alloc, moved(position, else_ifs.behind))?;
-            if_statement(alloc, position.scope, condition, body, else_ifs, otherwise, *at)
+            if_statement(
+                alloc,
+                position.scope,
+                condition,
+                body,
+                else_ifs,
+                otherwise,
+                *at,
+            )
         }
         Statement::Do {
             construct,
@@ -284,8 +292,8 @@ fn judge_select(
     let selector = judge_selector(alloc, position.scope, expr)?;
     let around = within(alloc, position.around, Around::Selection)?;
     let inner = inside(position, around.as_slice());
-    let blocks = judge_cases(cases, alloc, inner, &selector.meaning)?;
-    select_statement(position, selector, blocks, at)
+    let selected = judge_cases(cases, alloc, inner, &selector.meaning)?;
+    select_statement(position, selector, selected, at)
 }
 
 // A CASE statement (11.1.9.1) with its block, behind the earlier ones: how many critical constructs and literals stand before what follows it.
@@ -302,7 +310,14 @@ fn judge_case(
     ensures behind { IfOk result (λ n. n ≡ numbers_past (seen position.entry) (rules.counted_statements (statement_list case.now.body.items))) }
 {
     let Passed { judged, behind } = judge_block(&case.body, alloc, position)?;
-    list.add(alloc, position.scope, selector, &case.selector, judged, case.at)?;
+    list.add(
+        alloc,
+        position.scope,
+        selector,
+        &case.selector,
+        judged,
+        case.at,
+    )?;
     Ok(behind)
 }
 

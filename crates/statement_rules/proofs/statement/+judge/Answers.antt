@@ -62,11 +62,11 @@ judge_statement-returns-in_ok-otherwise-in-If-clause-behind t' c =
     let e = c.in_ok-else_ifs-in-If in
     let o = c.in_ok-otherwise-in-If in
     let counts = if_behind x y z c.args.statement.now w.condition w.body w.else_ifs w.otherwise w.at w.end b.body.behind e.else_ifs.behind o.otherwise.behind
-          w.is
-          (b.ensures.behind ∙ ap (λ l. numbers_past x (counted_statements (statement_list l))) c.deref.ensures.value)
-          c.moved.ensures
-          (e.ensures.behind ∙ ap (λ l. numbers_past y (counted_else_ifs (else_ifs l))) c.deref-in-If.ensures.value)
-          c.moved-in-If.ensures o.ensures.behind in
+    w.is
+    (b.ensures.behind ∙ ap (λ l. numbers_past x (counted_statements (statement_list l))) c.deref.ensures.value)
+    c.moved.ensures
+    (e.ensures.behind ∙ ap (λ l. numbers_past y (counted_else_ifs (else_ifs l))) c.deref-in-If.ensures.value)
+    c.moved-in-If.ensures o.ensures.behind in
     IfOk-weaker c.if_statement.result _ _ (λ p h. h ∙ counts) c.if_statement.ensures.behind
 
 pub judge_statement-returns-in-Do-clause-judged : goal.judge_statement-returns-in-Do-clause-judged
@@ -265,8 +265,8 @@ judge_select-returns-clause-judged t' c =
     let y = position c.inside-inner.result in
     let at = within_found x y _ selection c.inside-inner.ensures (ap (map around) c.as_slice.ensures.value ∙ c.in_ok-around.ensures) in
     passed_whole statement_seen c.select_statement.result _ _
-    (select_found x y (expression c.args.expr.now) (case_blocks c.args.cases.now) c.args.at (judgement typed_expression c.in_ok-selector.selector) (judgement selection_seen c.in_ok-blocks.blocks.judged)
-    c.in_ok-selector.ensures.breaks c.in_ok-selector.ensures.meaning at c.in_ok-blocks.ensures.judged)
+    (select_found x y (expression c.args.expr.now) (case_blocks c.args.cases.now) c.args.at (judgement typed_expression c.in_ok-selector.selector) (judgement selection_seen c.in_ok-selected.selected.judged)
+    c.in_ok-selector.ensures.breaks c.in_ok-selector.ensures.meaning at c.in_ok-selected.ensures.judged)
     c.select_statement.ensures.breaks c.select_statement.ensures.meaning
 
 pub judge_select-returns-clause-behind : goal.judge_select-returns-clause-behind
@@ -275,7 +275,7 @@ judge_select-returns-clause-behind t' c =
     let y = position c.inside-inner.result in
     let at = within_found x y _ selection c.inside-inner.ensures (ap (map around) c.as_slice.ensures.value ∙ c.in_ok-around.ensures) in
     IfOk-weaker c.select_statement.result _ _
-    (λ p h. h ∙ moved_within x y selection (counted_cases (case_blocks c.args.cases.now)) c.in_ok-blocks.blocks.behind c.in_ok-blocks.ensures.behind at)
+    (λ p h. h ∙ moved_within x y selection (counted_cases (case_blocks c.args.cases.now)) c.in_ok-selected.selected.behind c.in_ok-selected.ensures.behind at)
     c.select_statement.ensures.behind
 
 pub judge_case-returns-clause-whole : goal.judge_case-returns-clause-whole
@@ -284,7 +284,7 @@ judge_case-returns-clause-whole t' c = λ r.
     let s = c.args.case.now in
     c.in_ok-add.ensures.whole r
     ∙ ap (λ j. whole c.args.list.now (case_joined x.scope (known (option_map typed_expression c.args.selector.now) c.args.list.now) (case_selector s.selector) s.at j r))
-      (c.in_ok-judged.ensures.judged ∙ ap (λ l. judged_statements x (statement_list l)) c.deref.ensures.value)
+    (c.in_ok-judged.ensures.judged ∙ ap (λ l. judged_statements x (statement_list l)) c.deref.ensures.value)
 
 pub judge_case-returns-clause-known : goal.judge_case-returns-clause-known
 judge_case-returns-clause-known t' c = c.in_ok-add.ensures.known
