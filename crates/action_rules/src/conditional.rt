@@ -79,6 +79,7 @@ fn if_form(
 }
 
 /// A one-line IF with its judged action, which stands at this place.
+#[tactic(auto, using(crate::proofs::Forms::both_made))]
 pub(crate) fn judge_if(
     alloc: Global,
     scope: &Scope<'_>,

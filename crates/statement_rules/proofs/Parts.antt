@@ -1,20 +1,19 @@
 -- What is made of the parts of a construct that were judged two by two.
-use Rattle.std.proofs.Common.{◌≡◌, ℕ, refl}
-use Rattle.std.specs.Prelude.{Option, Some, None}
+use Rattle.std.proofs.Common.{◌≡◌, ℕ}
+use Rattle.std.specs.Prelude.{Option}
 use Rattle.std.specs.Option.{option_map}
 use Rattle.std.specs.declared.alloc.Global.{Global}
 use Rattle.std.specs.declared.vec.Vec.{Vec}
 use Rattle.checked_tree.specs.Expressions as t
 use Rattle.checked_tree.specs.Statements as ts
 use Rattle.checked_tree.specs.ExpressionViews.{expression, maybe_expression, maybe_result}
-use Rattle.checked_tree.specs.StatementViews.{typed_statement_forms}
 use Rattle.checked_tree.specs.declared.expr.ResultVariable.{ResultVariable}
 use Rattle.checked_tree.specs.declared.expr.TypedExpr.{TypedExpr}
 use Rattle.checked_tree.specs.declared.statement.ElseIf.{ElseIf}
 use Rattle.checked_tree.specs.declared.statement.TypedStatement.{TypedStatement}
-use Rattle.rule_definitions.specs.Judgements.{both, made, three}
+use Rattle.rule_definitions.specs.Judgements.{both, three}
 use Rattle.rule_definitions.specs.Statements as s
-use Rattle.statement_rules.specs.Blocks.{block, branches, if_with, select_parts, selection}
+use Rattle.statement_rules.specs.Blocks.{block, else_if_list, selection}
 use Rattle.statement_rules.specs.Controls.{control, counter}
 use Rattle.statement_rules.specs.declared.control.Control.{Control}
 use Rattle.statement_rules.specs.declared.control.Counter.{Counter}
@@ -30,9 +29,10 @@ pub loop_seen : (h : ℕ) (x : Option Control) (y : Option (Vec TypedStatement G
     → option_map (λ (p : Control × Vec TypedStatement Global). s.loop_form h (control p.0) (block p.1)) (both (λ a b. (a, b)) x y) ≡ both (s.loop_form h) (option_map control x) (option_map block y)
 loop_seen h x y = two_seen (s.loop_form h) control block x y
 
-pub if_seen : (x : Option TypedExpr) (y : Option ((Vec TypedStatement Global × Vec ElseIf Global) × Vec TypedStatement Global))
-    → option_map (λ (p : TypedExpr × ((Vec TypedStatement Global × Vec ElseIf Global) × Vec TypedStatement Global)). if_with (expression p.0) (branches p.1)) (both (λ a b. (a, b)) x y) ≡ both if_with (option_map expression x) (option_map branches y)
-if_seen x y = two_seen if_with expression branches x y
+pub if_seen : (x : Option TypedExpr) (y : Option (Vec TypedStatement Global)) (z : Option (Vec ElseIf Global)) (w : Option (Vec TypedStatement Global))
+    → option_map (λ (p : (TypedExpr × (Vec TypedStatement Global × Vec ElseIf Global)) × Vec TypedStatement Global). s.if_form (expression p.0.0) (block p.0.1.0) (else_if_list p.0.1.1) (block p.1)) (both (λ a b. (a, b)) (both (λ a b. (a, b)) x (both (λ a b. (a, b)) y z)) w)
+    ≡ both (λ (g : ts.Statements → ts.StatementForm) v. g v) (three s.if_form (option_map expression x) (option_map block y) (option_map else_if_list z)) (option_map block w)
+if_seen x y z w = four_seen s.if_form expression block else_if_list block x y z w
 
 pub else_if_seen : (l : ℕ) (x : Option TypedExpr) (y : Option (Vec TypedStatement Global))
     → option_map (λ (p : TypedExpr × Vec TypedStatement Global). s.more_else_ifs l (expression p.0) (block p.1)) (both (λ a b. (a, b)) x y) ≡ both (s.more_else_ifs l) (option_map expression x) (option_map block y)
@@ -47,8 +47,8 @@ pub team_seen : (n : ℕ) (x : Option TypedExpr) (y : Option (Option ResultVaria
     ≡ both (λ (g : t.OptionalResult → ts.StatementForm) v. g v) (three (s.team_form n) (option_map expression x) (option_map maybe_result y) (option_map block z)) (option_map maybe_result w)
 team_seen n x y z w = four_seen (s.team_form n) expression maybe_result block maybe_result x y z w
 
-pub select_seen : (h : ℕ) (o : Option (TypedExpr × Selection)) → made (λ (p : t.Expression × s.Selected). s.select_form h p.0 p.1) (option_map select_parts o) ≡ option_map (λ (p : TypedExpr × Selection). s.select_form h (expression p.0) (selection p.1)) o
-select_seen h None = refl
-select_seen h (Some p) = refl
+pub select_seen : (h : ℕ) (x : Option TypedExpr) (y : Option Selection)
+    → option_map (λ (p : TypedExpr × Selection). s.select_form h (expression p.0) (selection p.1)) (both (λ a b. (a, b)) x y) ≡ both (s.select_form h) (option_map expression x) (option_map selection y)
+select_seen h x y = two_seen (s.select_form h) expression selection x y
 
 pub ruleset part_laws = (counted_seen, loop_seen, if_seen, else_if_seen, critical_seen, team_seen, select_seen)

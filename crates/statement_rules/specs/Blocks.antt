@@ -7,7 +7,6 @@ use Rattle.checked_tree.specs.Expressions as t
 use Rattle.checked_tree.specs.ExpressionViews.{expression}
 use Rattle.checked_tree.specs.Statements as ts
 use Rattle.checked_tree.specs.StatementViews.{statements, else_ifs, cases}
-use Rattle.checked_tree.specs.declared.expr.TypedExpr.{TypedExpr}
 use Rattle.checked_tree.specs.declared.statement.Case.{Case, out-Case}
 use Rattle.checked_tree.specs.declared.statement.ElseIf.{ElseIf, out-ElseIf}
 use Rattle.checked_tree.specs.declared.statement.TypedStatement.{TypedStatement}
@@ -29,21 +28,6 @@ else_if_parts x rest = ts.more_else_ifs (expression (out-ElseIf x).condition) (s
 
 abbrev pub selection : Selection → s.Selected
 selection x = record { cases = cases x.cases.items; otherwise = block x.otherwise }
-
--- the parts of a SELECT
-abbrev pub select_parts : TypedExpr × Selection → t.Expression × s.Selected
-select_parts p = (expression p.0, selection p.1)
-
--- the block of the first branch of an IF, and those of its ELSE IFs
-abbrev pub first_branches : Vec TypedStatement Global × Vec ElseIf Global → ts.Statements × ts.ElseIfs
-first_branches p = (block p.0, else_if_list p.1)
-
--- these, and the block of ELSE
-abbrev pub branches : (Vec TypedStatement Global × Vec ElseIf Global) × Vec TypedStatement Global → (ts.Statements × ts.ElseIfs) × ts.Statements
-branches p = (first_branches p.0, block p.1)
-
-abbrev pub if_with : t.Expression → (ts.Statements × ts.ElseIfs) × ts.Statements → ts.StatementForm
-if_with e p = s.if_form e p.0.0 p.0.1 p.1
 
 -- these CASEs before those that follow
 abbrev pub cases_before : List Case → ts.Cases → ts.Cases

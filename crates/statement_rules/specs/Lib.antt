@@ -1,3 +1,4 @@
 pub mod Blocks
 pub mod Controls
+pub mod Parts
 pub mod Positions

@@ -12,3 +12,11 @@ position x = record { scope = x.scope.now; around = map around x.around.now; cri
 -- a position before which so many critical constructs and literals stand
 abbrev pub numbered : s.Position → Numbers → s.Position
 numbered x n = record x { criticals = n.criticals; literals = n.literals }
+
+-- how many critical constructs and literals stand before a position
+abbrev pub numbers : s.Position → Numbers
+numbers x = record { criticals = x.criticals; literals = x.literals }
+
+-- how many stand before what follows such a part
+abbrev pub numbers_past : s.Position → s.Counted → Numbers
+numbers_past x c = numbers (s.past x c)

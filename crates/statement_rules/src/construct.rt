@@ -13,11 +13,11 @@ ghost use Rattle.part_rules.specs.Views.{judgement};
 ghost use Rattle.rule_definitions.specs.Actions.{controlled as controlled_by, is_in_critical as is_in_critical_of, judged_action, with_stat};
 ghost use Rattle.rule_definitions.specs.Expressions.{judged_specifiers, placed};
 ghost use Rattle.rule_definitions.specs.IntrinsicSubroutines.{four};
-ghost use Rattle.rule_definitions.specs.Judgements.{made, made_of, made_of_both, ruled as ruled_by};
+ghost use Rattle.rule_definitions.specs.Judgements.{made, made_of_both, ruled as ruled_by};
 ghost use Rattle.rule_definitions.specs.Parts as parts;
 ghost use Rattle.rule_definitions.specs.Statements as rules;
 ghost use Rattle.specifier_rules.specs.Views.{written as specified_seen};
-ghost use Rattle.statement_rules.specs.Blocks.{block, branches as branches_seen, else_if_parts, if_with, select_parts, selection as selection_seen};
+ghost use Rattle.statement_rules.specs.Blocks.{block, else_if_list, else_if_parts, selection as selection_seen};
 ghost use Rattle.statement_rules.specs.Controls.{control as control_seen};
 ghost use Rattle.statement_rules.specs.Positions.{position as seen};
 
@@ -110,15 +110,18 @@ fn judge_condition(
     condition(part)
 }
 
-/// The blocks of an IF: that of its first branch with those of its ELSE IFs, and that of ELSE.
-pub type Branches = ((Vec<TypedStatement>, Vec<ElseIf>), Vec<TypedStatement>);
+// The condition of an IF, the block of its first branch with those of its ELSE IFs, and that of ELSE.
+type IfParts = (
+    (TypedExpr, (Vec<TypedStatement>, Vec<ElseIf>)),
+    Vec<TypedStatement>,
+);
 
 #[tactic(auto, using(checked_tree::specs::StatementViews::typed_statement_forms))]
-fn if_form(parts: Option<(TypedExpr, Branches)>) -> Option<StatementForm>
-    ensures { option_map statement_form result ≡ option_map (λ p. if_with (expression p.0) (branches_seen p.1)) parts }
+fn if_form(parts: Option<IfParts>) -> Option<StatementForm>
+    ensures { option_map statement_form result ≡ option_map (λ p. rules.if_form (expression p.0.0) (block p.0.1.0) (else_if_list p.0.1.1) (block p.1)) parts }
 {
     match parts {
-        Some((condition, ((body, else_ifs), otherwise))) => Some(StatementForm::If {
+        Some(((condition, (body, else_ifs)), otherwise)) => Some(StatementForm::If {
             condition,
             body,
             else_ifs,
@@ -134,16 +137,23 @@ pub fn if_statement(
     alloc: Global,
     scope: &Scope<'_>,
     condition: &Expr,
-    branches: Passed<Branches>,
+    body: Passed<Vec<TypedStatement>>,
+    else_ifs: Passed<Vec<ElseIf>>,
+    otherwise: Passed<Vec<TypedStatement>>,
     at: Pos,
 ) -> Result<Passed<TypedStatement>, NoMemory>
-    ensures breaks { IfOk result (λ p. p.judged.breaks.items ≡ (rules.on_line at (made_of_both if_with (parts.condition (placed scope.now (written condition.now))) (judgement branches_seen branches.judged))).breaks) }
-    ensures meaning { IfOk result (λ p. option_map statement_seen p.judged.meaning ≡ (rules.on_line at (made_of_both if_with (parts.condition (placed scope.now (written condition.now))) (judgement branches_seen branches.judged))).meaning) }
-    ensures behind { IfOk result (λ p. p.behind ≡ branches.behind) }
+    ensures breaks { IfOk result (λ p. p.judged.breaks.items ≡ (rules.on_line at (four rules.if_form (parts.condition (placed scope.now (written condition.now))) (judgement block body.judged) (judgement else_if_list else_ifs.judged) (judgement block otherwise.judged))).breaks) }
+    ensures meaning { IfOk result (λ p. option_map statement_seen p.judged.meaning ≡ (rules.on_line at (four rules.if_form (parts.condition (placed scope.now (written condition.now))) (judgement block body.judged) (judgement else_if_list else_ifs.judged) (judgement block otherwise.judged))).meaning) }
+    ensures behind { IfOk result (λ p. p.behind ≡ otherwise.behind) }
 {
-    let Passed { judged, behind } = branches;
+    let Passed {
+        judged: otherwise,
+        behind,
+    } = otherwise;
+    let branches = paired(body.judged, else_ifs.judged)?;
     let condition = judge_condition(alloc, scope, condition)?;
-    let Judged { breaks, meaning } = paired(condition, judged)?;
+    let start = paired(condition, branches)?;
+    let Judged { breaks, meaning } = paired(start, otherwise)?;
     let form = Judged {
         breaks,
         meaning: if_form(meaning),
@@ -174,18 +184,24 @@ pub fn else_if_block(
     alloc: Global,
     scope: &Scope<'_>,
     condition: &Expr,
-    body: Judged<Vec<TypedStatement>>,
+    body: Passed<Vec<TypedStatement>>,
     at: Pos,
-) -> Result<Judged<ElseIf>, NoMemory>
-    ensures breaks { IfOk result (λ j. j.breaks.items ≡ (made_of_both (rules.more_else_ifs at.line) (parts.condition (placed scope.now (written condition.now))) (judgement block body)).breaks) }
-    ensures meaning { IfOk result (λ j. option_map else_if_parts j.meaning ≡ (made_of_both (rules.more_else_ifs at.line) (parts.condition (placed scope.now (written condition.now))) (judgement block body)).meaning) }
+) -> Result<Passed<ElseIf>, NoMemory>
+    ensures breaks { IfOk result (λ p. p.judged.breaks.items ≡ (made_of_both (rules.more_else_ifs at.line) (parts.condition (placed scope.now (written condition.now))) (judgement block body.judged)).breaks) }
+    ensures meaning { IfOk result (λ p. option_map else_if_parts p.judged.meaning ≡ (made_of_both (rules.more_else_ifs at.line) (parts.condition (placed scope.now (written condition.now))) (judgement block body.judged)).meaning) }
+    ensures behind { IfOk result (λ p. p.behind ≡ body.behind) }
 {
+    let Passed {
+        judged: body,
+        behind,
+    } = body;
     let condition = judge_condition(alloc, scope, condition)?;
     let Judged { breaks, meaning } = paired(condition, body)?;
-    Ok(Judged {
+    let judged = Judged {
         breaks,
         meaning: else_if_form(meaning, at),
-    })
+    };
+    Ok(Passed { judged, behind })
 }
 
 /// DO (11.1.7) with its block.
@@ -240,16 +256,20 @@ fn select_form(parts: Option<(TypedExpr, Selection)>, hidden: u32) -> Option<Sta
 #[tactic(auto, using(crate::proofs::Parts::part_laws))]
 pub fn select_statement(
     position: Position<'_>,
-    parts: Passed<(TypedExpr, Selection)>,
+    selector: Judged<TypedExpr>,
+    blocks: Passed<Selection>,
     at: Pos,
 ) -> Result<Passed<TypedStatement>, NoMemory>
-    ensures breaks { IfOk result (λ p. p.judged.breaks.items ≡ (rules.on_line at (made_of (λ p. rules.select_form (rules.hidden_of (map construct_seen position.entry.around.now)) p.0 p.1) (judgement select_parts parts.judged))).breaks) }
-    ensures meaning { IfOk result (λ p. option_map statement_seen p.judged.meaning ≡ (rules.on_line at (made_of (λ p. rules.select_form (rules.hidden_of (map construct_seen position.entry.around.now)) p.0 p.1) (judgement select_parts parts.judged))).meaning) }
-    ensures behind { IfOk result (λ p. p.behind ≡ parts.behind) }
+    ensures breaks { IfOk result (λ p. p.judged.breaks.items ≡ (rules.on_line at (made_of_both (rules.select_form (rules.hidden_of (map construct_seen position.entry.around.now))) (judgement expression selector) (judgement selection_seen blocks.judged))).breaks) }
+    ensures meaning { IfOk result (λ p. option_map statement_seen p.judged.meaning ≡ (rules.on_line at (made_of_both (rules.select_form (rules.hidden_of (map construct_seen position.entry.around.now))) (judgement expression selector) (judgement selection_seen blocks.judged))).meaning) }
+    ensures behind { IfOk result (λ p. p.behind ≡ blocks.behind) }
 {
-    let Passed { judged, behind } = parts;
-    let Judged { breaks, meaning } = judged;
+    let Passed {
+        judged: blocks,
+        behind,
+    } = blocks;
     let hidden = count_hidden(position.around)?;
+    let Judged { breaks, meaning } = paired(selector, blocks)?;
     let form = Judged {
         breaks,
         meaning: select_form(meaning, hidden),
