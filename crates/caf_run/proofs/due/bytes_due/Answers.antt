@@ -15,5 +15,6 @@ pub returns-in-Err-Cause : goal.returns-in-Err-Cause
 returns-in-Err-Cause c =
     if_ok_map c.refused_due.result _ _
     (λ d s. misread_bytes c.args.bytes.now c.in-Err-Cause.fault c.number.result c.args.task d.status c.at.result d.text.items d.report
-    (subst (λ r. IfCause r (λ f. IsRefused c.args.bytes.now f)) c.in-Err-Cause.field-0-is c.in-Err-Cause.ensures.refused) c.number.ensures c.at.ensures s.0 s.1 s.2)
+    (subst (λ r. IfCause r (λ f. IsRefused c.args.bytes.now f)) c.in-Err-Cause.field-0-is c.in-Err-Cause.ensures.refused)
+    (search (c.number.ensures, c.in-Err-Cause.field-0-is)) (search (c.at.ensures, c.in-Err-Cause.field-0-is)) s.0 s.1 s.2)
     c.refused_due.ensures

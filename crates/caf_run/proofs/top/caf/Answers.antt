@@ -18,6 +18,12 @@ use Rattle.caf_run.proofs.top.caf.Goals as goal
 pub returns-clause-untouched : goal.returns-clause-untouched
 returns-clause-untouched g c h = c.what_is_due.ensures.untouched (subst (λ w. IsValid (words_in w) → ⊥) (sym c.as_slice.ensures.value) h)
 
+pub returns-in-Ok-write_all-clause-untouched : goal.returns-in-Ok-write_all-clause-untouched
+returns-in-Ok-write_all-clause-untouched g c h = c.what_is_due.ensures.untouched (subst (λ w. IsValid (words_in w) → ⊥) (sym c.as_slice.ensures.value) h)
+
+pub returns-in-Ok-clause-untouched : goal.returns-in-Ok-clause-untouched
+returns-in-Ok-clause-untouched g c h = c.what_is_due.ensures.untouched (subst (λ w. IsValid (words_in w) → ⊥) (sym c.as_slice.ensures.value) h)
+
 -- what is told with a status of a run: its report, where the words run
 report_there : (words : List Word) (n seed : ℕ) (file : Word) (status : ℕ) (text : List ℕ) (report : Option Report) → IsRun words n seed file → ReportClause words report status text → IsRunStatus status → (r : Report) × (report ≡ Some r) × (status ≡ status_of r.end)
 report_there words n seed file status text None asked (inr (inr (inr (inr (zero, (other, check), ok))))) run = absurd (not_both words n seed file other asked check)
