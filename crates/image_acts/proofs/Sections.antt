@@ -107,8 +107,9 @@ split (at_fault k) y ds e = cc
 
 dims_found : (bs : List (ℤ × ℤ)) (ss : List Subscript) (ds : List Dimension) → dimensions bs ss ≡ found ds → (ds ≡ dims_named bs ss) × AllFit bs (triplets_of bs ss)
 unfolding dims_named
-dims_found [] ss ds e = (cc, tt)
-dims_found (b ∷ bs) [] ds e = (cc, tt)
+dims_found [] [] ds e = (cc, tt)
+dims_found [] (s ∷ ss) ds e = cc
+dims_found (b ∷ bs) [] ds e = cc
 dims_found (b ∷ bs) (s ∷ ss) ds e =
     let p = split (dimension b s) (dimensions bs ss) ds e in
     let x = dimension_found b s p.0 p.2 in

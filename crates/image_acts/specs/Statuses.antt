@@ -31,6 +31,10 @@ most_access_cells = 4096
 abbrev pub most_frames : ℕ
 most_frames = 256
 
+-- the most items of the texts that are begun: values have as many evaluation cells at most, literals have none
+abbrev pub most_items : ℕ
+most_items = 131072
+
 -- the greatest iteration count that is kept: no run comes to it
 abbrev pub most_iterations : ℕ
 most_iterations = 9223372036854775807

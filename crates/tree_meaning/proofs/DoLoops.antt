@@ -1,5 +1,5 @@
 -- A DO construct's loop has its iteration count.
-use Rattle.std.proofs.Common.{◌≡◌, refl, ap, sym, ◌∙◌, arith, ℕ, zero, suc, ℤ, pos, negsuc, ◌+◌, ◌+ℤ◌, ◌-ℤ◌, Bool, true, false, List, [], ◌∷◌, Option, None, Some}
+use Rattle.std.proofs.Common.{◌≡◌, refl, ap, sym, ◌∙◌, arith, ℕ, zero, suc, ℤ, pos, negsuc, ◌+◌, ◌-◌, ◌+ℤ◌, Bool, true, false, List, [], ◌∷◌, Option, None, Some}
 use Rattle.std.proofs.lemmas.Bool.{lt-ltb}
 use Rattle.std.specs.Prelude.{slice_get, slice_set, int_lt, min, not}
 use Rattle.std.specs.Ordering.{int_eq}
@@ -8,7 +8,7 @@ use Rattle.walk_theory.specs.Language.{goes_to, holds, fails}
 use Rattle.walk_theory.specs.Syntax.{Steps, end_parts}
 use Rattle.walk_theory.specs.Evaluation.{leaves, and_then, of_effect, outcome}
 use Rattle.walk_theory.specs.Iterations.{IsCounted}
-use Rattle.caf_base.specs.Arithmetic.{truth, fits_kind, iterations}
+use Rattle.caf_base.specs.Arithmetic.{truth, fits_kind, iterations, natural}
 use Rattle.image_acts.specs.Statuses.{most_iterations}
 use Rattle.image_acts.specs.Faults.{overflow, zero_step}
 use Rattle.image_acts.specs.Acts.{Act, Scope, here, host, variable, begin_iterations}
@@ -66,12 +66,12 @@ beside : (s : Scope) (c : Core) (x t : ℕ) (v w : ℤ) → cell_in here t c ≡
 beside here c x t v w e = remains c.frame.cells x t v w e
 beside host c x t v w e = beside_host c.callers c x t v w e
 
-less_one : (n : ℕ) → pos (suc n) -ℤ pos 1 ≡ pos n
-less_one n = grind (arith)
+less_one : (n : ℕ) → pos (natural (pos (suc n)) - 1) ≡ pos n
+less_one n = let e : suc n - 1 ≡ n = omega arith in ap (λ k. pos k) e
 
 -- one iteration less
-one_less : (s : Scope) (c : Core) (x t : ℕ) (v : ℤ) (n : ℕ) → cell_in here t c ≡ Some (pos (suc n)) → iterations_left t (with_cell here t (pos (suc n) -ℤ pos 1) (with_cell s x v c)) ≡ Some n
-one_less s c x t v n e = let p = beside s c x t v (pos (suc n)) e in ap count_of_cell (stored (with_cell s x v c).frame.cells t (pos (suc n) -ℤ pos 1) p.0 p.1) ∙ ap (λ z. count_of_cell (Some z)) (less_one n)
+one_less : (s : Scope) (c : Core) (x t : ℕ) (v : ℤ) (n : ℕ) → cell_in here t c ≡ Some (pos (suc n)) → iterations_left t (with_cell here t (pos (natural (pos (suc n)) - 1)) (with_cell s x v c)) ≡ Some n
+one_less s c x t v n e = let p = beside s c x t v (pos (suc n)) e in ap count_of_cell (stored (with_cell s x v c).frame.cells t (pos (natural (pos (suc n)) - 1)) p.0 p.1) ∙ ap (λ z. count_of_cell (Some z)) (less_one n)
 
 goes_there : (k : ℕ) (b : Bool) (c e d : Core) → and_then (of_effect c (unless k b (goes_to e))) (outcome image_language end_parts) ≡ leaves d → d ≡ e
 goes_there k true c e d h = cc
@@ -79,7 +79,7 @@ goes_there k false c e d h = cc
 
 -- the step to the next iteration, where it goes on
 takes : (s : Scope) (k : Kind) (x t : ℕ) (ox os ol : Option ℤ) (c d : Core) (r : ℕ) → ol ≡ cell_in here t c → count_of_cell ol ≡ Some (suc r)
-    → and_then (of_effect c (given ox (λ v. given os (λ step. given ol (λ left. unless overflow (fits_kind k (v +ℤ step)) (goes_to (with_cell here t (left -ℤ pos 1) (with_cell s x (v +ℤ step) c)))))))) (outcome image_language end_parts) ≡ leaves d
+    → and_then (of_effect c (given ox (λ v. given os (λ step. given ol (λ left. unless overflow (fits_kind k (v +ℤ step)) (goes_to (with_cell here t (pos (natural left - 1)) (with_cell s x (v +ℤ step) c)))))))) (outcome image_language end_parts) ≡ leaves d
     → iterations_left t d ≡ Some r
 takes s k x t None os ol c d r a e h = cc
 takes s k x t (Some v) None ol c d r a e h = cc

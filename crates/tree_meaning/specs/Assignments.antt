@@ -26,34 +26,34 @@ abbrev pub rank_in : t.Expression → ℕ
 rank_in (t.typed f type rank) = rank
 
 -- whether a value of the one kind may not be one of the other
-abbrev narrows : Kind → Kind → Bool
+abbrev pub narrows : Kind → Kind → Bool
 narrows kinds.I8 kinds.I4 = true
 narrows from to = false
 
 -- a value of a rank that is beneath so many numbers, or the top array, is of the variable's kind
-abbrev fitting : Kind → Kind → ℕ → ℕ → Parts Act
+abbrev pub fitting : Kind → Kind → ℕ → ℕ → Parts Act
 fitting from to zero depth = cond (narrows from to) (doing (operator (a.fits to depth) ∷ [])) nothing
 fitting from to (suc r) depth = cond (narrows from to) (doing (operator (a.fits_each to) ∷ [])) nothing
 
 -- the place of a section of a local array by the subscripts on top
-abbrev sectioning : a.Scope → (a form : ℕ) → Parts Act
+abbrev pub sectioning : a.Scope → (a form : ℕ) → Parts Act
 sectioning x n form = doing (bounded (a.section x n form) ∷ [])
 
 -- The place, and behind it the test that the value beneath is of the variable's kind. The subscripts of an array that isn't allocated have no
 -- bounds: then the value is tested first, and the section is a fault.
-abbrev fitting_section : Kind → Kind → ℕ → a.Scope → (a form rank : ℕ) → Parts Act
+abbrev pub fitting_section : Kind → Kind → ℕ → a.Scope → (a form rank : ℕ) → Parts Act
 fitting_section from to value_rank x n form rank = cond (narrows from to)
     (doing (bounded (a.is_there x n) ∷ [])
     ▸ choosing (sectioning x n form ▸ fitting from to value_rank (place_size rank)) (fitting from to value_rank (numbers_of_form (digits form)) ▸ sectioning x n form))
     (sectioning x n form)
 
 -- an array has the shape of the place beneath so many numbers; a scalar goes into each element
-abbrev agreeing : ℕ → ℕ → ℕ → Parts Act
+abbrev pub agreeing : ℕ → ℕ → ℕ → Parts Act
 agreeing zero depth rank = nothing
 agreeing (suc r) depth rank = doing (bounded (a.same_shape depth rank) ∷ [])
 
 -- the value goes into the place on top of a local array
-abbrev putting : ℕ → a.Scope → ℕ → ℕ → Parts Act
+abbrev pub putting : ℕ → a.Scope → ℕ → ℕ → Parts Act
 putting zero x n rank = doing (variable (a.put x n rank) ∷ [])
 putting (suc r) x n rank = doing (variable (a.put_array x n rank) ∷ [])
 
@@ -62,7 +62,7 @@ abbrev pub written : ℕ → ℕ → ℕ → Kind → Parts Act
 written zero c rank k = doing (ask (a.write c rank k) ∷ [])
 written (suc r) c rank k = doing (ask (a.write_array c rank k) ∷ [])
 
-abbrev dropping_value : ℕ → Parts Act
+abbrev pub dropping_value : ℕ → Parts Act
 dropping_value zero = dropping 1
 dropping_value (suc r) = doing (stack a.drop_array ∷ [])
 
@@ -72,17 +72,17 @@ writing value_rank c zero k = written value_rank c 0 k
 writing value_rank c (suc r) k = doing (bounded (a.some_cells 1 (suc r)) ∷ []) ▸ choosing (written value_rank c (suc r) k) (dropping (place_size (suc r) + 1) ▸ dropping_value value_rank ▸ pushing (pos 0))
 
 -- where the place of the selector's STAT= variable stands between a scalar and the place of the write, the scalar comes once more beneath the latter
-abbrev lifting : ℕ → ℕ → ℕ → Parts Act
+abbrev pub lifting : ℕ → ℕ → ℕ → Parts Act
 lifting zero size place = cond (size == 0) nothing (copying (place + size) 1 ▸ bringing 1 place)
 lifting (suc r) size place = nothing
 
-abbrev left_over : ℕ → ℕ → ℕ
+abbrev pub left_over : ℕ → ℕ → ℕ
 left_over zero size = size + size
 left_over (suc r) size = size
 
 module _ (e : Environment) where
   -- assignment of a value of this rank and kind
-  abbrev assigned : t.Designator → Kind → ℕ → Kind → ℕ → Parts Act
+  abbrev pub assigned : t.Designator → Kind → ℕ → Kind → ℕ → Parts Act
   assigned (t.part (objects.Local v) ss sel) k rank from r =
       cond (is_scalar ss rank) (fitting from k 0 0 ▸ doing (variable (a.store (scope_of v.home) v.variable) ∷ []))
       (subscripts e ss ▸ fitting_section from k r (scope_of v.home) v.variable (form_of ss rank) rank ▸ agreeing r 0 rank ▸ putting r (scope_of v.home) v.variable rank)
@@ -96,11 +96,11 @@ module _ (e : Environment) where
   assignment d type rank x = expression e x ▸ assigned d (kind_of type) rank (kind_in x) (rank_in x)
 
   -- FAILED_IMAGES or STOPPED_IMAGES (16.9) into a whole allocatable array
-  abbrev listing : ListedImages → Parts Act
+  abbrev pub listing : ListedImages → Parts Act
   listing lists.Failed = doing (ask a.failed ∷ stack a.take_cells ∷ [])
   listing lists.Stopped = doing (ask a.stopped ∷ stack a.take_cells ∷ [])
 
-  abbrev listed_team : t.OptionalExpression → Parts Act
+  abbrev pub listed_team : t.OptionalExpression → Parts Act
   listed_team t.missing = doing (selector a.this_team ∷ [])
   listed_team (t.given x) = expression e x ▸ doing (selector a.team_value ∷ [])
 
@@ -108,20 +108,20 @@ module _ (e : Environment) where
   images_assignment v l which = listed_team which ▸ listing l ▸ doing (variable (a.put_images (scope_of v.home) v.variable) ∷ [])
 
   -- an output item (12.6.3)
-  abbrev printed : Kind → ℕ → Parts Act
+  abbrev pub printed : Kind → ℕ → Parts Act
   printed kinds.L4 zero = doing (print a.print_truth ∷ [])
   printed k zero = doing (print a.print_number ∷ [])
   printed k (suc r) = doing (print (a.print_array k) ∷ [])
 
-  abbrev item : s.Item → Parts Act
+  abbrev pub item : s.Item → Parts Act
   item (s.literal n) = doing (print (a.print_literal (literal_text e n)) ∷ [])
   item (s.value x) = expression e x ▸ printed (kind_in x) (rank_in x)
 
-  abbrev items : List s.Item → Parts Act
+  abbrev pub items : List s.Item → Parts Act
   items [] = nothing
   items (x ∷ xs) = item x ▸ items xs
 
-  abbrev beginning : s.Format → Parts Act
+  abbrev pub beginning : s.Format → Parts Act
   beginning s.free = doing (print a.begin_free ∷ [])
   beginning (s.written n ds) = doing (print (a.begin_format (literal_text e n)) ∷ [])
 

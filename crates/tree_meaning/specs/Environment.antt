@@ -53,7 +53,7 @@ is_coarray (codimensions.Explicit s) = true
 is_coarray (codimensions.Deferred n) = true
 
 -- the local cells of a variable: none of a coarray, and none of an array that is to be allocated
-abbrev cells_of_bounds : Option (List (ℤ × ℤ)) → ℕ
+abbrev pub cells_of_bounds : Option (List (ℤ × ℤ)) → ℕ
 cells_of_bounds None = 0
 cells_of_bounds (Some bs) = size_of bs
 
@@ -80,10 +80,10 @@ abbrev pub literal_text : Environment → ℕ → List ℕ
 literal_text e n = slice_index_or e.program.literals n []
 
 -- a procedure by its number
-abbrev empty_unit : Unit'
+abbrev pub empty_unit : Unit'
 empty_unit = record { variables = []; hidden = 0; statements = no_statements }
 
-abbrev empty_procedure : Procedure
+abbrev pub empty_procedure : Procedure
 empty_procedure = record { name = []; dummies = []; answer = None; unit = empty_unit }
 
 abbrev pub procedure_in : Environment → ℕ → Procedure

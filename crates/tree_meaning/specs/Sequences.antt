@@ -31,14 +31,14 @@ abbrev pub bringing : (depth n : ℕ) → Parts Act
 bringing depth n = cond ((depth == 0) || (n == 0)) nothing (doing (stack (bring depth n) ∷ []))
 
 -- whether parts take evaluation cells of their own body
-abbrev is_taking : Act → Bool
+abbrev pub is_taking : Act → Bool
 is_taking (stack take_cell) = true
 is_taking (stack take_cells) = true
 is_taking (print print_number) = true
 is_taking (print print_truth) = true
 is_taking a = false
 
-abbrev takes : Parts Act → Bool
+abbrev pub takes : Parts Act → Bool
 takes end_parts = false
 takes (value p q) = takes p || takes q
 takes (act a q) = is_taking a || takes q

@@ -76,7 +76,7 @@ abbrev pub own_coarrays : s.Program → List (Option Own)
 own_coarrays p = map (own_in p.main.variables) p.coarrays
 
 -- the images from 1 to n
-abbrev images_from : ℕ → ℕ → List ℕ
+abbrev pub images_from : ℕ → ℕ → List ℕ
 images_from i zero = []
 images_from i (suc n) = i ∷ images_from (suc i) n
 

@@ -82,7 +82,7 @@ logic_value logics.Or v w = is_true v || is_true w
 logic_value logics.Eqv v w = int_eq v w
 logic_value logics.Neqv v w = not (int_eq v w)
 
-abbrev scalar_value : t.Designator → ℕ → Variables → Valued
+abbrev pub scalar_value : t.Designator → ℕ → Variables → Valued
 scalar_value (t.part (objects.Local v) t.no_subscripts sel) zero vs = of_cell (variable_in (scope_of v.home) v.variable vs)
 scalar_value d rank vs = unsaid
 
