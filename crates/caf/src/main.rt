@@ -1,4 +1,4 @@
-//! The program `caf`: it runs a thin Coarray Fortran program in a stated order and says exactly what happened.
+//! The program `caf`: it checks a Coarray Fortran program, or runs it in a stated order and says exactly what happened.
 //! It stands on `caf_run`, whose top call does all of it, and on `caf_io` for the real file and standard output.
 //! Nothing stands on it.
 //! Its main contract is that of `caf_run::top::caf`; these lines hand over the words behind the program's name.
@@ -8,24 +8,30 @@ use caf_io::file_source::FileSource;
 use caf_io::std_sink::StdSink;
 use caf_run::top::caf;
 use std::alloc::{AllocError, Global};
+use std::env;
 use std::process::ExitCode;
 use std::rt::Env;
-use std::{env, io};
 
 #[cfg(test)]
 mod tests;
 #[cfg(test)]
 mod tests_of_traces;
 
-// The words behind the program's name.
-fn words<R: Env + Alloc<A = Global>>(rt: &R) -> io::Result<Vec<String>> {
-    let words = env::args(rt)?;
-    let words: Result<Vec<String>, AllocError> = words.skip(1).collect(rt.alloc());
-    Ok(words?)
+/// The status where memory is wanting.
+const WANT_OF_MEMORY: u8 = 12;
+
+// The words behind the program's name; none where the system doesn't give them as text.
+fn words<R: Env + Alloc<A = Global>>(rt: &R) -> Result<Vec<String>, AllocError> {
+    match env::args(rt) {
+        Ok(words) => words.skip(1).collect(rt.alloc()),
+        Err(_) => Ok(Vec::new(rt.alloc())),
+    }
 }
 
 fn main(rt: HostRuntime) -> ExitCode {
-    let words = words(&rt).unwrap_or(Vec::new(rt.alloc()));
+    let Ok(words) = words(&rt) else {
+        return ExitCode::from(WANT_OF_MEMORY);
+    };
     let mut source = FileSource::new(&rt);
     let mut sink = StdSink::new(&rt);
     let done = caf(rt.alloc(), &words, &mut source, &mut sink);
