@@ -8,7 +8,7 @@ ghost use Rattle.constant_rules.specs.Wanting.{link_lacks_value};
 
 use crate::inquired::{is_refused_part, is_refused_reference};
 use caf_base::refusal::NoMemory;
-use fortran_tree::expr::{Argument, Designator, Expr, Link, Selector, Subscript};
+use fortran_tree::expr::{Argument, Designator, Expr, Link, Selector, Specifier, Subscript};
 use scope_table::scope::Scope;
 use std::alloc::Global;
 
@@ -173,7 +173,24 @@ fn bound_lacks_value(
     }
 }
 
-/// Whether a cosubscript of an image selector has none.
+/// Whether a specifier of an image selector has none.
+#[cycle(wanting)]
+fn specifier_lacks_value(
+    alloc: Global,
+    scope: &Scope<'_>,
+    specifiers: &[Specifier],
+) -> Result<bool, NoMemory>
+    ensures { IfOk result (λ b. b ≡ rules.specifier_lacks_value scope.now (tree.specifiers specifiers.now)) }
+{
+    for specifier in specifiers {
+        if lacks_value(alloc, scope, &specifier.value)? {
+            return Ok(true);
+        }
+    }
+    Ok(false)
+}
+
+/// Whether a cosubscript or a specifier of an image selector has none.
 #[cycle(wanting)]
 #[tactic(auto, using(fortran_tree::specs::ExpressionViews::expression_forms))]
 fn selector_lacks_value(
@@ -184,7 +201,12 @@ fn selector_lacks_value(
     ensures { IfOk result (λ b. b ≡ rules.selector_lacks_value scope.now (tree.maybe_image_selector selector.now)) }
 {
     match selector {
-        Some(selector) => item_lacks_value(alloc, scope, &selector.cosubscripts),
+        Some(selector) => {
+            if item_lacks_value(alloc, scope, &selector.cosubscripts)? {
+                return Ok(true);
+            }
+            specifier_lacks_value(alloc, scope, &selector.specifiers)
+        }
         None => Ok(false),
     }
 }

@@ -104,7 +104,11 @@ abbrev mutual
 
   pub selector_lacks_value : Scope → f.ImageSelector → Bool
   selector_lacks_value s f.no_image_selector = false
-  selector_lacks_value s (f.image_selector es ps) = item_lacks_value s es
+  selector_lacks_value s (f.image_selector es ps) = item_lacks_value s es || specifier_lacks_value s ps
+
+  pub specifier_lacks_value : Scope → f.Specifiers → Bool
+  specifier_lacks_value s f.no_specifiers = false
+  specifier_lacks_value s (f.more_specifiers n e rest) = lacks_value s e || specifier_lacks_value s rest
 
 abbrev pub without_meaning : {A B : Type 0} → Judgement A → Judgement B
 without_meaning j = record { breaks = j.breaks; meaning = None }

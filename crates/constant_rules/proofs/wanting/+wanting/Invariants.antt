@@ -18,3 +18,6 @@ invariant-item_lacks_value-loop-expr l = rules.item_lacks_value l.scope (tree.ex
 abbrev pub invariant-subscript_lacks_value-loop-subscript : goal.invariant-subscript_lacks_value-loop-subscript
 invariant-subscript_lacks_value-loop-subscript l =
     rules.subscript_lacks_value l.scope (tree.section_subscripts (drop l.subscript-index l.subscripts)) ≡ rules.subscript_lacks_value l.scope (tree.section_subscripts l.subscripts)
+
+abbrev pub invariant-specifier_lacks_value-loop-specifier : goal.invariant-specifier_lacks_value-loop-specifier
+invariant-specifier_lacks_value-loop-specifier l = rules.specifier_lacks_value l.scope (tree.specifiers (drop l.specifier-index l.specifiers)) ≡ rules.specifier_lacks_value l.scope (tree.specifiers l.specifiers)
