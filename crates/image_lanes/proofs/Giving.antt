@@ -5,7 +5,7 @@ use Rattle.std.proofs.lemmas.Bool.{cases_Bool}
 use Rattle.caf_events.specs.declared.ask.Ask.{Ask}
 use Rattle.caf_events.specs.declared.ask.Ask.TheVariants as asking
 use Rattle.caf_events.specs.declared.reply.Reply.{Reply}
-use Rattle.caf_events.specs.Events.{words_by, EndsImage}
+use Rattle.caf_events.specs.Events.{counts_words, words_by, EndsImage}
 use Rattle.caf_events.specs.Walkers.{AsksNext, IsAtLine, Continues, IsOver, EndsAfter}
 use Rattle.trace_theory.specs.Machines.{Move, goes, asks, over, go, Rests}
 use Rattle.image_lanes.specs.Lanes.{by_program, failing, OnLane, is_due, is_full, is_failure, begins_to_fail, fails_on, is_limited, goes_past, program_next, failure_next, course_next, lane_step, lane_hears, heard_by_program, heard_on, course_left, lane_left}
@@ -100,15 +100,15 @@ module _ {C : Type 0} (step : C → Move C Ask Reply) where
       }
 
   -- ---- and how it goes on
-  module _ (left : C → ℕ) (l : OnLane C) (by : l.course ≡ by_program) (ask : Ask) (line : ℕ) (reply : Reply) (asked : AsksNext (lane_step step l) ask) (at : IsAtLine (lane_step step l) line) where
+  module _ (l : OnLane C) (by : l.course ≡ by_program) (ask : Ask) (line : ℕ) (reply : Reply) (asked : AsksNext (lane_step step l) ask) (at : IsAtLine (lane_step step l) line) where
     asked_by : AsksNext (program_next l (step l.program)) ask
     asked_by = subst (λ m. AsksNext m ask) (by_step l by) asked
 
     at_by : IsAtLine (program_next l (step l.program)) line
     at_by = subst (λ m. IsAtLine m line) (by_step l by) at
 
-    from_move : (a : Ask) (n : ℕ) (k : Reply → OnLane C) → lane_step step l ≡ asks a n k → Rests (lane_step step (k reply)) → (IsOver (lane_step step (k reply)) ↔ EndsImage a reply) → lane_left left (k reply) < lane_left left l
-        → Given step left l reply (k reply)
+    from_move : (a : Ask) (n : ℕ) (k : Reply → OnLane C) → lane_step step l ≡ asks a n k → Rests (lane_step step (k reply)) → (IsOver (lane_step step (k reply)) ↔ EndsImage a reply) → lane_left step (k reply) < lane_left step l
+        → Given step l reply (k reply)
     from_move a n k e rests ends spends = record {
       goes = subst (λ m. Continues (lane_step step) m reply (k reply)) (sym e) (0, refl);
       rests = rests;
@@ -116,11 +116,11 @@ module _ {C : Type 0} (step : C → Move C Ask Reply) where
       spends = spends;
     }
 
-    pub given_failure : (is_due l || is_failure ask) ≡ true → Given step left l reply (begins_to_fail l line)
-    given_failure fails = from_move asking.Fail line (λ r. begins_to_fail l line) (by_step l by ∙ fail_move l (step l.program) ask line asked_by at_by fails) tt (λ x. x, λ x. x) (fewer_failing left l by line)
+    pub given_failure : (is_due l || is_failure ask) ≡ true → Given step l reply (begins_to_fail l line)
+    given_failure fails = from_move asking.Fail line (λ r. begins_to_fail l line) (by_step l by ∙ fail_move l (step l.program) ask line asked_by at_by fails) tt (λ x. x, λ x. x) (fewer_failing step l by ask asked_by line)
 
-    pub given_limit : (is_due l || is_failure ask) ≡ false → is_full l ≡ true → Given step left l reply (is_limited l)
-    given_limit goes_on full = from_move (asking.LimitWords l.words) line (λ r. is_limited l) (by_step l by ∙ limit_move l (step l.program) ask line asked_by at_by goes_on full) tt (λ x. tt, λ x. tt) (fewer_limited left l by)
+    pub given_limit : (is_due l || is_failure ask) ≡ false → is_full l ≡ true → Given step l reply (is_limited l)
+    given_limit goes_on full = from_move (asking.LimitWords l.words) line (λ r. is_limited l) (by_step l by ∙ limit_move l (step l.program) ask line asked_by at_by goes_on full) tt (λ x. tt, λ x. tt) (fewer_limited step l by ask asked_by)
 
     module _ (goes_on : (is_due l || is_failure ask) ≡ false) (room : is_full l ≡ false) where
       past : Past l (step l.program) ask line
@@ -136,21 +136,21 @@ module _ {C : Type 0} (step : C → Move C Ask Reply) where
       split true c h = absurd (cc)
       split false c h = (refl, h)
 
-      pub program_hears : (hears : C → Reply → Type 0) → lane_hears step hears l reply → hears l.program reply × (words_by ask reply < 2 ^ 62)
+      pub program_hears : (hears : C → Reply → Type 0) → lane_hears step hears l reply → hears l.program reply × (words_by ask reply < 2 ^ 62) × (counts_words ask ≡ false → EndsImage ask reply)
       program_hears hears h =
           let s = split (is_due l) (is_failure ask) goes_on in
           let g : heard_by_program hears l (asks ask line past.on) reply = subst (λ m. heard_by_program hears l m reply) past.program (subst (λ c. heard_on step hears l c reply) by h) in
           g s.0 s.1 room
 
-      pub given_past : (c : C) → Continues step (step l.program) reply c → Rests (step c) → (IsOver (step c) ↔ EndsAfter (step l.program) reply) → left c < left l.program → Given step left l reply (goes_past l ask reply c)
-      given_past c goes_ rests ends spends = record {
+      pub given_past : (c : C) → Continues step (step l.program) reply c → Rests (step c) → (IsOver (step c) ↔ EndsAfter (step l.program) reply) → (counts_words ask ≡ false → EndsImage ask reply) → Given step l reply (goes_past l ask reply c)
+      given_past c goes_ rests ends silent = record {
         goes = subst (λ m. Continues (lane_step step) m reply m2) (sym (by_step l by ∙ past.lane)) (g.0, subst (λ a. go (lane_step step) g.0 a ≡ goes m2) (sym (same (past.on reply))) (go_lane step g.0 (goes_past l ask reply c) (past.on reply) c g.1 ∙ ap (λ x. goes x) (sym (same c))));
         rests = subst Rests (sym (by_step m2 by)) (rests_lane step m2 rests);
         ends = (
           λ o. subst (λ m. EndsAfter m reply) (sym (by_step l by ∙ past.lane)) (subst (λ m. EndsAfter m reply) past.program (ends.0 (over_lane step m2 (subst IsOver (by_step m2 by) o)))),
           λ o. subst IsOver (sym (by_step m2 by)) (lane_over step m2 (ends.1 (subst (λ m. EndsAfter m reply) (sym past.program) (subst (λ m. EndsAfter m reply) (by_step l by ∙ past.lane) o)))),
         );
-        spends = fewer_past left l by ask reply c spends;
+        spends = fewer_past step l by ask asked_by ask reply c room (λ u. ends.1 (subst (λ m. EndsAfter m reply) (sym past.program) (silent u)));
       }
         where
           m2 : OnLane C
@@ -162,13 +162,13 @@ module _ {C : Type 0} (step : C → Move C Ask Reply) where
           same : (x : C) → goes_past l ask reply x ≡ at_program (goes_past l ask reply c) x
           same x = ap (λ q. record (goes_past l ask reply x) { course = q }) by
 
-  pub given_step : (left : C → ℕ) (l : OnLane C) (steps : List Ask) (line : ℕ) (reply : Reply) → l.course ≡ failing steps line → EndsLast steps reply → Given step left l reply (fails_on l (rest_of steps) line)
-  given_step left l [] line reply c ends = absurd ends
-  given_step left l (a ∷ as_) line reply c ends = record {
+  pub given_step : (l : OnLane C) (steps : List Ask) (line : ℕ) (reply : Reply) → l.course ≡ failing steps line → EndsLast steps reply → Given step l reply (fails_on l (rest_of steps) line)
+  given_step l [] line reply c ends = absurd ends
+  given_step l (a ∷ as_) line reply c ends = record {
     goes = subst (λ m. Continues (lane_step step) m reply (fails_on l as_ line)) (sym (ap (course_next step l) c)) (0, refl);
     rests = rests_failing step (fails_on l as_ line) as_ line;
     ends = subst (λ m. IsOver (lane_step step (fails_on l as_ line)) ↔ EndsAfter m reply) (sym (ap (course_next step l) c)) (last as_ ends);
-    spends = subst (λ k. lane_left left (fails_on l as_ line) < k) (sym (ap (course_left (left l.program) l) c)) (omega arith);
+    spends = subst (λ k. lane_left step (fails_on l as_ line) < k) (sym (ap (course_left step l) c)) (omega arith);
   }
     where
       last : (bs : List Ask) → EndsLast (a ∷ bs) reply → (IsOver (failure_next (fails_on l bs line) bs line) ↔ EndsImage a reply)

@@ -1,15 +1,16 @@
 -- A lane by its program goes as the program goes, and is at rest and over where the program is.
-use Rattle.std.proofs.Common.{◌≡◌, ℕ, zero, suc, ◌+◌, ◌*◌, ◌<◌, ◌≤◌, Bool, true, false, cond, List, [], ◌∷◌, ◌++◌, length, inl, inr, refl, ap, arith, length-append}
+use Rattle.std.proofs.Common.{◌≡◌, ℕ, zero, suc, ◌+◌, ◌-◌, ◌*◌, ◌<◌, ◌≤◌, Bool, true, false, cond, List, [], ◌∷◌, ◌++◌, length, inl, inr, refl, ap, sym, ◌∙◌, subst, arith, length-append}
 use Rattle.std.specs.Prelude.{map, not, filter}
-use Rattle.std.proofs.lemmas.Bool.{cases_Bool}
+use Rattle.std.proofs.lemmas.Bool.{cases_Bool, leb-false}
 use Rattle.caf_events.specs.declared.ask.Ask.{Ask}
 use Rattle.caf_events.specs.declared.ask.Ask.TheVariants as asking
 use Rattle.caf_events.specs.declared.reply.Reply.{Reply}
-use Rattle.caf_events.specs.Walkers.{IsOver}
+use Rattle.caf_events.specs.Events.{counts_words, ask_words, reply_words, words_by}
+use Rattle.caf_events.specs.Walkers.{AsksNext, IsOver}
 use Rattle.trace_theory.specs.Machines.{Move, goes, asks, over, go, goes_on, Rests}
 use Rattle.core_runs.specs.Failures.{LockPlace, same_place, lock_place, without, held_after, release_of, failure_steps}
 use Rattle.object_rules.specs.Locks.{has_status, acquires}
-use Rattle.image_lanes.specs.Lanes.{by_program, OnLane, is_due, is_full, is_failure, begins_to_fail, is_limited, goes_past, program_next, failure_next, lane_step, course_left, lane_left}
+use Rattle.image_lanes.specs.Lanes.{by_program, OnLane, is_due, is_full, is_failure, begins_to_fail, is_limited, goes_past, lane_start, program_next, failure_next, lane_step, program_left, course_left, lane_left}
 
 -- the lane with its program at c
 abbrev pub at_program : {C : Type 0} → OnLane C → C → OnLane C
@@ -105,20 +106,57 @@ failure_length i held =
     let b = length_map release_of held in
     omega arith
 
-module _ {C : Type 0} (left : C → ℕ) (l : OnLane C) (by : l.course ≡ by_program) where
-  left_is : lane_left left l ≡ 2 * left l.program + length l.held + 4
-  left_is = ap (course_left (left l.program) l) by
+-- a step that counts records words
+some_words : (ask : Ask) (reply : Reply) → counts_words ask ≡ true → 4 ≤ words_by ask reply
+some_words ask reply e = subst (λ b. 4 ≤ cond b (4 + ask_words ask + reply_words reply) 0) (sym e) (omega arith)
 
-  -- fewer are to come after the beginning of a failure, after a limit, and after a step of the program
-  pub fewer_failing : (line : ℕ) → lane_left left (begins_to_fail l line) < lane_left left l
-  fewer_failing line = let a = left_is in let b = failure_length l.image l.held in omega arith
+module _ {C : Type 0} (step : C → Move C Ask Reply) (l : OnLane C) (by : l.course ≡ by_program) where
+  left_is : lane_left step l ≡ program_left l (step l.program)
+  left_is = ap (course_left step l) by
 
-  pub fewer_limited : lane_left left (is_limited l) < lane_left left l
-  fewer_limited = let a = left_is in omega arith
+  busy : (m : Move C Ask Reply) (ask : Ask) → AsksNext (program_next l m) ask → program_left l m ≡ 2 * (l.limit - l.words) + length l.held + 4
+  busy (goes c) ask a = absurd a
+  busy (asks p q k) ask a = refl
+  busy over ask a = absurd a
 
-  pub fewer_past : (a : Ask) (r : Reply) (c : C) → left c < left l.program → lane_left left (goes_past l a r c) < lane_left left l
-  fewer_past a r c less =
-      let e = left_is in
-      let f : lane_left left (goes_past l a r c) ≡ 2 * left c + length (held_after l.held a r) + 4 = ap (course_left (left c) (goes_past l a r c)) by in
-      let h = held_few l.held a r in
-      omega arith
+  few : (m : OnLane C) (n : Move C Ask Reply) → program_left m n ≤ 2 * (m.limit - m.words) + length m.held + 4
+  few m (goes c) = omega arith
+  few m (asks p q k) = omega arith
+  few m over = omega arith
+
+  none : (m : OnLane C) (n : Move C Ask Reply) → IsOver n → program_left m n ≡ 0
+  none m (goes c) o = absurd o
+  none m (asks p q k) o = absurd o
+  none m over o = refl
+
+  module _ (ask : Ask) (asked : AsksNext (program_next l (step l.program)) ask) where
+    now : lane_left step l ≡ 2 * (l.limit - l.words) + length l.held + 4
+    now = left_is ∙ busy (step l.program) ask asked
+
+    -- fewer are to come after the beginning of a failure, after a limit, and after a step of the program
+    pub fewer_failing : (line : ℕ) → lane_left step (begins_to_fail l line) < lane_left step l
+    fewer_failing line = let a = now in let b = failure_length l.image l.held in omega arith
+
+    pub fewer_limited : lane_left step (is_limited l) < lane_left step l
+    fewer_limited = let a = now in omega arith
+
+    pub fewer_past : (a : Ask) (r : Reply) (c : C) → is_full l ≡ false → (counts_words a ≡ false → IsOver (step c)) → lane_left step (goes_past l a r c) < lane_left step l
+    fewer_past a r c room ends =
+        let m : OnLane C = goes_past l a r c in
+        let e = now in
+        let f : lane_left step m ≡ program_left m (step c) = ap (course_left step m) by in
+        elim (cases_Bool (counts_words a)) [
+          | inl t ↦ (
+              let w = some_words a r t in
+              let below : l.words < l.limit = leb-false l.limit l.words room in
+              let h = held_few l.held a r in
+              let g : program_left m (step c) ≤ 2 * (l.limit - (l.words + words_by a r)) + length (held_after l.held a r) + 4 = few m (step c) in
+              omega arith)
+          | inr u ↦ (let z : program_left m (step c) ≡ 0 = none m (step c) (ends u) in omega arith)
+        ]
+
+-- before its first step
+pub few_at_first : {C : Type 0} (step : C → Move C Ask Reply) (image fails_at limit : ℕ) (c : C) → lane_left step (lane_start image fails_at limit c) ≤ 2 * limit + 4
+few_at_first step image fails_at limit c =
+    let a = few step (lane_start image fails_at limit c) refl (lane_start image fails_at limit c) (step c) in
+    omega arith

@@ -1,5 +1,5 @@
 -- Where a lane stands, of what it keeps.
-use Rattle.std.specs.Prelude.{ℕ, ◌<◌, ◌↔◌}
+use Rattle.std.specs.Prelude.{◌<◌, ◌↔◌}
 use Rattle.caf_events.specs.declared.ask.Ask.{Ask}
 use Rattle.caf_events.specs.declared.reply.Reply.{Reply}
 use Rattle.caf_events.specs.Walkers.{IsOver, Continues, EndsAfter}
@@ -21,8 +21,8 @@ lane_of walks l = record {
 }
 
 -- a lane at l that hears this reply to its ask goes on to m
-pub record Given {C : Type 0} (step : C → Move C Ask Reply) (left : C → ℕ) (l : OnLane C) (reply : Reply) (m : OnLane C) : Type 0 where
+pub record Given {C : Type 0} (step : C → Move C Ask Reply) (l : OnLane C) (reply : Reply) (m : OnLane C) : Type 0 where
   pub goes : Continues (lane_step step) (lane_step step l) reply m
   pub rests : Rests (lane_step step m)
   pub ends : IsOver (lane_step step m) ↔ EndsAfter (lane_step step l) reply
-  pub spends : lane_left left m < lane_left left l
+  pub spends : lane_left step m < lane_left step l

@@ -3,7 +3,7 @@ use Rattle.std.specs.Prelude.{ℕ, ◌+◌, ◌-◌, ◌*◌, ◌<◌, ◌^◌, 
 use Rattle.caf_events.specs.declared.ask.Ask.{Ask}
 use Rattle.caf_events.specs.declared.ask.Ask.TheVariants as asking
 use Rattle.caf_events.specs.declared.reply.Reply.{Reply}
-use Rattle.caf_events.specs.Events.{words_by}
+use Rattle.caf_events.specs.Events.{counts_words, words_by, EndsImage}
 use Rattle.core_runs.specs.Failures.{LockPlace, held_after, failure_steps}
 use Rattle.trace_theory.specs.Machines.{Move, goes, asks, over}
 
@@ -82,10 +82,11 @@ module _ {C : Type 0} where
   abbrev pub lane_start : ℕ → ℕ → ℕ → C → OnLane C
   lane_start image fails_at limit c = record { image = image; fails_in = fails_at; limit = limit; program = c; words = 0; held = []; course = by_program }
 
-  -- the replies with which the program can go on and the step has fewer than 2^62 words, so that their count stays a number of 64 bits
+  -- the replies with which the program can go on, where the step has fewer than 2^62 words, so that their count stays a number of 64 bits; a step without
+  -- words ends the image
   abbrev pub heard_by_program : (C → Reply → Type 0) → OnLane C → Move C Ask Reply → Reply → Type 0
   heard_by_program hears l (goes c) reply = ⊥
-  heard_by_program hears l (asks ask line k) reply = is_due l ≡ false → is_failure ask ≡ false → is_full l ≡ false → hears l.program reply × (words_by ask reply < 2 ^ 62)
+  heard_by_program hears l (asks ask line k) reply = is_due l ≡ false → is_failure ask ≡ false → is_full l ≡ false → hears l.program reply × (words_by ask reply < 2 ^ 62) × (counts_words ask ≡ false → EndsImage ask reply)
   heard_by_program hears l over reply = ⊥
 
   abbrev pub heard_on : (C → Move C Ask Reply) → (C → Reply → Type 0) → OnLane C → Course → Reply → Type 0
@@ -96,11 +97,17 @@ module _ {C : Type 0} where
   abbrev pub lane_hears : (C → Move C Ask Reply) → (C → Reply → Type 0) → OnLane C → Reply → Type 0
   lane_hears step hears l reply = heard_on step hears l l.course reply
 
-  -- at most so many asks are still to come, where so many are of the program: each step may get one lock, which its failure frees
-  abbrev pub course_left : ℕ → OnLane C → Course → ℕ
-  course_left left l by_program = 2 * left + length l.held + 4
-  course_left left l (failing steps line) = length steps
-  course_left left l at_limit = 0
+  -- at most so many asks are still to come: each step of a program that goes on records words, of which there is a limit, and may get one lock, which its
+  -- failure frees
+  abbrev pub program_left : OnLane C → Move C Ask Reply → ℕ
+  program_left l (goes c) = 2 * (l.limit - l.words) + length l.held + 4
+  program_left l (asks ask line k) = 2 * (l.limit - l.words) + length l.held + 4
+  program_left l over = 0
 
-  abbrev pub lane_left : (C → ℕ) → OnLane C → ℕ
-  lane_left left l = course_left (left l.program) l l.course
+  abbrev pub course_left : (C → Move C Ask Reply) → OnLane C → Course → ℕ
+  course_left step l by_program = program_left l (step l.program)
+  course_left step l (failing steps line) = length steps
+  course_left step l at_limit = 0
+
+  abbrev pub lane_left : (C → Move C Ask Reply) → OnLane C → ℕ
+  lane_left step l = course_left step l l.course

@@ -98,7 +98,6 @@ impl<M: Walker> Lane<M> {
         ensures goes { Continues M.step (M.step (M.config self.old.machine)) event.now.reply (M.config self.new.machine) }
         ensures rests { Rests (M.step (M.config self.new.machine)) }
         ensures ends { IsOver (M.step (M.config self.new.machine)) ↔ EndsAfter (M.step (M.config self.old.machine)) event.now.reply }
-        ensures spends { M.asks_left (M.config self.new.machine) < M.asks_left (M.config self.old.machine) }
     {
         self.machine.give(event);
         self.words += event.words();
@@ -124,7 +123,7 @@ impl<M: Walker> Lane<M> {
         requires hears { lane_hears M.step M.hears (lane_of M.Walker self.old) event.now.reply }
         requires room { M.has_room self.old.machine }
         requires lock { 0 < self.old.held.room }
-        ensures { Given M.step M.asks_left (lane_of M.Walker self.old) event.now.reply (lane_of M.Walker self.new) }
+        ensures { Given M.step (lane_of M.Walker self.old) event.now.reply (lane_of M.Walker self.new) }
     {
         if self.begins_failure(asked) {
             self.begin_to_fail(event.line());
@@ -158,7 +157,7 @@ impl<M: Walker> Walker for Lane<M> {
 
     ghost hears = { lane_hears M.step M.hears };
 
-    ghost asks_left = { lane_left M.asks_left };
+    ghost asks_left = { lane_left M.step };
 
     ghost has_room = { λ l. ByProgram l.going (M.has_room l.machine × (0 < l.held.room)) };
 

@@ -1,10 +1,10 @@
 //! The laws of lanes.
 
-ghost use Rattle.std.specs.Prelude.{ℕ, List, []};
+ghost use Rattle.std.specs.Prelude.{◌+◌, ◌*◌, ◌≤◌, ℕ, List, []};
 ghost use Rattle.caf_events.specs.declared.ask.Ask.{Ask};
 ghost use Rattle.caf_events.specs.declared.reply.Reply.{Reply};
 ghost use Rattle.trace_theory.specs.Machines.{Said, Walk, WalkTo};
-ghost use Rattle.image_lanes.specs.Lanes.{OnLane, lane_step, lane_start};
+ghost use Rattle.image_lanes.specs.Lanes.{OnLane, lane_left, lane_step, lane_start};
 ghost use Rattle.image_lanes.specs.Courses.{Course, NoLaterSteps};
 ghost use Rattle.core_runs.specs.Failures.{FailsFrom};
 
@@ -24,4 +24,10 @@ pub fn law_fails<M: Walker>()
         → ((walked : List (Said Ask Reply)) (d : M.Config) → WalkTo M.step c walked d → NoLaterSteps walked)
         → Walk (lane_step M.step) (lane_start image fails_at limit c) es to
         → FailsFrom image es [] }
+{}
+
+/// A lane makes at most twice as many asks as its limit of recorded words, and four: each step of its program but the last records four words at least, and may get a
+/// lock that its failure frees.
+pub fn law_few<M: Walker>()
+    ensures { (image fails_at limit : ℕ) (c : M.Config) → lane_left M.step (lane_start image fails_at limit c) ≤ 2 * limit + 4 }
 {}

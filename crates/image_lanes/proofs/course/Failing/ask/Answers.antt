@@ -1,4 +1,4 @@
-use Rattle.std.proofs.Common.{rules, ◌≡◌, sym}
+use Rattle.std.proofs.Common.{sym}
 use Rattle.image_lanes.proofs.Releases.{first_release, last_release}
 use Rattle.image_lanes.proofs.course.Failing.ask.Goals as goal
 

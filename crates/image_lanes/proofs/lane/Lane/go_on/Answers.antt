@@ -12,7 +12,7 @@ go_past-requires-clause-words g c =
     let by : l.course ≡ by_program = ap (course_of l.image l.held) c.requires.going in
     let free : (is_due l || is_failure c.args.event.now.ask) ≡ false = ap (λ a. is_due l || is_failure a) (sym c.requires.ask) ∙ sym c.begins_failure.ensures ∙ c.if-begins_failure.false in
     let room : is_full l ≡ false = sym c.is_full.ensures.is ∙ c.if-is_full.false in
-    let h = program_hears g.M.Walker.step g.M.Walker.asks_left l by c.args.event.now.ask c.args.event.now.line c.args.event.now.reply c.requires.asked c.requires.line free room g.M.Walker.hears c.requires.hears in
+    let h = program_hears g.M.Walker.step l by c.args.event.now.ask c.args.event.now.line c.args.event.now.reply c.requires.asked c.requires.line free room g.M.Walker.hears c.requires.hears in
     let few = c.is_full.ensures.few c.if-is_full.false in
     omega arith
 
@@ -22,6 +22,7 @@ returns-else-is_full g c =
     let by : l.course ≡ by_program = ap (course_of l.image l.held) c.requires.going in
     let free : (is_due l || is_failure c.args.event.now.ask) ≡ false = ap (λ a. is_due l || is_failure a) (sym c.requires.ask) ∙ sym c.begins_failure.ensures ∙ c.if-begins_failure.false in
     let room : is_full l ≡ false = sym c.is_full.ensures.is ∙ c.if-is_full.false in
+    let h = program_hears g.M.Walker.step l by c.args.event.now.ask c.args.event.now.line c.args.event.now.reply c.requires.asked c.requires.line free room g.M.Walker.hears c.requires.hears in
     let e = c.go_past.ensures in
-    subst (λ m. Given g.M.Walker.step g.M.Walker.asks_left l c.args.event.now.reply m) (sym e.past)
-    (given_past g.M.Walker.step g.M.Walker.asks_left l by c.args.event.now.ask c.args.event.now.line c.args.event.now.reply c.requires.asked c.requires.line free room (g.M.Walker.config c.go_past.new.self.machine) e.goes e.rests e.ends e.spends)
+    subst (λ m. Given g.M.Walker.step l c.args.event.now.reply m) (sym e.past)
+    (given_past g.M.Walker.step l by c.args.event.now.ask c.args.event.now.line c.args.event.now.reply c.requires.asked c.requires.line free room (g.M.Walker.config c.go_past.new.self.machine) e.goes e.rests e.ends h.2)

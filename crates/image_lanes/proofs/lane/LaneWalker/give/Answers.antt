@@ -13,5 +13,5 @@ returns-in-Failing-clause-ends g c =
     let steps = steps_from l.image l.held c.in-Failing.step in
     let course : l.course ≡ failing steps c.in-Failing.line = ap (course_of l.image l.held) c.in-Failing.is in
     let ends = ends_well l l.image l.held c.in-Failing.step c.in-Failing.line c.args.event.now.ask c.args.event.now.reply (subst (λ m. AsksNext m c.args.event.now.ask) (ap (course_next g.M.Walker.step l) course) c.requires.asked) in
-    let given = given_step g.M.Walker.step g.M.Walker.asks_left l steps c.in-Failing.line c.args.event.now.reply course ends in
+    let given = given_step g.M.Walker.step l steps c.in-Failing.line c.args.event.now.reply course ends in
     subst (λ m. IsOver (lane_step g.M.Walker.step m) ↔ EndsAfter (lane_step g.M.Walker.step l) c.args.event.now.reply) (sym c.fail_on.ensures) given.ends
