@@ -1,2 +1,5 @@
 pub mod Firsts
 pub mod Sound
+pub mod Known
+pub mod PartsSound
+pub mod ArgumentsSound

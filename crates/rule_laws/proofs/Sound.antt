@@ -47,7 +47,7 @@ said_numbered f (Some x) h = h x refl
 
 -- parts of no breaks
 
-cons_nil : (x : Broken) (zs : List Broken) → x ∷ zs ≡ [] → ⊥
+pub cons_nil : (x : Broken) (zs : List Broken) → x ∷ zs ≡ [] → ⊥
 cons_nil x zs e = cc
 
 pub left_nothing : (xs ys : List Broken) → xs ++ ys ≡ [] → xs ≡ []
@@ -63,7 +63,7 @@ right_nothing (x ∷ xs) ys e = absurd (cons_nil x (xs ++ ys) e)
 pub fine_sound : {H T : Type 0} (x : T) → IsSound H (fine x)
 fine_sound x = record { numbered = none_numbered; decided = λ h e. refl }
 
-breaks_some : (r : ℕ) (p : Pos) → breaks r p ≡ [] → ⊥
+pub breaks_some : (r : ℕ) (p : Pos) → breaks r p ≡ [] → ⊥
 breaks_some r p e = cc
 
 pub refused_sound : {H T : Type 0} (r : ℕ) (p : Pos) → is_numbered r ≡ true → IsSound H (refused {T = T} r p)
