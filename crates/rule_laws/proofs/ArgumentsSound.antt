@@ -169,7 +169,7 @@ value_step : (H : Type 0) (b : Binding) (i : ℕ) (e : Placed) (o : Option ℕ) 
 value_step H b i e None r h k f = k f
 value_step H b i e (Some j) r h k f = value_pick H b e (nat_eq i j) r h k f
 
-value_sound : (H : Type 0) (bs : List Binding) (i : ℕ) (e : Placed) → AllBindings H bs → placed_of (bound_to bs i) ≡ Some e → IsSound H e.judged
+pub value_sound : (H : Type 0) (bs : List Binding) (i : ℕ) (e : Placed) → AllBindings H bs → placed_of (bound_to bs i) ≡ Some e → IsSound H e.judged
 value_sound H [] i e h f = absurd (none_placed e f)
 value_sound H (b ∷ rest) i e h f = value_step H b i e (b.index) (bound_to rest i) (h.0) (value_sound H rest i e (h.1)) f
 

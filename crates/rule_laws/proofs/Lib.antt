@@ -3,3 +3,4 @@ pub mod Sound
 pub mod Known
 pub mod PartsSound
 pub mod ArgumentsSound
+pub mod FunctionsSound
