@@ -4,3 +4,5 @@ pub mod Known
 pub mod PartsSound
 pub mod ArgumentsSound
 pub mod FunctionsSound
+pub mod SpecifiersSound
+pub mod SubroutinesSound

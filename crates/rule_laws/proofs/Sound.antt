@@ -173,3 +173,28 @@ cond_sound false s t = weaker (λ h. (h, refl)) t
 pub cond_plain : {H T : Type 0} (b : Bool) {x y : Judgement T} → IsSound H x → IsSound H y → IsSound H (cond b x y)
 cond_plain true s t = s
 cond_plain false s t = t
+
+-- where a part under a rule has a meaning, the part has it, and the rule holds
+
+some_same : {T : Type 0} (x y : T) → Some x ≡ Some y → x ≡ y
+some_same x y e = cc
+
+none_some : {A T : Type 0} (x : T) → None ≡ Some x → A
+none_some x e = absurd (never x e)
+  where
+    never : {T : Type 0} (x : T) → None ≡ Some x → ⊥
+    never x e = cc
+
+abbrev IsUnbrokenAt : {T : Type 0} → (T → List Broken) → Option T → T → Type 0
+IsUnbrokenAt f o x = (o ≡ Some x) × (f x ≡ [])
+
+unbroken_at : {T : Type 0} (f : T → List Broken) (y x : T) (bs : List Broken) → f y ≡ bs → cond (is_nothing bs) (Some y) None ≡ Some x → IsUnbrokenAt f (Some y) x
+unbroken_at f y x [] h e = (e, sym (ap f (some_same y x e)) ∙ h)
+unbroken_at f y x (b ∷ bs) h e = none_some x e
+
+unbroken_option : {T : Type 0} (f : T → List Broken) (o : Option T) (x : T) → cond (is_nothing (said_of f o)) o None ≡ Some x → IsUnbrokenAt f o x
+unbroken_option f None x e = none_some x e
+unbroken_option f (Some y) x e = unbroken_at f y x (f y) refl e
+
+pub under_meaning : {T : Type 0} (j : Judgement T) (f : T → List Broken) (x : T) → (under j f).meaning ≡ Some x → (j.meaning ≡ Some x) × (f x ≡ [])
+under_meaning j f x e = unbroken_option f j.meaning x e
