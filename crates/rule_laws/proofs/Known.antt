@@ -38,11 +38,14 @@ abbrev pub is_known : List Interface → Meaning → Bool
 is_known is (Names.variable x) = is_known_symbol x
 is_known is (Names.constant c) = is_there c.of_type && is_known_value c.bounds c.value
 is_known is (Names.subroutine n) = is_there (item_at is n)
-is_known is (Names.function n) = has_typed_result (item_at is n)
 is_known is m = true
 
 pub record AreKnown (is : List Interface) (o : Option Meaning) : Type 0 where
   pub known : (m : Meaning) → o ≡ Some m → is_known is m ≡ true
+
+-- what stands for a function of the program has a typed result
+pub record IsTypedScope (s : Scope) : Type 0 where
+  pub typed : (n : List ℕ) (k : ℕ) → denotes s n ≡ Some (Names.function k) → has_typed_result (item_at s.interfaces k) ≡ true
 
 pub record IsKnownScope (s : Scope) : Type 0 where
   pub known : (n : List ℕ) → AreKnown s.interfaces (denotes s n)

@@ -6,3 +6,6 @@ pub mod ArgumentsSound
 pub mod FunctionsSound
 pub mod SpecifiersSound
 pub mod SubroutinesSound
+pub mod Calls
+pub mod DesignatorsSound
+pub mod ExpressionsSound

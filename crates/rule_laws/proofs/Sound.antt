@@ -137,6 +137,15 @@ made_of_both_sound f {a = a} {b = b} s t = record {
   decided = λ h e. there_both f a.meaning b.meaning (s.decided h (left_nothing a.breaks b.breaks e)) (t.decided h (right_nothing a.breaks b.breaks e));
 }
 
+-- the first knows that nothing broke in the second
+pub made_of_both_given : {H A B C : Type 0} (f : A → B → C) {a : Judgement A} {b : Judgement B} → IsSound (H × (b.breaks ≡ [])) a → IsSound H b → IsSound H (made_of_both f a b)
+made_of_both_given f {a = a} {b = b} s t = record {
+  numbered = both_numbered s.numbered t.numbered;
+  decided = λ h e. (
+      let g = right_nothing a.breaks b.breaks e in
+      there_both f a.meaning b.meaning (s.decided (h, g) (left_nothing a.breaks b.breaks e)) (t.decided h g));
+}
+
 pub made_of_three_sound : {H A B C D : Type 0} (f : A → B → C → D) {a : Judgement A} {b : Judgement B} {c : Judgement C} → IsSound H a → IsSound H b → IsSound H c → IsSound H (made_of_three f a b c)
 made_of_three_sound f {a = a} {b = b} {c = c} s t u = record {
   numbered = both_numbered s.numbered (both_numbered t.numbered u.numbered);
