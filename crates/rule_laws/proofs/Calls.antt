@@ -51,12 +51,12 @@ abbrev mutual
 abbrev pub IsFree : Scope → Bool → Type 0
 IsFree s b = (b ≡ false) ⊎ IsTypedScope s
 
-or_left : (a b : Bool) → a || b ≡ false → a ≡ false
+pub or_left : (a b : Bool) → a || b ≡ false → a ≡ false
 or_left true true e = e
 or_left true false e = e
 or_left false b e = refl
 
-or_right : (a b : Bool) → a || b ≡ false → b ≡ false
+pub or_right : (a b : Bool) → a || b ≡ false → b ≡ false
 or_right true true e = e
 or_right false true e = e
 or_right a false e = refl

@@ -9,3 +9,5 @@ pub mod SubroutinesSound
 pub mod Calls
 pub mod DesignatorsSound
 pub mod ExpressionsSound
+pub mod AssignmentsSound
+pub mod AllocationsSound

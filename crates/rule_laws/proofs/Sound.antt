@@ -146,6 +146,15 @@ made_of_both_given f {a = a} {b = b} s t = record {
       there_both f a.meaning b.meaning (s.decided (h, g) (left_nothing a.breaks b.breaks e)) (t.decided h g));
 }
 
+-- the second knows that nothing broke in the first
+pub made_of_both_after : {H A B C : Type 0} (f : A → B → C) {a : Judgement A} {b : Judgement B} → IsSound H a → IsSound (H × (a.breaks ≡ [])) b → IsSound H (made_of_both f a b)
+made_of_both_after f {a = a} {b = b} s t = record {
+  numbered = both_numbered s.numbered t.numbered;
+  decided = λ h e. (
+      let g = left_nothing a.breaks b.breaks e in
+      there_both f a.meaning b.meaning (s.decided h g) (t.decided (h, g) (right_nothing a.breaks b.breaks e)));
+}
+
 pub made_of_three_sound : {H A B C D : Type 0} (f : A → B → C → D) {a : Judgement A} {b : Judgement B} {c : Judgement C} → IsSound H a → IsSound H b → IsSound H c → IsSound H (made_of_three f a b c)
 made_of_three_sound f {a = a} {b = b} {c = c} s t u = record {
   numbered = both_numbered s.numbered (both_numbered t.numbered u.numbered);
@@ -185,10 +194,10 @@ cond_plain false s t = t
 
 -- where a part under a rule has a meaning, the part has it, and the rule holds
 
-some_same : {T : Type 0} (x y : T) → Some x ≡ Some y → x ≡ y
+pub some_same : {T : Type 0} (x y : T) → Some x ≡ Some y → x ≡ y
 some_same x y e = cc
 
-none_some : {A T : Type 0} (x : T) → None ≡ Some x → A
+pub none_some : {A T : Type 0} (x : T) → None ≡ Some x → A
 none_some x e = absurd (never x e)
   where
     never : {T : Type 0} (x : T) → None ≡ Some x → ⊥
