@@ -11,3 +11,4 @@ pub mod DesignatorsSound
 pub mod ExpressionsSound
 pub mod AssignmentsSound
 pub mod AllocationsSound
+pub mod ActionsSound
