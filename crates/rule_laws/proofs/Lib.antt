@@ -12,3 +12,5 @@ pub mod ExpressionsSound
 pub mod AssignmentsSound
 pub mod AllocationsSound
 pub mod ActionsSound
+pub mod Yields
+pub mod References
