@@ -14,3 +14,4 @@ pub mod AllocationsSound
 pub mod ActionsSound
 pub mod Yields
 pub mod References
+pub mod Ranks

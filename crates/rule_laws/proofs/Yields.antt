@@ -24,14 +24,14 @@ ruled_meaning j bs x e = unless_none (is_nothing bs) j.meaning x e
 pub ruled_yields : {T : Type 0} (P : T → Type 0) {j : Judgement T} (bs : List Broken) → Yields P j → Yields P (ruled j bs)
 ruled_yields P {j = j} bs h = record { each = λ x e. h.each x (ruled_meaning j bs x e) }
 
-made_each : {A B : Type 0} (P : B → Type 0) (f : A → B) (o : Option A) (y : B) → made f o ≡ Some y → ((x : A) → o ≡ Some x → P (f x)) → P y
+pub made_each : {A B : Type 0} (P : B → Type 0) (f : A → B) (o : Option A) (y : B) → made f o ≡ Some y → ((x : A) → o ≡ Some x → P (f x)) → P y
 made_each P f None y e h = none_some y e
 made_each P f (Some x) y e h = subst P (some_same (f x) y e) (h x refl)
 
 pub made_yields : {A B : Type 0} (P : B → Type 0) (f : A → B) (a : Judgement A) → ((x : A) → a.meaning ≡ Some x → P (f x)) → Yields P (made_of f a)
 made_yields P f a h = record { each = λ y e. made_each P f a.meaning y e h }
 
-both_each : {A B C : Type 0} (P : C → Type 0) (f : A → B → C) (a : Option A) (b : Option B) (z : C) → both f a b ≡ Some z → ((x : A) (y : B) → a ≡ Some x → b ≡ Some y → P (f x y)) → P z
+pub both_each : {A B C : Type 0} (P : C → Type 0) (f : A → B → C) (a : Option A) (b : Option B) (z : C) → both f a b ≡ Some z → ((x : A) (y : B) → a ≡ Some x → b ≡ Some y → P (f x y)) → P z
 both_each P f None b z e h = none_some z e
 both_each P f (Some x) None z e h = none_some z e
 both_each P f (Some x) (Some y) z e h = subst P (some_same (f x y) z e) (h x y refl refl)
