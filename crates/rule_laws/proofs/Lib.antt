@@ -15,3 +15,4 @@ pub mod ActionsSound
 pub mod Yields
 pub mod References
 pub mod Ranks
+pub mod StatementsSound
