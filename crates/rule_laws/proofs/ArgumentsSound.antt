@@ -106,7 +106,7 @@ pub behind_nothing : (xs ys : List Broken) → cond (is_nothing xs) ys xs ≡ []
 behind_nothing [] ys e = e
 behind_nothing (x ∷ xs) ys e = absurd (cons_nil x xs e)
 
-and_both : (a b : Bool) → a ≡ true → b ≡ true → a && b ≡ true
+pub and_both : (a b : Bool) → a ≡ true → b ≡ true → a && b ≡ true
 and_both true true e f = refl
 and_both true false e f = f
 and_both false b e f = no e

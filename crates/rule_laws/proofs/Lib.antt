@@ -16,3 +16,5 @@ pub mod Yields
 pub mod References
 pub mod Ranks
 pub mod StatementsSound
+pub mod Filled
+pub mod DeclarationsSound
