@@ -32,6 +32,9 @@ expression_sound s e = weaker (filled_settled s) (settled_sound s e)
 plain_filled : (s : Scope) (e : f.Expression) → IsSound (IsFilled s) (plain (placed s e))
 plain_filled s e = plain_sound (placed s e) (expression_sound s e)
 
+pub constant_within : {T : Type 0} (H : Type 0) (s : Scope) (r : ℕ) (e : f.Expression) (rule : t.Expression → Judgement T) → is_numbered r ≡ true → (H → IsFilled s) → ((x : t.Expression) → IsSound H (rule x)) → IsSound H (constant_expression s r e rule)
+constant_within H s r e rule n f h = cond_plain (lacks_value s e) (around_sound (judged s e).breaks r (place_of e) (expression_sound s e).numbered n) (then_plain rule (weaker f (plain_filled s e)) h)
+
 constant_sound : {T : Type 0} (s : Scope) (r : ℕ) (e : f.Expression) (rule : t.Expression → Judgement T) → is_numbered r ≡ true → ((x : t.Expression) → IsSound (IsFilled s) (rule x)) → IsSound (IsFilled s) (constant_expression s r e rule)
 constant_sound s r e rule n h = cond_plain (lacks_value s e) (around_sound (judged s e).breaks r (place_of e) (expression_sound s e).numbered n) (then_plain rule (plain_filled s e) h)
 

@@ -18,3 +18,4 @@ pub mod Ranks
 pub mod StatementsSound
 pub mod Filled
 pub mod DeclarationsSound
+pub mod InitialsSound
