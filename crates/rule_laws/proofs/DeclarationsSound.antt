@@ -80,7 +80,7 @@ dimension_sound : (s : Scope) (x : d.Dimension) → IsSound (IsFilled s × (is_d
 dimension_sound s (d.deferred p) = unknown_sound (λ h. no (sym (h.1)))
 dimension_sound s (d.explicit b) = weaker (λ h. h.0) (bounds_sound s b)
 
-raw_numbered : (s : Scope) (o : Option f.Expression) → AreNumbered (raw_breaks s o)
+pub raw_numbered : (s : Scope) (o : Option f.Expression) → AreNumbered (raw_breaks s o)
 raw_numbered s None = none_numbered
 raw_numbered s (Some e) = (plain_filled s e).numbered
 

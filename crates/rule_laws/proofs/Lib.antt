@@ -19,3 +19,4 @@ pub mod StatementsSound
 pub mod Filled
 pub mod DeclarationsSound
 pub mod InitialsSound
+pub mod EntitiesSound
