@@ -29,7 +29,7 @@ use Rattle.rule_laws.proofs.InitialsSound.{initial_sound, initial_raw, initial_f
 
 -- Rules on one entity
 
-special_numbered : (y : Option DataType) (rank corank : ℕ) (p : Pos) → AreNumbered (special_type_breaks y rank corank p)
+pub special_numbered : (y : Option DataType) (rank corank : ℕ) (p : Pos) → AreNumbered (special_type_breaks y rank corank p)
 special_numbered y rank corank p = said_numbered (λ x. unless (is_placed_type rank corank x) 27 p) y (λ x e. unless_numbered (is_placed_type rank corank x) 27 p refl)
 
 whole_numbered : (u : Unit') (a : Attributes) (y : Option DataType) (e : d.Entity) (ds : List d.Dimension) (c : Option d.CoarraySpec) → AreNumbered (whole_breaks u a y e ds c)
@@ -44,14 +44,14 @@ whole_numbered u a y e ds c =
 raw_entity_numbered : (s : Scope) (e : d.Entity) (ds : List d.Dimension) (c : Option d.CoarraySpec) → AreNumbered (raw_entity_breaks s e ds c)
 raw_entity_numbered s e ds c = both_numbered (raw_dimensions_numbered s ds) (both_numbered (raw_coshape_numbered s c) (raw_numbered s e.initial))
 
-entity_numbered : (s : Scope) (u : Unit') (a : Attributes) (y : Option DataType) (e : d.Entity) (ds : List d.Dimension) (c : Option d.CoarraySpec) → AreNumbered (entity_breaks s u a y e ds c)
+pub entity_numbered : (s : Scope) (u : Unit') (a : Attributes) (y : Option DataType) (e : d.Entity) (ds : List d.Dimension) (c : Option d.CoarraySpec) → AreNumbered (entity_breaks s u a y e ds c)
 entity_numbered s u a y e ds c =
     both_numbered (cond_numbered (is_nothing (raw_entity_breaks s e ds c)) (whole_numbered u a y e ds c) none_numbered)
     (both_numbered (dimensions_numbered s a.is_allocatable ds)
     (both_numbered (coshape_numbered s a.is_allocatable c)
     (initial_sound s u a e.name.text y (dimensions_known s a.is_allocatable ds) e.initial).numbered))
 
-repeated_numbered : (s : Scope) (e : d.Entity) (ds : List d.Dimension) (c : Option d.CoarraySpec) → AreNumbered (repeated_breaks s e ds c)
+pub repeated_numbered : (s : Scope) (e : d.Entity) (ds : List d.Dimension) (c : Option d.CoarraySpec) → AreNumbered (repeated_breaks s e ds c)
 repeated_numbered s e ds c = cond_numbered (is_nothing (raw_entity_breaks s e ds c)) (breaks_numbered 21 e.name.at refl) (raw_entity_numbered s e ds c)
 
 -- What an entity that breaks nothing is
@@ -63,14 +63,14 @@ nothing_then : (xs ys : List Broken) → xs ≡ [] → cond (is_nothing xs) ys [
 nothing_then xs ys e f = sym (ap (λ z. cond (is_nothing z) ys []) e) ∙ f
 
 -- the parts of the rules, where none is broken
-record IsWhole (s : Scope) (u : Unit') (a : Attributes) (y : Option DataType) (e : d.Entity) (ds : List d.Dimension) (c : Option d.CoarraySpec) : Type 0 where
-  shaped : is_shaped a.is_allocatable ds c ≡ true
-  special : special_type_breaks y (length ds) (corank_of c) e.name.at ≡ []
-  given : not a.is_parameter || is_there e.initial ≡ true
-  dimensions : dimensions_breaks s a.is_allocatable ds ≡ []
-  initial : (initial_judged s u a e.name.text y (dimensions_known s a.is_allocatable ds) e.initial).breaks ≡ []
+pub record IsWhole (s : Scope) (u : Unit') (a : Attributes) (y : Option DataType) (e : d.Entity) (ds : List d.Dimension) (c : Option d.CoarraySpec) : Type 0 where
+  pub shaped : is_shaped a.is_allocatable ds c ≡ true
+  pub special : special_type_breaks y (length ds) (corank_of c) e.name.at ≡ []
+  pub given : not a.is_parameter || is_there e.initial ≡ true
+  pub dimensions : dimensions_breaks s a.is_allocatable ds ≡ []
+  pub initial : (initial_judged s u a e.name.text y (dimensions_known s a.is_allocatable ds) e.initial).breaks ≡ []
 
-entity_whole : (s : Scope) (u : Unit') (a : Attributes) (y : Option DataType) (e : d.Entity) (ds : List d.Dimension) (c : Option d.CoarraySpec) → entity_breaks s u a y e ds c ≡ [] → IsWhole s u a y e ds c
+pub entity_whole : (s : Scope) (u : Unit') (a : Attributes) (y : Option DataType) (e : d.Entity) (ds : List d.Dimension) (c : Option d.CoarraySpec) → entity_breaks s u a y e ds c ≡ [] → IsWhole s u a y e ds c
 entity_whole s u a y e ds c h =
     let raw = raw_entity_breaks s e ds c in
     let w = whole_breaks u a y e ds c in

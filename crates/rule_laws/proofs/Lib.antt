@@ -20,3 +20,4 @@ pub mod Filled
 pub mod DeclarationsSound
 pub mod InitialsSound
 pub mod EntitiesSound
+pub mod DeclaredSound
