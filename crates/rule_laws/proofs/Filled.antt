@@ -8,7 +8,8 @@ use Rattle.rule_definitions.specs.Names
 use Rattle.rule_definitions.specs.Names.{Scope, Symbol, Named, Interface, Meaning, denoted_in, is_among, intrinsic_procedures, denoted_outside, denotes}
 use Rattle.rule_definitions.specs.Constants.{all_bounds}
 use Rattle.rule_laws.proofs.Sound.{none_some, some_same}
-use Rattle.rule_laws.proofs.Known.{is_known_symbol, is_known_value, has_typed_result, is_known, IsTypedScope, IsKnownScope, and_left, and_right, no}
+use Rattle.rule_laws.specs.Results.{has_typed_result}
+use Rattle.rule_laws.proofs.Known.{is_known_symbol, is_known_value, is_known, IsTypedScope, IsKnownScope, and_left, and_right, no}
 use Rattle.rule_laws.proofs.ArgumentsSound.{and_both}
 use Rattle.rule_laws.proofs.AssignmentsSound.{IsSettled}
 

@@ -6,6 +6,7 @@ use Rattle.checked_tree.specs.declared.data.DataType.TheVariants.{Team}
 use Rattle.checked_tree.specs.declared.data.Object.{Object}
 use Rattle.checked_tree.specs.declared.data.Object.TheVariants as objects
 use Rattle.rule_definitions.specs.Judgements.{is_there, item_at}
+use Rattle.rule_laws.specs.Results.{has_typed_result}
 use Rattle.rule_definitions.specs.Names
 use Rattle.rule_definitions.specs.Names.{Scope, Symbol, ConstantValue, KnownBounds, Interface, Meaning, denotes}
 
@@ -25,14 +26,6 @@ is_known_value ds Names.unknown_value = false
 is_known_value ds (Names.scalar_constant v) = true
 is_known_value [] (Names.array_constant n) = false
 is_known_value (d ∷ ds) (Names.array_constant n) = true
-
-abbrev pub has_type : Option Symbol → Bool
-has_type None = false
-has_type (Some x) = is_there x.of_type
-
-abbrev pub has_typed_result : Option Interface → Bool
-has_typed_result None = false
-has_typed_result (Some i) = has_type i.result
 
 abbrev pub is_known : List Interface → Meaning → Bool
 is_known is (Names.variable x) = is_known_symbol x

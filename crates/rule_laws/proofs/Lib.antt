@@ -21,3 +21,4 @@ pub mod DeclarationsSound
 pub mod InitialsSound
 pub mod EntitiesSound
 pub mod DeclaredSound
+pub mod OpenedSound

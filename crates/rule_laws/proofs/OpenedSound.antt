@@ -1,0 +1,155 @@
+-- Procedures whose headings and declarations break nothing have scopes that are filled with known names, and functions have typed results.
+use Rattle.std.proofs.Common.{◌≡◌, ◌∙◌, ℕ, zero, suc, ◌+◌, Bool, true, false, List, [], ◌∷◌, ◌++◌, ◌⊎◌, inl, inr, refl, sym, ap, subst, arith}
+use Rattle.std.specs.Prelude.{cond, not, nat_eq, bytes_eq, ◌&&◌, ◌||◌, Option, Some, None, length, map}
+use Rattle.std.specs.Bool.{Decides}
+use Rattle.std.proofs.lemmas.Slice.Eq.{bytes_eq-Decides}
+use Rattle.caf_base.specs.declared.place.Pos.{Pos}
+use Rattle.fortran_tree.specs.Statements as fs
+use Rattle.fortran_tree.specs.Units as u
+use Rattle.fortran_tree.specs.declared.name.Name.{Name}
+use Rattle.checked_tree.specs.declared.data.DataType.{DataType}
+use Rattle.checked_tree.specs.declared.data.Object.{Object}
+use Rattle.checked_tree.specs.declared.data.Object.TheVariants as objects
+use Rattle.checked_tree.specs.declared.data.Constant.{Constant}
+use Rattle.rule_definitions.specs.declared.broken.Broken.{Broken}
+use Rattle.rule_definitions.specs.Judgements.{breaks, unless, is_nothing, Judgement, is_there, said_of, item_at}
+use Rattle.rule_definitions.specs.Names
+use Rattle.rule_definitions.specs.Names.{Scope, Symbol, Named, Meaning, Role, Interface, is_among, denoted_in, variables_of}
+use Rattle.rule_definitions.specs.Constants.{all_bounds}
+use Rattle.rule_definitions.specs.Declarations.{Unit', type_judged, special_type_breaks, is_answer, is_declared, Declared, and_then, declared_all, names_declared}
+use Rattle.rule_definitions.specs.Units.{Headed, headed, text_of, place_of_answer, meaning_of_heading, procedure_names, dummy_breaks, own_name, answer_breaks, second_type_breaks, first_type, type_breaks, is_typed, heading_breaks, hosted_object, hosted_meaning, hosted, bare, typed_answer, unit_of, opened, with_dummy, with_dummies, with_untyped, with_answer, closed, Opened, opened_procedure, opened_procedures, symbol_named, interface_of}
+use Rattle.rule_laws.specs.Results.{has_type, has_typed_result}
+use Rattle.rule_laws.proofs.Sound.{AreNumbered, none_numbered, breaks_numbered, unless_numbered, both_numbered, said_numbered, left_nothing, right_nothing, breaks_some, some_same, none_some}
+use Rattle.rule_laws.proofs.Known.{is_placed, is_known_symbol, is_known, and_left, and_right, no}
+use Rattle.rule_laws.proofs.ArgumentsSound.{and_both}
+use Rattle.rule_laws.proofs.Filled.{is_bounded, is_data, all_meant, meant_both, IsFilled}
+use Rattle.rule_laws.proofs.DeclarationsSound.{type_sound}
+use Rattle.rule_laws.proofs.EntitiesSound.{special_numbered}
+use Rattle.rule_laws.proofs.DeclaredSound.{or_first, or_second, all_own, own_named, own_both, self_named, IsGrown, same_grown, cond_grown, then_grown, declarations_grown}
+
+-- Headings
+
+dummies_numbered : (before : List (List ℕ)) (ns : List Name) → AreNumbered (dummy_breaks before ns)
+dummies_numbered before [] = none_numbered
+dummies_numbered before (n ∷ ns) = both_numbered (unless_numbered (not (is_among before n.text)) 21 n.at refl) (dummies_numbered (n.text ∷ before) ns)
+
+second_numbered : (xs : List fs.DeclarationTypeSpec) (p : Pos) → AreNumbered (second_type_breaks xs p)
+second_numbered [] p = none_numbered
+second_numbered (a ∷ []) p = none_numbered
+second_numbered (a ∷ b ∷ rest) p = breaks_numbered 21 p refl
+
+types_numbered : (s : Scope) (xs : List fs.DeclarationTypeSpec) → AreNumbered (type_breaks s xs)
+types_numbered s [] = none_numbered
+types_numbered s (x ∷ xs) = both_numbered (type_sound s x).numbered (types_numbered s xs)
+
+heading_numbered : (s : Scope) (h : Headed) → AreNumbered (heading_breaks s h)
+heading_numbered s h =
+    both_numbered (dummies_numbered (own_name h) h.dummies)
+    (both_numbered (said_numbered (answer_breaks h) h.answer (λ n e. unless_numbered (h.names_itself || not (is_among (map text_of h.dummies) n.text)) 21 n.at refl))
+    (both_numbered (second_numbered h.types (place_of_answer h))
+    (both_numbered (types_numbered s h.types)
+    (special_numbered (first_type s h.types).meaning 0 0 (place_of_answer h)))))
+
+heading_types : (s : Scope) (h : Headed) → heading_breaks s h ≡ [] → type_breaks s h.types ≡ []
+heading_types s h e =
+    let a = dummy_breaks (own_name h) h.dummies in
+    let b = said_of (answer_breaks h) h.answer in
+    let c = second_type_breaks h.types (place_of_answer h) in
+    let x = type_breaks s h.types in
+    let y = special_type_breaks (first_type s h.types).meaning 0 0 (place_of_answer h) in
+    left_nothing x y (right_nothing c (x ++ y) (right_nothing b (c ++ (x ++ y)) (right_nothing a (b ++ (c ++ (x ++ y))) e)))
+
+first_there : (s : Scope) (xs : List fs.DeclarationTypeSpec) → IsFilled s → elim xs [ [] ↦ false | y ∷ ys ↦ true ] ≡ true → type_breaks s xs ≡ [] → is_there (first_type s xs).meaning ≡ true
+first_there s [] f h e = no h
+first_there s (x ∷ xs) f h e = (type_sound s x).decided f (left_nothing (type_judged s x).breaks (type_breaks s xs) e)
+
+-- Names that a heading gives
+
+bare_data : (n : Name) (y : Option DataType) (r : Role) (k : ℕ) → is_there y ≡ true → is_data (bare n y r k).meaning ≡ true
+bare_data n y r k h = and_both (is_there y && true) ((false && not (nat_eq 0 0)) || true) (and_both (is_there y) true h refl) (or_second (false && not (nat_eq 0 0)) true refl)
+
+answer_list : (n : Option Name) (y : Option DataType) (k : ℕ) → is_there y ≡ true → all_meant is_data (elim n [ None ↦ [] | Some m ↦ bare m y Names.function_result k ∷ [] ]) ≡ true
+answer_list None y k h = refl
+answer_list (Some m) y k h = and_both (is_data (bare m y Names.function_result k).meaning) true (bare_data m y Names.function_result k h) refl
+
+answer_cases : (b : Bool) (n : Option Name) (y : Option DataType) (k : ℕ) → (b ≡ true → is_there y ≡ true) → all_meant is_data (cond b (elim n [ None ↦ [] | Some m ↦ bare m y Names.function_result k ∷ [] ]) []) ≡ true
+answer_cases true n y k h = answer_list n y k (h refl)
+answer_cases false n y k h = refl
+
+typed_data : (s : Scope) (h : Headed) (k : ℕ) → IsFilled s → heading_breaks s h ≡ [] → all_meant is_data (typed_answer s h k) ≡ true
+typed_data s h k f e = answer_cases (is_typed h) h.answer (first_type s h.types).meaning k (λ i. first_there s h.types f i (heading_types s h e))
+
+answer_own : (v : Unit') (b : Bool) (n : Option Name) (y : Option DataType) (k : ℕ) → all_own v (cond b (elim n [ None ↦ [] | Some m ↦ bare m y Names.function_result k ∷ [] ]) []) ≡ true
+answer_own v true None y k = refl
+answer_own v true (Some m) y k = and_both (bytes_eq m.text m.text) true (self_named m.text) refl
+answer_own v false n y k = refl
+
+-- Names of the host
+
+hosted_placed : (y : Option DataType) (o : Object) → is_placed y o ≡ true → is_placed y (hosted_object o) ≡ true
+hosted_placed y (objects.Local l) h = refl
+hosted_placed y (objects.Coarray n) h = h
+hosted_placed y (objects.Constant n) h = h
+
+hosted_known : (m : Meaning) → is_data m ≡ true → is_data (hosted_meaning m) ≡ true
+hosted_known (Names.variable x) h =
+    let k = and_left (is_known_symbol x) (is_bounded x) h in
+    and_both (is_there x.of_type && is_placed x.of_type (hosted_object x.object)) (is_bounded x)
+    (and_both (is_there x.of_type) (is_placed x.of_type (hosted_object x.object)) (and_left (is_there x.of_type) (is_placed x.of_type x.object) k) (hosted_placed x.of_type x.object (and_right (is_there x.of_type) (is_placed x.of_type x.object) k)))
+    (and_right (is_known_symbol x) (is_bounded x) h)
+hosted_known (Names.constant c) h = h
+hosted_known m h = no h
+
+hosted_data : (xs : List Named) → all_meant is_data xs ≡ true → all_meant is_data (map hosted xs) ≡ true
+hosted_data [] h = refl
+hosted_data (x ∷ xs) h = and_both (is_data (hosted_meaning x.meaning)) (all_meant is_data (map hosted xs)) (hosted_known x.meaning (and_left (is_data x.meaning) (all_meant is_data xs) h)) (hosted_data xs (and_right (is_data x.meaning) (all_meant is_data xs) h))
+
+opened_filled : (s : Scope) (h : Headed) (ds : List fs.Declaration) → IsFilled s → heading_breaks s h ≡ [] → IsFilled (opened s h ds)
+opened_filled s h ds f e = record {
+  own = refl;
+  host = meant_both is_data (typed_answer s h (length (names_declared ds))) (map hosted s.own) (typed_data s h (length (names_declared ds)) f e) (hosted_data s.own f.own);
+  procedures = f.procedures;
+  accessible = f.accessible;
+}
+
+-- Dummies and results
+
+dummy_grown : {K : Type 0} (v : Unit') (s : Scope) (n : Name) → IsGrown K v s (with_dummy v s n)
+dummy_grown v s n = cond_grown v s (is_declared v s n.text) (same_grown v s [] none_numbered) (record {
+  numbered = breaks_numbered 29 n.at refl;
+  filled = λ k f e. absurd (breaks_some 29 n.at e);
+  kept = refl;
+  named = λ h. own_both v s.own _ h (and_both (bytes_eq n.text n.text) true (self_named n.text) refl);
+})
+
+dummies_grown : {K : Type 0} (v : Unit') (ns : List Name) (s : Scope) → IsGrown K v s (with_dummies v ns s)
+dummies_grown v [] s = same_grown v s [] none_numbered
+dummies_grown v (n ∷ ns) s = then_grown v s (with_dummy v s n) (with_dummies v ns) (dummy_grown v s n) (dummies_grown v ns (with_dummy v s n).scope)
+
+untyped_grown : {K : Type 0} (v : Unit') (s : Scope) (n : Name) → IsGrown K v s (with_untyped s n)
+untyped_grown v s n = cond_grown v s (is_there (denoted_in s.own n.text)) (same_grown v s [] none_numbered) (record {
+  numbered = breaks_numbered 20 n.at refl;
+  filled = λ k f e. absurd (breaks_some 20 n.at e);
+  kept = refl;
+  named = λ h. own_both v s.own _ h (and_both (bytes_eq n.text n.text) true (self_named n.text) refl);
+})
+
+any_grown : {K : Type 0} (v : Unit') (s : Scope) (o : Option Name) → IsGrown K v s (elim o [ None ↦ record { breaks = []; scope = s } | Some n ↦ with_untyped s n ])
+any_grown v s None = same_grown v s [] none_numbered
+any_grown v s (Some n) = untyped_grown v s n
+
+abbrev IsHeaded : Scope → Headed → Type 0
+IsHeaded s h = IsFilled s × (heading_breaks s h ≡ [])
+
+result_grown : (v : Unit') (host : Scope) (h : Headed) (s : Scope) → IsGrown (IsHeaded host h) v s (with_answer host h s)
+result_grown v host h s = cond_grown v s (is_typed h) (record {
+  numbered = none_numbered;
+  filled = λ k f e. record {
+    own = meant_both is_data s.own (typed_answer host h (length (variables_of s.own))) f.own (typed_data host h (length (variables_of s.own)) (k.0) (k.1));
+    host = f.host;
+    procedures = f.procedures;
+    accessible = f.accessible;
+  };
+  kept = refl;
+  named = λ i. own_both v s.own (typed_answer host h (length (variables_of s.own))) i (answer_own v (is_typed h) h.answer (first_type host h.types).meaning (length (variables_of s.own)));
+}) (any_grown v s h.answer)
