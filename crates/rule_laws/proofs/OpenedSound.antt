@@ -25,7 +25,7 @@ use Rattle.rule_laws.proofs.ArgumentsSound.{and_both}
 use Rattle.rule_laws.proofs.Filled.{is_bounded, is_data, all_meant, meant_both, IsFilled}
 use Rattle.rule_laws.proofs.DeclarationsSound.{type_sound}
 use Rattle.rule_laws.proofs.EntitiesSound.{special_numbered}
-use Rattle.rule_laws.proofs.DeclaredSound.{or_first, or_second, all_own, own_named, own_both, self_named, IsGrown, same_grown, cond_grown, then_grown, declarations_grown}
+use Rattle.rule_laws.proofs.DeclaredSound.{not_true, or_first, or_second, all_own, own_named, own_both, self_named, IsGrown, same_grown, cond_grown, then_grown, declarations_grown}
 
 -- Headings
 
@@ -153,3 +153,127 @@ result_grown v host h s = cond_grown v s (is_typed h) (record {
   kept = refl;
   named = λ i. own_both v s.own (typed_answer host h (length (variables_of s.own))) i (answer_own v (is_typed h) h.answer (first_type host h.types).meaning (length (variables_of s.own)));
 }) (any_grown v s h.answer)
+
+-- The result of a function is found, and typed
+
+there_first : (b : Bool) (y : Symbol) (o : Option Symbol) → (b ≡ true) ⊎ (is_there o ≡ true) → is_there (cond b (Some y) o) ≡ true
+there_first true y o h = refl
+there_first false y o (inl e) = no e
+there_first false y o (inr e) = e
+
+step_behind : (m : Meaning) (ys : List Symbol) (n : List ℕ) → is_there (symbol_named ys n) ≡ true → is_there (symbol_named (elim m [ Names.variable y ↦ y ∷ ys | k ↦ ys ]) n) ≡ true
+step_behind (Names.variable y) ys n h = there_first (bytes_eq y.name n) y (symbol_named ys n) (inr h)
+step_behind m ys n h = h
+
+there_behind : (xs : List Named) (m : Named) (n : List ℕ) → is_there (symbol_named (variables_of (m ∷ [])) n) ≡ true → is_there (symbol_named (variables_of (xs ++ m ∷ [])) n) ≡ true
+there_behind [] m n h = h
+there_behind (x ∷ xs) m n h = step_behind x.meaning (variables_of (xs ++ m ∷ [])) n (there_behind xs m n h)
+
+-- a name that stands for something, and is that of the result, is a variable's
+found_step : (v : Unit') (x : List ℕ) (m : Meaning) (ys : List Symbol) (n : List ℕ) (b : Bool) (o : Option Meaning) → Decides b (x ≡ n) → is_answer v n ≡ true → own_named v x m ≡ true → (is_there o ≡ true → is_there (symbol_named ys n) ≡ true)
+    → is_there (cond b (Some m) o) ≡ true → is_there (symbol_named (elim m [ Names.variable y ↦ y ∷ ys | k ↦ ys ]) n) ≡ true
+found_step v x (Names.variable y) ys n true o d a h k e = there_first (bytes_eq y.name n) y (symbol_named ys n) (inl (subst (λ z. bytes_eq y.name z ≡ true) (d.0 refl) h))
+found_step v x (Names.constant c) ys n true o d a h k e = no (sym (not_true (is_answer v n) (subst (λ z. not (is_answer v z) ≡ true) (d.0 refl) h)) ∙ a)
+found_step v x m ys n true o d a h k e = no h
+found_step v x m ys n false o d a h k e = step_behind m ys n (k e)
+
+found_named : (v : Unit') (xs : List Named) (n : List ℕ) → is_answer v n ≡ true → all_own v xs ≡ true → is_there (denoted_in xs n) ≡ true → is_there (symbol_named (variables_of xs) n) ≡ true
+found_named v [] n a h e = e
+found_named v (x ∷ xs) n a h e = found_step v x.name x.meaning (variables_of xs) n (bytes_eq x.name n) (denoted_in xs n) (bytes_eq-Decides x.name n) a (and_left (own_named v x.name x.meaning) (all_own v xs) h) (found_named v xs n a (and_right (own_named v x.name x.meaning) (all_own v xs) h)) e
+
+typed_first : (b : Bool) (y : Symbol) (o : Option Symbol) → is_there y.of_type ≡ true → (is_there o ≡ true → has_type o ≡ true) → is_there (cond b (Some y) o) ≡ true → has_type (cond b (Some y) o) ≡ true
+typed_first true y o h k e = h
+typed_first false y o h k e = k e
+
+typed_step : (m : Meaning) (ys : List Symbol) (n : List ℕ) → is_data m ≡ true → (is_there (symbol_named ys n) ≡ true → has_type (symbol_named ys n) ≡ true) → is_there (symbol_named (elim m [ Names.variable y ↦ y ∷ ys | k ↦ ys ]) n) ≡ true → has_type (symbol_named (elim m [ Names.variable y ↦ y ∷ ys | k ↦ ys ]) n) ≡ true
+typed_step (Names.variable y) ys n h k e = typed_first (bytes_eq y.name n) y (symbol_named ys n) (and_left (is_there y.of_type) (is_placed y.of_type y.object) (and_left (is_known_symbol y) (is_bounded y) h)) k e
+typed_step m ys n h k e = k e
+
+typed_named : (xs : List Named) (n : List ℕ) → all_meant is_data xs ≡ true → is_there (symbol_named (variables_of xs) n) ≡ true → has_type (symbol_named (variables_of xs) n) ≡ true
+typed_named [] n h e = no e
+typed_named (x ∷ xs) n h e = typed_step x.meaning (variables_of xs) n (and_left (is_data x.meaning) (all_meant is_data xs) h) (typed_named xs n (and_right (is_data x.meaning) (all_meant is_data xs) h)) e
+
+-- behind its result a function's variables have it
+abbrev answered : List Named → Option Name → Bool
+answered xs None = true
+answered xs (Some n) = is_there (symbol_named (variables_of xs) n.text)
+
+answered_typed : (s : Scope) (b : Bool) (o : Option Name) (y : Option DataType) (k : ℕ) → b ≡ true → answered (s.own ++ cond b (elim o [ None ↦ [] | Some m ↦ bare m y Names.function_result k ∷ [] ]) []) o ≡ true
+answered_typed s true None y k e = refl
+answered_typed s true (Some n) y k e = there_behind s.own (bare n y Names.function_result k) n.text (there_first (bytes_eq n.text n.text) _ None (inl (self_named n.text)))
+answered_typed s false o y k e = no e
+
+abbrev fills : List Broken → Scope → Declared
+fills bs s = record { breaks = bs; scope = s }
+
+abbrev either : Bool → Declared → Declared → Declared
+either b x y = cond b x y
+
+untyped_cases : (s : Scope) (n : Name) (b : Bool) (t : Scope) → is_there (denoted_in s.own n.text) ≡ b → (either b (fills [] s) (fills (breaks 20 n.at) t)).breaks ≡ []
+    → (is_there (denoted_in s.own n.text) ≡ true) × ((either b (fills [] s) (fills (breaks 20 n.at) t)).scope ≡ s)
+untyped_cases s n true t e h = (e, refl)
+untyped_cases s n false t e h = absurd (breaks_some 20 n.at h)
+
+abbrev untyped_in : Scope → Option Name → Declared
+untyped_in s o = elim o [ None ↦ record { breaks = []; scope = s } | Some n ↦ with_untyped s n ]
+
+answered_untyped : (v : Unit') (s : Scope) (o : Option Name) → ((n : Name) → o ≡ Some n → is_answer v n.text ≡ true) → all_own v s.own ≡ true → (untyped_in s o).breaks ≡ [] → answered (untyped_in s o).scope.own o ≡ true
+answered_untyped v s None a h e = refl
+answered_untyped v s (Some n) a h e =
+    let k = untyped_cases s n (is_there (denoted_in s.own n.text)) _ refl e in
+    subst (λ z. is_there (symbol_named (variables_of z.own) n.text) ≡ true) (sym (k.1)) (found_named v s.own n.text (a n refl) h (k.0))
+
+abbrev typed_in : Scope → Headed → Scope → Declared
+typed_in host h s = fills [] (record s { own = s.own ++ typed_answer host h (length (variables_of s.own)) })
+
+answered_any : (v : Unit') (host : Scope) (h : Headed) (s : Scope) (b : Bool) → is_typed h ≡ b → ((n : Name) → h.answer ≡ Some n → is_answer v n.text ≡ true) → all_own v s.own ≡ true
+    → (either b (typed_in host h s) (untyped_in s h.answer)).breaks ≡ [] → answered (either b (typed_in host h s) (untyped_in s h.answer)).scope.own h.answer ≡ true
+answered_any v host h s true i a k e = answered_typed s (is_typed h) h.answer (first_type host h.types).meaning (length (variables_of s.own)) i
+answered_any v host h s false i a k e = answered_untyped v s h.answer a k e
+
+abbrev text_if : Option Name → Option (List ℕ)
+text_if o = elim o [ None ↦ None | Some m ↦ Some m.text ]
+
+abbrev is_text : Option (List ℕ) → List ℕ → Bool
+is_text o n = elim o [ None ↦ false | Some r ↦ bytes_eq r n ]
+
+answer_named : (h : Headed) (n : Name) → h.answer ≡ Some n → is_answer (unit_of h) n.text ≡ true
+answer_named h n e = subst (λ o. is_text (text_if o) n.text ≡ true) (sym e) (self_named n.text)
+
+-- Procedures
+
+pub record IsOpened (host : Scope) (h : Headed) (o : Opened) : Type 0 where
+  pub numbered : AreNumbered o.breaks
+  pub filled : IsFilled host → o.breaks ≡ [] → IsFilled o.scope
+  pub kept : o.scope.procedures ≡ host.procedures
+  pub answer : IsFilled host → o.breaks ≡ [] → is_there h.answer ≡ true → has_type (interface_of o).result ≡ true
+
+answered_result : (xs : List Named) (o : Option Name) → all_meant is_data xs ≡ true → answered xs o ≡ true → is_there o ≡ true → has_type (elim o [ None ↦ None | Some n ↦ symbol_named (variables_of xs) n.text ]) ≡ true
+answered_result xs None h a e = no e
+answered_result xs (Some n) h a e = typed_named xs n.text h a
+
+pub procedure_opened : (host : Scope) (h : Headed) (x : u.Procedure) → IsOpened host h (opened_procedure host h x)
+procedure_opened host h x =
+    let v = unit_of h in
+    let s0 = opened host h x.body.declarations in
+    let a = declared_all v x.body.declarations s0 in
+    let b = with_dummies v h.dummies a.scope in
+    let c = with_answer host h b.scope in
+    let bs = heading_breaks host h in
+    let ga : IsGrown (IsHeaded host h) v s0 a = declarations_grown v x.body.declarations s0 in
+    let gb : IsGrown (IsHeaded host h) v a.scope b = dummies_grown v h.dummies a.scope in
+    let gc : IsGrown (IsHeaded host h) v b.scope c = result_grown v host h b.scope in
+    let full : IsFilled host → bs ++ (a.breaks ++ (b.breaks ++ c.breaks)) ≡ [] → IsFilled c.scope = λ f e. (
+    let k : IsHeaded host h = (f, left_nothing bs (a.breaks ++ (b.breaks ++ c.breaks)) e) in
+    let r = right_nothing bs (a.breaks ++ (b.breaks ++ c.breaks)) e in
+    let q = right_nothing a.breaks (b.breaks ++ c.breaks) r in
+    gc.filled k (gb.filled k (ga.filled k (opened_filled host h x.body.declarations f (k.1)) (left_nothing a.breaks (b.breaks ++ c.breaks) r)) (left_nothing b.breaks c.breaks q)) (right_nothing b.breaks c.breaks q)) in
+    record {
+      numbered = both_numbered (heading_numbered host h) (both_numbered ga.numbered (both_numbered gb.numbered gc.numbered));
+      filled = λ f e. (let g = full f e in record { own = g.own; host = hosted_data host.own f.own; procedures = g.procedures; accessible = g.accessible });
+      kept = gc.kept ∙ gb.kept ∙ ga.kept;
+      answer = λ f e i. (
+          let q = right_nothing a.breaks (b.breaks ++ c.breaks) (right_nothing bs (a.breaks ++ (b.breaks ++ c.breaks)) e) in
+          answered_result c.scope.own h.answer (full f e).own
+          (answered_any v host h b.scope (is_typed h) refl (answer_named h) (gb.named (ga.named refl)) (right_nothing b.breaks c.breaks q)) i);
+    }
