@@ -1,6 +1,6 @@
 -- Action statements are judged soundly in a known scope.
-use Rattle.std.proofs.Common.{◌≡◌, ◌∙◌, ℕ, zero, suc, ◌+◌, Bool, true, false, List, [], ◌∷◌, ◌++◌, ◌⊎◌, inl, inr, refl, sym, ap, subst}
-use Rattle.std.specs.Prelude.{codes, cond, not, nat_eq, ◌&&◌, ◌||◌, Option, Some, None, length, map}
+use Rattle.std.proofs.Common.{◌≡◌, ℕ, ◌+◌, Bool, true, false, List, [], ◌∷◌, ◌++◌, inr, refl}
+use Rattle.std.specs.Prelude.{codes, not, ◌&&◌, ◌||◌, Option, Some, None, length, map}
 use Rattle.caf_base.specs.declared.place.Pos.{Pos}
 use Rattle.fortran_tree.specs.Expressions as f
 use Rattle.fortran_tree.specs.Statements as fs
@@ -13,30 +13,24 @@ use Rattle.checked_tree.specs.declared.data.Local.{Local}
 use Rattle.checked_tree.specs.declared.data.Object.{Object}
 use Rattle.checked_tree.specs.declared.data.Object.TheVariants as objects
 use Rattle.checked_tree.specs.declared.format.Descriptor.{Descriptor}
-use Rattle.rule_definitions.specs.declared.broken.Broken.{Broken}
-use Rattle.rule_definitions.specs.Judgements.{breaks, unless, is_nothing, Judgement, fine, refused, unknown, ruled, formed, both, made_of_both, all_made, is_there, item_at, said_of, then}
+use Rattle.rule_definitions.specs.Judgements.{breaks, unless, Judgement, fine, refused, unknown, ruled, is_there, item_at}
 use Rattle.rule_definitions.specs.declared.taken.Taken.TheVariants.{Integers as integers, Logicals as logicals}
 use Rattle.rule_definitions.specs.Names
 use Rattle.rule_definitions.specs.Names.{Scope, Symbol, Meaning, Interface, denotes, is_procedure, is_integer, is_team, is_event, is_lock, symbol_of}
-use Rattle.rule_definitions.specs.Parts.{Placed, plain, place_of, is_listed, type_of, rank_of, scalar_breaks, condition, bound_or_code, integer, team, unlike_breaks}
-use Rattle.rule_definitions.specs.Specifiers.{Written, all_breaks, stat_variable, acquired_variable, number_named, order_written}
-use Rattle.rule_definitions.specs.Arguments.{Actual, arguments, breaks_in_all}
-use Rattle.rule_definitions.specs.IntrinsicSubroutines.{an_event, an_own_event}
-use Rattle.rule_definitions.specs.IntrinsicFunctions.{is_allocatable_symbol}
-use Rattle.rule_definitions.specs.Expressions.{judged, judged_designator, judged_brackets, judged_selector, judged_arguments, judged_specifiers, placed}
-use Rattle.rule_definitions.specs.Declarations.{is_like}
+use Rattle.rule_definitions.specs.Parts.{Placed, place_of, type_of, scalar_breaks, condition, bound_or_code}
+use Rattle.rule_definitions.specs.Specifiers.{Written, all_breaks, order_written}
+use Rattle.rule_definitions.specs.Arguments.{Actual, breaks_in_all}
+use Rattle.rule_definitions.specs.Expressions.{judged_specifiers, placed}
 use Rattle.rule_definitions.specs.Formats.{descriptors, format_breaks, has_data}
-use Rattle.rule_definitions.specs.Actions
-use Rattle.rule_definitions.specs.Actions.{Around, Site, is_selected, bracket_breaks, left_side, is_definable, is_listed_value, definable_breaks, is_plain_array, kindred_breaks, is_list_target, is_whole, list_breaks, assigned_breaks, listed_assignment, plain_assignment, form_judged, assignment_of, assigned, target_breaks, assignment, called_with, called, actuals_of, item_breaks, printed, printed_all, has_values, format_of, format_judged, literals_of_format, print_judged, depth_of, crosses, absent_place, leaving, has_boundary, returning, is_in_critical, controlled, maybe, AllocatedCobounds, no_cobounds, allocated_bounds, bounds_or_none, is_colon, has_colon, allocated_cobounds, shape_breaks, cobounds_breaks, local_allocation, allocation_of, variable_denoted, allocatable_breaks, allocatable, AllocatedShape, shape_judged, shape_rules, allocation_judged, deallocated, any_coarray, controlled_if, stat_name, with_stat, written_if, image_set_breaks, is_image_set, image_set, team_variable_breaks, team_local, team_variable, form_team, lock_of, found_lock, a_lock, placed_designator, lock_judged, wait_judged, alone, judged_action}
-use Rattle.rule_laws.proofs.Sound.{is_numbered, AreNumbered, IsSound, none_numbered, breaks_numbered, cond_numbered, unless_numbered, both_numbered, said_numbered, left_nothing, right_nothing, cons_nil, breaks_some, fine_sound, refused_sound, unknown_sound, weaker, ruled_sound, ruled_plain, formed_sound, around_sound, under_sound, made_sound, made_of_both_sound, made_of_both_given, made_of_both_after, made_of_three_sound, then_plain, then_sound, cond_sound, cond_plain, some_same, none_some}
-use Rattle.rule_laws.proofs.Known.{is_placed, is_known_symbol, AreKnown, IsTypedScope, IsKnownScope, and_left, and_right, no}
-use Rattle.rule_laws.proofs.Calls.{calls, or_left, or_right}
+use Rattle.rule_definitions.specs.Actions.{Around, Site, called_with, called, actuals_of, item_breaks, printed, printed_all, has_values, format_of, format_judged, literals_of_format, print_judged, depth_of, crosses, absent_place, leaving, has_boundary, is_in_critical, controlled, maybe, any_coarray, controlled_if, stat_name, with_stat, written_if, image_set_breaks, is_image_set, image_set, team_variable, form_team, lock_of, found_lock, a_lock, placed_designator, lock_judged, wait_judged, alone, judged_action}
+use Rattle.rule_laws.proofs.Sound.{AreNumbered, IsSound, none_numbered, breaks_numbered, cond_numbered, unless_numbered, both_numbered, left_nothing, breaks_some, fine_sound, refused_sound, unknown_sound, weaker, ruled_sound, ruled_plain, around_sound, under_sound, made_sound, made_of_both_sound, made_of_three_sound, then_plain, cond_plain}
+use Rattle.rule_laws.proofs.Known.{is_placed, AreKnown, and_left, and_right, no}
 use Rattle.rule_laws.proofs.PartsSound.{plain_sound, wanted_sound, integer_sound, unlike_numbered, scalar_numbered}
-use Rattle.rule_laws.proofs.ArgumentsSound.{AllActuals, in_all_numbered, arguments_sound, unless_nothing}
+use Rattle.rule_laws.proofs.ArgumentsSound.{AllActuals, in_all_numbered, arguments_sound}
 use Rattle.rule_laws.proofs.FunctionsSound.{team_sound}
 use Rattle.rule_laws.proofs.SpecifiersSound.{AllWritten, all_numbered, stat_sound, acquired_sound, new_index_sound, until_count_sound}
 use Rattle.rule_laws.proofs.SubroutinesSound.{event_sound, own_event_sound, four_sound, intrinsic_call_sound}
-use Rattle.rule_laws.proofs.ExpressionsSound.{judged_sound, judged_designator_sound, brackets_all, selector_all, specifiers_all, arguments_all}
+use Rattle.rule_laws.proofs.ExpressionsSound.{arguments_all}
 use Rattle.rule_laws.proofs.AssignmentsSound.{IsSettled, settled_sound, written_all, left_sound, assignment_sound}
 use Rattle.rule_laws.proofs.AllocationsSound.{allocations_sound, deallocations_sound}
 

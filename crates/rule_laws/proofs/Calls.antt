@@ -1,10 +1,10 @@
 -- Expressions that reference no function of the program, or stand in a scope where each has a typed result.
-use Rattle.std.proofs.Common.{◌≡◌, ◌∙◌, ℕ, Bool, true, false, List, [], ◌∷◌, ◌⊎◌, inl, inr, refl, sym, ap}
-use Rattle.std.specs.Prelude.{◌&&◌, ◌||◌, Option, Some, None}
+use Rattle.std.proofs.Common.{◌≡◌, Bool, true, false, ◌⊎◌, inl, inr, refl}
+use Rattle.std.specs.Prelude.{◌&&◌, ◌||◌}
 use Rattle.fortran_tree.specs.Expressions as f
 use Rattle.rule_definitions.specs.Names.{Scope, denotes}
 use Rattle.rule_definitions.specs.Declarations.{is_function, has_brackets}
-use Rattle.rule_laws.proofs.Known.{IsTypedScope, no}
+use Rattle.rule_laws.proofs.Known.{IsTypedScope}
 
 abbrev mutual
   pub calls : Scope → f.Expression → Bool

@@ -1,25 +1,23 @@
 -- Types, bounds and initial values in declarations are judged soundly.
-use Rattle.std.proofs.Common.{◌≡◌, ◌∙◌, ℕ, ℤ, Bool, true, false, List, [], ◌∷◌, ◌++◌, ◌⊎◌, inl, inr, refl, sym, ap}
-use Rattle.std.specs.Prelude.{cond, not, nat_eq, nat_le, int_lt, pos, ◌&&◌, ◌||◌, Option, Some, None, length, map}
+use Rattle.std.proofs.Common.{◌≡◌, ◌∙◌, ℕ, ℤ, Bool, true, false, List, [], ◌∷◌, ◌++◌, refl, sym, ap}
+use Rattle.std.specs.Prelude.{cond, not, int_lt, pos, Option, Some, None, map}
 use Rattle.caf_base.specs.declared.place.Pos.{Pos}
 use Rattle.caf_base.specs.declared.value.Kind.{Kind}
 use Rattle.caf_base.specs.declared.value.Kind.TheVariants.{I4, L4}
-use Rattle.caf_base.specs.declared.value.Value.{Value}
 use Rattle.caf_base.specs.declared.value.Value.TheVariants.{Int, Bool as Truth}
 use Rattle.fortran_tree.specs.Expressions as f
 use Rattle.fortran_tree.specs.Statements as d
 use Rattle.checked_tree.specs.Expressions as t
-use Rattle.checked_tree.specs.declared.data.DataType.{DataType}
-use Rattle.checked_tree.specs.declared.data.DataType.TheVariants.{Intrinsic, Team, Event, Lock}
+use Rattle.checked_tree.specs.declared.data.DataType.TheVariants.{Intrinsic}
 use Rattle.rule_definitions.specs.declared.broken.Broken.{Broken}
-use Rattle.rule_definitions.specs.Judgements.{breaks, unless, is_nothing, Judgement, fine, refused, unknown, is_there, said_of, formed, then_made, then, breaks_of}
+use Rattle.rule_definitions.specs.Judgements.{breaks, unless, is_nothing, Judgement, is_there, said_of, formed, then_made, then, breaks_of}
 use Rattle.rule_definitions.specs.Names
 use Rattle.rule_definitions.specs.Names.{Scope, Meaning, KnownBounds, denotes, is_logical}
 use Rattle.rule_definitions.specs.Constants.{Constancy, value, values, no_constant, value_of, is_in_kind, all_bounds, with_first}
-use Rattle.rule_definitions.specs.Parts.{place_of, plain, integer_kind, logical_kind, kind_value, logical_array_breaks, type_of}
+use Rattle.rule_definitions.specs.Parts.{place_of, plain, integer_kind, logical_kind, type_of}
 use Rattle.rule_definitions.specs.Expressions.{judged, placed}
-use Rattle.rule_definitions.specs.Declarations.{Unit', lacks_value, constant_expression, declared_kind, type_denoted, type_judged, Attributes, bound_of_value, bound_value, lower_value, bounds_value, cobounds_value, is_deferred, any_deferred, raw_breaks, raw_bounds_breaks, raw_dimensions_breaks, raw_coshape_breaks, dimension_judged, dimensions_breaks, dimensions_known, coshape_breaks, special_type_breaks, is_placed_type, is_like, all_held, has_extents, type_breaks, extent_breaks, value_breaks, constant_breaks, initial_value, is_special, initialized_breaks, is_named_constant, initial_judged}
-use Rattle.rule_laws.proofs.Sound.{is_numbered, AreNumbered, IsSound, none_numbered, breaks_numbered, cond_numbered, unless_numbered, both_numbered, said_numbered, left_nothing, right_nothing, cons_nil, breaks_some, fine_sound, refused_sound, unknown_sound, weaker, ruled_plain, around_sound, under_sound, made_sound, made_of_both_sound, then_plain, cond_plain}
+use Rattle.rule_definitions.specs.Declarations.{lacks_value, constant_expression, declared_kind, type_denoted, type_judged, bound_of_value, bound_value, lower_value, bounds_value, cobounds_value, is_deferred, any_deferred, raw_breaks, raw_bounds_breaks, raw_dimensions_breaks, raw_coshape_breaks, dimension_judged, dimensions_breaks, dimensions_known, coshape_breaks}
+use Rattle.rule_laws.proofs.Sound.{is_numbered, AreNumbered, IsSound, none_numbered, cond_numbered, unless_numbered, both_numbered, left_nothing, right_nothing, cons_nil, breaks_some, fine_sound, refused_sound, unknown_sound, weaker, ruled_plain, around_sound, under_sound, made_sound, made_of_both_sound, then_plain, cond_plain}
 use Rattle.rule_laws.proofs.Known.{no}
 use Rattle.rule_laws.proofs.Calls.{or_left, or_right}
 use Rattle.rule_laws.proofs.PartsSound.{plain_sound, kind_value_sound, logical_array_numbered}

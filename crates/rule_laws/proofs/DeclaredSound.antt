@@ -1,32 +1,29 @@
 -- Declarations that break nothing fill a scope with known names.
-use Rattle.std.proofs.Common.{◌≡◌, ◌∙◌, ℕ, zero, suc, ◌+◌, Bool, true, false, List, [], ◌∷◌, ◌++◌, ◌⊎◌, inl, inr, refl, sym, ap, subst, arith}
-use Rattle.std.specs.Prelude.{cond, not, nat_eq, nat_le, bytes_eq, ◌&&◌, ◌||◌, Option, Some, None, length, map}
+use Rattle.std.proofs.Common.{◌≡◌, ◌∙◌, ℕ, suc, Bool, true, false, List, [], ◌∷◌, ◌++◌, refl, sym, arith}
+use Rattle.std.specs.Prelude.{cond, not, nat_eq, bytes_eq, ◌&&◌, ◌||◌, Option, Some, None, length}
 use Rattle.std.proofs.lemmas.Bool.Decides.{nat_tests}
 use Rattle.std.specs.Bool.{Decides}
 use Rattle.std.proofs.lemmas.Slice.Eq.{bytes_eq-Decides}
 use Rattle.caf_base.specs.declared.place.Pos.{Pos}
-use Rattle.fortran_tree.specs.Expressions as f
 use Rattle.fortran_tree.specs.Statements as d
-use Rattle.fortran_tree.specs.declared.name.Name.{Name}
 use Rattle.checked_tree.specs.declared.data.DataType.{DataType}
 use Rattle.checked_tree.specs.declared.data.DataType.TheVariants.{Intrinsic, Team, Event, Lock}
-use Rattle.checked_tree.specs.declared.data.Object.{Object}
 use Rattle.checked_tree.specs.declared.data.Object.TheVariants as objects
 use Rattle.checked_tree.specs.declared.data.Local.{Local}
 use Rattle.rule_definitions.specs.declared.broken.Broken.{Broken}
-use Rattle.rule_definitions.specs.Judgements.{breaks, unless, is_nothing, Judgement, is_there, breaks_of}
+use Rattle.rule_definitions.specs.Judgements.{breaks, is_nothing, Judgement, is_there}
 use Rattle.rule_definitions.specs.Names
 use Rattle.rule_definitions.specs.Names.{Scope, Symbol, Named, named, Meaning, KnownBounds, is_among, denoted_in, variables_of}
 use Rattle.rule_definitions.specs.Constants.{all_bounds}
-use Rattle.rule_definitions.specs.Declarations.{Unit', type_judged, Attributes, no_attributes, attributes_of, any_deferred, is_deferred_if, corank_of, dimension_judged, dimensions_breaks, dimensions_known, is_shaped, is_placed_type, special_type_breaks, is_answer, is_named_constant, initial_judged, effective_dimensions, effective_coshape, object_of, count_coarrays, array_constant_of, constant_value, further_constants, Declared, with_name, variable_entity, constant_entity, scope_with, raw_entity_breaks, entity_breaks, is_declared, repeated_breaks, declared_entity, and_then, declared_entities, attribute_breaks, declared_with, declared, declared_all}
+use Rattle.rule_definitions.specs.Declarations.{Unit', type_judged, Attributes, no_attributes, attributes_of, any_deferred, is_deferred_if, corank_of, dimensions_breaks, dimensions_known, is_shaped, special_type_breaks, is_answer, is_named_constant, initial_judged, effective_dimensions, effective_coshape, object_of, array_constant_of, constant_value, Declared, with_name, variable_entity, constant_entity, raw_entity_breaks, entity_breaks, is_declared, declared_entity, and_then, declared_entities, attribute_breaks, declared_with, declared, declared_all}
 use Rattle.rule_laws.proofs.Sound.{AreNumbered, IsSound, none_numbered, both_numbered, left_nothing, right_nothing, cons_nil, breaks_some}
 use Rattle.rule_laws.proofs.Known.{is_placed, is_known_value, and_left, and_right, no}
-use Rattle.rule_laws.proofs.Calls.{or_left, or_right}
+use Rattle.rule_laws.proofs.Calls.{or_left}
 use Rattle.rule_laws.proofs.ArgumentsSound.{unless_nothing, and_both}
-use Rattle.rule_laws.proofs.Filled.{is_bounded, is_data, IsFilled, filled_more}
+use Rattle.rule_laws.proofs.Filled.{is_data, IsFilled, filled_more}
 use Rattle.rule_laws.proofs.DeclarationsSound.{type_sound, raw_dimensions_numbered, raw_coshape_numbered, dimensions_there}
 use Rattle.rule_laws.proofs.InitialsSound.{constant_known}
-use Rattle.rule_laws.proofs.EntitiesSound.{entity_numbered, repeated_numbered, IsWhole, entity_whole}
+use Rattle.rule_laws.proofs.EntitiesSound.{entity_numbered, repeated_numbered, entity_whole}
 
 pub or_first : (a b : Bool) → a ≡ true → a || b ≡ true
 or_first true true e = refl

@@ -1,5 +1,5 @@
 -- What a name with brackets and a selector stands for is judged soundly.
-use Rattle.std.proofs.Common.{◌≡◌, ◌∙◌, ℕ, Bool, true, false, List, [], ◌∷◌, ◌++◌, refl, sym, ap}
+use Rattle.std.proofs.Common.{◌≡◌, ◌∙◌, ℕ, true, false, List, [], ◌∷◌, ◌++◌, refl, sym, ap}
 use Rattle.std.specs.Prelude.{codes, cond, not, nat_eq, ◌&&◌, ◌||◌, Option, Some, None, length}
 use Rattle.caf_base.specs.declared.place.Pos.{Pos}
 use Rattle.caf_base.specs.declared.value.Kind.TheVariants.{I4}
@@ -14,12 +14,12 @@ use Rattle.rule_definitions.specs.Judgements.{breaks, is_nothing, Judgement, fin
 use Rattle.rule_definitions.specs.Names
 use Rattle.rule_definitions.specs.Names.{Scope, Symbol, ConstantSymbol, ConstantValue, KnownBounds, Interface, Meaning}
 use Rattle.rule_definitions.specs.Parts.{Placed, integer}
-use Rattle.rule_definitions.specs.Arguments.{Part, expression, triplet, Actual, arguments, breaks_in_all}
+use Rattle.rule_definitions.specs.Arguments.{Part, expression, triplet, Actual, breaks_in_all}
 use Rattle.rule_definitions.specs.Specifiers.{Written, selector_specifiers}
-use Rattle.rule_definitions.specs.Expressions.{WrittenSelector, subscript_of, subscripts_of, rank_behind, subscript_breaks, selection_breaks, typed_as, variable_part, scalar_value, constant_form, constant_part, unselected, unsubscripted, result_typed, call_typed, function_called, referenced, function_named, subroutine_named, designated, cosubscripts, selector_written}
+use Rattle.rule_definitions.specs.Expressions.{WrittenSelector, subscripts_of, rank_behind, subscript_breaks, selection_breaks, typed_as, variable_part, scalar_value, constant_form, constant_part, unselected, unsubscripted, call_typed, function_called, referenced, function_named, subroutine_named, designated, cosubscripts, selector_written}
 use Rattle.rule_laws.proofs.Sound.{AreNumbered, IsSound, none_numbered, breaks_numbered, cond_numbered, unless_numbered, both_numbered, cons_nil, breaks_some, fine_sound, refused_sound, unknown_sound, weaker, ruled_sound, ruled_plain, formed_sound, around_sound, made_sound, made_of_both_sound, made_of_both_given, made_of_three_sound, then_plain, cond_sound}
 use Rattle.rule_laws.specs.Results.{has_type, has_typed_result}
-use Rattle.rule_laws.proofs.Known.{is_known_value, is_known, AreKnown, and_left, and_right, no}
+use Rattle.rule_laws.proofs.Known.{is_known_value, AreKnown, and_left, and_right, no}
 use Rattle.rule_laws.proofs.PartsSound.{integer_sound, AllSound}
 use Rattle.rule_laws.proofs.ArgumentsSound.{PartSound, AllActuals, in_all_numbered, arguments_sound}
 use Rattle.rule_laws.proofs.FunctionsSound.{intrinsic_sound}

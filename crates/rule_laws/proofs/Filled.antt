@@ -1,7 +1,6 @@
 -- Scopes that are filled with known names: what they denote is known, and each function of the program has a typed result.
-use Rattle.std.proofs.Common.{◌≡◌, ◌∙◌, ℕ, Bool, true, false, List, [], ◌∷◌, ◌++◌, ◌⊎◌, inl, inr, refl, sym, ap}
+use Rattle.std.proofs.Common.{◌≡◌, ◌∙◌, ℕ, Bool, true, false, List, [], ◌∷◌, ◌++◌, refl, sym, ap}
 use Rattle.std.specs.Prelude.{cond, not, bytes_eq, nat_eq, ◌&&◌, ◌||◌, Option, Some, None, length}
-use Rattle.fortran_tree.specs.Expressions as f
 use Rattle.checked_tree.specs.declared.data.Constant.{Constant}
 use Rattle.rule_definitions.specs.Judgements.{or_else, is_there, item_at}
 use Rattle.rule_definitions.specs.Names
@@ -9,7 +8,7 @@ use Rattle.rule_definitions.specs.Names.{Scope, Symbol, Named, Interface, Meanin
 use Rattle.rule_definitions.specs.Constants.{all_bounds}
 use Rattle.rule_laws.proofs.Sound.{none_some, some_same}
 use Rattle.rule_laws.specs.Results.{has_typed_result}
-use Rattle.rule_laws.proofs.Known.{is_known_symbol, is_known_value, is_known, IsTypedScope, IsKnownScope, and_left, and_right, no}
+use Rattle.rule_laws.proofs.Known.{is_known_symbol, is_known_value, is_known, and_left, and_right, no}
 use Rattle.rule_laws.proofs.ArgumentsSound.{and_both}
 use Rattle.rule_laws.proofs.AssignmentsSound.{IsSettled}
 

@@ -2,7 +2,6 @@
 use Rattle.std.proofs.Common.{◌≡◌, ℕ, Bool, true, false, List, [], ◌∷◌, refl}
 use Rattle.std.specs.Prelude.{codes, cond, not, nat_eq, nat_le, ◌&&◌, ◌||◌, Option, Some, None, length}
 use Rattle.caf_base.specs.declared.place.Pos.{Pos}
-use Rattle.caf_base.specs.declared.value.Kind.{Kind}
 use Rattle.caf_base.specs.declared.value.Kind.TheVariants.{I4, L4}
 use Rattle.checked_tree.specs.Expressions as t
 use Rattle.checked_tree.specs.declared.data.DataType.TheVariants.{Intrinsic, Team}
@@ -11,10 +10,10 @@ use Rattle.rule_definitions.specs.Names
 use Rattle.rule_definitions.specs.Names.{Scope, FunctionName, is_integer, is_team}
 use Rattle.rule_definitions.specs.Parts.{Placed, plain, type_of, rank_of, joint, integer_kind, kind_value, team, team_of}
 use Rattle.rule_definitions.specs.Arguments.{Part, expression, triplet, Actual, Binding, breaks_in, breaks_in_all, needed, needed_list, optional, value_for, given_to, maybe_given_to, order_of, bound}
-use Rattle.rule_definitions.specs.IntrinsicFunctions.{taken, an_integer, of_integer_type, an_array, an_integer_list, allocatable_of, coarray_of, found, an_allocatable, a_coarray, of_type, default_integer, the_team, of_team, two_integers, joint_type, named_breaks, unnamed_integer, unnamed_integers, are_unnamed, several_breaks, several_integers, kind_argument, is_of_coarray, this_image, is_first_integer, is_first_unnamed, num_images, with_dim, list_of_images, intrinsic_reference}
+use Rattle.rule_definitions.specs.IntrinsicFunctions.{taken, an_integer, of_integer_type, an_array, an_integer_list, allocatable_of, coarray_of, found, an_allocatable, a_coarray, of_type, default_integer, the_team, of_team, two_integers, joint_type, unnamed_integer, unnamed_integers, are_unnamed, several_integers, kind_argument, is_of_coarray, this_image, is_first_integer, is_first_unnamed, num_images, with_dim, intrinsic_reference}
 use Rattle.rule_laws.proofs.Sound.{is_numbered, AreNumbered, IsSound, none_numbered, cond_numbered, unless_numbered, fine_sound, refused_sound, weaker, ruled_plain, under_sound, made_sound, made_of_both_sound, made_of_three_sound, then_plain, cond_plain}
 use Rattle.rule_laws.proofs.PartsSound.{plain_sound, unlike_numbered, integer_sound, team_of_sound, kind_value_sound}
-use Rattle.rule_laws.proofs.ArgumentsSound.{PartSound, AllActuals, in_numbered, AllBindings, IsBoundTo, bound_sound, maybe_sound, value_sound, given_sound}
+use Rattle.rule_laws.proofs.ArgumentsSound.{PartSound, AllActuals, AllBindings, bound_sound, maybe_sound, value_sound, given_sound}
 
 taken_numbered : (b : Bool) (p : Pos) (x : t.Expression) → AreNumbered (taken b p x)
 taken_numbered b p x = cond_numbered b none_numbered (unlike_numbered 59 (type_of x) p refl)

@@ -1,26 +1,24 @@
 -- Initial values are judged soundly, and give each named constant its value.
-use Rattle.std.proofs.Common.{◌≡◌, ◌∙◌, ℕ, ℤ, Bool, true, false, List, [], ◌∷◌, ◌++◌, ◌⊎◌, inl, inr, refl, sym, ap, subst}
-use Rattle.std.specs.Prelude.{cond, not, nat_eq, ◌&&◌, ◌||◌, Option, Some, None, length}
+use Rattle.std.proofs.Common.{◌≡◌, ◌∙◌, ℕ, ℤ, Bool, true, false, List, [], ◌∷◌, ◌++◌, refl, sym, ap, subst}
+use Rattle.std.specs.Prelude.{cond, not, ◌||◌, Option, Some, None}
 use Rattle.caf_base.specs.declared.place.Pos.{Pos}
 use Rattle.caf_base.specs.declared.value.Value.{Value}
 use Rattle.fortran_tree.specs.Expressions as f
 use Rattle.checked_tree.specs.Expressions as t
 use Rattle.checked_tree.specs.declared.data.DataType.{DataType}
 use Rattle.checked_tree.specs.declared.data.DataType.TheVariants.{Intrinsic, Team, Event, Lock}
-use Rattle.checked_tree.specs.declared.data.Constant.{Constant}
 use Rattle.rule_definitions.specs.declared.broken.Broken.{Broken}
-use Rattle.rule_definitions.specs.Judgements.{breaks, unless, is_nothing, Judgement, fine, unknown, ruled, made_of, then, then_made, is_there}
-use Rattle.rule_definitions.specs.Names
+use Rattle.rule_definitions.specs.Judgements.{breaks, unless, is_nothing, fine, unknown, ruled, then_made, is_there}
 use Rattle.rule_definitions.specs.Names.{Scope, KnownBounds}
 use Rattle.rule_definitions.specs.Constants.{Constancy, value, values, no_constant, value_of, all_bounds}
 use Rattle.caf_base.specs.declared.value.Kind.{Kind}
 use Rattle.rule_definitions.specs.Parts.{place_of, plain, type_of}
 use Rattle.rule_definitions.specs.Expressions.{judged, placed}
 use Rattle.rule_definitions.specs.Declarations.{Unit', lacks_value, constant_expression, Attributes, raw_breaks, is_like, all_held, has_extents, type_breaks, extent_breaks, value_breaks, constant_breaks, initial_value, is_special, initialized_breaks, is_named_constant, initial_judged, array_constant_of, constant_value}
-use Rattle.rule_laws.proofs.Sound.{AreNumbered, IsSound, none_numbered, breaks_numbered, cond_numbered, unless_numbered, both_numbered, left_nothing, right_nothing, breaks_some, fine_sound, unknown_sound, weaker, ruled_plain, made_sound, some_same, none_some}
+use Rattle.rule_laws.proofs.Sound.{AreNumbered, IsSound, none_numbered, breaks_numbered, cond_numbered, unless_numbered, both_numbered, left_nothing, right_nothing, breaks_some, fine_sound, unknown_sound, ruled_plain, made_sound, some_same, none_some}
 use Rattle.rule_laws.proofs.Known.{is_known_value, no}
 use Rattle.rule_laws.proofs.ArgumentsSound.{unless_nothing}
-use Rattle.rule_laws.proofs.Yields.{Yields, ruled_meaning, nothing_yields, made_yields, then_yields, cond_yields}
+use Rattle.rule_laws.proofs.Yields.{Yields, ruled_meaning, made_yields, then_yields, cond_yields}
 use Rattle.rule_laws.proofs.Filled.{IsFilled}
 use Rattle.rule_laws.proofs.DeclarationsSound.{constant_within, constant_unbroken}
 

@@ -1,6 +1,6 @@
 -- Scopes in which each name that stands for something is known: in a program without breaks all are.
 use Rattle.std.proofs.Common.{◌≡◌, ℕ, Bool, true, false, List, [], ◌∷◌, refl}
-use Rattle.std.specs.Prelude.{◌&&◌, Option, Some, None}
+use Rattle.std.specs.Prelude.{◌&&◌, Option, Some}
 use Rattle.checked_tree.specs.declared.data.DataType.{DataType}
 use Rattle.checked_tree.specs.declared.data.DataType.TheVariants.{Team}
 use Rattle.checked_tree.specs.declared.data.Object.{Object}

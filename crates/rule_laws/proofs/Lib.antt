@@ -22,3 +22,4 @@ pub mod InitialsSound
 pub mod EntitiesSound
 pub mod DeclaredSound
 pub mod OpenedSound
+pub mod UnitsSound

@@ -1,5 +1,5 @@
 -- Procedures whose headings and declarations break nothing have scopes that are filled with known names, and functions have typed results.
-use Rattle.std.proofs.Common.{◌≡◌, ◌∙◌, ℕ, zero, suc, ◌+◌, Bool, true, false, List, [], ◌∷◌, ◌++◌, ◌⊎◌, inl, inr, refl, sym, ap, subst, arith}
+use Rattle.std.proofs.Common.{◌≡◌, ◌∙◌, ℕ, Bool, true, false, List, [], ◌∷◌, ◌++◌, ◌⊎◌, inl, inr, refl, sym, subst}
 use Rattle.std.specs.Prelude.{cond, not, nat_eq, bytes_eq, ◌&&◌, ◌||◌, Option, Some, None, length, map}
 use Rattle.std.specs.Bool.{Decides}
 use Rattle.std.proofs.lemmas.Slice.Eq.{bytes_eq-Decides}
@@ -10,22 +10,20 @@ use Rattle.fortran_tree.specs.declared.name.Name.{Name}
 use Rattle.checked_tree.specs.declared.data.DataType.{DataType}
 use Rattle.checked_tree.specs.declared.data.Object.{Object}
 use Rattle.checked_tree.specs.declared.data.Object.TheVariants as objects
-use Rattle.checked_tree.specs.declared.data.Constant.{Constant}
 use Rattle.rule_definitions.specs.declared.broken.Broken.{Broken}
-use Rattle.rule_definitions.specs.Judgements.{breaks, unless, is_nothing, Judgement, is_there, said_of, item_at}
+use Rattle.rule_definitions.specs.Judgements.{breaks, is_there, said_of}
 use Rattle.rule_definitions.specs.Names
 use Rattle.rule_definitions.specs.Names.{Scope, Symbol, Named, Meaning, Role, Interface, is_among, denoted_in, variables_of}
-use Rattle.rule_definitions.specs.Constants.{all_bounds}
-use Rattle.rule_definitions.specs.Declarations.{Unit', type_judged, special_type_breaks, is_answer, is_declared, Declared, and_then, declared_all, names_declared}
-use Rattle.rule_definitions.specs.Units.{Headed, headed, text_of, place_of_answer, meaning_of_heading, procedure_names, dummy_breaks, own_name, answer_breaks, second_type_breaks, first_type, type_breaks, is_typed, heading_breaks, hosted_object, hosted_meaning, hosted, bare, typed_answer, unit_of, opened, with_dummy, with_dummies, with_untyped, with_answer, closed, Opened, opened_procedure, opened_procedures, symbol_named, interface_of}
-use Rattle.rule_laws.specs.Results.{has_type, has_typed_result}
-use Rattle.rule_laws.proofs.Sound.{AreNumbered, none_numbered, breaks_numbered, unless_numbered, both_numbered, said_numbered, left_nothing, right_nothing, breaks_some, some_same, none_some}
-use Rattle.rule_laws.proofs.Known.{is_placed, is_known_symbol, is_known, and_left, and_right, no}
+use Rattle.rule_definitions.specs.Declarations.{Unit', type_judged, special_type_breaks, is_answer, is_declared, Declared, declared_all, names_declared}
+use Rattle.rule_definitions.specs.Units.{Headed, text_of, place_of_answer, dummy_breaks, own_name, answer_breaks, second_type_breaks, first_type, type_breaks, is_typed, heading_breaks, hosted_object, hosted_meaning, hosted, bare, typed_answer, unit_of, opened, with_dummy, with_dummies, with_untyped, with_answer, Opened, opened_procedure, symbol_named, interface_of}
+use Rattle.rule_laws.specs.Results.{has_type}
+use Rattle.rule_laws.proofs.Sound.{AreNumbered, none_numbered, breaks_numbered, unless_numbered, both_numbered, said_numbered, left_nothing, right_nothing, breaks_some}
+use Rattle.rule_laws.proofs.Known.{is_placed, is_known_symbol, and_left, and_right, no}
 use Rattle.rule_laws.proofs.ArgumentsSound.{and_both}
 use Rattle.rule_laws.proofs.Filled.{is_bounded, is_data, all_meant, meant_both, IsFilled}
 use Rattle.rule_laws.proofs.DeclarationsSound.{type_sound}
 use Rattle.rule_laws.proofs.EntitiesSound.{special_numbered}
-use Rattle.rule_laws.proofs.DeclaredSound.{not_true, or_first, or_second, all_own, own_named, own_both, self_named, IsGrown, same_grown, cond_grown, then_grown, declarations_grown}
+use Rattle.rule_laws.proofs.DeclaredSound.{not_true, or_second, all_own, own_named, own_both, self_named, IsGrown, same_grown, cond_grown, then_grown, declarations_grown}
 
 -- Headings
 

@@ -1,9 +1,9 @@
 -- Single expressions are judged soundly.
-use Rattle.std.proofs.Common.{◌≡◌, ℕ, ℤ, Bool, true, false, List, [], ◌∷◌, ◌++◌, refl, subst}
-use Rattle.std.specs.Prelude.{cond, not, nat_eq, nat_le, pos, Option, Some, None, ◌&&◌}
+use Rattle.std.proofs.Common.{◌≡◌, ℕ, ℤ, Bool, true, false, List, [], ◌∷◌, ◌++◌, refl}
+use Rattle.std.specs.Prelude.{cond, not, nat_eq, pos, Option, Some, None}
 use Rattle.caf_base.specs.declared.place.Pos.{Pos}
 use Rattle.caf_base.specs.declared.value.Kind.{Kind}
-use Rattle.caf_base.specs.declared.value.Kind.TheVariants.{I4, I8, L4}
+use Rattle.caf_base.specs.declared.value.Kind.TheVariants.{I4, I8}
 use Rattle.caf_base.specs.declared.value.Value.TheVariants.{Int, Bool as Truth}
 use Rattle.fortran_tree.specs.declared.expr.NumberKind.{NumberKind}
 use Rattle.fortran_tree.specs.declared.expr.NumberKind.TheVariants.{Unstated, Four, Eight, Named as NamedKind}
@@ -13,13 +13,13 @@ use Rattle.checked_tree.specs.Expressions as t
 use Rattle.checked_tree.specs.declared.data.DataType.{DataType}
 use Rattle.checked_tree.specs.declared.data.DataType.TheVariants.{Intrinsic, Team, Event, Lock}
 use Rattle.rule_definitions.specs.declared.taken.Taken.{Taken}
-use Rattle.rule_definitions.specs.Judgements.{unless, Judgement, fine}
+use Rattle.rule_definitions.specs.Judgements.{unless}
 use Rattle.rule_definitions.specs.Names
 use Rattle.rule_definitions.specs.Names.{Scope, Meaning, Interface, ConstantSymbol, ConstantValue, KnownBounds, denotes, is_integer, is_team, is_type, is_logical}
 use Rattle.rule_definitions.specs.Constants.{Constancy, value, values, no_constant, value_of}
 use Rattle.rule_definitions.specs.Parts.{Placed, type_of, rank_of, is_listed, plain, is_taken, scalar_breaks, operand_breaks, operand, wanted, unlike_breaks, integer_breaks, integer, team_of, taken_by, applied, binary, prefixed, prefix_taken_by, prefix, in_brackets, parenthesized, supported, kind_of_value, logical_array_breaks, kind_value, integer_kind, kind_of_constant, kind_denoted, kind_written, fits, number_form, literal, number, item_breaks, type_behind, items, first_type, constructor, result_judged, result_of, result_variable}
-use Rattle.rule_laws.proofs.Sound.{is_numbered, AreNumbered, IsSound, none_numbered, breaks_numbered, cond_numbered, unless_numbered, both_numbered, fine_sound, refused_sound, unknown_sound, weaker, ruled_plain, under_sound, made_sound, made_of_both_sound, then_plain, then_sound, cond_plain}
-use Rattle.rule_laws.proofs.Known.{is_known, is_known_value, AreKnown, IsKnownScope, and_right, no}
+use Rattle.rule_laws.proofs.Sound.{is_numbered, AreNumbered, IsSound, none_numbered, breaks_numbered, cond_numbered, unless_numbered, both_numbered, fine_sound, refused_sound, unknown_sound, weaker, ruled_plain, under_sound, made_sound, made_of_both_sound, then_plain, cond_plain}
+use Rattle.rule_laws.proofs.Known.{is_known_value, AreKnown, IsKnownScope, and_right, no}
 
 pub plain_sound : {H : Type 0} (e : Placed) → IsSound H e.judged → IsSound H (plain e)
 plain_sound e s = under_sound (λ x. unless (not (is_listed x)) 56 e.at) s (λ x k. unless_numbered (not (is_listed x)) 56 e.at refl)

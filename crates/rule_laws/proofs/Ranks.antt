@@ -1,9 +1,8 @@
 -- An expression of rank 0 in a known scope has no array for its constant value.
-use Rattle.std.proofs.Common.{◌≡◌, ◌∙◌, ℕ, ℤ, zero, suc, ◌+◌, Bool, true, false, List, [], ◌∷◌, ◌++◌, refl, sym, ap, subst, arith}
-use Rattle.std.specs.Prelude.{cond, not, nat_eq, ◌&&◌, ◌||◌, pos, neg_ℤ, Option, Some, None, length, map}
+use Rattle.std.proofs.Common.{◌≡◌, ◌∙◌, ℕ, ℤ, suc, ◌+◌, Bool, true, false, List, [], ◌∷◌, ◌++◌, refl, sym, ap, subst, arith}
+use Rattle.std.specs.Prelude.{cond, not, nat_eq, pos, neg_ℤ, Option, Some, None, length, map}
 use Rattle.std.proofs.lemmas.Bool.Decides.{nat_tests}
 use Rattle.caf_base.specs.declared.place.Pos.{Pos}
-use Rattle.caf_base.specs.declared.value.Kind.{Kind}
 use Rattle.caf_base.specs.declared.value.Kind.TheVariants.{I4}
 use Rattle.caf_base.specs.declared.value.Value.{Value}
 use Rattle.caf_base.specs.declared.value.Value.TheVariants.{Int, Bool as Truth}
@@ -21,18 +20,18 @@ use Rattle.checked_tree.specs.declared.data.Object.TheVariants as objects
 use Rattle.checked_tree.specs.declared.expr.ArithmeticOperator.TheVariants as arithmetics
 use Rattle.rule_definitions.specs.declared.broken.Broken.{Broken}
 use Rattle.coarray_types.specs.Places.{size_of}
-use Rattle.rule_definitions.specs.Judgements.{breaks, unless, is_nothing, Judgement, fine, unknown, refused, ruled, formed, made, made_of, made_of_both, both, then, is_there, item_at}
+use Rattle.rule_definitions.specs.Judgements.{breaks, unless, is_nothing, Judgement, unknown, ruled, formed, made, made_of, made_of_both, both, is_there, item_at}
 use Rattle.rule_definitions.specs.Names
 use Rattle.rule_definitions.specs.Names.{Scope, Symbol, ConstantSymbol, ConstantValue, KnownBounds, Meaning, denotes}
-use Rattle.rule_definitions.specs.Constants.{Constancy, value, values, no_constant, value_of, known, known_subscripts, Chosen, one, several, no_choice, is_inside, one_chosen, chosen, known_element, KnownSubscript, Selection, every, selected, selected_before, selected_with, taken_elements, first_value, element_at, part_of_constant, part_of_table, part_constancy, of_integer, in_type, initial_values, calculated, compared, reasoned}
+use Rattle.rule_definitions.specs.Constants.{Constancy, value, values, no_constant, value_of, known, known_subscripts, Chosen, one, several, no_choice, is_inside, one_chosen, KnownSubscript, Selection, every, selected, selected_before, taken_elements, first_value, element_at, part_of_table, part_constancy, in_type, initial_values, calculated, compared, reasoned}
 use Rattle.rule_definitions.specs.Parts.{Placed, plain, rank_of, type_of, integer, is_listed, operand, operand_breaks, taken_by, applied, prefixed, prefix_taken_by, in_brackets, literal, number_form, kind_written, first_type, items, joint, is_taken, fits, truth, place_of}
 use Rattle.rule_definitions.specs.declared.taken.Taken.{Taken}
 use Rattle.checked_tree.specs.declared.expr.RelationalOperator.TheVariants as relations
 use Rattle.checked_tree.specs.declared.expr.LogicalOperator.TheVariants as logics
-use Rattle.rule_definitions.specs.Arguments.{Part, expression, triplet, Actual, is_triplet, breaks_in_all}
-use Rattle.rule_definitions.specs.Expressions.{WrittenSelector, subscript_of, subscripts_of, triplets_in, rank_behind, typed_as, variable_part, subscript_breaks, selection_breaks, referenced, scalar_value, constant_form, constant_part, unselected, unsubscripted, function_named, subroutine_named, designated, judged, judged_designator, judged_brackets, judged_selector, judged_list, judged_arguments, placed}
+use Rattle.rule_definitions.specs.Arguments.{Part, expression, triplet, Actual, breaks_in_all}
+use Rattle.rule_definitions.specs.Expressions.{WrittenSelector, subscript_of, subscripts_of, triplets_in, rank_behind, typed_as, variable_part, subscript_breaks, selection_breaks, referenced, scalar_value, constant_form, constant_part, unselected, function_named, subroutine_named, designated, judged, judged_brackets, judged_selector, judged_list, judged_arguments, placed}
 use Rattle.rule_laws.proofs.Sound.{some_same, none_some, under_meaning, breaks_some}
-use Rattle.rule_laws.proofs.Known.{is_placed, is_known_value, AreKnown, IsKnownScope, and_left, and_right, no}
+use Rattle.rule_laws.proofs.Known.{is_placed, is_known_value, AreKnown, IsKnownScope, and_right, no}
 use Rattle.rule_laws.proofs.Yields.{Yields, ruled_meaning, fine_yields, nothing_yields, ruled_yields, made_each, made_yields, both_each, both_yields, then_yields, cond_yields}
 use Rattle.rule_laws.proofs.References.{is_array, in_type_flat, integer_flat, integers_flat, logicals_flat, denied_flat, calculated_flat, reference_flat, referenced_yields}
 

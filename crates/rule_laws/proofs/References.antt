@@ -1,6 +1,6 @@
 -- A reference to a function stands for a call or an intrinsic function, and is no constant array.
-use Rattle.std.proofs.Common.{◌≡◌, ◌∙◌, ℕ, ℤ, zero, suc, Bool, true, false, List, [], ◌∷◌, refl, sym, ap}
-use Rattle.std.specs.Prelude.{cond, int_lt, int_le, pos, neg_ℤ, nat_abs, nat_eq, nat_le, ◌*ℤ◌, ◌+ℤ◌, ◌-ℤ◌, int_div, int_rem, ◌||◌, ◌&&◌, codes, length, Option, Some, None}
+use Rattle.std.proofs.Common.{◌≡◌, ℕ, ℤ, Bool, true, false, List, [], ◌∷◌, refl}
+use Rattle.std.specs.Prelude.{cond, int_lt, pos, neg_ℤ, nat_abs, nat_eq, nat_le, ◌*ℤ◌, ◌+ℤ◌, ◌-ℤ◌, int_div, int_rem, ◌||◌, ◌&&◌, codes, length, Option, Some, None}
 use Rattle.std.specs.Ordering.{int_eq}
 use Rattle.caf_base.specs.declared.place.Pos.{Pos}
 use Rattle.caf_base.specs.declared.value.Kind.TheVariants.{I4, I8, L4}
@@ -20,7 +20,7 @@ use Rattle.rule_definitions.specs.Constants
 use Rattle.rule_definitions.specs.Constants.{Constancy, value, values, no_constant, Known, TripletPart, is_in_type, in_type, small_power, power_of, is_even, inverse, powered, calculated, of_integers, of_logicals, of_integer, denied, remainder_of, modulo_of, greater, lesser, folded, least_of, huge_of, known, known_items, known_optional, known_intrinsic, known_sizes, known_size, known_extent, dimension_at, size_constant, bound_constant, inquired_bounds, lower_of, upper_of, shown_bounds, value_of}
 use Rattle.rule_definitions.specs.IntrinsicFunctions.{intrinsic_reference, of_type, unnamed_integers, joint_type, is_of_coarray, is_first_integer, is_first_unnamed, of_team, the_team, several_integers, several_breaks, this_image, num_images, default_integer, a_coarray, an_integer, an_array, an_integer_list, of_integer_type, an_allocatable, two_integers, with_dim, kind_argument}
 use Rattle.rule_definitions.specs.Parts.{plain, type_of, joint, team, team_of}
-use Rattle.rule_definitions.specs.Expressions.{result_typed, call_typed, function_called, referenced}
+use Rattle.rule_definitions.specs.Expressions.{call_typed, function_called, referenced}
 use Rattle.rule_laws.proofs.Sound.{none_some}
 use Rattle.rule_laws.proofs.Known.{no}
 use Rattle.rule_laws.proofs.Yields.{Yields, ruled_meaning, fine_yields, nothing_yields, ruled_yields, made_yields, both_yields, three_yields, then_yields, cond_yields}

@@ -1,12 +1,12 @@
 -- Specifiers are judged soundly: what is meant by one has a meaning where nothing breaks in them.
-use Rattle.std.proofs.Common.{◌≡◌, ◌∙◌, ℕ, Bool, true, false, List, [], ◌∷◌, ◌++◌, refl, sym, ap, subst}
+use Rattle.std.proofs.Common.{◌≡◌, ◌∙◌, ℕ, Bool, true, false, List, [], ◌∷◌, refl, sym, subst}
 use Rattle.std.specs.Prelude.{bytes_eq, codes, cond, not, ◌&&◌, ◌||◌, Option, Some, None}
 use Rattle.std.specs.Bool.{Decides}
 use Rattle.std.proofs.lemmas.Slice.Eq.{bytes_eq-Decides}
 use Rattle.checked_tree.specs.Expressions as t
 use Rattle.rule_definitions.specs.declared.broken.Broken.{Broken}
 use Rattle.rule_definitions.specs.declared.taken.Taken.TheVariants.{Integers as integers, Logicals as logicals}
-use Rattle.rule_definitions.specs.Judgements.{is_nothing, Judgement, fine, made_of, is_there}
+use Rattle.rule_definitions.specs.Judgements.{is_nothing, Judgement, fine, made_of}
 use Rattle.rule_definitions.specs.Names.{is_among}
 use Rattle.rule_definitions.specs.Parts.{Placed, plain, integer, team, result_variable}
 use Rattle.rule_definitions.specs.Specifiers.{Written, is_repeated, name_breaks, specifier_breaks, value_breaks, values_breaks, all_breaks, value_named, meant, stat_variable, acquired_variable, number_named, by_number, selected_team}

@@ -1,6 +1,6 @@
 -- Statements and constructs are judged soundly in a known scope.
-use Rattle.std.proofs.Common.{◌≡◌, ◌∙◌, ℕ, ℤ, ◌+◌, Bool, true, false, List, [], ◌∷◌, ◌++◌, ◌⊎◌, inl, inr, refl, sym, ap}
-use Rattle.std.specs.Prelude.{cond, not, nat_eq, ◌&&◌, ◌||◌, Option, Some, None, length}
+use Rattle.std.proofs.Common.{◌≡◌, ◌+◌, Bool, true, false, List, [], ◌∷◌, ◌++◌, refl, sym}
+use Rattle.std.specs.Prelude.{cond, not, nat_eq, ◌||◌, Option, Some, None, length}
 use Rattle.caf_base.specs.declared.place.Pos.{Pos}
 use Rattle.fortran_tree.specs.Expressions as f
 use Rattle.fortran_tree.specs.Statements as fs
@@ -13,20 +13,19 @@ use Rattle.checked_tree.specs.declared.data.Object.TheVariants as objects
 use Rattle.checked_tree.specs.declared.statement.CaseRange.{CaseRange}
 use Rattle.checked_tree.specs.declared.statement.CaseRange.TheVariants.{Value as OneValue, AtLeast, AtMost, Between}
 use Rattle.rule_definitions.specs.declared.broken.Broken.{Broken}
-use Rattle.rule_definitions.specs.declared.taken.Taken.TheVariants.{Integers as integers, Logicals as logicals}
-use Rattle.rule_definitions.specs.Judgements.{breaks, unless, is_nothing, Judgement, fine, refused, unknown, under, then, is_there}
+use Rattle.rule_definitions.specs.declared.taken.Taken.TheVariants.{Integers as integers}
+use Rattle.rule_definitions.specs.Judgements.{unless, is_nothing, Judgement, refused, unknown, then, is_there}
 use Rattle.rule_definitions.specs.Names
 use Rattle.rule_definitions.specs.Names.{Scope, Symbol, Meaning, denotes, is_integer, is_logical}
 use Rattle.rule_definitions.specs.Constants.{Constancy, value, values, no_constant, value_of}
-use Rattle.rule_definitions.specs.Parts.{Placed, place_of, plain, type_of, rank_of, is_listed, scalar_breaks, condition, bound_or_code}
-use Rattle.rule_definitions.specs.Specifiers.{Written}
+use Rattle.rule_definitions.specs.Parts.{Placed, place_of, plain, type_of, rank_of, is_listed, scalar_breaks, bound_or_code}
 use Rattle.rule_definitions.specs.Expressions.{judged, judged_specifiers, placed}
 use Rattle.rule_definitions.specs.Declarations.{lacks_value}
-use Rattle.rule_definitions.specs.Actions.{Around, loop, selection, critical, team_change, is_active, has_intent_in}
+use Rattle.rule_definitions.specs.Actions.{loop, selection, critical, team_change, is_active, has_intent_in}
 use Rattle.rule_definitions.specs.Statements
 use Rattle.rule_definitions.specs.Statements.{Counted, counted_statement, counted_statements, counted_else_ifs, behind, Position, site_of, past, within, Control, Counter, counter_typed, counter_found, inactive, counter_symbol, counter_judged, judged_control, loop_variable, is_same_name, end_breaks, hidden_of, loop_form, selector_breaks, selecting, is_selected_type, number_of, case_constant, case_value_breaks, case_value, is_logical_selector, raw_case_breaks, no_logical, case_range, place_of_range, overlaps_one, with_range, judged_range, judged_ranges, Cases, Selected, no_selected, with_case, with_default, select_form, bracketed, critical_form, team_form, if_form, more_else_ifs, behind_case, case_joined, on_line, judged_statement, judged_statements, judged_else_ifs, judged_else, judged_cases}
-use Rattle.rule_laws.proofs.Sound.{AreNumbered, IsSound, none_numbered, cond_numbered, unless_numbered, both_numbered, right_nothing, fine_sound, refused_sound, unknown_sound, weaker, ruled_plain, under_sound, made_sound, made_of_both_sound, made_of_three_sound, then_plain, then_sound, under_meaning}
-use Rattle.rule_laws.proofs.Known.{is_placed, AreKnown, and_left, and_right, no}
+use Rattle.rule_laws.proofs.Sound.{AreNumbered, IsSound, none_numbered, cond_numbered, unless_numbered, both_numbered, right_nothing, fine_sound, refused_sound, unknown_sound, ruled_plain, under_sound, made_sound, made_of_both_sound, made_of_three_sound, then_plain, then_sound, under_meaning}
+use Rattle.rule_laws.proofs.Known.{is_placed, AreKnown, and_left, no}
 use Rattle.rule_laws.proofs.PartsSound.{plain_sound, wanted_sound, unlike_numbered, scalar_numbered}
 use Rattle.rule_laws.proofs.ArgumentsSound.{unless_nothing}
 use Rattle.rule_laws.proofs.FunctionsSound.{team_sound}

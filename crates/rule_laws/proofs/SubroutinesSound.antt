@@ -1,26 +1,24 @@
 -- Calls of intrinsic subroutines are judged soundly.
-use Rattle.std.proofs.Common.{◌≡◌, ◌∙◌, ℕ, zero, suc, Bool, true, false, List, [], ◌∷◌, ◌++◌, refl, sym, ap}
+use Rattle.std.proofs.Common.{◌≡◌, ℕ, Bool, true, false, List, [], ◌∷◌, refl}
 use Rattle.std.specs.Prelude.{codes, cond, not, ◌&&◌, ◌||◌, Option, Some, None}
 use Rattle.caf_base.specs.declared.place.Pos.{Pos}
-use Rattle.caf_base.specs.declared.value.Kind.TheVariants.{I4, I8, L4}
 use Rattle.checked_tree.specs.Expressions as t
 use Rattle.checked_tree.specs.Statements as ts
 use Rattle.checked_tree.specs.declared.data.DataType.{DataType}
 use Rattle.checked_tree.specs.declared.data.DataType.TheVariants.{Intrinsic, Team, Event, Lock}
-use Rattle.checked_tree.specs.declared.data.Object.TheVariants as objects
 use Rattle.rule_definitions.specs.declared.taken.Taken.{Taken}
 use Rattle.rule_definitions.specs.declared.taken.Taken.TheVariants.{Integers as integers, IntegersOrLogicals as integers_or_logicals}
-use Rattle.rule_definitions.specs.Judgements.{breaks, unless, Judgement, fine, under, made_of, made_of_both, made_of_three, is_there}
+use Rattle.rule_definitions.specs.Judgements.{breaks, Judgement, fine, made_of, made_of_three, is_there}
 use Rattle.rule_definitions.specs.Names
 use Rattle.rule_definitions.specs.Names.{SubroutineName, is_integer, is_logical, is_team}
-use Rattle.rule_definitions.specs.Parts.{Placed, plain, type_of, rank_of, is_taken, result_variable, scalar_breaks, unlike_breaks}
-use Rattle.rule_definitions.specs.Arguments.{Actual, Binding, needed, optional, value_for, given_to, maybe_given_to, bound}
+use Rattle.rule_definitions.specs.Parts.{Placed, plain, type_of, rank_of, is_taken, result_variable, unlike_breaks}
+use Rattle.rule_definitions.specs.Arguments.{Actual, Binding, needed, optional, value_for, given_to, maybe_given_to}
 use Rattle.rule_definitions.specs.IntrinsicFunctions.{an_integer}
 use Rattle.rule_definitions.specs.IntrinsicSubroutines.{optional_result, Atom, atom_of, found_atom, an_atom, taken_with, atom_value_breaks, an_atom_value, event_of, found_event, an_event, is_coindexed_form, an_own_event, collected_of, is_own_variable, collected_breaks, found_collected, a_collected, numbers_of, written_as, called, four, five, value_dummies, atom_at, value_at, result_at, intrinsic_call}
-use Rattle.rule_laws.proofs.Sound.{AreNumbered, IsSound, none_numbered, breaks_numbered, cond_numbered, unless_numbered, both_numbered, left_nothing, right_nothing, fine_sound, refused_sound, unknown_sound, weaker, ruled_plain, under_sound, made_sound, made_of_both_sound, made_of_three_sound, then_plain, then_sound, breaks_some, under_meaning}
+use Rattle.rule_laws.proofs.Sound.{AreNumbered, IsSound, none_numbered, breaks_numbered, cond_numbered, unless_numbered, both_numbered, fine_sound, refused_sound, unknown_sound, weaker, ruled_plain, under_sound, made_sound, made_of_both_sound, made_of_three_sound, then_plain, then_sound, breaks_some, under_meaning}
 use Rattle.rule_laws.proofs.Known.{and_left, no}
 use Rattle.rule_laws.proofs.PartsSound.{plain_sound, unlike_numbered, scalar_numbered, result_variable_sound}
-use Rattle.rule_laws.proofs.ArgumentsSound.{AllActuals, AllBindings, IsBoundTo, bound_sound, maybe_sound, value_sound, given_sound, unless_nothing}
+use Rattle.rule_laws.proofs.ArgumentsSound.{AllActuals, AllBindings, bound_sound, maybe_sound, value_sound, given_sound}
 use Rattle.rule_laws.proofs.FunctionsSound.{an_integer_sound}
 
 result_from : {H : Type 0} (o : Option Placed) → ((e : Placed) → o ≡ Some e → IsSound H e.judged) → IsSound H (elim o [ None ↦ fine t.no_result | Some e ↦ made_of t.result (result_variable integers e) ])

@@ -1,8 +1,8 @@
 -- What holds of each meaning that a judgement may have.
-use Rattle.std.proofs.Common.{◌≡◌, ◌∙◌, Bool, true, false, List, [], ◌∷◌, refl, sym, ap, subst}
+use Rattle.std.proofs.Common.{◌≡◌, Bool, true, false, List, refl, subst}
 use Rattle.std.specs.Prelude.{cond, Option, Some, None}
 use Rattle.rule_definitions.specs.declared.broken.Broken.{Broken}
-use Rattle.rule_definitions.specs.Judgements.{is_nothing, Judgement, fine, ruled, formed, under, both, three, made, made_of, made_of_both, made_of_three, then_made, then}
+use Rattle.rule_definitions.specs.Judgements.{is_nothing, Judgement, fine, ruled, both, three, made, made_of, made_of_both, made_of_three, then_made, then}
 use Rattle.rule_laws.proofs.Sound.{some_same, none_some}
 
 pub record Yields {T : Type 0} (P : T → Type 0) (j : Judgement T) : Type 0 where
