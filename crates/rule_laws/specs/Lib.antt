@@ -1,0 +1,4 @@
+pub mod Firsts
+pub mod Meanings
+pub mod Results
+pub mod Rules
