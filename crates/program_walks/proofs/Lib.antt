@@ -4,3 +4,7 @@ pub mod Quiet
 pub mod Rounds
 pub mod Statements
 pub mod Programs
+pub mod Lists
+pub mod LaneOrder
+pub mod BoardAnswers
+pub mod LaneEnds
