@@ -13,7 +13,7 @@ use Rattle.trace_theory.specs.Simulations.{AllAnswer}
 use Rattle.trace_theory.proofs.Machines.{go_more}
 use Rattle.core_runs.specs.Failures.{LockPlace, release_of, failure_steps}
 use Rattle.core_runs.specs.Sequences.{HasEndedBy, IsOrderly}
-use Rattle.image_lanes.specs.Lanes.{failing, OnLane, is_due, is_full, is_failure, begins_to_fail, is_limited, goes_past, fails_on, program_next, lane_step, lane_start}
+use Rattle.image_lanes.specs.Lanes.{by_program, failing, at_limit, OnLane, is_due, is_full, is_failure, begins_to_fail, is_limited, goes_past, fails_on, program_next, lane_step, lane_start}
 use Rattle.image_lanes.proofs.LaneLaws.{at_program, over_lane}
 use Rattle.program_walks.specs.Dues.{GoesInOrder}
 use Rattle.program_walks.specs.Ordered.{EndsInOrder}
@@ -206,3 +206,69 @@ module _ {C : Type 0} (step : C → Move C Ask Reply) where
     no_stamp_limit = λ es c answers w. lane_no_stamp step first g image fails_at limit es c answers w;
     over = lane_over image fails_at limit first ends;
   }
+
+  -- ---- a lane that goes by its program has walked as it did
+  stays_over : (n : ℕ) (l c : OnLane C) → Ls l ≡ over → go Ls n l ≡ goes c → l ≡ c
+  stays_over zero l c e h = same_config l c h
+  stays_over (suc n) l c e h = (let x : ◌≡◌ {A = Move (OnLane C) Ask Reply} over (goes c) = sym (ap (λ v. goes_on v (go Ls n)) e) ∙ h in absurd (cc))
+
+  not_by_program : (steps : List Ask) (line : ℕ) → failing steps line ≡ by_program → ⊥
+  not_by_program steps line h = absurd (cc)
+
+  failing_stays : (es : List (Said Ask Reply)) (steps : List Ask) (l c : OnLane C) (line : ℕ) → l.course ≡ failing steps line → WalkTo Ls l es c → c.course ≡ by_program → ⊥
+  failing_stays [] [] l c line e (m, w, n, h) by =
+      let here = stays_over n l c (rw e refl) (ap (go Ls n) (sym w) ∙ h) in
+      not_by_program [] line (sym e ∙ ap (λ (x : OnLane C). x.course) here ∙ by)
+  failing_stays [] (a ∷ as_) l c line e (m, w, n, h) by =
+      let here = stays_there n l c a line (λ r. fails_on l as_ line) (rw e refl) (ap (go Ls n) (sym w) ∙ h) in
+      not_by_program (a ∷ as_) line (sym e ∙ ap (λ (x : OnLane C). x.course) here ∙ by)
+  failing_stays (x ∷ es) [] l c line e (m, (k, (j, comes), w), n, h) by = no_asks j l x.ask x.line k (rw e refl) comes
+  failing_stays (x ∷ es) (a ∷ as_) l c line e (m, (k, (j, comes), w), n, h) by =
+      let s = asks_now j l a x.ask line x.line (λ r. fails_on l as_ line) k (rw e refl) comes in
+      failing_stays es as_ (fails_on l as_ line) c line refl (m, subst (λ q. Walk Ls (q x.reply) es m) (sym s.2) w, n, h) by
+
+  limited_stays : (es : List (Said Ask Reply)) (l c : OnLane C) → l.course ≡ at_limit → WalkTo Ls l es c → c.course ≡ by_program → ⊥
+  limited_stays [] l c e (m, w, n, h) by =
+      let here = stays_over n l c (rw e refl) (ap (go Ls n) (sym w) ∙ h) in
+      let x : at_limit ≡ by_program = sym e ∙ ap (λ (y : OnLane C). y.course) here ∙ by in
+      absurd (cc)
+  limited_stays (x ∷ es) l c e (m, (k, (j, comes), w), n, h) by = no_asks j l x.ask x.line k (rw e refl) comes
+
+  program_walks_more : (e : Said Ask Reply) (es : List (Said Ask Reply)) (x d y : C) (j : Reply → C) → Comes step x (goes d) → step d ≡ asks e.ask e.line j → WalkTo step (j e.reply) es y → WalkTo step x (e ∷ es) y
+  program_walks_more e es x d y j comes at (m, w, n, h) = (m, (j, comes_on x d e.ask e.line j comes at, w), n, h)
+
+  pub lane_program : (es : List (Said Ask Reply)) (l c : OnLane C) (x : C) → WalkTo Ls (at_program l x) es c → c.course ≡ by_program → WalkTo step x es c.program
+  lane_program [] l c x (m, w, n, h) by =
+      let r = lane_goes n l c x (ap (go Ls n) (sym w) ∙ h) in
+      (x, refl, r.1.0, r.1.1 ∙ ap (λ (q : OnLane C). goes q.program) (sym r.2))
+  lane_program (e ∷ es) l c x (m, (k, (i, comes), w), n, h) by =
+      let r = reach i l x e.ask e.line k comes in
+      by_move (step r.there) r.there refl r.comes r.asked (λ q y v. lane_program es q c y v by)
+    where
+      by_ask : (d : C) → Comes step x (goes d) → (a : Ask) (line : ℕ) (j : Reply → C) → step d ≡ asks a line j → program_next (at_program l d) (asks a line j) ≡ asks e.ask e.line k
+          → ((q : OnLane C) (y : C) → WalkTo Ls (at_program q y) es c → WalkTo step y es c.program) → WalkTo step x (e ∷ es) c.program
+      by_ask d to a line j at next more = elim (cases_Bool (is_due l)) [
+        | inl due ↦ (
+            let s = same_asks asking.Fail e.ask 0 e.line (λ r. begins_to_fail (at_program l d) 0) k (sym (rw due refl) ∙ next) in
+            absurd (failing_stays es (failure_steps l.image l.held) (begins_to_fail (at_program l d) 0) c 0 refl (m, subst (λ q. Walk Ls (q e.reply) es m) (sym s.2) w, n, h) by))
+        | inr free ↦ elim (cases_Bool (is_failure a)) [
+          | inl fails ↦ (
+              let s = same_asks asking.Fail e.ask line e.line (λ r. begins_to_fail (at_program l d) line) k (sym (rw (free, fails) refl) ∙ next) in
+              absurd (failing_stays es (failure_steps l.image l.held) (begins_to_fail (at_program l d) line) c line refl (m, subst (λ q. Walk Ls (q e.reply) es m) (sym s.2) w, n, h) by))
+          | inr other ↦ elim (cases_Bool (is_full l)) [
+            | inl full ↦ (
+                let s = same_asks (asking.LimitWords l.words) e.ask line e.line (λ r. is_limited (at_program l d)) k (sym (rw (free, other, full) refl) ∙ next) in
+                absurd (limited_stays es (is_limited (at_program l d)) c refl (m, subst (λ q. Walk Ls (q e.reply) es m) (sym s.2) w, n, h) by))
+            | inr room ↦ (
+                let s = same_asks a e.ask line e.line (λ r. goes_past (at_program l d) a r (j r)) k (sym (rw (free, other, room) refl) ∙ next) in
+                let later = goes_past (at_program l d) a e.reply (j e.reply) in
+                program_walks_more e es x d c.program j to (at ∙ ap (λ b. asks b line j) s.0 ∙ ap (λ q. asks e.ask q j) s.1) (more later (j e.reply) (m, subst (λ q. Walk Ls (q e.reply) es m) (sym s.2) w, n, h)))
+          ]
+        ]
+      ]
+
+      by_move : (v : Move C Ask Reply) (d : C) → step d ≡ v → Comes step x (goes d) → program_next (at_program l d) v ≡ asks e.ask e.line k
+          → ((q : OnLane C) (y : C) → WalkTo Ls (at_program q y) es c → WalkTo step y es c.program) → WalkTo step x (e ∷ es) c.program
+      by_move (goes y) d at to next more = absurd (cc)
+      by_move (asks a line j) d at to next more = by_ask d to a line j at next more
+      by_move over d at to next more = absurd (cc)

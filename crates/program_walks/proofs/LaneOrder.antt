@@ -21,7 +21,7 @@ use Rattle.program_walks.specs.Dues.{Due, ended, owing, MayCome, InOrder, GoesIn
 use Rattle.program_walks.proofs.Lists.{due_behind, order_rest, JoinsDue, joins_due_none, joins_on, EndsLast, nothing_after, ends_on, no_stamp, no_later}
 
 -- an ask that no reply answers would never be heard; each is answered by one
-an_answer : (a : Ask) → (r : Reply) × Answers a r
+pub an_answer : (a : Ask) → (r : Reply) × Answers a r
 an_answer (asks.Read o s) = (replies.Dead, tt)
 an_answer (asks.Write o s vs) = (replies.Done, tt)
 an_answer (asks.Create o c n) = (replies.Done, tt)
@@ -61,7 +61,7 @@ answers_front : (xs ys : List (Said Ask Reply)) → AllAnswer Answers (xs ++ ys)
 answers_front [] ys h = tt
 answers_front (x ∷ xs) ys h = (h.0, answers_front xs ys h.1)
 
-answers_more : (xs : List (Said Ask Reply)) (e : Said Ask Reply) → AllAnswer Answers xs → Answers e.ask e.reply → AllAnswer Answers (xs ++ e ∷ [])
+pub answers_more : (xs : List (Said Ask Reply)) (e : Said Ask Reply) → AllAnswer Answers xs → Answers e.ask e.reply → AllAnswer Answers (xs ++ e ∷ [])
 answers_more [] e h k = (k, tt)
 answers_more (x ∷ xs) e h k = (h.0, answers_more xs e h.1 k)
 

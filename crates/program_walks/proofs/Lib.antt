@@ -8,3 +8,5 @@ pub mod Lists
 pub mod LaneOrder
 pub mod BoardAnswers
 pub mod LaneEnds
+pub mod Hearing
+pub mod Fits

@@ -8,17 +8,27 @@ ghost use Rattle.caf_events.specs.Answers.{Answers};
 ghost use Rattle.trace_theory.specs.Machines.{Said, Walk};
 ghost use Rattle.trace_theory.specs.Simulations.{AllAnswer};
 ghost use Rattle.object_rules.specs.BoardRules.{board_ready, board_reply};
-ghost use Rattle.object_rules.specs.Cells.{MadeMemory};
+ghost use Rattle.object_rules.specs.Cells.{Declared, MadeMemory};
 ghost use Rattle.object_rules.specs.MemoryRules.{memory_ready, memory_reply};
+ghost use Rattle.core_runs.specs.Beginnings.{IsOneOf};
 ghost use Rattle.core_runs.specs.Failures.{FailsFrom};
+ghost use Rattle.core_runs.specs.Lanes.{IsMoment, HearsDue};
+ghost use Rattle.core_runs.specs.CoreRuns.{IsFit};
+ghost use Rattle.core_runs.specs.Moments.{Moment};
 ghost use Rattle.core_runs.specs.Sequences.{IsOrderly, Joins, NothingAfterEnd};
 ghost use Rattle.image_lanes.specs.Lanes.{OnLane, lane_step, lane_start};
+ghost use Rattle.walk_theory.specs.Code.{Line, at_place, code_step};
+ghost use Rattle.walk_theory.specs.Programs.{HasWalksOf};
 ghost use Rattle.checked_tree.specs.Statements as checked;
+ghost use Rattle.image_acts.specs.Acts.{Act, ask, end_program};
+ghost use Rattle.image_acts.specs.Meaning.{image_language};
 ghost use Rattle.tree_meaning.specs.Forms.{bodies};
-ghost use Rattle.tree_meaning.specs.Start.{start_of, walk_step};
+ghost use Rattle.tree_meaning.specs.Start.{first_core, start_of, walk_step};
 ghost use Rattle.program_walks.specs.Dues.{GoesInOrder};
 ghost use Rattle.program_walks.specs.Keeping.{BodiesKeep};
 ghost use Rattle.program_walks.specs.Ordered.{IsOrdered, EndsInOrder};
+ghost use Rattle.program_walks.specs.Hearing.{EndsWell, GoesOnDue};
+ghost use Rattle.program_walks.specs.Runs.{lane_rules, lanes_begin, IsNeverStuck, program_rules, program_begins, ProgramIsNeverStuck};
 
 use caf_events::walker::Walker;
 
@@ -56,4 +66,33 @@ pub fn law_lane_orderly<M: Walker>()
 pub fn law_objects_answer()
     ensures board { (n : ℕ) (h : List Entry) (i : ℕ) (ask : Ask) → IsTrue (board_ready n h i ask) → Answers ask (board_reply n h i ask) }
     ensures memory { (made : MadeMemory) (h : List Entry) (i : ℕ) (ask : Ask) → IsTrue (memory_ready made h i ask) → Answers ask (memory_reply made h i ask) }
+{}
+
+/// At a moment of a run of lanes over programs in order, each image hears the reply that is due, where its machine hears every reply after which it is over
+/// exactly where the ask and the reply end the image, and where its program isn't stuck behind that reply.
+pub fn law_lane_hears_due<M: Walker>()
+    ensures { ((c : M.Config) (reply : Reply) → EndsWell M.step (M.step c) reply → M.hears c reply)
+        → (coarrays : List Declared) (n : ℕ) (first : ℕ → M.Config) (fails_at : ℕ → ℕ) (words : ℕ) → ((i : ℕ) → IsOneOf n i → GoesInOrder M.step (first i))
+        → (m : Moment (OnLane M.Config) MadeMemory ℕ) → IsMoment (lane_rules M.step M.hears) (lanes_begin coarrays n first fails_at words) m
+        → GoesOnDue M.step (lane_rules M.step M.hears) m → HearsDue (lane_rules M.step M.hears) m }
+{}
+
+/// A run of lanes over such programs is fit where they are never stuck.
+pub fn law_lanes_fit<M: Walker>()
+    ensures { ((c : M.Config) (reply : Reply) → EndsWell M.step (M.step c) reply → M.hears c reply)
+        → (coarrays : List Declared) (n : ℕ) (first : ℕ → M.Config) (fails_at : ℕ → ℕ) (words : ℕ) → ((i : ℕ) → IsOneOf n i → GoesInOrder M.step (first i))
+        → IsNeverStuck M.step M.hears coarrays n first fails_at words → IsFit (lane_rules M.step M.hears) (lanes_begin coarrays n first fails_at words) }
+{}
+
+/// A run of a checked program is fit where the walk of its tree is never stuck.
+pub fn law_program_fit()
+    ensures { (p : checked.Program) (limit : ℕ) (coarrays : List Declared) (n : ℕ) (fails_at : ℕ → ℕ) (words : ℕ)
+        → ProgramIsNeverStuck p limit coarrays n fails_at words → IsFit (program_rules p limit) (program_begins p coarrays n fails_at words) }
+{}
+
+/// Code that has the walks of a program goes in order as the program does.
+pub fn law_code_goes_in_order()
+    ensures { (p : checked.Program) (limit me images : ℕ) (code : List (Line Act))
+        → HasWalksOf image_language Answers (ask end_program) (bodies p) p.end_line limit (first_core p me images) code
+        → GoesInOrder (code_step image_language code limit) (at_place 0 [] (first_core p me images) 0) }
 {}
