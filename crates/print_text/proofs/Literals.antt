@@ -72,15 +72,3 @@ at_doubled q b c text left rest behind len e f g h a =
     subst (λ (k : ℕ). At q text k behind) both
     (at_more q b (b ∷ c ∷ []) behind (λ zs. doubled_character q b c zs (same b q g)) (λ back. doubled_step q b c back behind g h) text len
     (subst (λ (l : List ℕ). At q text len l) (e ∙ ap (λ (l : List ℕ). b ∷ l) f) a))
-
--- a delimiter that ends the literal
-pub at_end : (q b c : ℕ) (text left rest behind : List ℕ) (len : ℕ) → left ≡ b ∷ rest → rest ≡ c ∷ behind → b ≡ q → (c ≡ q → ⊥) → At q text len left
-    → descriptors_in (in_literal q []) 0 text ≡ text_edit (characters q (take len text)) ∷ descriptors behind
-at_end q b c text left rest behind len e f g h (pre, t, n, w, d) =
-    sym d
-    ∙ ap (λ (l : List ℕ). descriptors_in (in_literal q (reverse (characters q pre))) 0 l) (e ∙ ap (λ (l : List ℕ). b ∷ l) f)
-    ∙ literal_quote q b (reverse (characters q pre)) (c ∷ behind) (same b q g)
-    ∙ quote_ends q c (reverse (characters q pre)) behind (other c q h)
-    ∙ ap (λ (l : List ℕ). text_edit l ∷ descriptors behind) (reverse-reverse (characters q pre) ∙ ap (characters q) (sym (take-append_seam pre left)))
-    ∙ ap (λ (k : ℕ). text_edit (characters q (take k (pre ++ left))) ∷ descriptors behind) n
-    ∙ ap (λ (l : List ℕ). text_edit (characters q (take len l)) ∷ descriptors behind) (sym t)

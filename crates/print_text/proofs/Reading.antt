@@ -63,9 +63,6 @@ literal_quote q b back bs e = ap (λ (t : Bool). turn (cond t (next (at_quote q 
 pub quote_doubled : (q b : ℕ) (back bs : List ℕ) → nat_eq b q ≡ true → descriptors_in (at_quote q back) 0 (b ∷ bs) ≡ descriptors_in (in_literal q (q ∷ back)) 0 bs
 quote_doubled q b back bs e = ap (λ (t : Bool). turn (cond t (next (in_literal q (q ∷ back)) 0 []) (next between 0 (text_edit (reverse back) ∷ []))) bs) e
 
-pub quote_ends : (q b : ℕ) (back bs : List ℕ) → nat_eq b q ≡ false → descriptors_in (at_quote q back) 0 (b ∷ bs) ≡ text_edit (reverse back) ∷ descriptors bs
-quote_ends q b back bs e = ap (λ (t : Bool). turn (cond t (next (in_literal q (q ∷ back)) 0 []) (next between 0 (text_edit (reverse back) ∷ []))) bs) e
-
 pub ends_of : (s : Sign) → ((d : ℕ) → s ≡ signs.Digit d → ⊥) → (s ≡ signs.Blank → ⊥) → Ends s
 ends_of (signs.Digit d) f g = f d refl
 ends_of signs.Blank f g = g refl
