@@ -1,12 +1,11 @@
 -- The bytes of a literal in a format, one after another.
-use Rattle.std.proofs.Common.{◌≡◌, ◌∙◌, ℕ, ◌+◌, Bool, true, false, cond, List, [], ◌∷◌, ◌++◌, length, take, reverse, refl, sym, ap, subst, arith, append_assoc, length-append}
+use Rattle.std.proofs.Common.{◌≡◌, ◌∙◌, ℕ, ◌+◌, Bool, true, false, cond, List, [], ◌∷◌, ◌++◌, length, reverse, refl, sym, ap, subst, arith, append_assoc, length-append}
 use Rattle.std.proofs.lemmas.Bool.Decides.{nat_tests}
-use Rattle.std.proofs.lemmas.List.{append-nil, reverse-append, reverse-reverse}
-use Rattle.std.proofs.Math.Seq.{take-append_seam}
+use Rattle.std.proofs.lemmas.List.{append-nil, reverse-append}
 use Rattle.std.specs.Prelude.{nat_eq}
-use Rattle.image_acts.specs.Formats.{text_edit, in_literal, descriptors_in, descriptors}
+use Rattle.image_acts.specs.Formats.{in_literal, descriptors_in}
 use Rattle.print_text.specs.Pieces.{characters}
-use Rattle.print_text.proofs.Reading.{literal_next, literal_quote, quote_doubled, quote_ends}
+use Rattle.print_text.proofs.Reading.{literal_next, literal_quote, quote_doubled}
 
 same : (b q : ℕ) → b ≡ q → nat_eq b q ≡ true
 same b q e = grind (arith, nat_tests)
