@@ -4,5 +4,6 @@
 //! Its main contract: the k-th offset of a place is that of `offsets` of `image_acts`, and elements are read and written as `elements_at` and `with_elements_at` say.
 #![tactic(auto)]
 
+pub mod bounds;
 pub mod elements;
 pub mod place;
