@@ -1,5 +1,5 @@
 -- Types, bounds and initial values in declarations are judged soundly.
-use Rattle.std.proofs.Common.{◌≡◌, ◌∙◌, ℕ, ℤ, Bool, true, false, List, [], ◌∷◌, ◌++◌, refl, sym, ap}
+use Rattle.std.proofs.Common.{inl, ◌≡◌, ◌∙◌, ℕ, ℤ, Bool, true, false, List, [], ◌∷◌, ◌++◌, refl, sym, ap}
 use Rattle.std.specs.Prelude.{cond, not, int_lt, pos, Option, Some, None, map}
 use Rattle.caf_base.specs.declared.place.Pos.{Pos}
 use Rattle.caf_base.specs.declared.value.Kind.{Kind}
@@ -17,29 +17,31 @@ use Rattle.rule_definitions.specs.Constants.{Constancy, value, values, no_consta
 use Rattle.rule_definitions.specs.Parts.{place_of, plain, integer_kind, logical_kind, type_of}
 use Rattle.rule_definitions.specs.Expressions.{judged, placed}
 use Rattle.rule_definitions.specs.Declarations.{lacks_value, constant_expression, declared_kind, type_denoted, type_judged, bound_of_value, bound_value, lower_value, bounds_value, cobounds_value, is_deferred, any_deferred, raw_breaks, raw_bounds_breaks, raw_dimensions_breaks, raw_coshape_breaks, dimension_judged, dimensions_breaks, dimensions_known, coshape_breaks}
-use Rattle.rule_laws.proofs.Sound.{is_numbered, AreNumbered, IsSound, none_numbered, cond_numbered, unless_numbered, both_numbered, left_nothing, right_nothing, cons_nil, breaks_some, fine_sound, refused_sound, unknown_sound, weaker, ruled_plain, around_sound, under_sound, made_sound, made_of_both_sound, then_plain, cond_plain}
+use Rattle.rule_laws.proofs.Sound.{is_numbered, AreNumbered, IsSound, none_numbered, cond_numbered, unless_numbered, both_numbered, left_nothing, right_nothing, cons_nil, breaks_some, fine_sound, refused_sound, unknown_sound, weaker, ruled_plain, around_sound, under_sound, made_sound, made_of_both_sound, then_plain, cond_sound}
 use Rattle.rule_laws.proofs.Known.{no}
 use Rattle.rule_laws.proofs.Calls.{or_left, or_right}
 use Rattle.rule_laws.proofs.PartsSound.{plain_sound, kind_value_sound, logical_array_numbered}
-use Rattle.rule_laws.proofs.AssignmentsSound.{settled_sound}
-use Rattle.rule_laws.proofs.Filled.{IsFilled, filled_settled}
+use Rattle.rule_laws.proofs.ExpressionsSound.{judged_sound}
+use Rattle.rule_laws.proofs.Calls.{lacks_calls}
+use Rattle.rule_laws.proofs.Filled.{IsFilled, filled_known}
 
-pub expression_sound : (s : Scope) (e : f.Expression) → IsSound (IsFilled s) (judged s e)
-expression_sound s e = weaker (filled_settled s) (settled_sound s e)
+-- an expression that has a value
+valued_sound : (s : Scope) (e : f.Expression) → IsSound (IsFilled s × (lacks_value s e ≡ false)) (judged s e)
+valued_sound s e = judged_sound s (IsFilled s × (lacks_value s e ≡ false)) e (λ h. (filled_known s (h.0), inl (lacks_calls s e (h.1))))
 
-plain_filled : (s : Scope) (e : f.Expression) → IsSound (IsFilled s) (plain (placed s e))
-plain_filled s e = plain_sound (placed s e) (expression_sound s e)
+plain_valued : (s : Scope) (e : f.Expression) → IsSound (IsFilled s × (lacks_value s e ≡ false)) (plain (placed s e))
+plain_valued s e = plain_sound (placed s e) (valued_sound s e)
 
 pub constant_within : {T : Type 0} (H : Type 0) (s : Scope) (r : ℕ) (e : f.Expression) (rule : t.Expression → Judgement T) → is_numbered r ≡ true → (H → IsFilled s) → ((x : t.Expression) → IsSound H (rule x)) → IsSound H (constant_expression s r e rule)
-constant_within H s r e rule n f h = cond_plain (lacks_value s e) (around_sound (judged s e).breaks r (place_of e) (expression_sound s e).numbered n) (then_plain rule (weaker f (plain_filled s e)) h)
+constant_within H s r e rule n f h = cond_sound (lacks_value s e) (around_sound (judged s e).breaks r (place_of e) (valued_sound s e).numbered n) (then_plain rule (weaker (λ z. (f (z.0), z.1)) (plain_valued s e)) (λ x. weaker (λ z. z.0) (h x)))
 
 constant_sound : {T : Type 0} (s : Scope) (r : ℕ) (e : f.Expression) (rule : t.Expression → Judgement T) → is_numbered r ≡ true → ((x : t.Expression) → IsSound (IsFilled s) (rule x)) → IsSound (IsFilled s) (constant_expression s r e rule)
-constant_sound s r e rule n h = cond_plain (lacks_value s e) (around_sound (judged s e).breaks r (place_of e) (expression_sound s e).numbered n) (then_plain rule (plain_filled s e) h)
+constant_sound s r e rule n h = constant_within (IsFilled s) s r e rule n (λ z. z) h
 
 -- Types
 
 kind_sound : (s : Scope) (kinds : ℤ → Option Kind) (e : f.Expression) → IsSound (IsFilled s) (declared_kind s kinds e)
-kind_sound s kinds e = cond_plain (lacks_value s e) (around_sound (judged s e).breaks 22 (place_of e) (expression_sound s e).numbered refl) (kind_value_sound s kinds (placed s e) (expression_sound s e))
+kind_sound s kinds e = cond_sound (lacks_value s e) (around_sound (judged s e).breaks 22 (place_of e) (valued_sound s e).numbered refl) (kind_value_sound s kinds (placed s e) (valued_sound s e))
 
 denoted_type_sound : {H : Type 0} (m : Option Meaning) (p : Pos) → IsSound H (type_denoted m p)
 denoted_type_sound None p = refused_sound 20 p refl
@@ -80,7 +82,7 @@ dimension_sound s (d.explicit b) = weaker (λ h. h.0) (bounds_sound s b)
 
 pub raw_numbered : (s : Scope) (o : Option f.Expression) → AreNumbered (raw_breaks s o)
 raw_numbered s None = none_numbered
-raw_numbered s (Some e) = (plain_filled s e).numbered
+raw_numbered s (Some e) = (plain_valued s e).numbered
 
 raw_bounds_numbered : (s : Scope) (bs : List d.Bounds) → AreNumbered (raw_bounds_breaks s bs)
 raw_bounds_numbered s [] = none_numbered

@@ -18,8 +18,7 @@ use Rattle.rule_definitions.specs.Arguments.{Part, expression, triplet, Actual, 
 use Rattle.rule_definitions.specs.Specifiers.{Written, selector_specifiers}
 use Rattle.rule_definitions.specs.Expressions.{WrittenSelector, subscripts_of, rank_behind, subscript_breaks, selection_breaks, typed_as, variable_part, scalar_value, constant_form, constant_part, unselected, unsubscripted, call_typed, function_called, referenced, function_named, subroutine_named, designated, cosubscripts, selector_written}
 use Rattle.rule_laws.proofs.Sound.{AreNumbered, IsSound, none_numbered, breaks_numbered, cond_numbered, unless_numbered, both_numbered, cons_nil, breaks_some, fine_sound, refused_sound, unknown_sound, weaker, ruled_sound, ruled_plain, formed_sound, around_sound, made_sound, made_of_both_sound, made_of_both_given, made_of_three_sound, then_plain, cond_sound}
-use Rattle.rule_laws.specs.Results.{has_type, has_typed_result}
-use Rattle.rule_laws.proofs.Known.{is_known_value, AreKnown, and_left, and_right, no}
+use Rattle.rule_laws.proofs.Known.{has_type, has_typed_result, is_known_value, AreKnown, and_left, and_right, no}
 use Rattle.rule_laws.proofs.PartsSound.{integer_sound, AllSound}
 use Rattle.rule_laws.proofs.ArgumentsSound.{PartSound, AllActuals, in_all_numbered, arguments_sound}
 use Rattle.rule_laws.proofs.FunctionsSound.{intrinsic_sound}

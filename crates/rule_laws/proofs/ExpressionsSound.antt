@@ -11,8 +11,7 @@ use Rattle.rule_definitions.specs.Arguments.{Actual}
 use Rattle.rule_definitions.specs.Declarations.{is_function, has_brackets}
 use Rattle.rule_definitions.specs.Expressions.{judged, judged_designator, judged_brackets, judged_bracket, judged_bound, judged_selector, judged_list, judged_specifiers, judged_arguments, placed}
 use Rattle.rule_laws.proofs.Sound.{IsSound, fine_sound, weaker, made_sound, made_of_three_sound}
-use Rattle.rule_laws.specs.Results.{has_typed_result}
-use Rattle.rule_laws.proofs.Known.{IsKnownScope, no}
+use Rattle.rule_laws.proofs.Known.{has_typed_result, IsKnownScope, no}
 use Rattle.rule_laws.proofs.Calls.{calls, designator_calls, argument_calls, item_calls, subscript_calls, part_calls, bound_calls, selector_calls, specifier_calls, IsFree, free_left, free_right}
 use Rattle.rule_laws.proofs.PartsSound.{number_sound, AllSound, parenthesized_sound, constructor_sound, prefix_sound, binary_sound, integer_sound}
 use Rattle.rule_laws.proofs.ArgumentsSound.{PartSound, AllActuals}

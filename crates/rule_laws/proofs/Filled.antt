@@ -1,4 +1,4 @@
--- Scopes that are filled with known names: what they denote is known, and each function of the program has a typed result.
+-- Scopes that are filled with known names: what they denote is known.
 use Rattle.std.proofs.Common.{◌≡◌, ◌∙◌, ℕ, Bool, true, false, List, [], ◌∷◌, ◌++◌, refl, sym, ap}
 use Rattle.std.specs.Prelude.{cond, not, bytes_eq, nat_eq, ◌&&◌, ◌||◌, Option, Some, None, length}
 use Rattle.checked_tree.specs.declared.data.Constant.{Constant}
@@ -7,10 +7,10 @@ use Rattle.rule_definitions.specs.Names
 use Rattle.rule_definitions.specs.Names.{Scope, Symbol, Named, Interface, Meaning, denoted_in, is_among, intrinsic_procedures, denoted_outside, denotes}
 use Rattle.rule_definitions.specs.Constants.{all_bounds}
 use Rattle.rule_laws.proofs.Sound.{none_some, some_same}
-use Rattle.rule_laws.specs.Results.{has_typed_result}
-use Rattle.rule_laws.proofs.Known.{is_known_symbol, is_known_value, is_known, and_left, and_right, no}
+use Rattle.rule_laws.proofs.Known.{has_typed_result, is_known_symbol, is_known_value, is_known, and_left, and_right, no}
 use Rattle.rule_laws.proofs.ArgumentsSound.{and_both}
 use Rattle.rule_laws.proofs.AssignmentsSound.{IsSettled}
+use Rattle.rule_laws.proofs.Known.{IsKnownScope}
 
 -- the bounds of a variable are known, or it is an allocatable array
 abbrev pub is_bounded : Symbol → Bool
@@ -34,9 +34,6 @@ abbrev pub is_typed : List Interface → Meaning → Bool
 is_typed is (Names.function n) = has_typed_result (item_at is n)
 is_typed is m = true
 
-abbrev pub is_settled : List Interface → Meaning → Bool
-is_settled is m = is_known is m && is_typed is m
-
 abbrev pub all_meant : (Meaning → Bool) → List Named → Bool
 all_meant q [] = true
 all_meant q (x ∷ xs) = q x.meaning && all_meant q xs
@@ -44,20 +41,28 @@ all_meant q (x ∷ xs) = q x.meaning && all_meant q xs
 pub record IsFilled (s : Scope) : Type 0 where
   pub own : all_meant is_data s.own ≡ true
   pub host : all_meant is_data s.host ≡ true
-  pub procedures : all_meant (is_settled s.interfaces) s.procedures ≡ true
+  pub procedures : all_meant (is_known s.interfaces) s.procedures ≡ true
   pub accessible : all_meant is_library s.accessible ≡ true
 
-data_settled : (is : List Interface) (m : Meaning) → is_data m ≡ true → is_settled is m ≡ true
-data_settled is (Names.variable x) h = and_both (is_known_symbol x) true (and_left (is_known_symbol x) (is_bounded x) h) refl
-data_settled is (Names.constant c) h = and_both (is_there c.of_type && is_known_value c.bounds c.value) true h refl
-data_settled is m h = no h
+data_known : (is : List Interface) (m : Meaning) → is_data m ≡ true → is_known is m ≡ true
+data_known is (Names.variable x) h = and_left (is_known_symbol x) (is_bounded x) h
+data_known is (Names.constant c) h = h
+data_known is m h = no h
 
-library_settled : (is : List Interface) (m : Meaning) → is_library m ≡ true → is_settled is m ≡ true
-library_settled is (Names.module_constant n) h = refl
-library_settled is (Names.module_type y) h = refl
-library_settled is (Names.intrinsic_function n) h = refl
-library_settled is (Names.intrinsic_subroutine n) h = refl
-library_settled is m h = no h
+library_known : (is : List Interface) (m : Meaning) → is_library m ≡ true → is_known is m ≡ true
+library_known is (Names.module_constant n) h = refl
+library_known is (Names.module_type y) h = refl
+library_known is (Names.intrinsic_function n) h = refl
+library_known is (Names.intrinsic_subroutine n) h = refl
+library_known is m h = no h
+
+data_typed : (is : List Interface) (m : Meaning) → is_data m ≡ true → is_typed is m ≡ true
+data_typed is (Names.function n) h = no h
+data_typed is m h = refl
+
+library_typed : (is : List Interface) (m : Meaning) → is_library m ≡ true → is_typed is m ≡ true
+library_typed is (Names.function n) h = no h
+library_typed is m h = refl
 
 pub intrinsics_library : all_meant is_library intrinsic_procedures ≡ true
 intrinsics_library = refl
@@ -82,23 +87,23 @@ unless_pending : {T : Type 0} (b : Bool) (o : Option T) (m : T) → cond b None 
 unless_pending true o m e = none_some m e
 unless_pending false o m e = e
 
-pub denoted_settled : (s : Scope) → IsFilled s → (n : List ℕ) (m : Meaning) → denotes s n ≡ Some m → is_settled s.interfaces m ≡ true
-denoted_settled s h n m e =
+denoted_by : (q : Meaning → Bool) (s : Scope) → ((m : Meaning) → is_data m ≡ true → q m ≡ true) → ((m : Meaning) → is_library m ≡ true → q m ≡ true) → IsFilled s → all_meant q s.procedures ≡ true → (n : List ℕ) (m : Meaning) → denotes s n ≡ Some m → q m ≡ true
+denoted_by q s f g h p n m e =
     else_cases (denoted_in s.own n) (cond (is_among s.pending n) None (denoted_outside s n)) m e
-    (λ k. data_settled s.interfaces m (meant_in is_data s.own n m h.own k))
+    (λ k. f m (meant_in is_data s.own n m h.own k))
     (λ k. else_cases (denoted_in s.host n) (or_else (denoted_in s.procedures n) (or_else (denoted_in s.accessible n) (denoted_in intrinsic_procedures n))) m (unless_pending (is_among s.pending n) (denoted_outside s n) m k)
-    (λ i. data_settled s.interfaces m (meant_in is_data s.host n m h.host i))
+    (λ i. f m (meant_in is_data s.host n m h.host i))
     (λ i. else_cases (denoted_in s.procedures n) (or_else (denoted_in s.accessible n) (denoted_in intrinsic_procedures n)) m i
-    (λ j. meant_in (is_settled s.interfaces) s.procedures n m h.procedures j)
+    (λ j. meant_in q s.procedures n m p j)
     (λ j. else_cases (denoted_in s.accessible n) (denoted_in intrinsic_procedures n) m j
-    (λ l. library_settled s.interfaces m (meant_in is_library s.accessible n m h.accessible l))
-    (λ l. library_settled s.interfaces m (meant_in is_library intrinsic_procedures n m intrinsics_library l)))))
+    (λ l. g m (meant_in is_library s.accessible n m h.accessible l))
+    (λ l. g m (meant_in is_library intrinsic_procedures n m intrinsics_library l)))))
 
-pub filled_settled : (s : Scope) → IsFilled s → IsSettled s
-filled_settled s h = (
-  record { known = λ n. record { known = λ m e. and_left (is_known s.interfaces m) (is_typed s.interfaces m) (denoted_settled s h n m e) } },
-  record { typed = λ n k e. and_right true (has_typed_result (item_at s.interfaces k)) (denoted_settled s h n (Names.function k) e) },
-)
+pub filled_known : (s : Scope) → IsFilled s → IsKnownScope s
+filled_known s h = record { known = λ n. record { known = λ m e. denoted_by (is_known s.interfaces) s (data_known s.interfaces) (library_known s.interfaces) h h.procedures n m e } }
+
+pub filled_settled : (s : Scope) → IsFilled s → all_meant (is_typed s.interfaces) s.procedures ≡ true → IsSettled s
+filled_settled s h p = (filled_known s h, record { typed = λ n k e. denoted_by (is_typed s.interfaces) s (data_typed s.interfaces) (library_typed s.interfaces) h p n (Names.function k) e })
 
 -- one name more, and further constants
 pub filled_more : (s : Scope) (x : Named) (cs : List Constant) → IsFilled s → is_data x.meaning ≡ true → IsFilled (record s { own = s.own ++ x ∷ []; constants = cs })

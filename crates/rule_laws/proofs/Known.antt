@@ -1,12 +1,11 @@
 -- Scopes in which each name that stands for something is known: in a program without breaks all are.
 use Rattle.std.proofs.Common.{◌≡◌, ℕ, Bool, true, false, List, [], ◌∷◌, refl}
-use Rattle.std.specs.Prelude.{◌&&◌, Option, Some}
+use Rattle.std.specs.Prelude.{◌&&◌, Option, Some, None}
 use Rattle.checked_tree.specs.declared.data.DataType.{DataType}
 use Rattle.checked_tree.specs.declared.data.DataType.TheVariants.{Team}
 use Rattle.checked_tree.specs.declared.data.Object.{Object}
 use Rattle.checked_tree.specs.declared.data.Object.TheVariants as objects
 use Rattle.rule_definitions.specs.Judgements.{is_there, item_at}
-use Rattle.rule_laws.specs.Results.{has_typed_result}
 use Rattle.rule_definitions.specs.Names
 use Rattle.rule_definitions.specs.Names.{Scope, Symbol, ConstantValue, KnownBounds, Interface, Meaning, denotes}
 
@@ -26,6 +25,14 @@ is_known_value ds Names.unknown_value = false
 is_known_value ds (Names.scalar_constant v) = true
 is_known_value [] (Names.array_constant n) = false
 is_known_value (d ∷ ds) (Names.array_constant n) = true
+
+abbrev pub has_type : Option Symbol → Bool
+has_type None = false
+has_type (Some x) = is_there x.of_type
+
+abbrev pub has_typed_result : Option Interface → Bool
+has_typed_result None = false
+has_typed_result (Some i) = has_type i.result
 
 abbrev pub is_known : List Interface → Meaning → Bool
 is_known is (Names.variable x) = is_known_symbol x

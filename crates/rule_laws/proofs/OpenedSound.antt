@@ -16,9 +16,8 @@ use Rattle.rule_definitions.specs.Names
 use Rattle.rule_definitions.specs.Names.{Scope, Symbol, Named, Meaning, Role, Interface, is_among, denoted_in, variables_of}
 use Rattle.rule_definitions.specs.Declarations.{Unit', type_judged, special_type_breaks, is_answer, is_declared, Declared, declared_all, names_declared}
 use Rattle.rule_definitions.specs.Units.{Headed, text_of, place_of_answer, dummy_breaks, own_name, answer_breaks, second_type_breaks, first_type, type_breaks, is_typed, heading_breaks, hosted_object, hosted_meaning, hosted, bare, typed_answer, unit_of, opened, with_dummy, with_dummies, with_untyped, with_answer, Opened, opened_procedure, symbol_named, interface_of}
-use Rattle.rule_laws.specs.Results.{has_type}
 use Rattle.rule_laws.proofs.Sound.{AreNumbered, none_numbered, breaks_numbered, unless_numbered, both_numbered, said_numbered, left_nothing, right_nothing, breaks_some}
-use Rattle.rule_laws.proofs.Known.{is_placed, is_known_symbol, and_left, and_right, no}
+use Rattle.rule_laws.proofs.Known.{has_type, is_placed, is_known_symbol, and_left, and_right, no}
 use Rattle.rule_laws.proofs.ArgumentsSound.{and_both}
 use Rattle.rule_laws.proofs.Filled.{is_bounded, is_data, all_meant, meant_both, IsFilled}
 use Rattle.rule_laws.proofs.DeclarationsSound.{type_sound}

@@ -21,12 +21,12 @@ use Rattle.rule_definitions.specs.Acceptance.{Breaks}
 use Rattle.std.proofs.lemmas.Bool.Decides.{nat_tests}
 use Rattle.rule_laws.specs.Meanings.{IsUnbroken, IsAccepted}
 use Rattle.rule_laws.specs.Rules.{IsRule}
-use Rattle.rule_laws.specs.Results.{has_typed_result, HasTypedFunctions}
 use Rattle.rule_laws.proofs.Sound.{is_numbered, AreNumbered, IsSound, none_numbered, breaks_numbered, cond_numbered, unless_numbered, both_numbered, left_nothing, right_nothing, fine_sound, unknown_sound, weaker, ruled_sound, ruled_plain, made_sound, made_of_both_sound, cond_sound, some_same, none_some}
-use Rattle.rule_laws.proofs.Known.{is_placed, is_known_symbol, and_left, and_right, no}
+use Rattle.rule_laws.proofs.AssignmentsSound.{IsSettled}
+use Rattle.rule_laws.proofs.Known.{is_known, has_typed_result, is_placed, is_known_symbol, and_left, and_right, no}
 use Rattle.rule_laws.proofs.ArgumentsSound.{and_both}
 use Rattle.rule_laws.proofs.StatementsSound.{end_numbered, statements_sound}
-use Rattle.rule_laws.proofs.Filled.{is_bounded, is_data, is_library, is_settled, all_meant, meant_in, meant_both, IsFilled, filled_settled}
+use Rattle.rule_laws.proofs.Filled.{is_bounded, is_data, is_library, is_typed, all_meant, meant_in, meant_both, IsFilled, filled_settled}
 use Rattle.rule_laws.proofs.DeclaredSound.{IsGrown, declarations_grown}
 use Rattle.rule_laws.proofs.OpenedSound.{procedure_opened}
 
@@ -69,20 +69,32 @@ uses_library (x ∷ xs) = meant_both is_library (accessible_by x) (accessible_of
 
 -- Names of procedures
 
+heading_known : (is : List Interface) (n : ℕ) (o : Option Name) → is_there (item_at is n) ≡ true → is_known is (elim o [ None ↦ Names.subroutine n | Some r ↦ Names.function n ]) ≡ true
+heading_known is n None h = h
+heading_known is n (Some r) h = refl
+
+names_known : (is : List Interface) (n : ℕ) (hs : List Headed) → ((i : ℕ) (h : Headed) → item_at hs i ≡ Some h → is_there (item_at is (n + i)) ≡ true) → all_meant (is_known is) (procedure_names n hs) ≡ true
+names_known is n [] f = refl
+names_known is n (h ∷ hs) f =
+    let z : n + 0 ≡ n = omega arith in
+    let g : is_there (item_at is n) ≡ true = subst (λ k. is_there (item_at is k) ≡ true) z (f 0 h refl) in
+    and_both (is_known is (meaning_of_heading n h)) (all_meant (is_known is) (procedure_names (n + 1) hs)) (heading_known is n h.answer g)
+    (names_known is (n + 1) hs (λ i k e. (let w : n + suc i ≡ (n + 1) + i = omega arith in subst (λ j. is_there (item_at is j) ≡ true) w (f (suc i) k e))))
+
+heading_typed : (is : List Interface) (n : ℕ) (o : Option Name) → (is_there o ≡ true → has_typed_result (item_at is n) ≡ true) → is_typed is (elim o [ None ↦ Names.subroutine n | Some r ↦ Names.function n ]) ≡ true
+heading_typed is n None h = refl
+heading_typed is n (Some r) h = h refl
+
 abbrev IsTyped : List Interface → ℕ → Headed → Type 0
-IsTyped is n h = (is_there (item_at is n) ≡ true) × (is_there h.answer ≡ true → has_typed_result (item_at is n) ≡ true)
+IsTyped is n h = is_there h.answer ≡ true → has_typed_result (item_at is n) ≡ true
 
-heading_settled : (is : List Interface) (n : ℕ) (o : Option Name) → is_there (item_at is n) ≡ true → (is_there o ≡ true → has_typed_result (item_at is n) ≡ true) → is_settled is (elim o [ None ↦ Names.subroutine n | Some r ↦ Names.function n ]) ≡ true
-heading_settled is n None h k = and_both (is_there (item_at is n)) true h refl
-heading_settled is n (Some r) h k = and_both true (has_typed_result (item_at is n)) refl (k refl)
-
-names_settled : (is : List Interface) (n : ℕ) (hs : List Headed) → ((i : ℕ) (h : Headed) → item_at hs i ≡ Some h → IsTyped is (n + i) h) → all_meant (is_settled is) (procedure_names n hs) ≡ true
-names_settled is n [] f = refl
-names_settled is n (h ∷ hs) f =
+names_typed : (is : List Interface) (n : ℕ) (hs : List Headed) → ((i : ℕ) (h : Headed) → item_at hs i ≡ Some h → IsTyped is (n + i) h) → all_meant (is_typed is) (procedure_names n hs) ≡ true
+names_typed is n [] f = refl
+names_typed is n (h ∷ hs) f =
     let z : n + 0 ≡ n = omega arith in
     let g : IsTyped is n h = subst (λ k. IsTyped is k h) z (f 0 h refl) in
-    and_both (is_settled is (meaning_of_heading n h)) (all_meant (is_settled is) (procedure_names (n + 1) hs)) (heading_settled is n h.answer (g.0) (g.1))
-    (names_settled is (n + 1) hs (λ i k e. (let w : n + suc i ≡ (n + 1) + i = omega arith in subst (λ j. IsTyped is j k) w (f (suc i) k e))))
+    and_both (is_typed is (meaning_of_heading n h)) (all_meant (is_typed is) (procedure_names (n + 1) hs)) (heading_typed is n h.answer g)
+    (names_typed is (n + 1) hs (λ i k e. (let w : n + suc i ≡ (n + 1) + i = omega arith in subst (λ j. IsTyped is j k) w (f (suc i) k e))))
 
 -- the procedures of a scope in order
 abbrev heads : List u.Procedure → List Headed
@@ -111,21 +123,24 @@ opened_numbered s (x ∷ xs) = both_numbered (procedure_opened s (headed x.headi
 
 -- Scopes in which statements stand
 
-completed_filled : (is : List Interface) (cs : List Constant) (s : Scope) (ps : List Named) → IsFilled s → s.procedures ≡ ps → all_meant (is_settled is) ps ≡ true → IsFilled (completed is cs s)
-completed_filled is cs s ps f e h = record { own = f.own; host = f.host; procedures = ap (all_meant (is_settled is)) e ∙ h; accessible = f.accessible }
+completed_filled : (is : List Interface) (cs : List Constant) (s : Scope) (ps : List Named) → IsFilled s → s.procedures ≡ ps → all_meant (is_known is) ps ≡ true → IsFilled (completed is cs s)
+completed_filled is cs s ps f e h = record { own = f.own; host = f.host; procedures = ap (all_meant (is_known is)) e ∙ h; accessible = f.accessible }
 
-abbrev AllFilled : List Interface → List Constant → List Opened → Type 0
-AllFilled is cs [] = Unit {0}
-AllFilled is cs (o ∷ os) = (IsFilled (completed is cs o.scope) × (all_meant is_data o.scope.own ≡ true)) × AllFilled is cs os
+completed_settled : (is : List Interface) (cs : List Constant) (s : Scope) (ps : List Named) → IsFilled s → s.procedures ≡ ps → all_meant (is_known is) ps ≡ true → all_meant (is_typed is) ps ≡ true → IsSettled (completed is cs s)
+completed_settled is cs s ps f e h k = filled_settled (completed is cs s) (completed_filled is cs s ps f e h) (ap (all_meant (is_typed is)) e ∙ k)
 
-all_filled : (is : List Interface) (cs : List Constant) (s : Scope) (xs : List u.Procedure) → IsFilled s → opened_breaks (opened_procedures s xs) ≡ [] → all_meant (is_settled is) s.procedures ≡ true → AllFilled is cs (opened_procedures s xs)
-all_filled is cs s [] f b h = tt
-all_filled is cs s (x ∷ xs) f b h =
+abbrev AllSettled : List Interface → List Constant → List Opened → Type 0
+AllSettled is cs [] = Unit {0}
+AllSettled is cs (o ∷ os) = (IsSettled (completed is cs o.scope) × (all_meant is_data o.scope.own ≡ true)) × AllSettled is cs os
+
+all_settled : (is : List Interface) (cs : List Constant) (s : Scope) (xs : List u.Procedure) → IsFilled s → opened_breaks (opened_procedures s xs) ≡ [] → all_meant (is_known is) s.procedures ≡ true → all_meant (is_typed is) s.procedures ≡ true → AllSettled is cs (opened_procedures s xs)
+all_settled is cs s [] f b h t = tt
+all_settled is cs s (x ∷ xs) f b h t =
     let o = opened_procedure s (headed x.heading) x in
     let k = procedure_opened s (headed x.heading) x in
     let rest = opened_breaks (opened_procedures (record s { constants = o.scope.constants }) xs) in
     let g = k.filled f (left_nothing o.breaks rest b) in
-    ((completed_filled is cs o.scope s.procedures g k.kept h, g.own), all_filled is cs (record s { constants = o.scope.constants }) xs (constants_filled s o.scope.constants f) (right_nothing o.breaks rest b) h)
+    ((completed_settled is cs o.scope s.procedures g k.kept h t, g.own), all_settled is cs (record s { constants = o.scope.constants }) xs (constants_filled s o.scope.constants f) (right_nothing o.breaks rest b) h t)
 
 -- Variables
 
@@ -164,11 +179,11 @@ unit_sound H xs ss h k = made_of_both_sound _ (variables_sound H xs h) k
 
 -- Procedures
 
-procedure_sound : (H : Type 0) (is : List Interface) (cs : List Constant) (c : Counted) (o : Opened) → (H → IsFilled (completed is cs o.scope)) → (H → all_meant is_data o.scope.own ≡ true) → IsSound H (procedure_judged is cs c o)
-procedure_sound H is cs c o f g = ruled_plain (made_sound (procedure_form (interface_of o)) (unit_sound H o.scope.own o.body.statements g (weaker (λ z. filled_settled (completed is cs o.scope) (f z)) (statements_sound (position_of (completed is cs o.scope) c) o.body.statements))))
+procedure_sound : (H : Type 0) (is : List Interface) (cs : List Constant) (c : Counted) (o : Opened) → (H → IsSettled (completed is cs o.scope)) → (H → all_meant is_data o.scope.own ≡ true) → IsSound H (procedure_judged is cs c o)
+procedure_sound H is cs c o f g = ruled_plain (made_sound (procedure_form (interface_of o)) (unit_sound H o.scope.own o.body.statements g (weaker f (statements_sound (position_of (completed is cs o.scope) c) o.body.statements))))
     (end_numbered (Some o.headed.name) o.end)
 
-procedures_sound : (H : Type 0) (is : List Interface) (cs : List Constant) (c : Counted) (os : List Opened) → (H → AllFilled is cs os) → IsSound H (procedures_judged is cs c os)
+procedures_sound : (H : Type 0) (is : List Interface) (cs : List Constant) (c : Counted) (os : List Opened) → (H → AllSettled is cs os) → IsSound H (procedures_judged is cs c os)
 procedures_sound H is cs c [] f = fine_sound []
 procedures_sound H is cs c (o ∷ os) f = made_of_both_sound (λ p ps. p ∷ ps) (procedure_sound H is cs c o (λ z. ((f z).0).0) (λ z. ((f z).0).1)) (procedures_sound H is cs (behind c (counted_statements o.body.statements)) os (λ z. (f z).1))
 
@@ -185,17 +200,23 @@ cells_numbered n (x ∷ xs) = both_numbered (unless_numbered (not (nat_le n 6553
 limits_numbered : (xs : List Symbol) → AreNumbered (limit_breaks xs)
 limits_numbered xs = both_numbered (cells_numbered 0 (coarrays_among xs)) (cells_numbered 0 (locals_among xs))
 
-with_sound : (H : Type 0) (p : u.Program) (s : Scope) (os : List Opened) (is : List Interface) (cs : List Constant) → (H → IsFilled (completed is cs s)) → (H → AllFilled is cs os) → IsSound H (program_with p s os is cs)
-with_sound H p s os is cs f g = made_of_both_sound _
-    (unit_sound H s.own p.body.statements (λ z. (f z).own) (weaker (λ z. filled_settled (completed is cs s) (f z)) (statements_sound (position_of (completed is cs s) (record { criticals = 0; literals = [] })) p.body.statements)))
+with_sound : (H : Type 0) (p : u.Program) (s : Scope) (os : List Opened) (is : List Interface) (cs : List Constant) → (H → all_meant is_data s.own ≡ true) → (H → IsSettled (completed is cs s)) → (H → AllSettled is cs os) → IsSound H (program_with p s os is cs)
+with_sound H p s os is cs d f g = made_of_both_sound _
+    (unit_sound H s.own p.body.statements d (weaker f (statements_sound (position_of (completed is cs s) (record { criticals = 0; literals = [] })) p.body.statements)))
     (procedures_sound H is cs (counted_statements p.body.statements) os g)
 
--- the names of the procedures are settled by the procedures themselves
-self_settled : (p : u.Program) (s : Scope) → IsFilled s → opened_breaks (opened_procedures s (procedures_of p)) ≡ [] → all_meant (is_settled (map interface_of (opened_procedures s (procedures_of p)))) (procedure_names 0 (headings_of p)) ≡ true
-self_settled p s f b =
+-- the names of the procedures are known, and those of functions typed, by the procedures themselves
+self_known : (p : u.Program) (s : Scope) → all_meant (is_known (map interface_of (opened_procedures s (procedures_of p)))) (procedure_names 0 (headings_of p)) ≡ true
+self_known p s =
     let xs = procedures_of p in
     let is = map interface_of (opened_procedures s xs) in
-    names_settled is 0 (heads xs) (λ i h e. (let z : i ≡ 0 + i = omega arith in subst (λ k. IsTyped is k h) z (interface_there s xs i h e, λ a. interface_typed s xs i h f b e a)))
+    names_known is 0 (heads xs) (λ i h e. (let z : i ≡ 0 + i = omega arith in subst (λ k. is_there (item_at is k) ≡ true) z (interface_there s xs i h e)))
+
+self_typed : (p : u.Program) (s : Scope) → IsFilled s → opened_breaks (opened_procedures s (procedures_of p)) ≡ [] → all_meant (is_typed (map interface_of (opened_procedures s (procedures_of p)))) (procedure_names 0 (headings_of p)) ≡ true
+self_typed p s f b =
+    let xs = procedures_of p in
+    let is = map interface_of (opened_procedures s xs) in
+    names_typed is 0 (heads xs) (λ i h e. (let z : i ≡ 0 + i = omega arith in subst (λ k. IsTyped is k h) z (λ a. interface_typed s xs i h f b e a)))
 
 opened_sound : (H : Type 0) (p : u.Program) (s : Scope) → (H → IsFilled s) → s.procedures ≡ procedure_names 0 (headings_of p) → IsSound H (program_opened p s)
 opened_sound H p s f e =
@@ -211,32 +232,29 @@ opened_sound H p s f e =
     let bs = a ++ (b ++ (c ++ (x ++ y))) in
     let opens : bs ≡ [] → c ≡ [] = λ h. left_nothing c (x ++ y) (right_nothing b (c ++ (x ++ y)) (right_nothing a (b ++ (c ++ (x ++ y))) h)) in
     ruled_sound bs
-    (with_sound (H × (bs ≡ [])) p s os is cs
-    (λ z. completed_filled is cs s (procedure_names 0 (headings_of p)) (f (z.0)) e (self_settled p s (f (z.0)) (opens (z.1))))
-    (λ z. all_filled is cs s xs (f (z.0)) (opens (z.1)) (ap (all_meant (is_settled is)) e ∙ self_settled p s (f (z.0)) (opens (z.1)))))
+    (with_sound (H × (bs ≡ [])) p s os is cs (λ z. (f (z.0)).own)
+    (λ z. completed_settled is cs s (procedure_names 0 (headings_of p)) (f (z.0)) e (self_known p s) (self_typed p s (f (z.0)) (opens (z.1))))
+    (λ z. all_settled is cs s xs (f (z.0)) (opens (z.1)) (ap (all_meant (is_known is)) e ∙ self_known p s) (ap (all_meant (is_typed is)) e ∙ self_typed p s (f (z.0)) (opens (z.1)))))
     (both_numbered (uses_numbered p.uses) (both_numbered (twice_numbered (map name_of s.own) (headings_of p)) (both_numbered (opened_numbered s xs) (both_numbered (limits_numbered (variables_of s.own)) (end_numbered p.name p.end.name)))))
 
 -- the scope before the declarations
-first_filled : (p : u.Program) → HasTypedFunctions p → IsFilled (record (first_scope p) { interfaces = interfaces_of p })
-first_filled p t =
-    let is = interfaces_of p in
-    let s = record (main_declared p []).scope { pending = [] } in
-    record {
-      own = refl;
-      host = refl;
-      procedures = names_settled is 0 (headings_of p) (λ i h e. (let z : i ≡ 0 + i = omega arith in subst (λ k. IsTyped is k h) z (interface_there s (procedures_of p) i h e, λ a. t i h e a)));
-      accessible = uses_library p.uses;
-    }
+first_filled : (p : u.Program) → IsFilled (record (first_scope p) { interfaces = interfaces_of p })
+first_filled p = record {
+  own = refl;
+  host = refl;
+  procedures = self_known p (record (main_declared p []).scope { pending = [] });
+  accessible = uses_library p.uses;
+}
 
 pending_filled : (s : Scope) → IsFilled s → IsFilled (record s { pending = [] })
 pending_filled s f = record { own = f.own; host = f.host; procedures = f.procedures; accessible = f.accessible }
 
-pub program_sound : (p : u.Program) → IsSound (HasTypedFunctions p) (program_judged p)
+pub program_sound : (p : u.Program) → IsSound (Unit {0}) (program_judged p)
 program_sound p =
     let s = record (first_scope p) { interfaces = interfaces_of p } in
     let x = main_declared p (interfaces_of p) in
-    let g : IsGrown (HasTypedFunctions p) main_unit s x = declarations_grown main_unit p.body.declarations s in
-    ruled_sound x.breaks (opened_sound (HasTypedFunctions p × (x.breaks ≡ [])) p (record x.scope { pending = [] }) (λ z. pending_filled x.scope (g.filled (z.0) (first_filled p (z.0)) (z.1))) g.kept) g.numbered
+    let g : IsGrown (Unit {0}) main_unit s x = declarations_grown main_unit p.body.declarations s in
+    ruled_sound x.breaks (opened_sound (Unit {0} × (x.breaks ≡ [])) p (record x.scope { pending = [] }) (λ z. pending_filled x.scope (g.filled tt (first_filled p) (z.1))) g.kept) g.numbered
 
 -- In the words of the laws
 
@@ -253,7 +271,7 @@ there_some : {T : Type 0} (o : Option T) → is_there o ≡ true → (x : T) × 
 there_some None e = no e
 there_some (Some x) e = (x, refl)
 
-pub accepted_whole : (p : u.Program) → HasTypedFunctions p → IsUnbroken p → IsAccepted p
-accepted_whole p t e =
-    let m = there_some (program_judged p).meaning ((program_sound p).decided t e) in
+pub accepted_whole : (p : u.Program) → IsUnbroken p → IsAccepted p
+accepted_whole p e =
+    let m = there_some (program_judged p).meaning ((program_sound p).decided tt e) in
     (m.0, record { unbroken = e; meaning = m.1 })

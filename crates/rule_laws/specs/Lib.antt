@@ -1,4 +1,3 @@
 pub mod Firsts
 pub mod Meanings
-pub mod Results
 pub mod Rules

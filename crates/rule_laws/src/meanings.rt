@@ -2,9 +2,8 @@
 
 ghost use Rattle.fortran_tree.specs.Units.{Program};
 ghost use Rattle.rule_laws.specs.Meanings.{IsUnbroken, IsAccepted};
-ghost use Rattle.rule_laws.specs.Results.{HasTypedFunctions};
 
-/// A program that breaks no rule is accepted as a checked program, where each of its functions has a result of known type for its declarations.
+/// A program that breaks no rule is accepted as a checked program.
 pub fn law_unbroken_has_meaning()
-    ensures { (p : Program) → HasTypedFunctions p → IsUnbroken p → IsAccepted p }
+    ensures { (p : Program) → IsUnbroken p → IsAccepted p }
 {}
