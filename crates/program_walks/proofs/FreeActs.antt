@@ -24,7 +24,7 @@ use Rattle.image_acts.specs.Core.{Core, Array, Local, Own, Team, Frame, Item, Pr
 use Rattle.image_acts.specs.Places.{Place, place_in, place_size, extents_of, offsets, elements_at, digits, numbers_of_form, triplets, subscripts_in, place_of, no_place, place_numbers, cells_of}
 use Rattle.image_acts.specs.Frames.{pairs_in, array_in, with_array_in, with_cell}
 use Rattle.image_acts.specs.Owning.{own_in, with_own}
-use Rattle.image_acts.specs.Teams.{behind_first, current_team, members, index_of, is_established, member_at, cosubscripts_behind, index_in}
+use Rattle.image_acts.specs.Teams.{behind_first, members, index_of, is_established, member_at, cosubscripts_behind, index_in}
 use Rattle.image_acts.specs.Taking.{Acted, giving, put_down, given, found_in, unless, taken, taking_one, taking_two, taking, seeing, taking_array, seeing_array, using}
 use Rattle.image_acts.specs.Operate.Stack.{stack_effect}
 use Rattle.image_acts.specs.Operate.Variables.{variable_effect, value_at, allocated}
@@ -207,9 +207,6 @@ owner_in c t (Some o) ss p = selected c t o p (index_of o ss (length (members c 
 
 abbrev parent_of : List ℕ → ℕ
 parent_of ts = elim (behind_first ts) [ [] ↦ 1 | u ∷ us ↦ u ]
-
-abbrev team_of_level : Core → ℤ → Acted
-team_of_level c v = cond (int_eq v (pos 1)) (giving (pos 1) c) (cond (int_eq v (pos 2)) (giving (pos (parent_of c.teams)) c) (cond (int_eq v (pos 3)) (giving (pos (current_team c)) c) (faults no_team)))
 
 abbrev numbered_cosubscript : List ℤ → ℕ → Core → Acted
 numbered_cosubscript ss zero c = faults bounds_fault

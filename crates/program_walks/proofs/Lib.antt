@@ -10,3 +10,4 @@ pub mod BoardAnswers
 pub mod LaneEnds
 pub mod Hearing
 pub mod Fits
+pub mod StuckTries
