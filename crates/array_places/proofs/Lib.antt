@@ -1,3 +1,5 @@
 pub mod Counting
 pub mod Reading
 pub mod Sizes
+pub mod Subscripts
+pub mod Ways

@@ -1,2 +1,3 @@
 pub mod Offsets
 pub mod Bounds
+pub mod Sections

@@ -6,4 +6,7 @@
 
 pub mod bounds;
 pub mod elements;
+pub mod list;
 pub mod place;
+pub mod section;
+mod triplet;
