@@ -5,4 +5,5 @@
 
 pub mod blocks;
 pub mod numbers;
+pub mod piles;
 pub mod rows;
