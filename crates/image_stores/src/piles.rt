@@ -87,6 +87,14 @@ impl<H: Copy, T: Copy> Piles<H, T> {
         self.items.truncate(left);
     }
 
+    /// Takes all piles away.
+    pub fn clear(&mut self)
+        ensures { self.new ≡ record { piles = []; most = self.old.most; size = self.old.size } }
+    {
+        self.bases.clear();
+        self.items.clear();
+    }
+
     /// Gives the newest pile another head.
     pub fn set_head(&mut self, head: H)
         requires { 0 < length self.old.piles }
