@@ -8,6 +8,7 @@
 pub mod bounds;
 pub mod elements;
 pub mod images;
+pub mod laws;
 pub mod list;
 pub mod place;
 pub mod section;
