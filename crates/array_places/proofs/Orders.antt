@@ -25,18 +25,9 @@ three true true c h = refl
 three true false c h = absurd (cc)
 three false b c h = absurd (cc)
 
-not_three : (a b c : Bool) → (a && b) ≡ false → (a && (b && c)) ≡ false
-not_three true true c h = absurd (cc)
-not_three true false c h = refl
-not_three false b c h = refl
-
 given : (t : Bool) (n d : ℕ) → Some d ≡ cond t (Some n) None → (t ≡ true) × (d ≡ n)
 given true n d e = (refl, cc)
 given false n d e = absurd (cc)
-
-missing : (t : Bool) (n : ℕ) → None ≡ cond t (Some n) None → t ≡ false
-missing true n e = absurd (cc)
-missing false n e = refl
 
 module _ (o w : ℕ) (l e s : ℤ) (ls es ss lows more left : List ℤ) (x : lows ≡ l ∷ ls) (y : more ≡ e ∷ es) (z : left ≡ s ∷ ss) where
   split : order_found o w (l ∷ ls) (e ∷ es) (s ∷ ss) ≡ order_found o w lows more left
@@ -52,12 +43,6 @@ module _ (o w : ℕ) (l e s : ℤ) (ls es ss lows more left : List ℤ) (x : low
       ∙ ap (λ (k : ℕ). cond (are_within_cobounds (l ∷ ls) (e ∷ es) (s ∷ ss)) (Some (min (k + v * r) (2 ^ 64 - 1))) None) (f ∙ ap (λ (j : ℕ). min (o + min (w * j) (2 ^ 64 - 1)) (2 ^ 64 - 1)) q.1)
       ∙ ap (λ (k : ℕ). cond (are_within_cobounds (l ∷ ls) (e ∷ es) (s ∷ ss)) (Some (min (min (o + min (w * distance l s) (2 ^ 64 - 1)) (2 ^ 64 - 1) + k * r) (2 ^ 64 - 1))) None) g
       ∙ ap (λ (k : ℕ). cond (are_within_cobounds (l ∷ ls) (e ∷ es) (s ∷ ss)) (Some k) None) (order_more o w (distance l s) (unsigned_abs e) r (2 ^ 64 - 1))
-      ∙ split
-
-  pub order_out : None ≡ digit l s (unsigned_abs e) → None ≡ order_found o w lows more left
-  order_out h =
-      let q = missing (int_le l s && nat_lt (distance l s) (unsigned_abs e)) (distance l s) h in
-      ap (λ (t : Bool). cond t (Some (min (o + w * image_order (l ∷ ls) (e ∷ es) (s ∷ ss)) (2 ^ 64 - 1))) None) (sym (not_three (int_le l s) (nat_lt (distance l s) (unsigned_abs e)) (are_within_cobounds ls es ss) q))
       ∙ split
 
 -- an index behind so many members
