@@ -24,7 +24,7 @@ capped_over x c m h =
     let k : min (m * suc c) m ≡ min (x * suc c) m = omega arith in
     ap (λ (k : ℕ). min (k * suc c) m) e ∙ k
 
-capped : (x c m : ℕ) → min (min x m * c) m ≡ min (x * c) m
+pub capped : (x c m : ℕ) → min (min x m * c) m ≡ min (x * c) m
 capped x zero m = let e : min x m * 0 ≡ x * 0 = grind arith in ap (λ (k : ℕ). min k m) e
 capped x (suc c) m = elim (cases_lt x m) [
   | inl h ↦ let e : min x m ≡ x = omega arith in ap (λ (k : ℕ). min (k * suc c) m) e

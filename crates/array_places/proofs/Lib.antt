@@ -3,3 +3,4 @@ pub mod Reading
 pub mod Sizes
 pub mod Subscripts
 pub mod Ways
+pub mod Orders

@@ -1,15 +1,16 @@
 -- The way to a place, dimension by dimension.
-use Rattle.std.proofs.Common.{◌≡◌, ◌∙◌, ℕ, zero, suc, ◌+◌, ◌*◌, ◌^◌, ◌<◌, ◌≤◌, ◌==◌, max, ℤ, pos, ◌+ℤ◌, ◌-ℤ◌, ◌*ℤ◌, ◌≤ℤ◌, Bool, true, false, cond, List, [], ◌∷◌, ◌++◌, drop, length, refl, sym, ap, subst, arith, append_assoc}
+use Rattle.std.proofs.Common.{◌≡◌, ◌∙◌, ℕ, zero, suc, ◌+◌, ◌*◌, ◌^◌, ◌<◌, ◌≤◌, ◌==◌, max, min, ℤ, pos, ◌+ℤ◌, ◌-ℤ◌, ◌*ℤ◌, ◌≤ℤ◌, Bool, true, false, cond, List, [], ◌∷◌, ◌++◌, drop, length, refl, sym, ap, subst, arith, append_assoc}
 use Rattle.std.specs.Prelude.{unsigned_abs}
 use Rattle.std.proofs.lemmas.Int.{ints}
 use Rattle.std.proofs.Math.Nat.{mul-le-mul_left, mul-le-mul_right, mul_assoc}
 use Rattle.coarray_types.specs.Distances.{distance}
-use Rattle.coarray_types.specs.Places.{extent_of}
+use Rattle.coarray_types.specs.Places.{extent_of, size_of}
 use Rattle.walk_theory.specs.Terms.{Found, found, at_fault, with_found}
 use Rattle.image_acts.specs.Frames.{pairs_in}
 use Rattle.image_acts.specs.Places.{Subscript, Dimension, dimension, dimensions, start_of, steps_of, dims_numbers, subscripts_in, with_digit, numbers_in}
 use Rattle.array_places.specs.declared.triplet.Subscripts.{Subscripts}
 use Rattle.array_places.specs.Sections.{Lies, Fine, numbers_from, seen, spread_of, subscript_in}
+use Rattle.array_places.proofs.Counting.{capped_times}
 use Rattle.array_places.proofs.Subscripts.{extent_is, grows, grows_right}
 
 -- the first subscript is below the extent
@@ -163,3 +164,27 @@ pub place_some : (k : Bool) (x y : ℤ) (ns ms : List ℤ) → 0 < length ns →
 place_some k x y [] ms h e = absurd (omega arith)
 place_some true x y (n ∷ ns) ms h e = rw e (omega arith)
 place_some false x y (n ∷ ns) ms h e = rw e (omega arith)
+
+-- the same as the size, where there is an element
+extent_some : (e r : ℕ) → 0 < e * r → max 1 e ≡ e
+extent_some zero r h = absurd (grind arith)
+extent_some (suc e) r h = omega arith
+
+rest_some : (e r : ℕ) → 0 < e * r → 0 < r
+rest_some e zero h = absurd (grind arith)
+rest_some e (suc r) h = omega arith
+
+pub spread_size : (bs : List (ℤ × ℤ)) → 0 < size_of bs → spread_of bs ≡ size_of bs
+spread_size [] h = refl
+spread_size (b ∷ bs) h =
+    ap (λ (k : ℕ). k * spread_of bs) (extent_some (extent_of b) (size_of bs) h)
+    ∙ ap (λ (k : ℕ). extent_of b * k) (spread_size bs (rest_some (extent_of b) (size_of bs) h))
+
+pub spread_turn : (cells more e n most t : ℕ) (l u : ℤ) (left rest : List ℤ) → left ≡ l ∷ u ∷ rest → e ≡ extent_of (l, u) → n ≡ max 1 e → more ≡ min (cells * n) most
+    → min (cells * spread_of (pairs_in left)) most ≡ t → min (more * spread_of (pairs_in rest)) most ≡ t
+spread_turn cells more e n most t l u left rest s f g m i =
+    ap (λ (k : ℕ). min (k * spread_of (pairs_in rest)) most) m
+    ∙ capped_times cells n (spread_of (pairs_in rest)) most
+    ∙ ap (λ (k : ℕ). min (cells * (k * spread_of (pairs_in rest))) most) (g ∙ ap (max 1) f)
+    ∙ ap (λ (v : List ℤ). min (cells * spread_of (pairs_in v)) most) (sym s)
+    ∙ i

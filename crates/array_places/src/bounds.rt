@@ -26,11 +26,11 @@ pub(crate) fn extent(lower: &i64, upper: &i64) -> u128
 }
 
 /// A number where it is one of kind 4; else the run fault Overflow.
-fn in_kind(number: i128) -> Result<i64, u32>
-    ensures { as_found result ≡ in_kind_4 number }
+pub(crate) fn in_kind(number: &i128) -> Result<i64, u32>
+    ensures { as_found result ≡ in_kind_4 number.now }
 {
-    if -2_147_483_648 <= number && number <= 2_147_483_647 {
-        Ok(number as i64)
+    if -2_147_483_648 <= *number && *number <= 2_147_483_647 {
+        Ok(*number as i64)
     } else {
         Err(OVERFLOW)
     }
@@ -94,7 +94,7 @@ pub fn extent_along(bounds: &[i64], dim: &i64) -> Result<i64, u32>
 {
     match bounds_of(bounds, dim) {
         None => Err(BOUNDS),
-        Some((lower, upper)) => in_kind(extent(&lower, &upper) as i128),
+        Some((lower, upper)) => in_kind(&(extent(&lower, &upper) as i128)),
     }
 }
 
@@ -105,7 +105,7 @@ pub fn lower_along(bounds: &[i64], dim: &i64) -> Result<i64, u32>
     match bounds_of(bounds, dim) {
         None => Err(BOUNDS),
         Some((lower, upper)) if upper < lower => Ok(1),
-        Some((lower, _)) => in_kind(i128::from(lower)),
+        Some((lower, _)) => in_kind(&i128::from(lower)),
     }
 }
 
@@ -116,6 +116,6 @@ pub fn upper_along(bounds: &[i64], dim: &i64) -> Result<i64, u32>
     match bounds_of(bounds, dim) {
         None => Err(BOUNDS),
         Some((lower, upper)) if upper < lower => Ok(0),
-        Some((_, upper)) => in_kind(i128::from(upper)),
+        Some((_, upper)) => in_kind(&i128::from(upper)),
     }
 }

@@ -1,6 +1,6 @@
 //! The place of an element or a section of an array (ISO/IEC 1539-1:2018, 9.5.3).
 
-ghost use Rattle.std.specs.Prelude.{◌≡◌, ◌<◌, ◌≤◌, ◌+◌, ◌*◌, ◌^◌, ◌∷◌, ◌++◌, [], ◌==◌, ◌+ℤ◌, ◌-ℤ◌, ◌*ℤ◌, ◌≤ℤ◌, max, pos, ℕ, List, cond, length, unsigned_abs, IfOk, IfErr};
+ghost use Rattle.std.specs.Prelude.{◌≡◌, ◌<◌, ◌≤◌, ◌+◌, ◌*◌, ◌^◌, ◌∷◌, ◌++◌, [], ◌==◌, ◌+ℤ◌, ◌-ℤ◌, ◌*ℤ◌, ◌≤ℤ◌, ◌-◌, ◌↔◌, max, min, pos, ℕ, List, cond, length, unsigned_abs, IfOk, IfErr, IsTrue};
 ghost use Rattle.coarray_types.specs.Distances.{distance};
 ghost use Rattle.coarray_types.specs.Places.{extent_of};
 ghost use Rattle.walk_theory.specs.Terms.{found, at_fault};
@@ -139,4 +139,24 @@ pub fn place_of(bounds: &[i64], form: u32, numbers: &[i64]) -> Result<PlaceNumbe
     let (bounds, numbers) = way.step(form / 10 % 10, bounds, numbers)?;
     let (bounds, _) = way.step(form / 100 % 10, bounds, numbers)?;
     way.end(bounds)
+}
+
+/// How many cells there are between these bounds, an empty dimension counting as one, or the largest number of 128 bits where there are more.
+fn spread_between(bounds: &[i64]) -> u128
+    ensures { result ≡ min (spread_of (pairs_in bounds.now)) (2 ^ 128 - 1) }
+{
+    let mut cells = 1u128;
+    let mut left = bounds;
+    while let Some((lower, upper, rest)) = first_pair(left) {
+        cells = cells.saturating_mul(extent(lower, upper).max(1));
+        left = rest;
+    }
+    cells
+}
+
+/// Whether `place_of` may be asked for the places of an array with these bounds.
+pub fn has_places(bounds: &[i64]) -> bool
+    ensures { IsTrue result ↔ (spread_of (pairs_in bounds.now) < 2 ^ 63) }
+{
+    spread_between(bounds) < 9_223_372_036_854_775_808
 }
