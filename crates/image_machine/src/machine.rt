@@ -9,6 +9,7 @@ ghost use Rattle.image_code.specs.declared.step.Step.{Step};
 ghost use Rattle.image_state.specs.Acting.{HasFrame};
 ghost use Rattle.image_state.specs.declared.state.Rooms.{Rooms};
 ghost use Rattle.image_machine.specs.Engine.{start_of};
+ghost use Rattle.image_machine.specs.Start.{HasNoArrays};
 ghost use Rattle.image_machine.specs.Walk.{ArePlain, HasRoom, IsWell, machine_step, Stood, Answered, BringsNone};
 
 use crate::engine::{Engine, Went};
@@ -58,7 +59,7 @@ impl Machine {
         requires limit { limit ≤ 100000000 }
         requires plain { ArePlain (arc_value code).program.steps }
         requires coarrays { (arc_value code).program.tables.coarrays ≡ [] }
-        requires arrays { (arc_value code).program.tables.main.arrays ≡ [] }
+        requires arrays { HasNoArrays (arc_value code).program.tables.main.arrays }
         ensures start { IfOk result (λ m. (rooms : Rooms) × (steps : ℕ) × (go machine_step steps (start_of (arc_value code) limit rooms me.0 n) ≡ goes m)) }
         ensures rests { IfOk result (λ m. Rests (machine_step m)) }
     {
@@ -140,7 +141,7 @@ fn take(engine: &mut Engine, stand: Went, event: &Event, alloc: Global)
 }
 
 /// Goes on after the reply, where the engine stands at an ask.
-#[tactic(auto, using(crate::proofs::Walking::ask_within, crate::proofs::Walking::ask_room, crate::proofs::Walking::stood_plain, crate::proofs::Walking::stood_asks, crate::proofs::Walking::teams_there, crate::proofs::Walking::answered_there))]
+#[tactic(auto, using(crate::proofs::Walking::ask_within, crate::proofs::Walking::ask_room, crate::proofs::Walking::ask_place, crate::proofs::Walking::stood_plain, crate::proofs::Walking::stood_asks, crate::proofs::Walking::teams_there, crate::proofs::Walking::answered_there))]
 fn hear(engine: &mut Engine, stand: Went, reply: &Reply)
     requires well { IsWell engine.old }
     requires stood { Stood engine.old stand }

@@ -1,10 +1,9 @@
 pub mod Frames
 pub mod Taking
-pub mod KindLaws
-pub mod PowerLaws
 pub mod LoopLaws
 pub mod StackLaws
 pub mod ArrayLaws
 pub mod PrintLaws
 pub mod TeamLaws
 pub mod AskLaws
+pub mod IndexLaws

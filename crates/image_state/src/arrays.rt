@@ -10,9 +10,9 @@ ghost use Rattle.image_acts.specs.Operate.Operators.{operator_effect};
 ghost use Rattle.image_state.specs.Acting.{with_core, Acts};
 ghost use Rattle.image_state.specs.Arrays.{with_arrays, elements_on_top, with_element, merged_arrays};
 
-use crate::arithmetic::{OVERFLOW, is_of_kind};
 use crate::state::{Acting, ImageState, MOST_CELLS, MOST_ITEMS, ROOM};
 use caf_base::value::Kind;
+use number_operators::arithmetic::{OVERFLOW, is_of_kind};
 
 impl ImageState {
     /// Whether there are so many array values.

@@ -1,11 +1,11 @@
 //! Asks and their replies.
 
-ghost use Rattle.std.specs.Prelude.{◌≡◌, ◌<◌, [], length, reverse, map, IsTrue, IsFalse, IfOk};
+ghost use Rattle.std.specs.Prelude.{◌≡◌, ◌<◌, [], drop, length, reverse, map, IsTrue, IsFalse, IfOk};
 ghost use Rattle.caf_base.specs.Arithmetic.{natural};
 ghost use Rattle.walk_theory.specs.Terms.{found, at_fault};
 ghost use Rattle.image_acts.specs.Words as words;
 ghost use Rattle.image_acts.specs.Replies as replies;
-ghost use Rattle.image_acts.specs.Core.{Core};
+ghost use Rattle.image_acts.specs.Core.{Core, with_values};
 ghost use Rattle.image_acts.specs.Teams.{member_at};
 ghost use Rattle.image_acts.specs.Operate.Printing.{text_of};
 ghost use Rattle.print_text.specs.Items.{IsFound};
@@ -50,7 +50,11 @@ impl ImageState {
                 None => Asking::Stuck,
                 Some(_) => Asking::Asks,
             },
-            AskStep::Stop | AskStep::ErrorStop | AskStep::ArriveSync => match self.values.top() {
+            AskStep::Stop
+            | AskStep::ErrorStop
+            | AskStep::ArriveSync
+            | AskStep::Failed
+            | AskStep::Stopped => match self.values.top() {
                 None => Asking::Stuck,
                 Some(_) => Asking::Asks,
             },
@@ -83,6 +87,8 @@ impl ImageState {
             | AskStep::Leave
             | AskStep::Pair
             | AskStep::Unpair
+            | AskStep::Failed
+            | AskStep::Stopped
             | AskStep::EnterCritical(_)
             | AskStep::ExitCritical(_)
             | AskStep::EndProgram => Place::Board,
@@ -134,6 +140,18 @@ impl ImageState {
                     arriving: Arriving::Sync,
                 }),
             },
+            AskStep::Failed => match self.values.top() {
+                None => unreachable!(),
+                Some(team) => Ok(Ask::Failed {
+                    team: TeamNo(word(team)),
+                }),
+            },
+            AskStep::Stopped => match self.values.top() {
+                None => unreachable!(),
+                Some(team) => Ok(Ask::Stopped {
+                    team: TeamNo(word(team)),
+                }),
+            },
             AskStep::Leave => self.departure(),
             AskStep::Pair => self.pairing(),
             AskStep::Say => self.printing(),
@@ -152,6 +170,7 @@ impl ImageState {
         requires plain { IsPlainAsk ask }
         requires asks { IsAsking (ask_here self.old ask) }
         requires room { length self.old.core.values < self.old.rooms.numbers }
+        requires place { length self.old.core.arrays < self.old.rooms.arrays }
         requires teams { BringsNoTeams ask reply.now }
         ensures { GoesOnWith self.old (ask_here self.old ask) reply.now self.new }
     {
@@ -163,6 +182,7 @@ impl ImageState {
             AskStep::Unpair | AskStep::EnterCritical(_) => self.values.push(status_of(reply)),
             AskStep::ArriveSync => self.join(reply),
             AskStep::Leave => self.depart(reply),
+            AskStep::Failed | AskStep::Stopped => self.note_indices(reply),
             AskStep::Pair => self.forget_indices(),
             AskStep::Say => self.forget_text(),
             _ => {}
@@ -272,6 +292,19 @@ impl ImageState {
         match self.top() {
             None => unreachable!(),
             Some(_) => self.values.put(status_of(reply)),
+        }
+    }
+
+    /// Puts the image indices of a reply in the place of the team.
+    fn note_indices(&mut self, reply: &Reply)
+        requires asks { 0 < length self.old.core.values }
+        requires place { length self.old.core.arrays < self.old.rooms.arrays }
+        ensures { self.new ≡ with_core self.old (replies.indices_reply (with_values self.old.core (drop 1 self.old.core.values)) reply.now) }
+    {
+        self.drop_top(1);
+        match reply {
+            Reply::Indices { indices } => self.begin_indices(indices.as_slice()),
+            _ => self.begin_indices(&[]),
         }
     }
 

@@ -6,8 +6,8 @@ ghost use Rattle.image_acts.specs.Acts as acts;
 ghost use Rattle.image_acts.specs.Operate.Stack.{stack_effect};
 ghost use Rattle.image_state.specs.Acting.{Acts};
 
-use crate::arithmetic::OVERFLOW;
 use crate::state::{Acting, ImageState};
+use number_operators::arithmetic::OVERFLOW;
 
 /// The number of the run fault NotAllocated.
 const NOT_ALLOCATED: u32 = 6;

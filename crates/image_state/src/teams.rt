@@ -11,8 +11,8 @@ ghost use Rattle.image_state.specs.Acting.{Acts};
 ghost use Rattle.image_state.specs.Kept.{images_from};
 ghost use Rattle.image_state.specs.Arrays.{elements_on_top};
 
-use crate::operators::truth;
 use crate::state::{Acting, ImageState};
+use number_operators::operators::truth;
 
 impl ImageState {
     /// The current team.

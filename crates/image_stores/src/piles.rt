@@ -50,7 +50,8 @@ impl<H: Copy, T: Copy> Piles<H, T> {
 
     /// How many items they have.
     pub fn total(&self) -> usize
-        ensures { result ≡ items_in self.now.piles }
+        ensures is { result ≡ items_in self.now.piles }
+        ensures within { result ≤ self.now.size }
     {
         self.items.len()
     }

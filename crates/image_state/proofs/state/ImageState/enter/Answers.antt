@@ -5,14 +5,14 @@ use Rattle.image_state.proofs.state.ImageState.enter.Goals as goal
 
 pub begin_zeros-requires-clause-deep : goal.begin_zeros-requires-clause-deep
 begin_zeros-requires-clause-deep c =
-    let a = ap (λ (k : Kept). length k.core.callers) (sym c.self.view_is) ∙ callers_long c.self.inside.frames.rows (main_frame c.self.inside.main.items c.self.inside.main_need) in
+    let a = ap (λ (k : Kept). length k.core.callers) (sym c.self.view_is) ∙ callers_long c.self.inside.frames.rows (main_frame c.self.inside.main.items c.self.inside.main_need c.self.inside.main_arrays) in
     let h = c.requires.deep in
     let i = c.self.invariant.1 in
     omega arith
 
 pub begin_zeros-requires-clause-room : goal.begin_zeros-requires-clause-room
 begin_zeros-requires-clause-room c =
-    let a = ap (λ (k : Kept). length k.core.callers) (sym c.self.view_is) ∙ callers_long c.self.inside.frames.rows (main_frame c.self.inside.main.items c.self.inside.main_need) in
+    let a = ap (λ (k : Kept). length k.core.callers) (sym c.self.view_is) ∙ callers_long c.self.inside.frames.rows (main_frame c.self.inside.main.items c.self.inside.main_need c.self.inside.main_arrays) in
     let b = ap (λ (k : Kept). k.rooms.scalars) (sym c.self.view_is) in
     let h = c.requires.deep in
     let f : length c.self.inside.frames.rows < 256 = omega arith in

@@ -10,8 +10,8 @@ use Rattle.walk_theory.specs.Terms.{Found, found, at_fault}
 use Rattle.caf_base.specs.declared.value.Kind.{Kind}
 use Rattle.caf_base.specs.Arithmetic.{fits_kind, power_of}
 use Rattle.image_acts.specs.Operate.Operators.{in_kind, quotient, raised}
-use Rattle.image_state.specs.Plain.{IsInteger}
-use Rattle.image_state.proofs.KindLaws.{outside}
+use Rattle.number_operators.specs.Kinds.{IsInteger}
+use Rattle.number_operators.proofs.KindLaws.{outside}
 
 pow_more : (a n : ℕ) → a ^ suc n ≡ a * a ^ n
 pow_more a n = pow-succ' a n

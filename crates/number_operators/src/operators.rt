@@ -2,7 +2,7 @@
 
 ghost use Rattle.std.specs.Prelude.{◌≡◌};
 ghost use Rattle.caf_base.specs.Arithmetic.{truth};
-ghost use Rattle.image_state.specs.Acting.{IsExact, IsExactOfOne, result_of, result_of_one, as_found};
+ghost use Rattle.number_operators.specs.Operators.{IsExact, IsExactOfOne, result_of, result_of_one, as_found};
 
 use crate::arithmetic::{Computed, absolute, difference, product, sum};
 use crate::division::{modulo, quotient, remainder};
@@ -11,7 +11,7 @@ use caf_base::value::Kind;
 
 /// An operator of two operands.
 #[derive(Clone, Copy)]
-pub(crate) enum Binary {
+pub enum Binary {
     Add(Kind),
     Subtract(Kind),
     Multiply(Kind),
@@ -33,14 +33,14 @@ pub(crate) enum Binary {
 
 /// An operator of one operand.
 #[derive(Clone, Copy)]
-pub(crate) enum Unary {
+pub enum Unary {
     Negate(Kind),
     Absolute(Kind),
     Negation,
 }
 
 /// The result of an operator, the left operand first.
-pub(crate) fn result(op: Binary, v: i64, w: i64) -> Computed
+pub fn result(op: Binary, v: i64, w: i64) -> Computed
     requires { IsExact op }
     ensures { as_found result ≡ result_of op v w }
 {
@@ -66,7 +66,7 @@ pub(crate) fn result(op: Binary, v: i64, w: i64) -> Computed
 }
 
 /// The result of an operator of one operand.
-pub(crate) fn result_of_one(op: Unary, v: i64) -> Computed
+pub fn result_of_one(op: Unary, v: i64) -> Computed
     requires { IsExactOfOne op }
     ensures { as_found result ≡ result_of_one op v }
 {
@@ -78,7 +78,7 @@ pub(crate) fn result_of_one(op: Unary, v: i64) -> Computed
 }
 
 /// 1 for true, and 0 for false.
-pub(crate) fn truth(b: bool) -> i64
+pub fn truth(b: bool) -> i64
     ensures { result ≡ truth b }
 {
     if b { 1 } else { 0 }

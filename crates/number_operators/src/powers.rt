@@ -5,8 +5,8 @@ ghost use Rattle.std.specs.Int.{w64, int_pow};
 ghost use Rattle.std.specs.Option.{SomeIff};
 ghost use Rattle.caf_base.specs.Arithmetic.{power_of};
 ghost use Rattle.image_acts.specs.Operate.Operators.{in_kind, raised};
-ghost use Rattle.image_state.specs.Plain.{IsInteger};
-ghost use Rattle.image_state.specs.Acting.{as_found};
+ghost use Rattle.number_operators.specs.Kinds.{IsInteger};
+ghost use Rattle.number_operators.specs.Operators.{as_found};
 
 use crate::arithmetic::{Computed, OVERFLOW, in_kind};
 use crate::division::quotient;
@@ -14,7 +14,7 @@ use caf_base::value::Kind;
 
 /// A power. One with a negative exponent is 1 divided by that with the exponent without its sign.
 #[tactic(auto, using(crate::proofs::PowerLaws::raised_faults, crate::proofs::PowerLaws::raised_below, crate::proofs::PowerLaws::raised_above))]
-pub(crate) fn power(kind: Kind, x: i64, n: i64) -> Computed
+pub fn power(kind: Kind, x: i64, n: i64) -> Computed
     requires { IsInteger kind }
     ensures { as_found result ≡ raised kind x n }
 {

@@ -7,7 +7,7 @@ use Rattle.walk_theory.specs.Terms.{at_fault}
 use Rattle.caf_base.specs.declared.value.Kind.{Kind}
 use Rattle.caf_base.specs.declared.value.Kind.TheVariants as kinds
 use Rattle.image_acts.specs.Operate.Operators.{in_kind}
-use Rattle.image_state.specs.Plain.{IsInteger}
+use Rattle.number_operators.specs.Kinds.{IsInteger}
 
 -- a number that 64 bits can't hold is of no kind
 pub outside : (k : Kind) (z : ℤ) → IsInteger k → (FitsSigned w64 z → ⊥) → at_fault 1 ≡ in_kind k z

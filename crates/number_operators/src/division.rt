@@ -5,8 +5,8 @@ ghost use Rattle.std.specs.Ordering.{int_eq};
 ghost use Rattle.walk_theory.specs.Terms.{found};
 ghost use Rattle.caf_base.specs.Arithmetic.{with_sign_of};
 ghost use Rattle.image_acts.specs.Operate.Operators.{in_kind, divided, quotient};
-ghost use Rattle.image_state.specs.Plain.{IsInteger};
-ghost use Rattle.image_state.specs.Acting.{as_found};
+ghost use Rattle.number_operators.specs.Kinds.{IsInteger};
+ghost use Rattle.number_operators.specs.Operators.{as_found};
 
 use crate::arithmetic::{Computed, OVERFLOW, in_kind, is_zero};
 use caf_base::value::Kind;
@@ -15,7 +15,7 @@ use caf_base::value::Kind;
 const DIVIDE_BY_ZERO: u32 = 2;
 
 /// A quotient, truncated toward 0.
-pub(crate) fn quotient(kind: Kind, v: i64, w: i64) -> Computed
+pub fn quotient(kind: Kind, v: i64, w: i64) -> Computed
     requires { IsInteger kind }
     ensures { as_found result ≡ quotient kind v w }
 {
@@ -39,7 +39,7 @@ fn divided(kind: Kind, v: i64, w: i64) -> Computed
 }
 
 /// MOD: what a division leaves, with the sign of the first number.
-pub(crate) fn remainder(v: i64, w: i64) -> Computed
+pub fn remainder(v: i64, w: i64) -> Computed
     ensures { as_found result ≡ divided w (found (int_rem v w)) }
 {
     if is_zero(w) {
@@ -50,7 +50,7 @@ pub(crate) fn remainder(v: i64, w: i64) -> Computed
 }
 
 /// MODULO: what a division leaves, with the sign of the second number.
-pub(crate) fn modulo(v: i64, w: i64) -> Computed
+pub fn modulo(v: i64, w: i64) -> Computed
     ensures { as_found result ≡ divided w (found (with_sign_of w (int_rem v w))) }
 {
     if is_zero(w) {

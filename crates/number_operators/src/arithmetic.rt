@@ -4,30 +4,30 @@ ghost use Rattle.std.specs.Prelude.{◌≡◌, pos, ◌+ℤ◌, ◌-ℤ◌, ◌*
 ghost use Rattle.std.specs.Ordering.{int_eq};
 ghost use Rattle.caf_base.specs.Arithmetic.{fits_kind, magnitude};
 ghost use Rattle.image_acts.specs.Operate.Operators.{in_kind};
-ghost use Rattle.image_state.specs.Plain.{IsInteger};
-ghost use Rattle.image_state.specs.Acting.{as_found};
+ghost use Rattle.number_operators.specs.Kinds.{IsInteger};
+ghost use Rattle.number_operators.specs.Operators.{as_found};
 
 use caf_base::value::Kind;
 
 /// The number of the run fault Overflow.
-pub(crate) const OVERFLOW: u32 = 1;
+pub const OVERFLOW: u32 = 1;
 
 /// A result, or the number of a run fault.
 #[derive(Clone, Copy)]
-pub(crate) enum Computed {
+pub enum Computed {
     Value(i64),
     Fault(u32),
 }
 
 /// Whether a number is 0.
-pub(crate) fn is_zero(v: i64) -> bool
+pub fn is_zero(v: i64) -> bool
     ensures { result ≡ int_eq v (pos 0) }
 {
     v == 0
 }
 
 /// Whether a number is one of this kind.
-pub(crate) fn is_of_kind(kind: Kind, v: i64) -> bool
+pub fn is_of_kind(kind: Kind, v: i64) -> bool
     ensures { result ≡ fits_kind kind v }
 {
     match kind {
@@ -37,7 +37,7 @@ pub(crate) fn is_of_kind(kind: Kind, v: i64) -> bool
 }
 
 /// A number of this kind, or Overflow.
-pub(crate) fn in_kind(kind: Kind, v: i64) -> Computed
+pub fn in_kind(kind: Kind, v: i64) -> Computed
     ensures { as_found result ≡ in_kind kind v }
 {
     if is_of_kind(kind, v) {
@@ -48,7 +48,7 @@ pub(crate) fn in_kind(kind: Kind, v: i64) -> Computed
 }
 
 /// A sum.
-pub(crate) fn sum(kind: Kind, v: i64, w: i64) -> Computed
+pub fn sum(kind: Kind, v: i64, w: i64) -> Computed
     requires { IsInteger kind }
     ensures { as_found result ≡ in_kind kind (v +ℤ w) }
 {
@@ -59,7 +59,7 @@ pub(crate) fn sum(kind: Kind, v: i64, w: i64) -> Computed
 }
 
 /// A difference.
-pub(crate) fn difference(kind: Kind, v: i64, w: i64) -> Computed
+pub fn difference(kind: Kind, v: i64, w: i64) -> Computed
     requires { IsInteger kind }
     ensures { as_found result ≡ in_kind kind (v -ℤ w) }
 {
@@ -70,7 +70,7 @@ pub(crate) fn difference(kind: Kind, v: i64, w: i64) -> Computed
 }
 
 /// A product.
-pub(crate) fn product(kind: Kind, v: i64, w: i64) -> Computed
+pub fn product(kind: Kind, v: i64, w: i64) -> Computed
     requires { IsInteger kind }
     ensures { as_found result ≡ in_kind kind (v *ℤ w) }
 {
@@ -81,7 +81,7 @@ pub(crate) fn product(kind: Kind, v: i64, w: i64) -> Computed
 }
 
 /// A number without its sign (16.9.2).
-pub(crate) fn absolute(kind: Kind, v: i64) -> Computed
+pub fn absolute(kind: Kind, v: i64) -> Computed
     requires { IsInteger kind }
     ensures { as_found result ≡ in_kind kind (magnitude v) }
 {

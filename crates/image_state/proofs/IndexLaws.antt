@@ -1,0 +1,77 @@
+-- Array values of image indices.
+use Rattle.std.proofs.Common.{◌≡◌, ℕ, zero, suc, ◌+◌, ◌<◌, ◌≤◌, ℤ, pos, List, [], ◌∷◌, ◌++◌, length, get_or, take, ◌⊎◌, inl, inr, refl, ap, sym, ◌∙◌, arith}
+use Rattle.std.specs.Prelude.{map, min, reverse}
+use Rattle.std.proofs.lemmas.Bool.{le-leb, lt-leb}
+use Rattle.std.proofs.lemmas.List.{length-reverse, length-take, reverse-append, reverse-reverse, map_push}
+use Rattle.std.proofs.Math.Seq.{take-suc}
+use Rattle.image_acts.specs.Acts as a
+use Rattle.image_acts.specs.Core.{Array, elements_in, row}
+use Rattle.image_acts.specs.Teams.{current_team, members, counted_from}
+use Rattle.image_acts.specs.Operate.Bounds.{bounds_effect}
+use Rattle.image_state.specs.Kept.{Kept, array_of}
+use Rattle.image_stores.specs.Piles.{pile}
+use Rattle.image_state.specs.Arrays.{with_arrays, row_of}
+use Rattle.image_state.specs.declared.state.Acting.TheVariants as actings
+use Rattle.image_state.specs.Acting.{with_core, Acts}
+
+counted_on : (s n : ℕ) → counted_from s (suc n) ≡ counted_from s n ++ pos (s + n) ∷ []
+counted_on s zero = (let e : s ≡ s + 0 = omega arith in ap (λ k. pos k ∷ []) e)
+counted_on s (suc n) = (let e : s + 1 + n ≡ s + suc n = omega arith in ap (λ xs. pos s ∷ xs) (counted_on (s + 1) n ∙ ap (λ k. counted_from (s + 1) n ++ pos k ∷ []) e))
+
+pub counted_long : (s n : ℕ) → length (counted_from s n) ≡ n
+counted_long s zero = refl
+counted_long s (suc n) = ap suc (counted_long (s + 1) n)
+
+turned_on : (xs : List ℤ) (v : ℤ) → reverse (xs ++ v ∷ []) ≡ v ∷ reverse xs
+turned_on xs v = reverse-append xs (v ∷ [])
+
+pub counted_more : (n : ℕ) → reverse (counted_from 1 (n + 1)) ≡ pos (n + 1) ∷ reverse (counted_from 1 n)
+counted_more n =
+    let e : n + 1 ≡ suc n = omega arith in
+    let f : 1 + n ≡ n + 1 = omega arith in
+    ap (λ k. reverse (counted_from 1 k)) e ∙ ap reverse (counted_on 1 n) ∙ turned_on (counted_from 1 n) (pos (1 + n)) ∙ ap (λ k. pos k ∷ reverse (counted_from 1 n)) f
+
+pub indices_more : (ns : List ℕ) (i d : ℕ) → i < length ns → reverse (map (λ n. pos n) (take (i + 1) ns)) ≡ pos (get_or ns i d) ∷ reverse (map (λ n. pos n) (take i ns))
+indices_more ns i d h =
+    let e : i + 1 ≡ suc i = omega arith in
+    ap (λ k. reverse (map (λ n. pos n) (take k ns))) e ∙ ap (λ xs. reverse (map (λ n. pos n) xs)) (take-suc ns i d h)
+    ∙ ap reverse (map_push (λ n. pos n) (take i ns) (get_or ns i d)) ∙ turned_on (map (λ n. pos n) (take i ns)) (pos (get_or ns i d))
+
+pub row_turned : (xs : List ℤ) → array_of (pile tt (reverse xs)) ≡ row_of xs
+row_turned xs = rw (reverse-reverse xs, length-reverse xs) refl
+
+take_map : (n : ℕ) (ns : List ℕ) → map (λ n. pos n) (take n ns) ≡ take n (map (λ n. pos n) ns)
+take_map zero ns = refl
+take_map (suc n) [] = refl
+take_map (suc n) (x ∷ ns) = ap (λ xs. pos x ∷ xs) (take_map n ns)
+
+take_over : {X : Type 0} (n : ℕ) (xs : List X) → length xs ≤ n → take n xs ≡ take (length xs) xs
+take_over zero [] h = refl
+take_over zero (x ∷ xs) h = absurd (omega arith)
+take_over (suc n) [] h = refl
+take_over (suc n) (x ∷ xs) h = ap (λ ys. x ∷ ys) (take_over n xs (omega arith))
+
+order : (a b : ℕ) → (a ≤ b) ⊎ (b < a)
+order zero b = inl (omega arith)
+order (suc a) zero = inr (omega arith)
+order (suc a) (suc b) = elim (order a b) [ inl l ↦ inl (omega arith) | inr l ↦ inr (omega arith) ]
+
+pub take_kept : (n : ℕ) (ns : List ℕ) → map (λ n. pos n) (take (min (length ns) n) ns) ≡ take n (map (λ n. pos n) ns)
+take_kept n ns = elim (order (length ns) n) [
+  | inl l ↦ (let e : min (length ns) n ≡ length ns = omega arith in ap (λ j. map (λ n. pos n) (take j ns)) e ∙ ap (map (λ n. pos n)) (sym (take_over n ns l)) ∙ take_map n ns)
+  | inr l ↦ (let e : min (length ns) n ≡ n = omega arith in ap (λ j. map (λ n. pos n) (take j ns)) e ∙ take_map n ns)
+]
+
+pub take_within : (n m : ℕ) (ns : List ℕ) → length (take (min m n) ns) ≤ n
+take_within n m ns = (let l = length-take (min m n) ns in omega arith)
+
+module _ (m : Kept) (n : ℕ) where
+  pub every_full : n ≡ length (members m.core (current_team m.core)) → 131072 < elements_in m.core.arrays + n → Acts m (bounds_effect a.every_index m.core) m (actings.Fault 11)
+  every_full e h = (let f : 131072 < elements_in m.core.arrays + length (members m.core (current_team m.core)) = omega arith in rw (lt-leb (elements_in m.core.arrays + length (members m.core (current_team m.core))) 131072 f) (refl, refl))
+
+  pub every_told : (e : Kept) → n ≡ length (members m.core (current_team m.core)) → elements_in m.core.arrays + n ≤ 131072 → e ≡ with_core m (with_arrays m.core (row_of (counted_from 1 n) ∷ m.core.arrays)) → Acts m (bounds_effect a.every_index m.core) e actings.Done
+  every_told e f h g =
+      let k : ℕ = length (members m.core (current_team m.core)) in
+      let l : elements_in m.core.arrays + k ≤ 131072 = omega arith in
+      let r : row_of (counted_from 1 n) ≡ row (counted_from 1 k) k = ap (row (counted_from 1 n)) (counted_long 1 n) ∙ ap (λ j. row (counted_from 1 j) j) f in
+      rw (le-leb (elements_in m.core.arrays + k) 131072 l) (refl, g ∙ ap (λ (x : Array). with_core m (with_arrays m.core (x ∷ m.core.arrays))) r)
