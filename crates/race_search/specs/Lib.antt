@@ -1,0 +1,4 @@
+pub mod Steps
+pub mod Spoken
+pub mod Known
+pub mod Partners
