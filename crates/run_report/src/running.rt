@@ -5,10 +5,10 @@ ghost use Rattle.caf_base.specs.Thin.{IsDeclared, most_moves};
 ghost use Rattle.caf_report.specs.Ends.{HasEnd, status_of};
 ghost use Rattle.image_core.specs.Parts.{AreNumbered};
 ghost use Rattle.thin_parts.specs.ThinWalk.{thin_step};
-ghost use Rattle.caf_run.specs.Dues.{IsRunStatus};
-ghost use Rattle.caf_run.specs.Runs.{choices_of, AreHeld, IsReportOf};
+ghost use Rattle.run_report.specs.Runs.{choices_of, names_of, AreHeld, IsReportOf, IsRunStatus};
 
-use caf_base::listing::Listing;
+use crate::race::first_race;
+use caf_base::listing::{Listing, Text};
 use caf_base::refusal::NoMemory;
 use caf_base::thin::ThinProgram;
 use caf_report::report::{Report, Waiting};
@@ -46,7 +46,18 @@ fn choices_of_seed(seed: u32) -> Choices
     }
 }
 
-/// The run of a program on n images, in the order of a SEED, and its report: it finishes or ends with a run fault.
+// The names of the variables of a program, in declared order.
+fn names(alloc: Global, program: &ThinProgram) -> Result<Listing<Text>, NoMemory>
+    ensures { IfOk result (λ names. names ≡ names_of program.now) }
+{
+    let mut names = Listing::new(alloc);
+    for variable in program.declared.as_slice() {
+        names.push(variable.name.copy()?)?;
+    }
+    Ok(names)
+}
+
+/// The run of a program on n images, in the order of a SEED, and its report: it finishes, or ends with a race or with a run fault.
 pub fn run_program(
     alloc: Global,
     program: ThinProgram,
@@ -60,12 +71,13 @@ pub fn run_program(
     ensures has_end { IfOk result HasEnd }
     ensures status { IfOk result (λ r. IsRunStatus (status_of r.end)) }
 {
+    let names = names(alloc, &program)?;
     let mut parts = start(alloc, Arc::new(alloc, program)?, n)?;
     let mut choices = choices_of_seed(seed);
     parts.run_order(&mut choices)?;
     let trace = parts.trace(alloc)?;
     let held = held(alloc, &parts)?;
-    let names = Listing::new(alloc);
+    let race = first_race(alloc, &trace, n)?;
     let finals = Listing::new(alloc);
-    Ok(Report::new(n, trace, held, names, finals))
+    Ok(Report::with_race(n, trace, race, held, names, finals))
 }

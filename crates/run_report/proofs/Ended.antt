@@ -1,4 +1,4 @@
--- A run of a thin program ends where every image has stopped, or with a run fault.
+-- A run of a thin program ends where every image has stopped, with a race, or with a run fault.
 use Rattle.std.proofs.Common.{◌≡◌, ℕ, zero, suc, ◌<◌, List, [], ◌∷◌, inl, inr, refl, ap, ◌∙◌, subst, arith}
 use Rattle.std.specs.Prelude.{Option, None, Some, slice_get, MatchOption}
 use Rattle.caf_base.specs.Thin.{IsDeclared}
@@ -18,12 +18,12 @@ use Rattle.thin_ends.proofs.Faults.{ends_are_faults}
 use Rattle.thin_ends.proofs.Waiting.{none_waits}
 use Rattle.caf_report.specs.declared.report.End.{End}
 use Rattle.caf_report.specs.declared.report.End.TheVariants as ends
+use Rattle.caf_report.specs.declared.report.Race.{Race}
 use Rattle.caf_report.specs.declared.report.Report.{Report}
 use Rattle.caf_report.specs.declared.report.Waiting.{Waiting}
 use Rattle.caf_report.specs.Ends.{EndsAt, IsFirstEnding, HasNoEnding, ending_by, ending_of, end_of_waits, status_of}
-use Rattle.caf_run.specs.Dues.{IsRunStatus}
-use Rattle.caf_run.specs.Runs.{WaitsAs, AreWaiting, IsReportOf}
-use Rattle.caf_run.proofs.Runs.{no_ending}
+use Rattle.run_report.specs.Runs.{WaitsAs, AreWaiting, IsRunEnd, IsReportOf, IsRunStatus}
+use Rattle.run_report.proofs.Runs.{no_ending, run_end_of}
 
 fault_end : (k : ℕ) (a : Ask) → IsThinFault a → ending_by k a ≡ ends.RunFault k
 fault_end k (asks.Fault kind) h = refl
@@ -47,13 +47,16 @@ waits_there r b t i [] each h = absurd h
 waits_there r b t i (w ∷ ws) each (inl e) = (w.line, w.ask, subst (λ j. IsWaiting r b t j w.line w.ask) e each.0)
 waits_there r b t i (w ∷ ws) each (inr h) = waits_there r b t i ws each.1 h
 
-module _ (p : ThinProgram) (n seed : ℕ) (r : Report) (declared : IsDeclared p) (is : IsReportOf p n seed r) where
+module _ (p : ThinProgram) (n seed : ℕ) (r : Report) (declared : IsDeclared p) (is : IsReportOf p n seed r) (plain : (x : Race) → r.end ≡ ends.Raced x → ⊥) where
+  run_end : IsRunEnd thin_rules (thin_beginning p n) r.trace r.end
+  run_end = run_end_of n thin_rules (thin_beginning p n) r.trace r.end plain is.end
+
   -- where the end isn't RunFault no event ends the run
   none_ends : ((k : ℕ) → r.end ≡ ends.RunFault k → ⊥) → (bound j : ℕ) → j < bound → EndsAt r.trace j → ⊥
   none_ends other zero j low h = absurd (omega arith)
   none_ends other (suc bound) j low h =
       let first : IsFirstEnding r.trace j = record { ends = h; none_before = λ i less. none_ends other bound i (omega arith) } in
-      other j (is.end.ended j first ∙ ending_there r.trace j (slice_get r.trace.entries j) (ends_are_faults p n r.trace.entries is.core) refl h)
+      other j (run_end.ended j first ∙ ending_there r.trace j (slice_get r.trace.entries j) (ends_are_faults p n r.trace.entries is.core) refl h)
 
   none_left : HasNoEnding r.trace → (ws : List Waiting) → AreWaiting thin_rules (thin_beginning p n) r.trace ws → status_of (end_of_waits ws) ≡ 0
   none_left none [] waiting = refl
@@ -65,17 +68,19 @@ module _ (p : ThinProgram) (n seed : ℕ) (r : Report) (declared : IsDeclared p)
   finished : ((k : ℕ) → r.end ≡ ends.RunFault k → ⊥) → status_of r.end ≡ 0
   finished other =
       let none : HasNoEnding r.trace = λ j h. none_ends other (suc j) j (omega arith) h in
-      let open_end = is.end.open_end none in
+      let open_end = run_end.open_end none in
       ap status_of open_end.2 ∙ none_left none open_end.0 open_end.1
 
+module _ (p : ThinProgram) (n seed : ℕ) (r : Report) (declared : IsDeclared p) (is : IsReportOf p n seed r) where
   by_end : (end : End) → r.end ≡ end → IsRunStatus (status_of r.end)
-  by_end (ends.RunFault k) e = inr (ap status_of e)
+  by_end (ends.RunFault k) e = inr (inr (ap status_of e))
+  by_end (ends.Raced x) e = inr (inl (ap status_of e))
   by_end ends.Finished e = inl (ap status_of e)
-  by_end (ends.ErrorStop k) e = inl (finished (λ j f. cc))
-  by_end (ends.Stuck ws) e = inl (finished (λ j f. cc))
-  by_end (ends.Limit k) e = inl (finished (λ j f. cc))
-  by_end (ends.Clash k) e = inl (finished (λ j f. cc))
+  by_end (ends.ErrorStop k) e = inl (finished p n seed r declared is (λ x f. cc) (λ j f. cc))
+  by_end (ends.Stuck ws) e = inl (finished p n seed r declared is (λ x f. cc) (λ j f. cc))
+  by_end (ends.Limit k) e = inl (finished p n seed r declared is (λ x f. cc) (λ j f. cc))
+  by_end (ends.Clash k) e = inl (finished p n seed r declared is (λ x f. cc) (λ j f. cc))
 
-  -- the status of a report of a program whose variables are declared as they are used: 0, or 8 of a run fault
+  -- the status of a report of a program whose variables are declared as they are used: 0, 5 of a race, or 8 of a run fault
   pub report_status : IsRunStatus (status_of r.end)
   report_status = by_end r.end refl

@@ -4,10 +4,10 @@ use Rattle.caf_base.specs.declared.place.ImageNo.{ImageNo}
 use Rattle.caf_events.specs.Walkers.{AsksNext, IsAtLine, IsOver}
 use Rattle.thin_parts.specs.ThinWalk.{thin_step}
 use Rattle.image_core.proofs.Slices.{map_get}
-use Rattle.caf_run.specs.Runs.{AreHeld}
-use Rattle.caf_run.proofs.Held.{held_over, held_more}
-use Rattle.caf_run.proofs.running.held.Goals.{in-Some+in_ok-push, in_default}
-use Rattle.caf_run.proofs.running.held.Goals as goal
+use Rattle.run_report.specs.Runs.{AreHeld}
+use Rattle.run_report.proofs.Held.{held_over, held_more}
+use Rattle.run_report.proofs.running.held.Goals.{in-Some+in_ok-push, in_default}
+use Rattle.run_report.proofs.running.held.Goals as goal
 
 pub loop-run-preserved : goal.loop-run-preserved
 loop-run-preserved c =

@@ -1,6 +1,6 @@
 -- The report of a run is that of its trace.
 use Rattle.std.proofs.Common.{◌≡◌, ℕ, zero, suc, ◌+◌, ◌<◌, ◌≤◌, Bool, false, List, [], ◌∷◌, inl, inr, length, refl, ap, sym, ◌∙◌, subst, arith}
-use Rattle.std.specs.Prelude.{Some, Ok, map, slice_get, nat_eq}
+use Rattle.std.specs.Prelude.{Option, Some, None, Ok, map, slice_get, nat_eq, MatchOption, IfSome, IfNone}
 use Rattle.std.specs.List.{filter, range_with_len}
 use Rattle.std.proofs.lemmas.Bool.{cases_Bool, cases_lt}
 use Rattle.caf_base.specs.declared.refusal.NoMemory.{NoMemory}
@@ -17,6 +17,7 @@ use Rattle.core_runs.specs.Moments.{Rules, Moment, item_at, can_step}
 use Rattle.core_runs.specs.Beginnings.{Beginning, IsImage, IsFirst}
 use Rattle.core_runs.specs.CoreRuns.{of_image, IsCoreRun}
 use Rattle.core_runs.specs.Kept.{IsKept}
+use Rattle.core_runs.specs.Lawful.{IsLawfulTrace, made_memory}
 use Rattle.core_runs.specs.Orders.{candidates, EndsAtLast, IsWhole, IsOrderTrace}
 use Rattle.core_runs.specs.Traces.{IsTraceOf}
 use Rattle.core_runs.specs.Waits.{IsWaiting}
@@ -37,11 +38,22 @@ use Rattle.thin_parts.specs.ThinBoard.{BoardMeaning}
 use Rattle.thin_parts.specs.ThinMemory.{MemoryMeaning}
 use Rattle.thin_parts.specs.ThinRuns.{thin_rules, thin_beginning}
 use Rattle.thin_parts.specs.ThinWalk.{Config, thin_step}
+use Rattle.object_rules.specs.Cells.{Declared}
+use Rattle.order_theory.specs.Races.{NoRace}
+use Rattle.order_axioms.specs.FirstRaces.{HasNoRace, Allowed}
+use Rattle.order_axioms.specs.Touching.{touches, accesses}
+use Rattle.order_axioms.specs.Views.{edges}
+use Rattle.order_axioms.proofs.AllLaws.{reads_of}
+use Rattle.order_axioms.proofs.MemoryRule.{lawful_reads_last}
+use Rattle.order_axioms.proofs.Quiet.{lawful_quiet}
+use Rattle.thin_lawful.specs.Coarrays.{thin_coarrays}
 use Rattle.caf_report.specs.declared.report.End.{End}
+use Rattle.caf_report.specs.declared.report.End.TheVariants as ends
+use Rattle.caf_report.specs.declared.report.Race.{Race}
 use Rattle.caf_report.specs.declared.report.Report.{Report}
 use Rattle.caf_report.specs.declared.report.Waiting.{Waiting}
-use Rattle.caf_report.specs.Ends.{EndsAt, HasNoEnding, IsEndOf}
-use Rattle.caf_run.specs.Runs.{choices_of, AreHeld, AreWaiting, IsRunEnd, IsReportOf}
+use Rattle.caf_report.specs.Ends.{EndsAt, HasNoEnding, IsEndOf, IsPlain}
+use Rattle.run_report.specs.Runs.{choices_of, names_of, before_race, AreHeld, AreWaiting, IsRace, IsRunEnd, IsReportEnd, IsReportOf}
 
 -- an ordered run that was answered is whole
 pub whole_of : {C M B : Type 0} (r : Rules C M B) (m : Moment C M B) (xs : List Entry) (end : RunEnd) → EndIs r m xs end → IsWhole r xs m
@@ -104,23 +116,69 @@ pub run_end : {C M B : Type 0} (r : Rules C M B) (b : Beginning C M B) (m : Mome
 run_end r b m t xs ws end kept trace same (inl at_last) held is = record { ended = is.ended; open_end = λ none. absurd (ends_nowhere t xs same none at_last) }
 run_end r b m t xs ws end kept trace same (inr (rest, stuck)) held is = record { ended = is.ended; open_end = λ none. (ws, held_wait r b m t kept trace stuck ws held, is.open_end none) }
 
+-- the end of a report is the race that was found; where none was, that of the run
+end_of : {C M B : Type 0} (n : ℕ) (r : Rules C M B) (b : Beginning C M B) (t : Trace) (race : Option Race) (end : End) → MatchOption race (HasNoRace (edges n) touches t.entries) (IsRace n t)
+    → IfSome race (λ x. end ≡ ends.Raced x) → IfNone race (IsPlain end) → IfNone race (IsRunEnd r b t end) → IsReportEnd n r b t end
+end_of n r b t (Some x) end found raced plain run = subst (IsReportEnd n r b t) (sym raced) found
+end_of n r b t None (ends.Raced x) found raced plain run = absurd plain
+end_of n r b t None ends.Finished found raced plain run = (found, run)
+end_of n r b t None (ends.ErrorStop k) found raced plain run = (found, run)
+end_of n r b t None (ends.RunFault k) found raced plain run = (found, run)
+end_of n r b t None (ends.Clash k) found raced plain run = (found, run)
+end_of n r b t None (ends.Limit k) found raced plain run = (found, run)
+end_of n r b t None (ends.Stuck ws) found raced plain run = (found, run)
+
+-- no entry before the second one of the race has an earlier partner
+clean : {C M B : Type 0} (n : ℕ) (r : Rules C M B) (b : Beginning C M B) (t : Trace) (end : End) → IsReportEnd n r b t end → NoRace (edges n) touches t.entries (before_race t end)
+clean n r b t (ends.Raced x) is = is.earliest_second
+clean n r b t ends.Finished is = is.0
+clean n r b t (ends.ErrorStop k) is = is.0
+clean n r b t (ends.RunFault k) is = is.0
+clean n r b t (ends.Clash k) is = is.0
+clean n r b t (ends.Limit k) is = is.0
+clean n r b t (ends.Stuck ws) is = is.0
+
+-- a lawful trace is allowed as far as no two of its entries are a race
+allowed : (s : List Declared) (n : ℕ) (t : List Entry) → IsLawfulTrace s n t → (m : ℕ) → NoRace (edges n) touches t m → Allowed (edges n) (accesses (made_memory s)) t m
+allowed s n t lawful m none = record { no_race = none; justified = reads_of n (made_memory s) t (lawful_quiet s n t lawful) (lawful_reads_last s n t lawful) m none }
+
+-- a report without a race has the end of the run
+pub run_end_of : {C M B : Type 0} (n : ℕ) (r : Rules C M B) (b : Beginning C M B) (t : Trace) (end : End) → ((x : Race) → end ≡ ends.Raced x → ⊥) → IsReportEnd n r b t end → IsRunEnd r b t end
+run_end_of n r b t (ends.Raced x) plain is = absurd (plain x refl)
+run_end_of n r b t ends.Finished plain is = is.1
+run_end_of n r b t (ends.ErrorStop k) plain is = is.1
+run_end_of n r b t (ends.RunFault k) plain is = is.1
+run_end_of n r b t (ends.Clash k) plain is = is.1
+run_end_of n r b t (ends.Limit k) plain is = is.1
+run_end_of n r b t (ends.Stuck ws) plain is = is.1
+
 -- the report of the parts to which an ordered run leads from the first ones
-pub report_of : (p : ThinProgram) (n seed : ℕ) (parts parts' : PartsOf Config MemoryMeaning BoardMeaning) (s s' : Choices) (end : RunEnd) (t : Trace) (ws : List Waiting) (report : Report)
+pub report_of : (p : ThinProgram) (n seed : ℕ) (parts parts' : PartsOf Config MemoryMeaning BoardMeaning) (s s' : Choices) (end : RunEnd) (t : Trace) (ws : List Waiting) (race : Option Race) (report : Report)
     → IsFirst thin_rules (thin_beginning p n) (thin_moment parts) → IsKept thin_rules (thin_beginning p n) (thin_moment parts)
     → s ≡ choices_of seed → (run : IsOrderRun {E = NoMemory} thin_rules s (thin_moment parts) s' (thin_moment parts') (Ok end))
     → IsKept thin_rules (thin_beginning p n) (thin_moment parts') → IsTraceOf (event_lists parts'.images.items) t.entries → IsCoreRun thin_rules (thin_beginning p n) t.entries
-    → AreHeld thin_step (map (λ r. r.machine) parts'.images.items) (length parts'.images.items) ws
-    → report.images ≡ n → report.trace ≡ t → IsEndOf t ws report.end → IsReportOf p n seed report
-report_of p n seed parts parts' s s' end t ws report first kept seeded run kept' trace core held images traced ended =
+    → AreHeld thin_step (map (λ r. r.machine) parts'.images.items) (length parts'.images.items) ws → IsLawfulTrace (thin_coarrays p) n t.entries
+    → MatchOption race (HasNoRace (edges n) touches t.entries) (IsRace n t)
+    → report.images ≡ n → report.trace ≡ t → report.names ≡ names_of p → IfSome race (λ x. report.end ≡ ends.Raced x) → IfNone race (IsPlain report.end) → IfNone race (IsEndOf t ws report.end) → IsReportOf p n seed report
+report_of p n seed parts parts' s s' end t ws race report first kept seeded run kept' trace core held lawful found images traced named raced plain ended =
     let whole = whole_of thin_rules (thin_moment parts') run.steps end run.so in
     let b = thin_beginning p n in
     let ordered = order_trace thin_rules b choosing s (thin_moment parts) run.steps s' (thin_moment parts') t.entries first run.ordered whole trace in
     let same = order_same thin_rules b choosing s (thin_moment parts) run.steps s' (thin_moment parts') t.entries first run.ordered trace in
     let many = map_length (λ (r : ImageRun Config). r.machine) parts'.images.items in
+    let waits = subst (λ k. AreHeld thin_step (map (λ r. r.machine) parts'.images.items) k ws) (sym many) held in
+    let without : IfNone race (IsRunEnd thin_rules b t report.end) = none_then race (λ is. run_end thin_rules b (thin_moment parts') t run.steps ws report.end kept' trace same whole waits is) ended in
+    let is_end : IsReportEnd n thin_rules b t report.end = end_of n thin_rules b t race report.end found raced plain without in
     record {
       images = images;
       core = subst (λ v. IsCoreRun thin_rules b v.entries) (sym traced) core;
       ordered = subst (λ v. IsOrderTrace thin_rules b choosing (choices_of seed) v.entries) (sym traced) (subst (λ v. IsOrderTrace thin_rules b choosing v t.entries) seeded ordered);
-      end = subst (λ v. IsRunEnd thin_rules b v report.end) (sym traced)
-          (run_end thin_rules b (thin_moment parts') t run.steps ws report.end kept' trace same whole (subst (λ k. AreHeld thin_step (map (λ r. r.machine) parts'.images.items) k ws) (sym many) held) ended);
+      end = subst (λ v. IsReportEnd n thin_rules b v report.end) (sym traced) is_end;
+      allowed = subst (λ v. Allowed (edges n) (accesses (made_memory (thin_coarrays p))) v.entries (before_race v report.end)) (sym traced)
+          (allowed (thin_coarrays p) n t.entries lawful (before_race t report.end) (clean n thin_rules b t report.end is_end));
+      names = named;
     }
+    where
+      none_then : {X Y : Type 0} (o : Option Race) → (X → Y) → IfNone o X → IfNone o Y
+      none_then None f h = f h
+      none_then (Some x) f h = h
