@@ -2,7 +2,7 @@
 
 ghost use Rattle.std.specs.Prelude.{◌≡◌, ⊤, IfOk, IfSome, IfNone, MatchOption};
 ghost use Rattle.caf_report.specs.declared.report.End.TheVariants as ends;
-ghost use Rattle.caf_report.specs.Ends.{EndsAt, IsFirstEnding, HasNoEnding, ending_at, ending_by, IsEndOf, RaceStands, EndStands, HasEnd, status_of};
+ghost use Rattle.caf_report.specs.Ends.{EndsAt, IsFirstEnding, HasNoEnding, ending_at, ending_by, IsEndOf, RaceStands, EndStands, HasEnd, IsPlain, status_of};
 ghost use Rattle.caf_report.specs.ReportText.{report_text};
 
 use super::ending::push_end;
@@ -97,7 +97,8 @@ pub fn first_ending(trace: &Trace) -> Option<usize>
 /// The end that the event at this place makes.
 pub fn end_at(trace: &Trace, at: usize) -> End
     requires { EndsAt trace.now at }
-    ensures { result ≡ ending_at trace.now at }
+    ensures is { result ≡ ending_at trace.now at }
+    ensures plain { IsPlain result }
 {
     match trace.entries.as_slice()[at].event.told().ending() {
         Some(whole) => end_by(at, &whole.ask),
@@ -107,7 +108,8 @@ pub fn end_at(trace: &Trace, at: usize) -> End
 
 // The end that an ending ask makes at this place.
 fn end_by(at: usize, ask: &Ask) -> End
-    ensures { result ≡ ending_by at ask.now }
+    ensures is { result ≡ ending_by at ask.now }
+    ensures plain { IsPlain result }
 {
     match ask {
         Ask::ErrorStop { .. } => End::ErrorStop { at },
@@ -123,6 +125,7 @@ fn end_by(at: usize, ask: &Ask) -> End
 fn end_of(trace: &Trace, waits: Listing<Waiting>) -> End
     ensures is { IsEndOf trace.now waits result }
     ensures stands { EndStands trace.now result }
+    ensures plain { IsPlain result }
 {
     match first_ending(trace) {
         Some(at) => end_at(trace, at),
@@ -145,6 +148,7 @@ impl Report {
         ensures names { result.names ≡ names }
         ensures finals { result.finals ≡ finals }
         ensures end { IsEndOf trace waits result.end }
+        ensures plain { IsPlain result.end }
         ensures has_end { HasEnd result }
     {
         let end = end_of(&trace, waits);
@@ -174,6 +178,7 @@ impl Report {
         ensures finals { result.finals ≡ finals }
         ensures raced { IfSome race (λ r. result.end ≡ ends.Raced r) }
         ensures end { IfNone race (IsEndOf trace waits result.end) }
+        ensures plain { IfNone race (IsPlain result.end) }
         ensures has_end { HasEnd result }
     {
         match race {
