@@ -46,7 +46,7 @@ use Rattle.order_axioms.specs.Views.{edges}
 use Rattle.order_axioms.proofs.AllLaws.{reads_of}
 use Rattle.order_axioms.proofs.MemoryRule.{lawful_reads_last}
 use Rattle.order_axioms.proofs.Quiet.{lawful_quiet}
-use Rattle.thin_lawful.specs.Coarrays.{thin_coarrays}
+use Rattle.thin_lawful.specs.ThinCoarrays.{thin_coarrays}
 use Rattle.caf_report.specs.declared.report.End.{End}
 use Rattle.caf_report.specs.declared.report.End.TheVariants as ends
 use Rattle.caf_report.specs.declared.report.Race.{Race}
@@ -178,7 +178,7 @@ report_of p n seed parts parts' s s' end t ws race report first kept seeded run 
           (allowed (thin_coarrays p) n t.entries lawful (before_race t report.end) (clean n thin_rules b t report.end is_end));
       names = named;
     }
-    where
-      none_then : {X Y : Type 0} (o : Option Race) → (X → Y) → IfNone o X → IfNone o Y
-      none_then None f h = f h
-      none_then (Some x) f h = h
+  where
+    none_then : {X Y : Type 0} (o : Option Race) → (X → Y) → IfNone o X → IfNone o Y
+    none_then None f h = f h
+    none_then (Some x) f h = h

@@ -22,7 +22,7 @@ use Rattle.order_theory.specs.Races.{Cell}
 use Rattle.order_axioms.specs.FirstRaces.{HasNoRace, IsFirstRace, Allowed}
 use Rattle.order_axioms.specs.Touching.{touches, accesses}
 use Rattle.order_axioms.specs.Views.{edges}
-use Rattle.thin_lawful.specs.Coarrays.{thin_coarrays}
+use Rattle.thin_lawful.specs.ThinCoarrays.{thin_coarrays}
 use Rattle.caf_report.specs.declared.report.End.{End}
 use Rattle.caf_report.specs.declared.report.End.TheVariants as ends
 use Rattle.caf_report.specs.declared.report.Race.{Race}
