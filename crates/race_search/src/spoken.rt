@@ -74,7 +74,7 @@ fn departure_speaks(
 // The same of the end of SYNC IMAGES.
 fn pair_speaks(
     alloc: Global,
-    _n: u32,
+    n: u32,
     before: &[Entry],
     image: u32,
     reply: &Reply,
@@ -84,7 +84,7 @@ fn pair_speaks(
     match reply {
         Reply::Number { status } if *status == 6001 => {
             let images = named(alloc, image, before)?;
-            gone_of(alloc, _n, Close::Pairing { image }, before, images)
+            gone_of(alloc, n, Close::Pairing { image }, before, images)
         }
         _ => Ok(Vec::new(alloc)),
     }
