@@ -5,3 +5,4 @@ pub mod Scan
 pub mod Whole
 pub mod Lawfuls
 pub mod JoinedClocks
+pub mod KeptFailures

@@ -5,9 +5,9 @@ use Rattle.std.proofs.lemmas.List.{take_more, length-take-le, take-append-drop, 
 use Rattle.caf_events.specs.declared.event.Entry.{Entry}
 use Rattle.order_theory.specs.Races.{Cell, Stands, place}
 use Rattle.order_theory.proofs.Splits.{same_fronts}
-use Rattle.race_watch.specs.declared.recorder.Recorder.{Recorder}
-use Rattle.race_watch.specs.Recorded.{IsRecorded}
 use Rattle.race_watch.specs.Marked.{MayNote}
+use Rattle.race_search.specs.declared.told.Watcher.{Watcher}
+use Rattle.race_search.specs.Failures.{IsWatched}
 use Rattle.race_search.specs.Known.{Fits, AllFit, AllNoted}
 use Rattle.race_search.specs.Partners.{RacesWith, LeastShared, NoneBelow, IsPartner}
 
@@ -34,8 +34,8 @@ front_fits n t at fits y = fits (in_all t at y)
 pub front_noted : (n : ℕ) (t : List Entry) (at : ℕ) → at ≤ length t → ((y : Stands t) → place y < at → MayNote n y.before y.event) → AllNoted n (take at t)
 front_noted n t at l noted y = noted (in_all t at y) (let a = length-take-le at t l in let b = ap length y.split ∙ length-append y.before (y.event ∷ y.rest) in omega arith)
 
-pub recorded_next : (n : ℕ) (t : List Entry) (at : ℕ) (e : Entry) (s : Recorder) → at < length t → e ≡ get_or t at e → IsRecorded n (take at t ++ e ∷ []) s → IsRecorded n (take (at + 1) t) s
-recorded_next n t at e s l is r = subst (λ z. IsRecorded n z s) (sym (take_more t at e l ∙ ap (λ z. take at t ++ z ∷ []) (sym is))) r
+pub watched_next : (n : ℕ) (t : List Entry) (at : ℕ) (e : Entry) (s : Watcher) → at < length t → e ≡ get_or t at e → IsWatched n (take at t ++ e ∷ []) s → IsWatched n (take (at + 1) t) s
+watched_next n t at e s l is r = subst (λ z. IsWatched n z s) (sym (take_more t at e l ∙ ap (λ z. take at t ++ z ∷ []) (sym is))) r
 
 -- what holds of the entry at a place and of those before it, holds up to the next place
 pub below_more : (P : List Entry → Entry → Type 0) (t : List Entry) (at : ℕ) (e : Entry) → at < length t → e ≡ get_or t at e → P (take at t) e → ((y : Stands t) → place y < at → P y.before y.event) → (y : Stands t) → place y < at + 1 → P y.before y.event

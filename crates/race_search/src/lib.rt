@@ -5,6 +5,7 @@
 #![tactic(auto)]
 
 pub mod closes;
+pub mod failures;
 pub mod holders;
 pub mod partner;
 pub mod shared;

@@ -9,7 +9,7 @@ ghost use Rattle.race_search.specs.Known.{Fits, AllFit, AllNoted};
 ghost use Rattle.race_search.specs.Partners.{Apart, RacesWith, LeastShared, NoneBelow, IsPartner};
 
 use crate::shared::shared;
-use crate::told::follow;
+use crate::told::Watcher;
 use caf_base::refusal::NoMemory;
 use caf_events::event::Entry;
 use race_watch::act::CellName;
@@ -94,14 +94,14 @@ fn scan(
     requires touch { Touching n before.now e.now touch.now }
     ensures { IfOk result (λ o. MatchOption o (NoneBelow n before.now e.now (length before.now)) (λ p. IsPartner n before.now e.now p.at (as_cell p.cell))) }
 {
-    let mut again = Recorder::new(alloc, n)?;
+    let mut again = Watcher::new(alloc, n)?;
     for at in 0..before.len() {
         let b = &before[..at];
         let x = &before[at];
-        if let Some(cell) = race_cell(alloc, n, &again, b, x, s, before, e, touch)? {
+        if let Some(cell) = race_cell(alloc, n, &again.recorder, b, x, s, before, e, touch)? {
             return Ok(Some(Partner { at, cell }));
         }
-        follow(alloc, n, &mut again, b, x)?;
+        again.follow(alloc, n, b, x)?;
     }
     Ok(None)
 }

@@ -1,11 +1,14 @@
 //! The failed images of which a status speaks (ISO/IEC 1539-1:2018, 11.6.11, 16.10.2.26, 16.10.2.31).
 
 ghost use Rattle.std.specs.Prelude.{◌≡◌, ◌∷◌, [], IfOk};
+ghost use Rattle.order_axioms.specs.Closes as closes;
 ghost use Rattle.order_axioms.specs.Views.{first_cell, lock_speaks, owner_speaks, departure_speaks, pair_speaks, enter_speaks, speaks_by};
 ghost use Rattle.race_watch.specs.ActParts.{as_cell};
 ghost use Rattle.race_search.specs.Spoken.{only};
+ghost use Rattle.race_search.specs.Failures.{AreFailures};
 
 use crate::closes::{Close, gone_of, members};
+use crate::failures::{Failure, gone_members};
 use crate::holders::{last_holder, last_inside};
 use crate::steps::named;
 use caf_base::place::ImageNo;
@@ -28,21 +31,41 @@ fn only(alloc: Global, image: Option<u32>) -> Result<Vec<u32>, NoMemory>
     Ok(images)
 }
 
+// The members of the team that were gone by the close of this round: of the initial team they are kept, of others the entries tell.
+fn missed(
+    alloc: Global,
+    n: u32,
+    failures: &[Failure],
+    before: &[Entry],
+    team: u32,
+    round: u64,
+) -> Result<Vec<u32>, NoMemory>
+    requires failures { AreFailures n before.now failures.now }
+    ensures { IfOk result (λ v. v.items ≡ closes.gone_members n team round before.now) }
+{
+    if team == 1 && round > 0 {
+        return gone_members(alloc, n, failures, round, before);
+    }
+    let images = members(alloc, n, team, before)?;
+    gone_of(alloc, n, Close::Round { team, round }, before, images)
+}
+
 // The images of which the status of a departure speaks.
 fn departure_speaks(
     alloc: Global,
     n: u32,
+    failures: &[Failure],
     before: &[Entry],
     team: u32,
     round: u64,
     reply: &Reply,
 ) -> Result<Vec<u32>, NoMemory>
+    requires failures { AreFailures n before.now failures.now }
     ensures { IfOk result (λ v. v.items ≡ departure_speaks n before.now team round reply.now) }
 {
     match reply {
         Reply::Left { status, .. } if *status == 6001 => {
-            let images = members(alloc, n, team, before)?;
-            gone_of(alloc, n, Close::Round { team, round }, before, images)
+            missed(alloc, n, failures, before, team, round)
         }
         _ => Ok(Vec::new(alloc)),
     }
@@ -51,7 +74,7 @@ fn departure_speaks(
 // The same of the end of SYNC IMAGES.
 fn pair_speaks(
     alloc: Global,
-    _n: u32,
+    n: u32,
     before: &[Entry],
     image: u32,
     reply: &Reply,
@@ -61,7 +84,7 @@ fn pair_speaks(
     match reply {
         Reply::Number { status } if *status == 6001 => {
             let images = named(alloc, image, before)?;
-            gone_of(alloc, _n, Close::Pairing { image }, before, images)
+            gone_of(alloc, n, Close::Pairing { image }, before, images)
         }
         _ => Ok(Vec::new(alloc)),
     }
@@ -122,15 +145,19 @@ fn enter_speaks(
 fn speaks_by(
     alloc: Global,
     n: u32,
+    failures: &[Failure],
     before: &[Entry],
     image: ImageNo,
     ask: &Ask,
     reply: &Reply,
 ) -> Result<Vec<u32>, NoMemory>
+    requires failures { AreFailures n before.now failures.now }
     ensures { IfOk result (λ v. v.items ≡ speaks_by n before.now image.0 ask.now reply.now) }
 {
     match ask {
-        Ask::Leave { team, round } => departure_speaks(alloc, n, before, team.0, *round, reply),
+        Ask::Leave { team, round } => {
+            departure_speaks(alloc, n, failures, before, team.0, *round, reply)
+        }
         Ask::Unpair => pair_speaks(alloc, n, before, image.0, reply),
         Ask::Lock { owner, span } | Ask::TryLock { owner, span } => {
             lock_speaks(alloc, before, *owner, span, reply)
@@ -142,12 +169,19 @@ fn speaks_by(
 }
 
 /// The failed images of which the entry's status speaks, after these entries of a run of n images.
-pub fn spoken(alloc: Global, n: u32, before: &[Entry], e: &Entry) -> Result<Vec<u32>, NoMemory>
+pub fn spoken(
+    alloc: Global,
+    n: u32,
+    failures: &[Failure],
+    before: &[Entry],
+    e: &Entry,
+) -> Result<Vec<u32>, NoMemory>
+    requires failures { AreFailures n before.now failures.now }
     ensures { IfOk result (λ v. v.items ≡ speaks_by n before.now e.now.image.0 e.now.event.ask e.now.event.reply) }
 {
     let ask = e.event.told().ask(alloc);
     let reply = e.event.reply(alloc);
-    let images = speaks_by(alloc, n, before, e.image, &ask, &reply);
+    let images = speaks_by(alloc, n, failures, before, e.image, &ask, &reply);
     drop(ask);
     drop(reply);
     images

@@ -1,4 +1,4 @@
-//! The clock of the failed images of which a status speaks.
+//! What is kept while a trace is read, and the clock of the failed images of which a status speaks.
 
 ghost use Rattle.std.specs.Prelude.{◌≡◌, ℕ, ◌∷◌, [], ◌++◌, length, map, IfOk};
 ghost use Rattle.core_runs.specs.Beginnings.{IsOneOf};
@@ -10,7 +10,9 @@ ghost use Rattle.order_axioms.specs.Views.{view, edges};
 ghost use Rattle.race_watch.specs.Recorded.{IsRecorded, IsTold};
 ghost use Rattle.race_watch.specs.Marked.{MayNote};
 ghost use Rattle.race_search.specs.Known.{Fits, TellsOf};
+ghost use Rattle.race_search.specs.Failures.{IsWatched};
 
+use crate::failures::{Failure, keep_failure};
 use crate::spoken::spoken;
 use caf_base::place::ImageNo;
 use caf_base::refusal::NoMemory;
@@ -58,39 +60,59 @@ fn clock_of(
     }
 }
 
-/// The clock that covers the last segments of the failed images of which the entry's status speaks (11.6.11), None where it speaks of none.
-pub fn told(
-    alloc: Global,
-    n: u32,
-    s: &Recorder,
-    before: &[Entry],
-    e: &Entry,
-) -> Result<Option<Clock>, NoMemory>
-    requires fits { Fits n before.now e.now }
-    requires recorded { IsRecorded n before.now s.now }
-    ensures { IfOk result (IsTold n before.now e.now) }
-{
-    let images = spoken(alloc, n, before, e)?;
-    let clock = clock_of(alloc, n, s, before, images.as_slice());
-    drop(images);
-    clock
+/// What is kept while the entries of a trace are read: the recorder, and the images that are gone.
+#[derive(Drop)]
+pub struct Watcher {
+    pub(crate) recorder: Recorder,
+    pub(crate) failures: Vec<Failure>,
 }
 
-/// Records the next entry. Condition: no entry so far is unordered with it, or it is no access.
-pub fn follow(
-    alloc: Global,
-    n: u32,
-    s: &mut Recorder,
-    before: &[Entry],
-    e: &Entry,
-) -> Result<(), NoMemory>
-    requires fits { Fits n before.now e.now }
-    requires recorded { IsRecorded n before.now s.old }
-    requires none { MayNote n before.now e.now }
-    ensures { IfOk result (λ _. IsRecorded n (before.now ++ e.now ∷ []) s.new) }
-{
-    let told = told(alloc, n, s, before, e)?;
-    let recorded = s.record(alloc, n, before, e, &told);
-    drop(told);
-    recorded
+impl Watcher {
+    /// Before the first entry of a run of n images.
+    pub fn new(alloc: Global, n: u32) -> Result<Watcher, NoMemory>
+        ensures { IfOk result (IsWatched n []) }
+    {
+        Ok(Watcher {
+            recorder: Recorder::new(alloc, n)?,
+            failures: Vec::new(alloc),
+        })
+    }
+
+    /// The clock that covers the last segments of the failed images of which the entry's status speaks (11.6.11), None where it speaks of none.
+    pub fn told(
+        &self,
+        alloc: Global,
+        n: u32,
+        before: &[Entry],
+        e: &Entry,
+    ) -> Result<Option<Clock>, NoMemory>
+        requires fits { Fits n before.now e.now }
+        requires watched { IsWatched n before.now self.now }
+        ensures { IfOk result (IsTold n before.now e.now) }
+    {
+        let images = spoken(alloc, n, self.failures.as_slice(), before, e)?;
+        let clock = clock_of(alloc, n, &self.recorder, before, images.as_slice());
+        drop(images);
+        clock
+    }
+
+    /// Records the next entry. Condition: no entry so far is unordered with it, or it is no access.
+    pub fn follow(
+        &mut self,
+        alloc: Global,
+        n: u32,
+        before: &[Entry],
+        e: &Entry,
+    ) -> Result<(), NoMemory>
+        requires fits { Fits n before.now e.now }
+        requires watched { IsWatched n before.now self.old }
+        requires none { MayNote n before.now e.now }
+        ensures { IfOk result (λ _. IsWatched n (before.now ++ e.now ∷ []) self.new) }
+    {
+        let told = self.told(alloc, n, before, e)?;
+        let recorded = self.recorder.record(alloc, n, before, e, &told);
+        drop(told);
+        recorded?;
+        keep_failure(alloc, n, &mut self.failures, before, e)
+    }
 }

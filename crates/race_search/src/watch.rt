@@ -12,7 +12,7 @@ ghost use Rattle.race_search.specs.Known.{AllFit, AllNoted};
 ghost use Rattle.race_search.specs.Partners.{NoneBelow, IsPartner};
 
 use crate::partner::{Partner, first_partner};
-use crate::told::follow;
+use crate::told::Watcher;
 use caf_base::refusal::NoMemory;
 use caf_events::event::Entry;
 use race_watch::act::CellName;
@@ -55,18 +55,18 @@ pub fn watch(alloc: Global, trace: &[Entry], n: u32) -> Result<Option<Race>, NoM
     requires short { length trace.now < 2 ^ 62 }
     ensures { IfOk result (λ o. MatchOption o (HasNoRace (edges n) touches trace.now) (λ r. IsFirstRace (edges n) touches trace.now r.first r.second (as_cell r.cell))) }
 {
-    let mut s = Recorder::new(alloc, n)?;
+    let mut watcher = Watcher::new(alloc, n)?;
     for at in 0..trace.len() {
         let before = &trace[..at];
         let e = &trace[at];
-        if let Some(partner) = partner_of(alloc, n, &s, before, e)? {
+        if let Some(partner) = partner_of(alloc, n, &watcher.recorder, before, e)? {
             return Ok(Some(Race {
                 first: partner.at,
                 second: at,
                 cell: partner.cell,
             }));
         }
-        follow(alloc, n, &mut s, before, e)?;
+        watcher.follow(alloc, n, before, e)?;
     }
     Ok(None)
 }

@@ -1,10 +1,10 @@
 use Rattle.std.proofs.Common.{◌+◌, drop, arith}
 use Rattle.race_watch.specs.ActParts.{as_cell}
-use Rattle.race_search.proofs.Scan.{split_at, fit_at, note_at, recorded_next, found, none_more}
+use Rattle.race_search.proofs.Scan.{split_at, fit_at, note_at, watched_next, found, none_more}
 use Rattle.race_search.proofs.partner.scan.Goals as goal
 
 pub race_cell-requires-clause-there : goal.race_cell-requires-clause-there
-race_cell-requires-clause-there c = ((fit_at c.args.n c.args.before.now c.requires.all.0 c.loop-at.at c.index-before-at.result (omega arith) c.index-before-at.is).run, c.loop-at.invariant.recorded)
+race_cell-requires-clause-there c = ((fit_at c.args.n c.args.before.now c.requires.all.0 c.loop-at.at c.index-before-at.result (omega arith) c.index-before-at.is).run, c.loop-at.invariant.watched.recorded)
 
 pub race_cell-requires-clause-within : goal.race_cell-requires-clause-within
 race_cell-requires-clause-within c = (drop (c.loop-at.at + 1) c.args.before.now, split_at c.args.before.now c.loop-at.at c.index-before-at.result (omega arith) c.index-before-at.is)
@@ -24,6 +24,6 @@ follow-requires-clause-none c = note_at c.args.n c.args.before.now c.requires.al
 pub loop-at-preserved : goal.loop-at-preserved
 loop-at-preserved c =
     let z = c.in_ok-cell.ensures in record {
-      recorded = recorded_next c.args.n c.args.before.now c.loop-at.at c.index-before-at.result c.follow.new.s (omega arith) c.index-before-at.is c.in_ok-follow.ensures;
+      watched = watched_next c.args.n c.args.before.now c.loop-at.at c.index-before-at.result c.follow.new.self (omega arith) c.index-before-at.is c.in_ok-follow.ensures;
       none = none_more c.args.n c.args.before.now c.args.e.now c.loop-at.at c.index-before-at.result (omega arith) c.index-before-at.is (rw c.in_default.is at z) c.loop-at.invariant.none;
     }

@@ -1,7 +1,7 @@
 use Rattle.std.proofs.Common.{arith}
 use Rattle.race_watch.specs.ActParts.{as_cell}
 use Rattle.race_watch.specs.Marked.{MayNote}
-use Rattle.race_search.proofs.Scan.{stands_at, fit_at, front_fits, front_noted, recorded_next, below_more}
+use Rattle.race_search.proofs.Scan.{stands_at, fit_at, front_fits, front_noted, watched_next, below_more}
 use Rattle.race_search.proofs.Whole.{no_race_more, first_race, may_note}
 use Rattle.race_search.proofs.Lawfuls.{lawful_pauses, all_fit}
 use Rattle.race_search.proofs.watch.watch.Goals as goal
@@ -33,7 +33,7 @@ pub loop-at-preserved : goal.loop-at-preserved
 loop-at-preserved c =
     let z = c.in_ok-partner.ensures in
     let none = (rw c.in_default.is at z) in record {
-      recorded = recorded_next c.args.n c.args.trace.now c.loop-at.at c.index-trace-at.result c.follow.new.s (omega arith) c.index-trace-at.is c.in_ok-follow.ensures;
+      watched = watched_next c.args.n c.args.trace.now c.loop-at.at c.index-trace-at.result c.follow.new.self (omega arith) c.index-trace-at.is c.in_ok-follow.ensures;
       noted = below_more (λ b y. MayNote c.args.n b y) c.args.trace.now c.loop-at.at c.index-trace-at.result (omega arith) c.index-trace-at.is
           (may_note c.args.n c.args.trace.now (lawful_pauses c.requires.lawful.0 c.args.n c.args.trace.now c.requires.lawful.1) (stands_at c.args.trace.now c.loop-at.at c.index-trace-at.result (omega arith) c.index-trace-at.is) none)
           c.loop-at.invariant.noted;
