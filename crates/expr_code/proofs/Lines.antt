@@ -1,12 +1,17 @@
 -- Lines of code, one more and so many more.
-use Rattle.std.proofs.Common.{◌≡◌, ℕ, suc, ◌+◌, List, [], ◌∷◌, ◌++◌, length, refl, ap, sym, ◌∙◌, arith, length-append, append_assoc, append-nil}
+use Rattle.std.proofs.Common.{◌≡◌, ◌≢◌, ℕ, suc, ◌+◌, List, [], ◌∷◌, ◌++◌, length, refl, ap, ap₂, sym, ◌∙◌, arith, length-append, append_assoc, append-nil}
+use Rattle.std.specs.Prelude.{Bool, true, false, cond, ◌||◌}
+use Rattle.std.specs.List.{list_any}
+use Rattle.std.proofs.Math.Bool.{or_assoc}
 use Rattle.walk_theory.specs.Syntax.{Parts, end_parts, value, act, enter, either}
 use Rattle.walk_theory.specs.Code.{Line, on, does_act, call, skip, skip_unless}
 use Rattle.walk_theory.specs.Made.{parts_size, parts_code}
-use Rattle.image_acts.specs.Acts.{Act}
+use Rattle.image_acts.specs.Acts.{Act, stack, release}
+use Rattle.tree_meaning.specs.Sequences.{is_taking, takes, released}
 use Rattle.image_code.specs.declared.step.Step.{Step}
+use Rattle.image_code.specs.declared.step.Step.TheVariants as steps
 use Rattle.image_code.specs.Table.{instr_of, lines_of}
-use Rattle.expr_code.specs.Drafts.{Body, counted, kept, Drafted, lines_in, body_with, body_with_lines, with_line, with_lines, starts_of, written}
+use Rattle.expr_code.specs.Drafts.{Body, counted, kept, Drafted, lines_in, body_with, body_with_lines, instr_takes, line_takes, with_line, with_lines, starts_of, written, looked, ended}
 
 -- one step more, with its line
 pub line_pushed : (ts : List (List ℕ)) (ss : List Step) (ls : List ℕ) (s : Step) (l : ℕ) → length ss ≡ length ls → lines_of ts (ss ++ s ∷ []) (ls ++ l ∷ []) ≡ lines_of ts ss ls ++ on l (instr_of ts s) ∷ []
@@ -33,11 +38,31 @@ pub body_twice : (is js : List (Line Act)) (b : Body) → body_with_lines js (bo
 body_twice is js (counted n) = ap (λ k. counted k) (let c = length-append is js in let e : n + length is + length js ≡ n + length (is ++ js) = omega arith in e)
 body_twice is js (kept ks) = ap (λ x. kept x) (append_assoc ks is js)
 
+-- which of the steps take cells: four of them
+pub few_take : (ts : List (List ℕ)) (s : Step) → s ≢ steps.TakeCell → s ≢ steps.TakeCells → s ≢ steps.PrintNumber → s ≢ steps.PrintTruth → instr_takes (instr_of ts s) ≡ false
+few_take ts steps.TakeCell h i j k = absurd (h refl)
+few_take ts steps.TakeCells h i j k = absurd (i refl)
+few_take ts steps.PrintNumber h i j k = absurd (j refl)
+few_take ts steps.PrintTruth h i j k = absurd (k refl)
+few_take ts s h i j k = refl
+
+-- whether cells were taken: by the first, the others, or before
+taken_first : (x y z : Bool) → (y || (x || z)) ≡ ((x || y) || z)
+taken_first true true z = refl
+taken_first true false z = refl
+taken_first false y z = refl
+
+taken_twice : (is js : List (Line Act)) → list_any line_takes (is ++ js) ≡ (list_any line_takes is || list_any line_takes js)
+taken_twice [] js = refl
+taken_twice (i ∷ is) js = ap (λ x. line_takes i || x) (taken_twice is js) ∙ sym (or_assoc (line_takes i) (list_any line_takes is) (list_any line_takes js))
+
 first : (i : Line Act) (is : List (Line Act)) (d : Drafted) → with_lines is (with_line i d) ≡ with_lines (i ∷ is) d
-first i is d = ap (λ (b : Body). record d { body = b }) (body_first i is d.body)
+first i is d = ap₂ (λ (b : Body) (t : Bool). record d { body = b; took = t }) (body_first i is d.body) (taken_first (line_takes i) (list_any line_takes is) d.took)
 
 twice : (is js : List (Line Act)) (d : Drafted) → with_lines js (with_lines is d) ≡ with_lines (is ++ js) d
-twice is js d = ap (λ (b : Body). record d { body = b }) (body_twice is js d.body)
+twice is js d =
+    ap₂ (λ (b : Body) (t : Bool). record d { body = b; took = t }) (body_twice is js d.body)
+    (taken_first (list_any line_takes is) (list_any line_takes js) d.took ∙ ap (λ x. x || d.took) (sym (taken_twice is js)))
 
 -- what is written of parts is their code
 pub written_code : (l : ℕ) (p : Parts Act) (d : Drafted) → written l p d ≡ with_lines (parts_code (starts_of d) l p) d
@@ -84,3 +109,42 @@ written_long l (either p q r) d =
     let k = written_long l q (with_line j (written l p (with_line i d))) in
     let m = written_long l r (written l q (with_line j (written l p (with_line i d)))) in
     omega arith
+
+-- parts take cells where their code does
+taken_code : (s : ℕ → ℕ) (l : ℕ) (p : Parts Act) → list_any line_takes (parts_code s l p) ≡ takes p
+taken_code s l end_parts = refl
+taken_code s l (value p q) = taken_twice (parts_code s l p) (parts_code s l q) ∙ ap₂ (λ x y. x || y) (taken_code s l p) (taken_code s l q)
+taken_code s l (act a q) = ap (λ x. is_taking a || x) (taken_code s l q)
+taken_code s l (enter k q) = taken_code s l q
+taken_code s l (either p q r) =
+    taken_twice (parts_code s l p) (on l (skip (parts_size q)) ∷ (parts_code s l q ++ parts_code s l r))
+    ∙ ap₂ (λ x y. x || y) (taken_code s l p) (taken_twice (parts_code s l q) (parts_code s l r) ∙ ap₂ (λ x y. x || y) (taken_code s l q) (taken_code s l r))
+
+-- what is written of parts says whether they take cells
+pub written_taken : (l : ℕ) (p : Parts Act) (d : Drafted) → (written l p d).took ≡ (takes p || d.took)
+written_taken l p d = ap (λ (x : Drafted). x.took) (written_code l p d) ∙ ap (λ x. x || d.took) (taken_code (starts_of d) l p)
+
+written_either : (b : Bool) (l : ℕ) (p q : Parts Act) (d : Drafted) → cond b (written l p d) (written l q d) ≡ written l (cond b p q) d
+written_either true l p q d = refl
+written_either false l p q d = refl
+
+lines_ended : (t : Bool) (l : ℕ) (b : Body) (d : Drafted) →
+    let x : Drafted = record d { body = b; took = t || d.took } in
+    ended l d.took (record d { body = b; took = t || false }) ≡ cond t (with_line (on l (does_act (stack release))) x) x
+lines_ended true l b d = refl
+lines_ended false l b d = refl
+
+-- a statement whose cells are free again behind it
+pub released_written : (l : ℕ) (p : Parts Act) (d : Drafted) → ended l d.took (written l p (looked d)) ≡ written l (released p) d
+released_written l p d =
+    let code = parts_code (starts_of d) l p in
+    let b = body_with_lines code d.body in
+    let last = on l (does_act (stack release)) in
+    ap (λ x. ended l d.took x) (written_code l p (looked d))
+    ∙ lines_ended (list_any line_takes code) l b d
+    ∙ ap₂ (λ t x. cond t (with_line last x) x) (taken_code (starts_of d) l p) (sym (written_code l p d))
+    ∙ written_either (takes p) l (value p (act (stack release) end_parts)) p d
+
+-- what stands beside the code stays
+pub written_tables : (l : ℕ) (p : Parts Act) (d : Drafted) → (written l p d).tables ≡ d.tables
+written_tables l p d = ap (λ (x : Drafted). x.tables) (written_code l p d)

@@ -1,11 +1,11 @@
 //! Drafts of code that is being made for a program.
 
-ghost use Rattle.std.specs.Prelude.{◌≡◌, [], List, IfOk, OnOk};
+ghost use Rattle.std.specs.Prelude.{◌≡◌, ℕ, [], List, false, IfOk, OnOk};
 ghost use Rattle.walk_theory.specs.Code.{Line, on};
 ghost use Rattle.image_acts.specs.Acts.{Act};
 ghost use Rattle.image_code.specs.Code.{code_of, no_tables};
 ghost use Rattle.image_code.specs.Table.{instr_of};
-ghost use Rattle.expr_code.specs.Drafts.{counted, kept, lines_in, starts_of, with_line};
+ghost use Rattle.expr_code.specs.Drafts.{counted, ended, instr_takes, kept, lines_in, looked, starts_of, with_line};
 
 use caf_base::refusal::NoMemory;
 use image_code::code::CodeDraft;
@@ -14,7 +14,8 @@ use std::alloc::Global;
 use std::marker::Model;
 
 /// A draft that keeps its code, or one that only counts how many steps it has: by such a one the size of code is known before the code itself. It knows
-/// where the code of each procedure will begin: the main program is the first one, and a procedure that isn't among them begins at `end`.
+/// where the code of each procedure will begin: the main program is the first one, and a procedure that isn't among them begins at `end`. And it knows
+/// whether a step took evaluation cells since that was last looked at: they are released at the end of the statement.
 #[derive(Drop)]
 pub struct Draft {
     code: CodeDraft,
@@ -22,6 +23,7 @@ pub struct Draft {
     count: u64,
     starts: Vec<u32>,
     end: u32,
+    took: bool,
 }
 
 impl Model for Draft {
@@ -30,7 +32,7 @@ impl Model for Draft {
 
     ghost Value = { Drafted };
 
-    ghost view = { λ d. record { starts = d.starts.items; end = d.end; tables = d.code.tables; body = body_of d.keeps d.count d.code } };
+    ghost view = { λ d. record { starts = d.starts.items; end = d.end; tables = d.code.tables; body = body_of d.keeps d.count d.code; took = d.took } };
 
     ghost invariant = { λ d. length d.code.steps ≡ length d.code.lines };
 }
@@ -38,7 +40,7 @@ impl Model for Draft {
 impl Draft {
     /// A draft that only counts.
     pub fn counting(alloc: Global) -> Result<Draft, NoMemory>
-        ensures { IfOk result (λ d. d ≡ record { starts = []; end = 0; tables = no_tables; body = counted 0 }) }
+        ensures { IfOk result (λ d. d ≡ record { starts = []; end = 0; tables = no_tables; body = counted 0; took = false }) }
     {
         Ok(Draft {
             code: CodeDraft::new(alloc)?,
@@ -46,13 +48,14 @@ impl Draft {
             count: 0,
             starts: Vec::new(alloc),
             end: 0,
+            took: false,
         })
     }
 
     /// A draft that keeps its code, behind an empty one with these tables.
     pub fn keeping(code: CodeDraft, starts: Vec<u32>, end: u32) -> Draft
         requires { (code.steps ≡ []) × (code.lines ≡ []) }
-        ensures { result ≡ record { starts = starts.items; end = end; tables = code.tables; body = kept [] } }
+        ensures { result ≡ record { starts = starts.items; end = end; tables = code.tables; body = kept []; took = false } }
     {
         Draft {
             code,
@@ -60,6 +63,7 @@ impl Draft {
             count: 0,
             starts,
             end,
+            took: false,
         }
     }
 
@@ -97,6 +101,7 @@ impl Draft {
     pub fn push(&mut self, step: Step, line: u32) -> Result<(), NoMemory>
         ensures { OnOk result (self.new ≡ with_line (on line (instr_of self.old.tables.texts step)) self.old) }
     {
+        self.took = is_taking(step) || self.took;
         if self.keeps {
             return self.code.push(step, line);
         }
@@ -109,11 +114,46 @@ impl Draft {
         }
     }
 
+    /// Begins a statement: no step has taken evaluation cells yet. It answers whether one had before.
+    pub fn look(&mut self) -> bool
+        ensures before { result ≡ self.old.took }
+        ensures draft { self.new ≡ looked self.old }
+    {
+        let before = self.took;
+        self.took = false;
+        before
+    }
+
+    /// Ends a statement: where a step of it took evaluation cells, they are free again. `before` is what `look` answered.
+    pub fn release(&mut self, before: bool, line: u32) -> Result<(), NoMemory>
+        ensures { OnOk result (self.new ≡ ended line before self.old) }
+    {
+        if self.took {
+            self.push(Step::Release, line)?;
+        }
+        self.took = self.took || before;
+        Ok(())
+    }
+
     /// The draft as it goes on into code.
     pub fn into_code(self) -> CodeDraft
         ensures code { (is : List (Line Act)) → self.body ≡ kept is → code_of result ≡ is }
         ensures tables { result.tables ≡ self.tables }
     {
         self.code
+    }
+}
+
+// Whether a step takes evaluation cells.
+#[tactic(auto, using(crate::proofs::Lines::few_take))]
+fn is_taking(step: Step) -> bool
+    ensures { (texts : List (List ℕ)) → result ≡ instr_takes (instr_of texts step) }
+{
+    match step {
+        Step::TakeCell => true,
+        Step::TakeCells => true,
+        Step::PrintNumber => true,
+        Step::PrintTruth => true,
+        _ => false,
     }
 }

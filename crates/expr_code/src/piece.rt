@@ -335,9 +335,13 @@ fn push_status_of(
     }
 }
 
-// The status on top goes into the STAT= variable of a selector, or nowhere.
+/// The status on top goes into the STAT= variable of a selector, or nowhere.
 #[tactic(auto, using(crate::proofs::Forms::laws))]
-fn push_status(draft: &mut Draft, selector: &Option<Selector>, line: u32) -> Result<(), NoMemory>
+pub fn push_status(
+    draft: &mut Draft,
+    selector: &Option<Selector>,
+    line: u32,
+) -> Result<(), NoMemory>
     ensures { OnOk result (draft.new ≡ written line (meaning.storing_status 1 (meaning.stat_of (view.maybe_selector selector.now))) draft.old) }
 {
     match selector {

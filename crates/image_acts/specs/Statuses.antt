@@ -35,6 +35,10 @@ most_frames = 256
 abbrev pub most_items : ℕ
 most_items = 131072
 
+-- the most elements of the array values that are being evaluated: as many are counted at most, and one reply isn't counted yet
+abbrev pub most_elements : ℕ
+most_elements = 131072
+
 -- the greatest iteration count that is kept: no run comes to it
 abbrev pub most_iterations : ℕ
 most_iterations = 9223372036854775807

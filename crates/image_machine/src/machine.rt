@@ -3,15 +3,13 @@
 ghost use Rattle.std.specs.Prelude.{◌≡◌, ◌≤◌, ◌<◌, ◌*◌, [], ℕ, Some, length, slice_get, IfOk};
 ghost use Rattle.std.specs.Arc.{arc_value};
 ghost use Rattle.trace_theory.specs.Machines.{go, goes, Rests};
-ghost use Rattle.caf_events.specs.Walkers.{IsAtAsk, NextIs};
+ghost use Rattle.caf_events.specs.Walkers.{IsAtAsk};
 ghost use Rattle.image_acts.specs.Faults as faults;
 ghost use Rattle.image_code.specs.declared.step.Step.{Step};
 ghost use Rattle.image_state.specs.Acting.{HasFrame};
-ghost use Rattle.image_state.specs.Plain.{IsPlainAsk};
-ghost use Rattle.image_code.specs.declared.step.Step.TheVariants as steps;
-ghost use Rattle.caf_events.specs.declared.walker.Next.TheVariants as nexts;
-ghost use Rattle.image_machine.specs.Engine.{step_does, start_of, first_kept};
-ghost use Rattle.image_machine.specs.Walk.{ArePlain, HasRoom, IsWell, lifted, machine_step, Stood, Answered};
+ghost use Rattle.image_state.specs.declared.state.Rooms.{Rooms};
+ghost use Rattle.image_machine.specs.Engine.{start_of};
+ghost use Rattle.image_machine.specs.Walk.{ArePlain, HasRoom, IsWell, machine_step, Stood, Answered, BringsNone};
 
 use crate::engine::{Engine, Went};
 use caf_base::place::{ImageNo, Place};
@@ -22,8 +20,8 @@ use caf_events::fault::FaultKind;
 use caf_events::reply::Reply;
 use caf_events::walker::{Next, Walker};
 use image_code::code::Code;
-use image_code::step::{AskStep, Step};
-use image_state::state::ImageState;
+use image_code::step::Step;
+use image_state::state::{ImageState, Rooms};
 use std::alloc::Global;
 use std::marker::Model;
 use std::sync::Arc;
@@ -49,7 +47,7 @@ impl Model for Machine {
 
 impl Machine {
     /// Image `me` of so many at the first ask of its code, which may count so many statements. Its stack and its frames are made whole here. So far the code is plain and
-    /// has no coarrays and no arrays.
+    /// has no coarrays and no variables that are arrays.
     pub fn new(
         alloc: Global,
         code: Arc<Code>,
@@ -61,12 +59,12 @@ impl Machine {
         requires plain { ArePlain (arc_value code).program.steps }
         requires coarrays { (arc_value code).program.tables.coarrays ≡ [] }
         requires arrays { (arc_value code).program.tables.main.arrays ≡ [] }
-        ensures start { IfOk result (λ m. (room frame_room steps : ℕ) × (go machine_step steps (start_of (arc_value code) limit room frame_room me.0 n) ≡ goes m)) }
+        ensures start { IfOk result (λ m. (rooms : Rooms) × (steps : ℕ) × (go machine_step steps (start_of (arc_value code) limit rooms me.0 n) ≡ goes m)) }
         ensures rests { IfOk result (λ m. Rests (machine_step m)) }
     {
-        let (room, frame_room) = rooms(&code)?;
-        let image = first_image(alloc, &code, room, frame_room, me, n)?;
-        let mut engine = Engine::new(alloc, code, image, limit)?;
+        let rooms = rooms(&code)?;
+        let image = ImageState::new(alloc, code, rooms, me, n)?;
+        let mut engine = Engine::new(alloc, image, limit)?;
         let stand = engine.run();
         Ok(Machine {
             alloc,
@@ -78,7 +76,7 @@ impl Machine {
 
 impl Walker for Machine {
     ghost use Rattle.image_machine.specs.Engine.{Engine};
-    ghost use Rattle.image_machine.specs.Walk.{machine_step, left_of, EndsWell};
+    ghost use Rattle.image_machine.specs.Walk.{machine_step, left_of, Hears};
 
     ghost Config = { Engine };
 
@@ -86,7 +84,7 @@ impl Walker for Machine {
 
     ghost step = { machine_step };
 
-    ghost hears = { λ c reply. EndsWell (machine_step c) reply };
+    ghost hears = { λ c reply. Hears (machine_step c) reply };
 
     ghost asks_left = { left_of };
 
@@ -96,7 +94,7 @@ impl Walker for Machine {
     fn next(&self) -> Next {
         match self.stand {
             Went::Fault(_) | Went::Limit => Next::Ask(Place::Own),
-            Went::Asks(ask) => Next::Ask(place_of(&self.engine, ask)),
+            Went::Asks(ask) => Next::Ask(self.engine.place_of(ask)),
             Went::Over => Next::Ended,
             Went::On => unreachable!(),
         }
@@ -109,7 +107,7 @@ impl Walker for Machine {
             Went::Limit => Ok(Ask::LimitStatements {
                 number: self.engine.next_count(),
             }),
-            Went::Asks(ask) => Ok(self.engine.ask_of(ask)),
+            Went::Asks(ask) => self.engine.ask_of(ask),
             Went::Over | Went::On => unreachable!(),
         }
     }
@@ -133,6 +131,7 @@ fn take(engine: &mut Engine, stand: Went, event: &Event, alloc: Global)
     requires well { IsWell engine.old }
     requires stood { Stood engine.old stand }
     requires ask { IsAtAsk (machine_step engine.old) }
+    requires teams { BringsNone (machine_step engine.old) event.now.reply }
     ensures { Answered (machine_step engine.old) event.now.reply engine.new }
 {
     let reply = event.reply(alloc);
@@ -141,11 +140,12 @@ fn take(engine: &mut Engine, stand: Went, event: &Event, alloc: Global)
 }
 
 /// Goes on after the reply, where the engine stands at an ask.
-#[tactic(auto, using(crate::proofs::Walking::ask_within, crate::proofs::Walking::ask_room, crate::proofs::Walking::stood_plain, crate::proofs::Walking::stood_asks, crate::proofs::Walking::answered_there))]
+#[tactic(auto, using(crate::proofs::Walking::ask_within, crate::proofs::Walking::ask_room, crate::proofs::Walking::stood_plain, crate::proofs::Walking::stood_asks, crate::proofs::Walking::teams_there, crate::proofs::Walking::answered_there))]
 fn hear(engine: &mut Engine, stand: Went, reply: &Reply)
     requires well { IsWell engine.old }
     requires stood { Stood engine.old stand }
     requires ask { IsAtAsk (machine_step engine.old) }
+    requires teams { BringsNone (machine_step engine.old) reply.now }
     ensures { Answered (machine_step engine.old) reply.now engine.new }
 {
     match stand {
@@ -156,48 +156,17 @@ fn hear(engine: &mut Engine, stand: Went, reply: &Reply)
     }
 }
 
-/// The place of an ask.
-#[tactic(auto, using(crate::proofs::Walking::next_of))]
-fn place_of(engine: &Engine, ask: AskStep) -> Place
-    requires plain { IsPlainAsk ask }
-    requires asks { IsAtAsk (lifted engine.now (step_does engine.now (steps.Ask ask))) }
-    ensures { NextIs (lifted engine.now (step_does engine.now (steps.Ask ask))) (nexts.Ask result) }
+/// Room for the stacks of all bodies, and for the scalars of a frame.
+fn rooms(code: &Code) -> Result<Rooms, NoMemory>
+    ensures { IfOk result (λ r. HasRoom code.now r) }
 {
-    let ask = engine.ask_of(ask);
-    let place = ask.place();
-    drop(ask);
-    place
-}
-
-/// Room for the numbers of all bodies, and for the scalars of a frame.
-fn rooms(code: &Code) -> Result<(usize, u32), NoMemory>
-    ensures { IfOk result (λ r. HasRoom code.now r.0 r.1) }
-{
-    let room = numbers_room(code.highest().numbers)?;
-    Ok((room, most_scalars(code.steps())))
-}
-
-/// The core of an image at the start of its code.
-fn first_image(
-    alloc: Global,
-    code: &Code,
-    room: usize,
-    frame_room: u32,
-    me: ImageNo,
-    n: u32,
-) -> Result<ImageState, NoMemory>
-    ensures { IfOk result (λ k. k ≡ first_kept code.now room frame_room me.0 n) }
-{
-    let main = &code.tables().main;
-    ImageState::new(
-        alloc,
-        main.cells.as_slice(),
-        main.need,
-        room,
-        frame_room as usize,
-        me,
-        n,
-    )
+    let most = code.highest();
+    Ok(Rooms {
+        numbers: stack_room(most.numbers)?,
+        arrays: stack_room(most.arrays)?,
+        texts: stack_room(most.texts)?,
+        scalars: most_scalars(code.steps()),
+    })
 }
 
 /// The fault with this number.
@@ -221,8 +190,8 @@ fn fault_of(n: u32) -> FaultKind
     }
 }
 
-/// Room for the numbers of 258 bodies, where the stack of one is no higher than this.
-fn numbers_room(most: u64) -> Result<usize, NoMemory>
+/// Room for a part of the stacks of 258 bodies, where that of one is no higher than this.
+fn stack_room(most: u64) -> Result<usize, NoMemory>
     ensures { IfOk result (λ room. most * 258 < room) }
 {
     let Some(room) = most.checked_mul(258) else {

@@ -11,7 +11,7 @@ use Rattle.image_acts.specs.Operate.Calling.{call_effect}
 use Rattle.image_stores.specs.Rows.{total, first, set_first}
 use Rattle.image_state.specs.declared.state.Acting.TheVariants as actings
 use Rattle.image_state.specs.Acting.{with_core, Acts}
-use Rattle.image_state.specs.Kept.{Kept, base_in, scalars_in, frame_in, main_frame, frames_in, front_in, callers_in, core_of, entered, AreRows}
+use Rattle.image_state.specs.Kept.{Kept, Beside, base_in, scalars_in, frame_in, main_frame, frames_in, front_in, callers_in, core_of, entered, AreRows}
 
 frames_long : (rows : List (List ℤ)) (main : Frame) → length (frames_in rows main) ≡ suc (length rows)
 frames_long [] main = refl
@@ -76,9 +76,9 @@ here_is_host c x v h = elim (cases_nil c.callers) [ inl e ↦ rw e refl | inr n 
 pub get_here_is_host : (c : Core) (x : ℕ) → length c.callers ≡ 0 → cell_in a.here x c ≡ cell_in a.host x c
 get_here_is_host c x h = elim (cases_nil c.callers) [ inl e ↦ rw e refl | inr n ↦ absurd (omega arith) ]
 
-module _ (vs : List ℤ) (used local me images : ℕ) where
+module _ (vs : List ℤ) (used local : ℕ) (b : Beside) where
   abbrev core : List (List ℤ) → Frame → Core
-  core rows main = core_of vs rows main used local me images
+  core rows main = core_of vs rows main used local b
 
   pub row_put : (rows : List (List ℤ)) (main : Frame) (x : ℕ) (v : ℤ) → 0 < length (callers_in rows main) → with_cell a.here x v (core rows main) ≡ core (set_first rows (x + 2) v) main
   row_put [] main x v h = absurd (omega arith)
@@ -107,8 +107,8 @@ module _ (vs : List ℤ) (used local me images : ℕ) where
 pub row_begun : (n : ℕ) (rows : List (List ℤ)) (b k : ℤ) → set_first (set_first (replicate (n + 2) (pos 0) ∷ rows) 0 b) 1 k ≡ (b ∷ k ∷ replicate n (pos 0)) ∷ rows
 row_begun n rows b k = ap (λ (m : ℕ). set_first (set_first (replicate m (pos 0) ∷ rows) 0 b) 1 k) (two_on n)
 
-pub begun : (vs : List ℤ) (used local me images : ℕ) (rows : List (List ℤ)) (main : Frame) (cells need : ℕ) → entered cells need (core_of vs rows main used local me images) ≡ core_of vs ((pos used ∷ pos need ∷ replicate cells (pos 0)) ∷ rows) main used (local + need) me images
-begun vs used local me images rows main cells need = ap (λ (fs : List Frame). record (entered cells need (core_of vs rows main used local me images)) { callers = fs }) (frames_split vs used local me images rows main)
+pub begun : (vs : List ℤ) (used local : ℕ) (b : Beside) (rows : List (List ℤ)) (main : Frame) (cells need : ℕ) → entered cells need (core_of vs rows main used local b) ≡ core_of vs ((pos used ∷ pos need ∷ replicate cells (pos 0)) ∷ rows) main used (local + need) b
+begun vs used local b rows main cells need = ap (λ (fs : List Frame). record (entered cells need (core_of vs rows main used local b)) { callers = fs }) (frames_split vs used local b rows main)
 
 -- back to the caller
 pub ended : (rows : List (List ℤ)) (main : Frame) → 0 < length rows → callers_in rows main ≡ front_in (drop 1 rows) main ∷ callers_in (drop 1 rows) main
@@ -138,17 +138,23 @@ rows_total n [] s = omega arith
 rows_total n (r ∷ rs) s = (let h = rows_total n rs s.2 in let l = s.0 in let t = times_suc n (length rs) in omega arith)
 
 -- the main program's scalars, in a core
-pub host_get : (vs : List ℤ) (rows : List (List ℤ)) (main : Frame) (used local me images : ℕ) (c : Core) (x : ℕ) → core_of vs rows main used local me images ≡ c → slice_get (last_or c.frame c.callers).cells x ≡ slice_get main.cells x
-host_get vs rows main used local me images c x e = ap (λ (d : Core). slice_get (last_or d.frame d.callers).cells x) (sym e) ∙ ap (λ (f : Frame). slice_get f.cells x) (host_is rows main)
+pub host_get : (vs : List ℤ) (rows : List (List ℤ)) (main : Frame) (used local : ℕ) (b : Beside) (c : Core) (x : ℕ) → core_of vs rows main used local b ≡ c → slice_get (last_or c.frame c.callers).cells x ≡ slice_get main.cells x
+host_get vs rows main used local b c x e = ap (λ (d : Core). slice_get (last_or d.frame d.callers).cells x) (sym e) ∙ ap (λ (f : Frame). slice_get f.cells x) (host_is rows main)
 
-abbrev kept : Core → ℕ → ℕ → Kept
-kept c room frame_room = record { core = c; room = room; frame_room = frame_room }
+pub main_put : (vs : List ℤ) (rows : List (List ℤ)) (cells new : List ℤ) (need used local : ℕ) (b : Beside) (x : ℕ) (v : ℤ) (k m : Kept) → k ≡ m → k.core ≡ core_of vs rows (main_frame cells need) used local b → new ≡ slice_set cells x v → with_core k (core_of vs rows (main_frame new need) used local b) ≡ with_core m (with_cell a.host x v m.core)
+main_put vs rows cells new need used local b x v k m e f w =
+    ap (λ (ms : List ℤ). with_core k (core_of vs rows (main_frame ms need) used local b)) w
+    ∙ ap (with_core k) (sym (host_put vs used local b rows (main_frame cells need) x v))
+    ∙ ap (λ (c : Core). with_core k (with_cell a.host x v c)) (sym f)
+    ∙ ap (λ (j : Kept). with_core j (with_cell a.host x v j.core)) e
 
-pub main_put : (vs : List ℤ) (rows : List (List ℤ)) (cells new : List ℤ) (need used local me images room frame_room x : ℕ) (v : ℤ) (m : Kept) → kept (core_of vs rows (main_frame cells need) used local me images) room frame_room ≡ m → new ≡ slice_set cells x v → kept (core_of vs rows (main_frame new need) used local me images) room frame_room ≡ with_core m (with_cell a.host x v m.core)
-main_put vs rows cells new need used local me images room frame_room x v m e w =
-    ap (λ (ms : List ℤ). kept (core_of vs rows (main_frame ms need) used local me images) room frame_room) w
-    ∙ ap (λ (c : Core). kept c room frame_room) (sym (host_put vs used local me images rows (main_frame cells need) x v))
-    ∙ ap (λ (k : Kept). with_core k (with_cell a.host x v k.core)) e
+pub front_put : (vs : List ℤ) (rows new : List (List ℤ)) (main : Frame) (used local : ℕ) (b : Beside) (x : ℕ) (v : ℤ) (k m : Kept) → k ≡ m → k.core ≡ core_of vs rows main used local b → 0 < length m.core.callers → new ≡ set_first rows (x + 2) v → with_core k (core_of vs new main used local b) ≡ with_core m (with_cell a.here x v m.core)
+front_put vs rows new main used local b x v k m e f h w =
+    let l : 0 < length (callers_in rows main) = (let p = ap (λ (j : Kept). length j.core.callers) e in let q = ap (λ (c : Core). length c.callers) f in omega arith) in
+    ap (λ (rs : List (List ℤ)). with_core k (core_of vs rs main used local b)) w
+    ∙ ap (with_core k) (sym (row_put vs used local b rows main x v l))
+    ∙ ap (λ (c : Core). with_core k (with_cell a.here x v c)) (sym f)
+    ∙ ap (λ (j : Kept). with_core j (with_cell a.here x v j.core)) e
 
 -- calls that begin no frame, and one that does
 pub begin_deep : (m : Kept) (cells need : ℕ) → 256 ≤ length m.core.callers → Acts m (call_effect (a.begin_frame cells 0 need) m.core) m (actings.Fault 10)

@@ -4,3 +4,7 @@ pub mod KindLaws
 pub mod PowerLaws
 pub mod LoopLaws
 pub mod StackLaws
+pub mod ArrayLaws
+pub mod PrintLaws
+pub mod TeamLaws
+pub mod AskLaws

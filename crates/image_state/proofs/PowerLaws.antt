@@ -1,15 +1,13 @@
 -- Powers.
-use Rattle.std.proofs.Common.{◌≡◌, ◌≢◌, ℕ, zero, suc, ◌+◌, ◌*◌, ◌%◌, ◌^◌, ◌<◌, ◌≤◌, ℤ, pos, negsuc, Bool, true, false, not, cond, refl, ap, sym, ◌∙◌, subst, arith, inl, inr}
+use Rattle.std.proofs.Common.{◌≡◌, ◌≢◌, ℕ, zero, suc, ◌*◌, ◌%◌, ◌^◌, ◌<◌, ◌≤◌, ℤ, pos, negsuc, Bool, true, false, not, cond, refl, ap, sym, ◌∙◌, arith}
 use Rattle.std.specs.Prelude.{neg_ℤ, ◌*ℤ◌, ◌==◌, FitsSigned, unsigned_abs, int_lt, nat_abs, ◌<ℤ◌, ◌≤ℤ◌}
 use Rattle.std.specs.Int.{w64, int_pow}
-use Rattle.std.proofs.lemmas.Bool.{cases_Bool}
 use Rattle.std.proofs.Math.Nat.{pow-succ', pow-le-pow_right}
 use Rattle.std.proofs.lemmas.Int.{unsigned_abs-mul, ints}
 use Rattle.std.proofs.lemmas.Nat.{mul-le}
 use Rattle.std.proofs.lemmas.Grind.{common_steps}
 use Rattle.walk_theory.specs.Terms.{Found, found, at_fault}
 use Rattle.caf_base.specs.declared.value.Kind.{Kind}
-use Rattle.caf_base.specs.declared.value.Kind.TheVariants as kinds
 use Rattle.caf_base.specs.Arithmetic.{fits_kind, power_of}
 use Rattle.image_acts.specs.Operate.Operators.{in_kind, quotient, raised}
 use Rattle.image_state.specs.Plain.{IsInteger}

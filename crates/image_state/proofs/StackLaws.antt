@@ -1,11 +1,11 @@
 -- Numbers that are repeated or brought to the top, and statuses.
-use Rattle.std.proofs.Common.{◌≡◌, ℕ, zero, suc, ◌+◌, ◌<◌, ◌≤◌, ℤ, pos, negsuc, Bool, true, false, List, [], ◌∷◌, ◌++◌, length, take, drop, refl, ap, sym, ◌∙◌, subst, arith}
+use Rattle.std.proofs.Common.{◌≡◌, ℕ, zero, suc, ◌+◌, ◌<◌, ◌≤◌, ℤ, negsuc, true, false, List, [], ◌∷◌, ◌++◌, length, take, drop, refl, ap, sym, ◌∙◌, subst, arith}
 use Rattle.std.specs.Prelude.{Option, Some, None}
 use Rattle.std.specs.Ordering.{int_eq}
 use Rattle.std.proofs.lemmas.List.{length-drop}
 use Rattle.walk_theory.specs.Language.{goes_to}
 use Rattle.image_acts.specs.Acts as a
-use Rattle.image_acts.specs.Core.{Core, with_values}
+use Rattle.image_acts.specs.Core.{with_values}
 use Rattle.image_acts.specs.Taking.{given, taken, put_down}
 use Rattle.image_acts.specs.Operate.Stack.{stack_effect}
 use Rattle.image_state.specs.Kept.{Kept}

@@ -1,3 +1,6 @@
 pub mod Plain
 pub mod Kept
 pub mod Acting
+pub mod Arrays
+pub mod Texts
+pub mod Asking

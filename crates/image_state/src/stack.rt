@@ -20,7 +20,7 @@ const OVERFLOWED: i64 = -2;
 impl ImageState {
     #[tactic(auto, using(crate::proofs::StackLaws::none_repeated, crate::proofs::StackLaws::repeated, crate::proofs::StackLaws::not_repeated))]
     pub(crate) fn copy(&mut self, depth: u32, n: u32) -> Acting
-        requires { length self.old.core.values + n ≤ self.old.room }
+        requires { length self.old.core.values + n ≤ self.old.rooms.numbers }
         ensures { Acts self.old (stack_effect (acts.copy depth n) self.old.core) self.new result }
     {
         if n == 0 {

@@ -1,8 +1,7 @@
 -- The machine begins well, and runs from the start of its code.
-use Rattle.std.proofs.Common.{◌≡◌, ◌∙◌, ap, subst}
+use Rattle.std.proofs.Common.{◌≡◌, subst}
 use Rattle.std.specs.Arc.{arc_value}
 use Rattle.image_code.specs.Code.{Whole}
-use Rattle.image_machine.specs.Engine.{first_kept}
 use Rattle.image_machine.specs.Walk.{HasRoom}
 use Rattle.image_machine.proofs.Walking.{new_well, starts}
 use Rattle.image_machine.proofs.machine.Machine.new.Goals as goal
@@ -10,15 +9,11 @@ use Rattle.image_machine.proofs.machine.Machine.new.Goals as goal
 pub run-stand-requires : goal.run-stand-requires
 run-stand-requires c =
     let d : c.deref.result.now ≡ arc_value c.args.code = search (c.deref.ensures) in
-    let e : c.deref-2.result.now ≡ arc_value c.args.code = search (c.deref-2.ensures) in
-    new_well c.in_ok-engine.engine (arc_value c.args.code) c.args.limit c.in_ok-room.room c.in_ok-room.frame_room c.args.me.0 c.args.n c.in_ok-image.image c.in_ok-engine.ensures
-    (c.in_ok-image.ensures ∙ ap (λ (w : Whole). first_kept w c.in_ok-room.room c.in_ok-room.frame_room c.args.me.0 c.args.n) e)
-    c.requires.plain (subst (λ (w : Whole). HasRoom w c.in_ok-room.room c.in_ok-room.frame_room) d c.in_ok-room.ensures)
+    new_well c.in_ok-engine.engine (arc_value c.args.code) c.args.limit c.in_ok-rooms.rooms c.args.me.0 c.args.n c.in_ok-image.image c.in_ok-engine.ensures c.in_ok-image.ensures
+    c.requires.plain (subst (λ (w : Whole). HasRoom w c.in_ok-rooms.rooms) d c.in_ok-rooms.ensures)
 
 pub returns-clause-start : goal.returns-clause-start
 returns-clause-start c =
-    let e : c.deref-2.result.now ≡ arc_value c.args.code = search (c.deref-2.ensures) in
-    let g = starts c.in_ok-engine.engine c.run-stand.new.self (arc_value c.args.code) c.args.limit c.in_ok-room.room c.in_ok-room.frame_room c.args.me.0 c.args.n c.in_ok-image.image c.in_ok-engine.ensures
-    (c.in_ok-image.ensures ∙ ap (λ (w : Whole). first_kept w c.in_ok-room.room c.in_ok-room.frame_room c.args.me.0 c.args.n) e)
+    let g = starts c.in_ok-engine.engine c.run-stand.new.self (arc_value c.args.code) c.args.limit c.in_ok-rooms.rooms c.args.me.0 c.args.n c.in_ok-image.image c.in_ok-engine.ensures c.in_ok-image.ensures
     c.requires.coarrays c.requires.arrays c.run-stand.ensures.goes in
-    (c.in_ok-room.room, c.in_ok-room.frame_room, g.0, g.1)
+    (c.in_ok-rooms.rooms, g.0, g.1)

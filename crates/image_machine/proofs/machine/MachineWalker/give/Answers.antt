@@ -11,7 +11,7 @@ run-self-inside-requires c = (heard c.self.inside.engine c.take.new.engine c.arg
 
 pub returns-clause-ends : goal.returns-clause-ends
 returns-clause-ends c =
-    let b = subst (λ (m : Engine). EndsWell (machine_step m) c.args.event.now.reply) (sym c.self.view_is) c.requires.hears in
+    let b = subst (λ (m : Engine). EndsWell (machine_step m) c.args.event.now.reply) (sym c.self.view_is) c.requires.hears.ends in
     let r = c.run-self-inside.ensures.goes in
     let g = ends c.self.inside.engine c.take.new.engine c.run-self-inside.new.self c.args.event.now.reply r.0 b c.take.ensures r.1 c.run-self-inside.ensures.rests in
     subst (λ (m : Engine). IsOver (machine_step c.run-self-inside.new.self) ↔ EndsAfter (machine_step m) c.args.event.now.reply) c.self.view_is g

@@ -13,7 +13,7 @@ begin_zeros-requires-clause-deep c =
 pub begin_zeros-requires-clause-room : goal.begin_zeros-requires-clause-room
 begin_zeros-requires-clause-room c =
     let a = ap (λ (k : Kept). length k.core.callers) (sym c.self.view_is) ∙ callers_long c.self.inside.frames.rows (main_frame c.self.inside.main.items c.self.inside.main_need) in
-    let b = ap (λ (k : Kept). k.frame_room) (sym c.self.view_is) in
+    let b = ap (λ (k : Kept). k.rooms.scalars) (sym c.self.view_is) in
     let h = c.requires.deep in
     let f : length c.self.inside.frames.rows < 256 = omega arith in
     let g : c.args.cells ≤ c.self.inside.frame_room = (let r = c.requires.cells in omega arith) in

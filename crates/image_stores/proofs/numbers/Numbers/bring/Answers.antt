@@ -1,5 +1,4 @@
-use Rattle.std.proofs.Common.{◌≡◌, ◌∙◌, ap, length, ◌+◌, ◌≤◌, arith}
-use Rattle.image_stores.specs.Numbers.{Pile, below}
+use Rattle.std.proofs.Common.{arith}
 use Rattle.image_stores.proofs.NumberLaws.{bring_view, long_enough}
 use Rattle.image_stores.proofs.numbers.Numbers.bring.Goals as goal
 

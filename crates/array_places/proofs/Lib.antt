@@ -1,0 +1,6 @@
+pub mod Counting
+pub mod Reading
+pub mod Sizes
+pub mod Subscripts
+pub mod Ways
+pub mod Orders

@@ -1,0 +1,11 @@
+use Rattle.std.proofs.Common.{◌≡◌, length}
+use Rattle.std.specs.Prelude.{slice_get}
+use Rattle.image_acts.specs.Teams.{cosubscripts_behind}
+use Rattle.array_places.proofs.images.cosubscript_at.Given as goal
+
+-- the codimensions that are left
+abbrev pub invariant-loop-lower : goal.invariant-loop-lower
+invariant-loop-lower l = slice_get (cosubscripts_behind l.lows l.more l.place) l.further ≡ slice_get (cosubscripts_behind l.lowers l.extents l.images) l.number
+
+abbrev pub decreases-loop-lower : goal.decreases-loop-lower
+decreases-loop-lower l = length l.lows

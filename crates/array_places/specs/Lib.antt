@@ -1,0 +1,4 @@
+pub mod Offsets
+pub mod Bounds
+pub mod Sections
+pub mod Images

@@ -1,0 +1,185 @@
+//! Texts that were begun, and what is to be printed (ISO/IEC 1539-1:2018, 12.6.3).
+
+ghost use Rattle.std.specs.Prelude.{◌≡◌, ◌<◌, ◌≤◌, ◌+◌, ◌∷◌, [], drop, length, IsTrue, IsFalse, IfOk};
+ghost use Rattle.std.specs.Option.{option_map};
+ghost use Rattle.image_acts.specs.Acts as acts;
+ghost use Rattle.image_acts.specs.Core.{with_values};
+ghost use Rattle.image_acts.specs.Taking.{using};
+ghost use Rattle.walk_theory.specs.Terms.{found, at_fault};
+ghost use Rattle.image_acts.specs.Faults.{format_fault};
+ghost use Rattle.image_acts.specs.Operate.Printing.{open_items, printed, print_effect, text_of};
+ghost use Rattle.print_text.specs.Items.{text_at, item_of, IsFound};
+ghost use Rattle.image_state.specs.Acting.{with_core, Acts};
+ghost use Rattle.image_state.specs.Kept.{texts_of};
+ghost use Rattle.image_state.specs.Texts.{with_texts, with_item, innermost, begun, value_printed};
+
+use crate::state::{Acting, ImageState, MOST_CELLS, MOST_ITEMS, ROOM};
+use caf_base::listing::Text;
+use caf_base::refusal::NoMemory;
+use print_text::item::Item;
+use print_text::{fault_of, text_of};
+
+impl ImageState {
+    /// Whether a text was begun.
+    #[tactic(auto, using(crate::proofs::PrintLaws::texts_long))]
+    pub(crate) fn has_text(&self) -> bool
+        ensures there { IsTrue result → 0 < length self.now.core.printing }
+        ensures not { IsFalse result → length self.now.core.printing ≡ 0 }
+    {
+        self.prints.len() != 0
+    }
+
+    /// Whether there is no room for a further item.
+    #[tactic(auto, using(crate::proofs::PrintLaws::items_open))]
+    fn is_text_full(&self) -> bool
+        ensures full { IsTrue result → 131072 ≤ open_items self.now.core.printing }
+        ensures not { IsFalse result → open_items self.now.core.printing < 131072 }
+    {
+        self.prints.total() >= MOST_ITEMS
+    }
+
+    /// Begins a text.
+    #[tactic(auto, using(crate::proofs::PrintLaws::texts_long))]
+    fn begin_text(&mut self, format: Option<u32>)
+        requires { length self.old.core.printing < self.old.rooms.texts }
+        ensures { self.new ≡ with_core self.old (with_texts self.old.core (begun (option_map (text_at (texts_of self.old)) format) self.old.core.printing)) }
+    {
+        self.prints.begin(format);
+    }
+
+    /// Adds an item to the innermost text.
+    #[tactic(auto, using(crate::proofs::PrintLaws::texts_long, crate::proofs::PrintLaws::items_open, crate::proofs::PrintLaws::item_added))]
+    fn add_item(&mut self, item: Item)
+        requires there { 0 < length self.old.core.printing }
+        requires room { open_items self.old.core.printing < 131072 }
+        ensures { self.new ≡ with_core self.old (with_texts self.old.core (with_item (item_of (texts_of self.old) item) self.old.core.printing)) }
+    {
+        self.prints.add(item);
+    }
+
+    /// Drops the innermost text.
+    #[tactic(auto, using(crate::proofs::PrintLaws::texts_long, crate::proofs::PrintLaws::text_ended))]
+    pub(crate) fn end_text(&mut self)
+        requires { 0 < length self.old.core.printing }
+        ensures { self.new ≡ with_core self.old (with_texts self.old.core (drop 1 self.old.core.printing)) }
+    {
+        self.prints.end();
+    }
+
+    pub(crate) fn begin_free(&mut self) -> Acting
+        requires { length self.old.core.printing < self.old.rooms.texts }
+        ensures { Acts self.old (print_effect acts.begin_free self.old.core) self.new result }
+    {
+        self.begin_text(None);
+        Acting::Done
+    }
+
+    pub(crate) fn begin_format(&mut self, text: u32) -> Acting
+        requires { length self.old.core.printing < self.old.rooms.texts }
+        ensures { Acts self.old (print_effect (acts.begin_format (text_at (texts_of self.old) text)) self.old.core) self.new result }
+    {
+        self.begin_text(Some(text));
+        Acting::Done
+    }
+
+    #[tactic(auto, using(crate::proofs::PrintLaws::prints_nothing, crate::proofs::PrintLaws::prints_too_much, crate::proofs::PrintLaws::prints))]
+    pub(crate) fn print_literal(&mut self, text: u32) -> Acting
+        ensures { Acts self.old (print_effect (acts.print_literal (text_at (texts_of self.old) text)) self.old.core) self.new result }
+    {
+        if !self.has_text() {
+            return Acting::Stuck;
+        }
+        if self.is_text_full() {
+            return Acting::Fault(ROOM);
+        }
+        self.add_item(Item::Literal(text));
+        Acting::Done
+    }
+
+    #[tactic(auto, using(crate::proofs::Taking::none_taken, crate::proofs::PrintLaws::number_printed))]
+    pub(crate) fn print_number(&mut self) -> Acting
+        ensures { Acts self.old (print_effect acts.print_number self.old.core) self.new result }
+    {
+        match self.top() {
+            None => Acting::Stuck,
+            Some(v) => self.print_value(Item::Integer(v)),
+        }
+    }
+
+    #[tactic(auto, using(crate::proofs::Taking::none_taken, crate::proofs::PrintLaws::truth_printed))]
+    pub(crate) fn print_truth(&mut self) -> Acting
+        ensures { Acts self.old (print_effect acts.print_truth self.old.core) self.new result }
+    {
+        match self.top() {
+            None => Acting::Stuck,
+            Some(v) => self.print_value(Item::Logical(v != 0)),
+        }
+    }
+
+    /// Prints an item for the number on top.
+    #[tactic(auto, using(crate::proofs::PrintLaws::value_full, crate::proofs::PrintLaws::value_lacks, crate::proofs::PrintLaws::value_too_much, crate::proofs::PrintLaws::value_prints))]
+    fn print_value(&mut self, item: Item) -> Acting
+        requires { 0 < length self.old.core.values }
+        ensures { Acts self.old (value_printed (item_of (texts_of self.old) item) (drop 1 self.old.core.values) self.old.core) self.new result }
+    {
+        if self.used >= MOST_CELLS {
+            return Acting::Fault(ROOM);
+        }
+        if !self.has_text() {
+            return Acting::Stuck;
+        }
+        if self.is_text_full() {
+            return Acting::Fault(ROOM);
+        }
+        self.put_value(item);
+        Acting::Done
+    }
+
+    /// Drops the number on top and adds an item to the innermost text; one evaluation cell more is in use.
+    fn put_value(&mut self, item: Item)
+        requires value { 0 < length self.old.core.values }
+        requires cell { self.old.core.used < 65536 }
+        requires there { 0 < length self.old.core.printing }
+        requires room { open_items self.old.core.printing < 131072 }
+        ensures { self.new ≡ with_core self.old (with_texts (record (with_values self.old.core (drop 1 self.old.core.values)) { used = self.old.core.used + 1 }) (with_item (item_of (texts_of self.old) item) self.old.core.printing)) }
+    {
+        self.drop_top(1);
+        self.used += 1;
+        self.add_item(item);
+    }
+
+    /// Whether the format of the innermost text has another edit descriptor than one of its items wants.
+    #[tactic(auto, using(crate::proofs::PrintLaws::innermost_is))]
+    pub(crate) fn has_fault(&self) -> bool
+        requires { 0 < length self.now.core.printing }
+        ensures faults { IsTrue result → text_of (innermost self.now.core.printing) ≡ at_fault format_fault }
+        ensures prints { IsFalse result → IsFound (text_of (innermost self.now.core.printing)) }
+    {
+        match self.prints.head() {
+            None => unreachable!(),
+            Some(format) => fault_of(
+                self.code.tables().texts.as_slice(),
+                format,
+                self.prints.newest(),
+            ),
+        }
+    }
+
+    /// The innermost text.
+    #[tactic(auto, using(crate::proofs::PrintLaws::innermost_is))]
+    pub(crate) fn text(&self) -> Result<Text, NoMemory>
+        requires there { 0 < length self.now.core.printing }
+        requires prints { IsFound (text_of (innermost self.now.core.printing)) }
+        ensures { IfOk result (λ t. text_of (innermost self.now.core.printing) ≡ found t) }
+    {
+        match self.prints.head() {
+            None => unreachable!(),
+            Some(format) => text_of(
+                self.alloc,
+                self.code.tables().texts.as_slice(),
+                format,
+                self.prints.newest(),
+            ),
+        }
+    }
+}

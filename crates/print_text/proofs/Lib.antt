@@ -1,0 +1,5 @@
+pub mod Reading
+pub mod Literals
+pub mod Passing
+pub mod Listing
+pub mod Judging

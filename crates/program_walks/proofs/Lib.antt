@@ -1,0 +1,13 @@
+pub mod Walks
+pub mod FreeActs
+pub mod Quiet
+pub mod Rounds
+pub mod Statements
+pub mod Programs
+pub mod Lists
+pub mod LaneOrder
+pub mod BoardAnswers
+pub mod LaneEnds
+pub mod Hearing
+pub mod Fits
+pub mod StuckTries

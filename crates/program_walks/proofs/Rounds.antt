@@ -1,0 +1,199 @@
+-- An arrival with its departure keeps the order.
+use Rattle.std.proofs.Common.{◌≡◌, ℕ, zero, suc, List, [], ◌∷◌, ◌++◌, length, inl, refl, sym, ◌∙◌, subst, ap}
+use Rattle.std.specs.Prelude.{ℤ, pos, ◌+ℤ◌, ◌-ℤ◌, map, drop, Option, None, Some}
+use Rattle.caf_events.specs.declared.ask.Ask.TheVariants as asks
+use Rattle.caf_events.specs.declared.reply.Reply.{Reply}
+use Rattle.caf_events.specs.declared.reply.Reply.TheVariants as replies
+use Rattle.caf_events.specs.declared.round.Arriving.{Arriving}
+use Rattle.caf_events.specs.declared.round.Arriving.TheVariants as arrivals
+use Rattle.caf_events.specs.declared.round.GatherOp.{GatherOp}
+use Rattle.caf_base.specs.declared.value.Kind.{Kind}
+use Rattle.caf_base.specs.declared.value.Value.{Value}
+use Rattle.caf_base.specs.Arithmetic.{natural, value_of}
+use Rattle.caf_events.specs.declared.round.Allotted.{Allotted}
+use Rattle.caf_events.specs.Answers.{Answers}
+use Rattle.walk_theory.specs.Language.{goes_to, asking, stuck}
+use Rattle.image_acts.specs.Words.{word}
+use Rattle.image_acts.specs.Acts as a
+use Rattle.image_acts.specs.Acts.{Act, constant, selector, ask}
+use Rattle.image_acts.specs.Core.{Core, Array, Own, with_values}
+use Rattle.image_acts.specs.Taking.{Acted, given, taken, put_down, taking_one, taking_array}
+use Rattle.image_acts.specs.Teams.{current_team, members, member_at}
+use Rattle.image_acts.specs.Owning.{own_in}
+use Rattle.image_acts.specs.Replies.{arrival_reply}
+use Rattle.image_acts.specs.Meaning.{operate}
+use Rattle.tree_meaning.specs.Sequences.{◌▸◌, doing, copying}
+use Rattle.tree_meaning.specs.ImageControl.{round}
+use Rattle.tree_meaning.specs.Allocation.{numbers}
+use Rattle.program_walks.specs.Dues.{Due, owing, due_after}
+use Rattle.program_walks.specs.Keeping.{IsClear, EffectKeeps, PartsKeep, KeepsOrder}
+
+-- ---- the current team's round
+departs : (c : Core) (k : Arriving) (r : Reply) → Answers (asks.Arrive (record { 0 = word (pos (current_team c)) }) k) r
+    → PartsKeep (doing (selector a.this_team ∷ ask a.leave ∷ [])) IsClear (due_after (asks.Arrive (record { 0 = word (pos (current_team c)) }) k) r) (arrival_reply c r)
+departs c k (replies.Round n) x = ((inl refl, tt), λ r y. refl)
+departs c k (replies.Clash i l) x = tt
+departs c k r x = absurd x
+
+pub sync_round : KeepsOrder (round (doing (ask a.arrive_sync ∷ [])))
+sync_round c = ((λ x. x, tt), λ r x. departs c arrivals.Sync r x)
+
+pub end_round : KeepsOrder (round (doing (ask a.arrive_end ∷ [])))
+end_round c = ((λ x. x, tt), λ r x. departs c arrivals.End r x)
+
+-- ---- FORM TEAM: a team number and a new index stand above the team
+two_copied : (vs ws : List ℤ) (c : Core) (After : Due → Core → Type 0) (d : Due) → ((v w : ℤ) → After d (with_values c (v ∷ w ∷ vs)))
+    → EffectKeeps (given (taken 2 ws []) (λ p. goes_to (with_values c (put_down p.0 vs)))) After d
+two_copied vs [] c After d h = tt
+two_copied vs (v ∷ []) c After d h = tt
+two_copied vs (v ∷ w ∷ ws) c After d h = h v w
+
+pub form_round : (depth : ℕ) → KeepsOrder (round (copying depth 2 ▸ doing (ask a.arrive_form ∷ [])))
+form_round depth c =
+    let t = pos (current_team c) in
+    two_copied (t ∷ c.values) (drop depth (t ∷ c.values)) (with_values c (t ∷ c.values)) (PartsKeep (doing (ask a.arrive_form ∷ [])) (PartsKeep (doing (selector a.this_team ∷ ask a.leave ∷ [])) IsClear)) (owing None)
+    (λ v w. ((λ x. x, tt), λ r x. departs c (arrivals.Form w v) r x))
+
+-- ---- ALLOCATE and DEALLOCATE: the coarrays stand above the team
+same_pair : (p q : List ℤ × List ℤ) → Some p ≡ Some q → (p.0 ≡ q.0) × (p.1 ≡ q.1)
+same_pair p q h = let e : p ≡ q = cc in (ap (λ (z : List ℤ × List ℤ). z.0) e, ap (λ (z : List ℤ × List ℤ). z.1) e)
+
+taken_back : (n : ℕ) (ws ys zs : List ℤ) (x : ℤ) (vs : List ℤ) → taken n ws ys ≡ Some (zs, x ∷ vs) → taken (suc n) ws ys ≡ Some (x ∷ zs, vs)
+taken_back zero ws ys zs x vs h =
+    let e = same_pair (ys, ws) (zs, x ∷ vs) h in
+    rw (e.0, e.1) refl
+taken_back (suc n) [] ys zs x vs h = absurd (cc)
+taken_back (suc n) (w ∷ ws) ys zs x vs h = taken_back n ws (w ∷ ys) zs x vs h
+
+put_taken : (xs vs ys : List ℤ) → taken (length xs) (put_down xs vs) ys ≡ Some (xs ++ ys, vs)
+put_taken [] vs ys = refl
+put_taken (x ∷ xs) vs ys = taken_back (length xs) (put_down xs (x ∷ vs)) ys (xs ++ ys) x vs (put_taken xs (x ∷ vs) ys)
+
+abbrev pushed_numbers : List ℕ → List ℤ
+pushed_numbers [] = []
+pushed_numbers (n ∷ ns) = pos n ∷ pushed_numbers ns
+
+as_many : (ns : List ℕ) → length (pushed_numbers ns) ≡ length ns
+as_many [] = refl
+as_many (n ∷ ns) = ap suc (as_many ns)
+
+numbers_then : (ns : List ℕ) (x : Act) (After : Due → Core → Type 0) (d : Due) (c : Core) → EffectKeeps (operate x (with_values c (put_down (pushed_numbers ns) c.values))) After d
+    → PartsKeep (doing (numbers ns ++ x ∷ [])) After d c
+numbers_then [] x After d c h = h
+numbers_then (n ∷ ns) x After d c h = numbers_then ns x After d (with_values c (pos n ∷ c.values)) h
+
+-- the arrival takes the numbers and the team beneath them
+arrives : (n : ℕ) (c : Core) (xs vs : List ℤ) (t : ℤ) (how : Core → List ℤ → Arriving) (After : Due → Core → Type 0) → taken n (put_down xs (t ∷ vs)) [] ≡ Some (xs ++ [], t ∷ vs)
+    → ((k : Arriving) (r : Reply) → Answers (asks.Arrive (record { 0 = word t }) k) r → After (due_after (asks.Arrive (record { 0 = word t }) k) r) (arrival_reply (with_values c vs) r))
+    → EffectKeeps (given (taken n (put_down xs (t ∷ vs)) []) (λ p. taking_one (with_values c p.1) (λ u d. asking (asks.Arrive (record { 0 = word u }) (how (with_values c p.1) p.0)) (arrival_reply d)))) After (owing None)
+arrives n c xs vs t how After e h =
+    subst (λ o. EffectKeeps (given o (λ p. taking_one (with_values c p.1) (λ u d. asking (asks.Arrive (record { 0 = word u }) (how (with_values c p.1) p.0)) (arrival_reply d)))) After (owing None)) (sym e)
+    ((λ x. x, tt), λ r x. h (how (with_values c (t ∷ vs)) (xs ++ [])) r x)
+
+-- ---- SYNC TEAM and CHANGE TEAM: the team stands beneath so many numbers, and is copied for each step
+copied : (k : ℕ) (After : Due → Core → Type 0) (d : Due) (c : Core) → ((w : ℤ) (ws : List ℤ) → drop k c.values ≡ w ∷ ws → After d (with_values c (w ∷ c.values))) → PartsKeep (copying k 1) After d c
+copied k After d c h = by_list (drop k c.values) refl
+  where
+    by_list : (ws : List ℤ) → drop k c.values ≡ ws → EffectKeeps (given (taken 1 ws []) (λ p. goes_to (with_values c (put_down p.0 c.values)))) After d
+    by_list [] e = tt
+    by_list (w ∷ ws) e = h w ws e
+
+same_first : (v w : ℤ) (vs ws : List ℤ) → v ∷ vs ≡ w ∷ ws → v ≡ w
+same_first v w vs ws h = cc
+
+leaves : (w : ℤ) (k : Arriving) (c : Core) (r : Reply) (After : Due → Core → Type 0) → ((e : Core) → After (owing None) e) → Answers (asks.Arrive (record { 0 = word w }) k) r
+    → PartsKeep (doing (ask a.leave ∷ [])) After (due_after (asks.Arrive (record { 0 = word w }) k) r) (with_values (arrival_reply c r) (w ∷ c.values))
+leaves w k c (replies.Round n) After h x = ((inl refl, tt), λ r y. h _)
+leaves w k c (replies.Clash i l) After h x = tt
+leaves w k c r After h x = absurd x
+
+module _ (k : ℕ) (x : a.AskAct) (how : Arriving) (acts : (d : Core) (t : ℤ) (vs : List ℤ) → d.values ≡ t ∷ vs → operate (ask x) d ≡ asking (asks.Arrive (record { 0 = word t }) how) (arrival_reply (with_values d vs))) where
+  pub copied_round : (After : Due → Core → Type 0) → ((e : Core) → After (owing None) e) → (c : Core)
+      → PartsKeep (copying k 1) (PartsKeep (doing (ask x ∷ [])) (PartsKeep (copying k 1) (PartsKeep (doing (ask a.leave ∷ [])) After))) (owing None) c
+  copied_round After h c =
+      copied k (PartsKeep (doing (ask x ∷ [])) (PartsKeep (copying k 1) (PartsKeep (doing (ask a.leave ∷ [])) After))) (owing None) c
+      (λ w ws e. subst (λ o. EffectKeeps o (PartsKeep (copying k 1) (PartsKeep (doing (ask a.leave ∷ [])) After)) (owing None)) (sym (acts (with_values c (w ∷ c.values)) w c.values refl)) (
+        (λ y. y, tt),
+        λ r y.
+            copied k (PartsKeep (doing (ask a.leave ∷ [])) After) (due_after (asks.Arrive (record { 0 = word w }) how) r) (arrival_reply c r)
+            (λ v vs f. subst (λ z. PartsKeep (doing (ask a.leave ∷ [])) After (due_after (asks.Arrive (record { 0 = word w }) how) r) (with_values (arrival_reply c r) (z ∷ c.values))) (same_first w v ws vs (sym e ∙ f))
+            (leaves w how c r After h y)),
+      ))
+
+-- ---- collectives, and SYNC IMAGES
+top : (c : Core) (f : ℤ → Core → Acted) (After : Due → Core → Type 0) (d : Due) → ((v : ℤ) (e : Core) → EffectKeeps (f v e) After d) → EffectKeeps (taking_one c f) After d
+top c f After d h = by_values c.values
+  where
+    by_values : (vs : List ℤ) → EffectKeeps (elim vs [ [] ↦ stuck | w ∷ ws ↦ f w (with_values c ws) ]) After d
+    by_values [] = tt
+    by_values (v ∷ vs) = h v (with_values c vs)
+
+top_array : (c : Core) (f : Array → Core → Acted) (After : Due → Core → Type 0) (d : Due) → ((x : Array) (e : Core) → EffectKeeps (f x e) After d) → EffectKeeps (taking_array c f) After d
+top_array c f After d h = by_arrays c.arrays
+  where
+    by_arrays : (xs : List Array) → EffectKeeps (elim xs [ [] ↦ stuck | y ∷ ys ↦ f y (record c { arrays = ys }) ]) After d
+    by_arrays [] = tt
+    by_arrays (x ∷ xs) = h x (record c { arrays = xs })
+
+takes_part : (op : GatherOp) (kind : Kind) (root : ℕ) (vs : List Value) (c : Core) (r : Reply) → Answers (asks.Gather (record { 0 = current_team c }) op root kind vs) r
+    → PartsKeep (doing (ask a.take ∷ [])) IsClear (due_after (asks.Gather (record { 0 = current_team c }) op root kind vs) r) (arrival_reply c r)
+takes_part op kind root vs c (replies.Round n) x = ((inl refl, tt), λ r y. refl)
+takes_part op kind root vs c (replies.Clash i l) x = tt
+takes_part op kind root vs c r x = absurd x
+
+pub collective : (op : GatherOp) (kind : Kind) → KeepsOrder (doing (ask (a.gather op kind) ∷ ask a.take ∷ []))
+collective op kind c =
+    top c (λ root d. taking_array d (λ x e. asking (asks.Gather (record { 0 = current_team e }) op (word root) kind (map (value_of kind) x.elements)) (arrival_reply e))) (PartsKeep (doing (ask a.take ∷ [])) IsClear) (owing None)
+    (λ root d. top_array d (λ x e. asking (asks.Gather (record { 0 = current_team e }) op (word root) kind (map (value_of kind) x.elements)) (arrival_reply e)) (PartsKeep (doing (ask a.take ∷ [])) IsClear) (owing None)
+    (λ x e. ((λ y. y, tt), λ r y. takes_part op kind (word root) (map (value_of kind) x.elements) e r y)))
+
+pub paired : KeepsOrder (doing (ask a.pair ∷ ask a.unpair ∷ []))
+paired c = top_array c (λ x d. asking (asks.Pair (map (λ v. record { 0 = member_at (members d (current_team d)) (natural v) }) x.elements)) (λ r. d)) (PartsKeep (doing (ask a.unpair ∷ [])) IsClear) (owing None)
+    (λ x d. ((λ y. y, tt), λ r y. ((inl refl, tt), λ q z. refl)))
+
+-- ---- ALLOCATE and DEALLOCATE
+abbrev codims_of : List ℤ → List ℤ → List (ℤ × ℤ)
+codims_of [] es = []
+codims_of (l ∷ ls) [] = []
+codims_of (l ∷ ls) (e ∷ es) = (l, (l +ℤ e) -ℤ pos 1) ∷ codims_of ls es
+
+abbrev last_of : List ℤ → ℤ
+last_of [] = pos 1
+last_of (l ∷ []) = l
+last_of (l ∷ m ∷ ms) = last_of (m ∷ ms)
+
+abbrev allotted : ℕ → Option Own → List Allotted
+allotted k None = []
+allotted k (Some o) = record { coarray = k; dims = o.bounds; codims = codims_of o.lowers o.extents; last = last_of o.lowers } ∷ []
+
+abbrev allotment : Core → List ℤ → List Allotted
+allotment c [] = []
+allotment c (k ∷ ks) = elim (allotted (word k) (own_in c (word k))) [ [] ↦ allotment c ks | x ∷ xs ↦ x ∷ allotment c ks ]
+
+pub allocate_round : (ns : List ℕ) → KeepsOrder (round (doing (numbers ns ++ (ask (a.arrive_allocate (length ns)) ∷ []))))
+allocate_round ns c =
+    let After : Due → Core → Type 0 = PartsKeep (doing (selector a.this_team ∷ ask a.leave ∷ [])) IsClear in
+    let t = pos (current_team c) in
+    let e = with_values c (t ∷ c.values) in
+    numbers_then ns (ask (a.arrive_allocate (length ns))) After (owing None) e
+    (arrives (length ns) e (pushed_numbers ns) c.values t (λ d ks. arrivals.Allocate (allotment d ks)) After
+    (subst (λ n. taken n (put_down (pushed_numbers ns) (t ∷ c.values)) [] ≡ Some (pushed_numbers ns ++ [], t ∷ c.values)) (as_many ns) (put_taken (pushed_numbers ns) (t ∷ c.values) []))
+    (λ k r x. departs c k r x))
+
+pub deallocate_round : (ns : List ℕ) → KeepsOrder (round (doing (numbers ns ++ (ask (a.arrive_deallocate (length ns)) ∷ []))))
+deallocate_round ns c =
+    let After : Due → Core → Type 0 = PartsKeep (doing (selector a.this_team ∷ ask a.leave ∷ [])) IsClear in
+    let t = pos (current_team c) in
+    let e = with_values c (t ∷ c.values) in
+    numbers_then ns (ask (a.arrive_deallocate (length ns))) After (owing None) e
+    (arrives (length ns) e (pushed_numbers ns) c.values t (λ d ks. arrivals.Deallocate (map word ks)) After
+    (subst (λ n. taken n (put_down (pushed_numbers ns) (t ∷ c.values)) [] ≡ Some (pushed_numbers ns ++ [], t ∷ c.values)) (as_many ns) (put_taken (pushed_numbers ns) (t ∷ c.values) []))
+    (λ k r x. departs c k r x))
+
+pub sync_team_round : (k : ℕ) (After : Due → Core → Type 0) → ((e : Core) → After (owing None) e) → (c : Core)
+    → PartsKeep (copying k 1) (PartsKeep (doing (ask a.arrive_sync ∷ [])) (PartsKeep (copying k 1) (PartsKeep (doing (ask a.leave ∷ [])) After))) (owing None) c
+sync_team_round k = copied_round k a.arrive_sync arrivals.Sync (λ d t vs e. rw e refl)
+
+pub change_team_round : (k : ℕ) (After : Due → Core → Type 0) → ((e : Core) → After (owing None) e) → (c : Core)
+    → PartsKeep (copying k 1) (PartsKeep (doing (ask a.arrive_change ∷ [])) (PartsKeep (copying k 1) (PartsKeep (doing (ask a.leave ∷ [])) After))) (owing None) c
+change_team_round k = copied_round k a.arrive_change arrivals.Change (λ d t vs e. rw e refl)

@@ -1,0 +1,5 @@
+pub mod Dues
+pub mod Keeping
+pub mod Ordered
+pub mod Hearing
+pub mod Runs

@@ -1,0 +1,98 @@
+//! The order of the asks of a program's walk, and of a lane over it.
+
+ghost use Rattle.std.specs.Prelude.{ℕ, List, [], IsTrue};
+ghost use Rattle.caf_events.specs.declared.ask.Ask.{Ask};
+ghost use Rattle.caf_events.specs.declared.reply.Reply.{Reply};
+ghost use Rattle.caf_events.specs.declared.event.Entry.{Entry};
+ghost use Rattle.caf_events.specs.Answers.{Answers};
+ghost use Rattle.trace_theory.specs.Machines.{Said, Walk};
+ghost use Rattle.trace_theory.specs.Simulations.{AllAnswer};
+ghost use Rattle.object_rules.specs.BoardRules.{board_ready, board_reply};
+ghost use Rattle.object_rules.specs.Cells.{Declared, MadeMemory};
+ghost use Rattle.object_rules.specs.MemoryRules.{memory_ready, memory_reply};
+ghost use Rattle.core_runs.specs.Beginnings.{IsOneOf};
+ghost use Rattle.core_runs.specs.Failures.{FailsFrom};
+ghost use Rattle.core_runs.specs.Lanes.{IsMoment, HearsDue};
+ghost use Rattle.core_runs.specs.CoreRuns.{IsFit};
+ghost use Rattle.core_runs.specs.Moments.{Moment};
+ghost use Rattle.core_runs.specs.Sequences.{IsOrderly, Joins, NothingAfterEnd};
+ghost use Rattle.image_lanes.specs.Lanes.{OnLane, lane_step, lane_start};
+ghost use Rattle.walk_theory.specs.Code.{Line, at_place, code_step};
+ghost use Rattle.walk_theory.specs.Programs.{HasWalksOf};
+ghost use Rattle.checked_tree.specs.Statements as checked;
+ghost use Rattle.image_acts.specs.Acts.{Act, ask, end_program};
+ghost use Rattle.image_acts.specs.Meaning.{image_language};
+ghost use Rattle.tree_meaning.specs.Forms.{bodies};
+ghost use Rattle.tree_meaning.specs.Start.{first_core, start_of, walk_step};
+ghost use Rattle.program_walks.specs.Dues.{GoesInOrder};
+ghost use Rattle.program_walks.specs.Keeping.{BodiesKeep};
+ghost use Rattle.program_walks.specs.Ordered.{IsOrdered, EndsInOrder};
+ghost use Rattle.program_walks.specs.Hearing.{EndsWell, GoesOnDue};
+ghost use Rattle.program_walks.specs.Runs.{lane_rules, lanes_begin, IsNeverStuck, program_rules, program_begins, ProgramIsNeverStuck};
+
+use caf_events::walker::Walker;
+
+/// Each statement and construct of a program keeps the order of arrivals and departures, whatever has been computed and whatever the replies are.
+pub fn law_bodies_keep()
+    ensures { (p : checked.Program) → BodiesKeep (bodies p) }
+{}
+
+/// Each walk of a program is in order: an arrival that joined a round is directly followed by its departure, a departure comes nowhere else, nothing follows
+/// the step that ends the image or begins its failure, and the program asks for none of its lane's steps.
+pub fn law_program_goes_in_order()
+    ensures { (p : checked.Program) (limit me images : ℕ) → GoesInOrder (walk_step p limit) (start_of p me images) }
+{}
+
+/// In the words of runs: such walks are ordered, and nothing follows FAIL IMAGE, which is the only step of a failure that a program makes.
+pub fn law_order_in_words<M: Walker>()
+    ensures { (first : M.Config) → GoesInOrder M.step first → IsOrdered M.step first }
+{}
+
+/// A lane over a program whose walks are in order keeps arrivals and departures together, says nothing behind the image's end, and makes the steps of its
+/// failure by the list of them.
+pub fn law_lane_goes_in_order<M: Walker>()
+    ensures { (image fails_at limit : ℕ) (first : M.Config) → GoesInOrder M.step first
+        → (es : List (Said Ask Reply)) (c : OnLane M.Config) → AllAnswer Answers es → Walk (lane_step M.step) (lane_start image fails_at limit first) es c
+        → Joins es × NothingAfterEnd es × FailsFrom image es [] }
+{}
+
+/// It is orderly where the program is over only behind a step that ended its image, or behind FAIL IMAGE.
+pub fn law_lane_orderly<M: Walker>()
+    ensures { (image fails_at limit : ℕ) (first : M.Config) → GoesInOrder M.step first → EndsInOrder M.step first
+        → IsOrderly (lane_step M.step) (lane_start image fails_at limit first) }
+{}
+
+/// The reply of the control board is one of the forms that answer the ask, and so is that of a memory.
+pub fn law_objects_answer()
+    ensures board { (n : ℕ) (h : List Entry) (i : ℕ) (ask : Ask) → IsTrue (board_ready n h i ask) → Answers ask (board_reply n h i ask) }
+    ensures memory { (made : MadeMemory) (h : List Entry) (i : ℕ) (ask : Ask) → IsTrue (memory_ready made h i ask) → Answers ask (memory_reply made h i ask) }
+{}
+
+/// At a moment of a run of lanes over programs in order, each image hears the reply that is due, where its machine hears every reply after which it is over
+/// exactly where the ask and the reply end the image, and where its program isn't stuck behind that reply.
+pub fn law_lane_hears_due<M: Walker>()
+    ensures { ((c : M.Config) (reply : Reply) → EndsWell M.step (M.step c) reply → M.hears c reply)
+        → (coarrays : List Declared) (n : ℕ) (first : ℕ → M.Config) (fails_at : ℕ → ℕ) (words : ℕ) → ((i : ℕ) → IsOneOf n i → GoesInOrder M.step (first i))
+        → (m : Moment (OnLane M.Config) MadeMemory ℕ) → IsMoment (lane_rules M.step M.hears) (lanes_begin coarrays n first fails_at words) m
+        → GoesOnDue M.step (lane_rules M.step M.hears) m → HearsDue (lane_rules M.step M.hears) m }
+{}
+
+/// A run of lanes over such programs is fit where they are never stuck.
+pub fn law_lanes_fit<M: Walker>()
+    ensures { ((c : M.Config) (reply : Reply) → EndsWell M.step (M.step c) reply → M.hears c reply)
+        → (coarrays : List Declared) (n : ℕ) (first : ℕ → M.Config) (fails_at : ℕ → ℕ) (words : ℕ) → ((i : ℕ) → IsOneOf n i → GoesInOrder M.step (first i))
+        → IsNeverStuck M.step M.hears coarrays n first fails_at words → IsFit (lane_rules M.step M.hears) (lanes_begin coarrays n first fails_at words) }
+{}
+
+/// A run of a checked program is fit where the walk of its tree is never stuck.
+pub fn law_program_fit()
+    ensures { (p : checked.Program) (limit : ℕ) (coarrays : List Declared) (n : ℕ) (fails_at : ℕ → ℕ) (words : ℕ)
+        → ProgramIsNeverStuck p limit coarrays n fails_at words → IsFit (program_rules p limit) (program_begins p coarrays n fails_at words) }
+{}
+
+/// Code that has the walks of a program goes in order as the program does.
+pub fn law_code_goes_in_order()
+    ensures { (p : checked.Program) (limit me images : ℕ) (code : List (Line Act))
+        → HasWalksOf image_language Answers (ask end_program) (bodies p) p.end_line limit (first_core p me images) code
+        → GoesInOrder (code_step image_language code limit) (at_place 0 [] (first_core p me images) 0) }
+{}
