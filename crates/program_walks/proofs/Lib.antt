@@ -11,3 +11,4 @@ pub mod LaneEnds
 pub mod Hearing
 pub mod Fits
 pub mod StuckTries
+pub mod LaneSame

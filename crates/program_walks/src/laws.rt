@@ -28,6 +28,7 @@ ghost use Rattle.program_walks.specs.Dues.{GoesInOrder};
 ghost use Rattle.program_walks.specs.Keeping.{BodiesKeep};
 ghost use Rattle.program_walks.specs.Ordered.{IsOrdered, EndsInOrder};
 ghost use Rattle.program_walks.specs.Hearing.{EndsWell, GoesOnDue};
+ghost use Rattle.program_walks.specs.Same.{SaysAs};
 ghost use Rattle.program_walks.specs.Runs.{lane_rules, lanes_begin, IsNeverStuck, program_rules, program_begins, ProgramIsNeverStuck};
 
 use caf_events::walker::Walker;
@@ -95,4 +96,11 @@ pub fn law_code_goes_in_order()
     ensures { (p : checked.Program) (limit me images : ℕ) (code : List (Line Act))
         → HasWalksOf image_language Answers (ask end_program) (bodies p) p.end_line limit (first_core p me images) code
         → GoesInOrder (code_step image_language code limit) (at_place 0 [] (first_core p me images) 0) }
+{}
+
+/// Lanes over programs that say the same say the same.
+pub fn law_lanes_say_the_same<M: Walker, N: Walker>()
+    ensures { (image fails_at limit : ℕ) (c : M.Config) (d : N.Config) → SaysAs M.step N.step c d
+        → (es : List (Said Ask Reply)) (m : OnLane M.Config) → AllAnswer Answers es → Walk (lane_step M.step) (lane_start image fails_at limit c) es m
+        → (o : OnLane N.Config) × Walk (lane_step N.step) (lane_start image fails_at limit d) es o }
 {}
