@@ -199,12 +199,11 @@ module _ {C : Type 0} (step : C → Move C Ask Reply) where
     ]
   ]
 
-  pub lane_orderly : (image fails_at limit : ℕ) (first : C) → GoesInOrder step first → EndsInOrder step first → IsOrderly Ls (lane_start image fails_at limit first)
-  lane_orderly image fails_at limit first g ends = record {
+  pub lane_orderly : (image fails_at limit : ℕ) (first : C) → GoesInOrder step first → IsOrderly Ls (lane_start image fails_at limit first)
+  lane_orderly image fails_at limit first g = record {
     joins = λ es c answers w. lane_joins step first g image fails_at limit es c answers w;
     nothing_after = λ es c answers w. lane_nothing_after step first g image fails_at limit es c answers w;
     no_stamp_limit = λ es c answers w. lane_no_stamp step first g image fails_at limit es c answers w;
-    over = lane_over image fails_at limit first ends;
   }
 
   -- ---- a lane that goes by its program has walked as it did

@@ -12,3 +12,4 @@ pub mod Hearing
 pub mod Fits
 pub mod StuckTries
 pub mod LaneSame
+pub mod CodeRuns
