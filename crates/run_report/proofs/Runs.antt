@@ -17,6 +17,7 @@ use Rattle.core_runs.specs.Moments.{Rules, Moment, item_at, can_step}
 use Rattle.core_runs.specs.Beginnings.{Beginning, IsImage, IsFirst}
 use Rattle.core_runs.specs.CoreRuns.{of_image, IsCoreRun}
 use Rattle.core_runs.specs.Kept.{IsKept}
+use Rattle.core_runs.specs.Sequences.{EndsByItself}
 use Rattle.core_runs.specs.Lawful.{IsLawfulTrace, made_memory}
 use Rattle.core_runs.specs.Orders.{candidates, EndsAtLast, IsWhole, IsOrderTrace}
 use Rattle.core_runs.specs.Traces.{IsTraceOf}
@@ -38,6 +39,7 @@ use Rattle.thin_parts.specs.ThinBoard.{BoardMeaning}
 use Rattle.thin_parts.specs.ThinMemory.{MemoryMeaning}
 use Rattle.thin_parts.specs.ThinRuns.{thin_rules, thin_beginning}
 use Rattle.thin_parts.specs.ThinWalk.{Config, thin_step}
+use Rattle.thin_parts.proofs.ThinWalks.{thin_ends}
 use Rattle.object_rules.specs.Cells.{Declared}
 use Rattle.order_theory.specs.Races.{NoRace}
 use Rattle.order_axioms.specs.FirstRaces.{HasNoRace, Allowed}
@@ -93,7 +95,7 @@ ends_nowhere t xs same none (before, last, all, rest, ends) =
     (subst (Each (λ x. EndsRun x.event → ⊥)) (same (image_of last) ∙ ap (of_image (image_of last)) all ∙ of_inside image_of before [] last) (each_filter (λ x. EndsRun x.event → ⊥) (λ x. nat_eq (image_of x) (image_of last)) t.entries (no_ending t none)))
     ends
 
-module _ {C M B : Type 0} (r : Rules C M B) (b : Beginning C M B) (m : Moment C M B) (t : Trace) (h : IsKept r b m) (trace : IsTraceOf m.events t.entries) (stuck : candidates r m ≡ []) where
+module _ {C M B : Type 0} (r : Rules C M B) (b : Beginning C M B) (m : Moment C M B) (t : Trace) (h : IsKept r b m) (trace : IsTraceOf m.events t.entries) (enders : (i : ℕ) → EndsByItself r.step (b.first i)) (stuck : candidates r m ≡ []) where
   each_waits : (ws : List Waiting) → Each (λ w. (c : C) × (item_at m.configs w.image.0 ≡ Some c) × AsksNext (r.step c) w.ask × IsAtLine (r.step c) w.line) ws → Each (λ w. IsWaiting r b t.entries w.image.0 w.line w.ask) ws
   each_waits [] e = tt
   each_waits (w ∷ ws) ((c, at, ask, line), rest) =
@@ -105,16 +107,16 @@ module _ {C M B : Type 0} (r : Rules C M B) (b : Beginning C M B) (m : Moment C 
     rises = held.rises;
     each = each_waits ws held.each;
     all = λ i in_run. (let l = h.count in let k = in_run.1 in elim (held.all i in_run.0 (omega arith)) [
-      | inl (c, at, over) ↦ inl (stopped r b m t.entries h trace i c at over)
+      | inl (c, at, over) ↦ inl (stopped r b m t.entries h trace i c at (enders i) over)
       | inr there ↦ inr there
     ]);
   }
 
 -- the end of a report of a whole run with the images that haven't ended is that of the run
-pub run_end : {C M B : Type 0} (r : Rules C M B) (b : Beginning C M B) (m : Moment C M B) (t : Trace) (xs : List Entry) (ws : List Waiting) (end : End) → IsKept r b m → IsTraceOf m.events t.entries → ((i : ℕ) → of_image i t.entries ≡ of_image i xs)
+pub run_end : {C M B : Type 0} (r : Rules C M B) (b : Beginning C M B) (m : Moment C M B) (t : Trace) (xs : List Entry) (ws : List Waiting) (end : End) → IsKept r b m → IsTraceOf m.events t.entries → ((i : ℕ) → EndsByItself r.step (b.first i)) → ((i : ℕ) → of_image i t.entries ≡ of_image i xs)
     → IsWhole r xs m → AreHeld r.step m.configs (length m.configs) ws → IsEndOf t ws end → IsRunEnd r b t end
-run_end r b m t xs ws end kept trace same (inl at_last) held is = record { ended = is.ended; open_end = λ none. absurd (ends_nowhere t xs same none at_last) }
-run_end r b m t xs ws end kept trace same (inr (rest, stuck)) held is = record { ended = is.ended; open_end = λ none. (ws, held_wait r b m t kept trace stuck ws held, is.open_end none) }
+run_end r b m t xs ws end kept trace enders same (inl at_last) held is = record { ended = is.ended; open_end = λ none. absurd (ends_nowhere t xs same none at_last) }
+run_end r b m t xs ws end kept trace enders same (inr (rest, stuck)) held is = record { ended = is.ended; open_end = λ none. (ws, held_wait r b m t kept trace enders stuck ws held, is.open_end none) }
 
 -- the end of a report is the race that was found; where none was, that of the run
 end_of : {C M B : Type 0} (n : ℕ) (r : Rules C M B) (b : Beginning C M B) (t : Trace) (race : Option Race) (end : End) → MatchOption race (HasNoRace (edges n) touches t.entries) (IsRace n t)
@@ -167,7 +169,7 @@ report_of p n seed parts parts' s s' end t ws race report first kept seeded run 
     let same = order_same thin_rules b choosing s (thin_moment parts) run.steps s' (thin_moment parts') t.entries first run.ordered trace in
     let many = map_length (λ (r : ImageRun Config). r.machine) parts'.images.items in
     let waits = subst (λ k. AreHeld thin_step (map (λ r. r.machine) parts'.images.items) k ws) (sym many) held in
-    let without : IfNone race (IsRunEnd thin_rules b t report.end) = none_then race (λ is. run_end thin_rules b (thin_moment parts') t run.steps ws report.end kept' trace same whole waits is) ended in
+    let without : IfNone race (IsRunEnd thin_rules b t report.end) = none_then race (λ is. run_end thin_rules b (thin_moment parts') t run.steps ws report.end kept' trace (λ i. thin_ends p i n) same whole waits is) ended in
     let is_end : IsReportEnd n thin_rules b t report.end = end_of n thin_rules b t race report.end found raced plain without in
     record {
       images = images;
