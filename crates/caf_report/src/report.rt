@@ -1,7 +1,8 @@
 //! A report: the trace of a run and its end.
 
-ghost use Rattle.std.specs.Prelude.{◌≡◌, IfOk, MatchOption};
-ghost use Rattle.caf_report.specs.Ends.{EndsAt, IsFirstEnding, HasNoEnding, ending_at, ending_by, IsEndOf, EndStands, HasEnd, status_of};
+ghost use Rattle.std.specs.Prelude.{◌≡◌, ⊤, IfOk, IfSome, IfNone, MatchOption};
+ghost use Rattle.caf_report.specs.declared.report.End.TheVariants as ends;
+ghost use Rattle.caf_report.specs.Ends.{EndsAt, IsFirstEnding, HasNoEnding, ending_at, ending_by, IsEndOf, RaceStands, EndStands, HasEnd, IsPlain, status_of};
 ghost use Rattle.caf_report.specs.ReportText.{report_text};
 
 use super::ending::push_end;
@@ -24,9 +25,22 @@ pub struct Waiting {
     pub ask: Ask,
 }
 
+/// Two entries that are a race: their places in the trace from 0, the earlier one first, and a cell that both touch, by the number of its coarray in declared
+/// order from 0 and its offset in the memory of its owner.
+#[derive(Clone, Copy)]
+pub struct Race {
+    pub first: usize,
+    pub second: usize,
+    pub owner: ImageNo,
+    pub coarray: u32,
+    pub offset: u32,
+}
+
 /// How a run ended; `at` is a place in the trace, from 0.
 #[derive(Drop)]
 pub enum End {
+    /// A race: two entries conflict whose segments are unordered (ISO/IEC 1539-1:2018, 11.6.2). It comes before all other ends.
+    Raced { race: Race },
     /// Normal termination (ISO/IEC 1539-1:2018, 5.3.7): every image has stopped or failed (5.3.6).
     Finished,
     /// Error termination (5.3.7), by ERROR STOP (11.4) or a status that no STAT= takes (11.6.11).
@@ -83,7 +97,8 @@ pub fn first_ending(trace: &Trace) -> Option<usize>
 /// The end that the event at this place makes.
 pub fn end_at(trace: &Trace, at: usize) -> End
     requires { EndsAt trace.now at }
-    ensures { result ≡ ending_at trace.now at }
+    ensures is { result ≡ ending_at trace.now at }
+    ensures plain { IsPlain result }
 {
     match trace.entries.as_slice()[at].event.told().ending() {
         Some(whole) => end_by(at, &whole.ask),
@@ -93,7 +108,8 @@ pub fn end_at(trace: &Trace, at: usize) -> End
 
 // The end that an ending ask makes at this place.
 fn end_by(at: usize, ask: &Ask) -> End
-    ensures { result ≡ ending_by at ask.now }
+    ensures is { result ≡ ending_by at ask.now }
+    ensures plain { IsPlain result }
 {
     match ask {
         Ask::ErrorStop { .. } => End::ErrorStop { at },
@@ -109,6 +125,7 @@ fn end_by(at: usize, ask: &Ask) -> End
 fn end_of(trace: &Trace, waits: Listing<Waiting>) -> End
     ensures is { IsEndOf trace.now waits result }
     ensures stands { EndStands trace.now result }
+    ensures plain { IsPlain result }
 {
     match first_ending(trace) {
         Some(at) => end_at(trace, at),
@@ -131,6 +148,7 @@ impl Report {
         ensures names { result.names ≡ names }
         ensures finals { result.finals ≡ finals }
         ensures end { IsEndOf trace waits result.end }
+        ensures plain { IsPlain result.end }
         ensures has_end { HasEnd result }
     {
         let end = end_of(&trace, waits);
@@ -143,13 +161,49 @@ impl Report {
         }
     }
 
-    /// The exit status: 0 Finished, 4 ErrorStop, 6 Stuck, 7 Limit, 8 RunFault, 9 Clash. 5, a race, has no end yet.
+    /// The report of a run in whose trace this race was found, if any was: it is the end then, and else the end is as that of `new`. Condition: the places of
+    /// the race are in the trace. It takes no memory.
+    pub fn with_race(
+        images: u32,
+        trace: Trace,
+        race: Option<Race>,
+        waits: Listing<Waiting>,
+        names: Listing<Text>,
+        finals: Listing<Final>,
+    ) -> Report
+        requires { MatchOption race ⊤ (RaceStands trace) }
+        ensures images { result.images ≡ images }
+        ensures trace { result.trace ≡ trace }
+        ensures names { result.names ≡ names }
+        ensures finals { result.finals ≡ finals }
+        ensures raced { IfSome race (λ r. result.end ≡ ends.Raced r) }
+        ensures end { IfNone race (IsEndOf trace waits result.end) }
+        ensures plain { IfNone race (IsPlain result.end) }
+        ensures has_end { HasEnd result }
+    {
+        match race {
+            Some(race) => {
+                drop(waits);
+                Report {
+                    images,
+                    trace,
+                    end: End::Raced { race },
+                    names,
+                    finals,
+                }
+            }
+            None => Report::new(images, trace, waits, names, finals),
+        }
+    }
+
+    /// The exit status: 0 Finished, 4 ErrorStop, 5 Raced, 6 Stuck, 7 Limit, 8 RunFault, 9 Clash.
     pub fn status(&self) -> u8
         ensures { result ≡ status_of self.now.end }
     {
         match &self.end {
             End::Finished => 0,
             End::ErrorStop { .. } => 4,
+            End::Raced { .. } => 5,
             End::Stuck { .. } => 6,
             End::Limit { .. } => 7,
             End::RunFault { .. } => 8,
@@ -171,7 +225,7 @@ impl Report {
         if shown.trace {
             push_trace(alloc, &mut out, self.names.as_slice(), &self.trace)?;
         }
-        push_end(&mut out, &self.trace, &self.end)?;
+        push_end(&mut out, self.names.as_slice(), &self.trace, &self.end)?;
         Ok(out)
     }
 }

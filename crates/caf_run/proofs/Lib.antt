@@ -1,9 +1,6 @@
-pub mod Held
 pub mod Readings
-pub mod Runs
 pub mod Settled
 pub mod Tasks
 pub mod Trees
 pub mod Written
 pub mod WhatIsDue
-pub mod Ended

@@ -7,7 +7,8 @@ use Rattle.caf_words.specs.Usages.{Word}
 use Rattle.caf_run.specs.declared.task.Task.{Task}
 use Rattle.caf_run.specs.declared.task.Task.TheVariants.{Check, Run}
 use Rattle.caf_run.specs.Reading.{HasBytesIfTold, HasBytes, IsLonger}
-use Rattle.caf_run.specs.Dues.{IsRunStatus, IsDoneStatus, Settle, BytesDue}
+use Rattle.run_report.specs.Runs.{IsRunStatus}
+use Rattle.caf_run.specs.Dues.{IsDoneStatus, Settle, BytesDue}
 
 -- the status of a run is none of the others
 pub not_run : (s : ℕ) → IsRunStatus s → (s ≡ 2) ⊎ (s ≡ 3) ⊎ (s ≡ 10) ⊎ (s ≡ 13) → ⊥
@@ -15,10 +16,14 @@ not_run s (inl h) (inl k) = omega arith
 not_run s (inl h) (inr (inl k)) = omega arith
 not_run s (inl h) (inr (inr (inl k))) = omega arith
 not_run s (inl h) (inr (inr (inr k))) = omega arith
-not_run s (inr h) (inl k) = omega arith
-not_run s (inr h) (inr (inl k)) = omega arith
-not_run s (inr h) (inr (inr (inl k))) = omega arith
-not_run s (inr h) (inr (inr (inr k))) = omega arith
+not_run s (inr (inl h)) (inl k) = omega arith
+not_run s (inr (inl h)) (inr (inl k)) = omega arith
+not_run s (inr (inl h)) (inr (inr (inl k))) = omega arith
+not_run s (inr (inl h)) (inr (inr (inr k))) = omega arith
+not_run s (inr (inr h)) (inl k) = omega arith
+not_run s (inr (inr h)) (inr (inl k)) = omega arith
+not_run s (inr (inr h)) (inr (inr (inl k))) = omega arith
+not_run s (inr (inr h)) (inr (inr (inr k))) = omega arith
 
 -- a status with which a task is done is one of a run, and the other way round where it is known
 pub done_run : (task : Task) (s : ℕ) → IsDoneStatus task s → IsRunStatus s

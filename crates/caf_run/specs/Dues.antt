@@ -20,7 +20,7 @@ use Rattle.caf_run.specs.declared.task.Task.{Task}
 use Rattle.caf_run.specs.declared.task.Task.TheVariants.{Check, Run}
 use Rattle.caf_run.specs.Tasks.{Asks, NamesFile}
 use Rattle.caf_run.specs.Reading.{HasBytesIfTold, HasBytes, HasNothingLeft, IsLonger}
-use Rattle.caf_run.specs.Runs.{IsReportOf}
+use Rattle.run_report.specs.Runs.{IsReportOf, IsRunStatus}
 use Rattle.caf_run.specs.Sources.{BreaksNone, BreaksFirst, IsAccepted, StandsFor, IsBuilt, IsNotBuilt, IsGood, IsRefusal, refusal_text}
 use Rattle.caf_run.specs.Writing.{GrewByProperPrefix}
 
@@ -31,10 +31,6 @@ usage_text k = codes "usage: word " ++ decimal k ++ codes "\n"
 -- the text of a check where the source is good
 abbrev pub ok_text : List ℕ
 ok_text = codes "ok\n"
-
--- a status with which a run ends: 0 where every image has stopped, 8 with a run fault; in the present form no run ends otherwise
-abbrev pub IsRunStatus : ℕ → Type 0
-IsRunStatus s = (s ≡ 0) ⊎ (s ≡ 8)
 
 -- a status with which the task is done: 0 of a check, and of a run that of its end
 abbrev pub IsDoneStatus : Task → ℕ → Type 0
@@ -58,7 +54,8 @@ pub record RefusalClause (words : List Word) (files : Option Files) (status : �
 pub record AcceptanceClause (words : List Word) (files : Option Files) (status : ℕ) : Type 0 where
   pub accepted : IsRunStatus status → (file : Word) × (bytes : List ℕ) × NamesFile words file × HasBytesIfTold files file bytes × IsAccepted bytes
 
--- Run: with a report, the file's bytes, read to their end, are a thin program, and the report is of its run on the images of the words in the order of their SEED.
+-- Run: with a report, the file's bytes, read to their end, are a thin program, and the report is of its run on the images of the words in the order of their SEED. So a race is
+-- told exactly where the run's trace has one, and up to it each reference gives the last definition in segment order (`IsReportOf`: `end`, `allowed`).
 abbrev pub RunClause : List Word → Option Files → Option Report → Type 0
 RunClause words files None = Unit {0}
 RunClause words files (Some r) = (n : ℕ) × (seed : ℕ) × (file : Word) × (bytes : List ℕ) × (p : ThinProgram) × IsRun words n seed file × HasBytesIfTold files file bytes × StandsFor bytes p × IsReportOf p n seed r

@@ -4,7 +4,7 @@ ghost use Rattle.std.specs.Prelude.{◌≡◌, ◌≤◌, ◌<◌, IfOk, Some, N
 ghost use Rattle.caf_base.specs.Thin.{IsDeclared, most_moves};
 ghost use Rattle.caf_report.specs.declared.report.Report.{Report};
 ghost use Rattle.caf_run.specs.Dues.{usage_text, IsDue, IsTold, IsVerdict, BytesDue, FileDue, TreeDue};
-ghost use Rattle.caf_run.specs.Runs.{IsReportOf};
+ghost use Rattle.run_report.specs.Runs.{IsReportOf};
 ghost use Rattle.caf_run.specs.Sources.{refusal_text};
 ghost use Rattle.caf_run.specs.Tasks.{IsTask, AsksAt};
 ghost use Rattle.caf_run.specs.declared.task.Task.TheVariants as tasks;
@@ -12,7 +12,6 @@ ghost use Rattle.caf_words.specs.Words.{words_in, IsValid};
 ghost use Rattle.fortran_tree.specs.UnitViews.{program};
 
 use crate::reading::{ReadEnd, read_file};
-use crate::running::run_program;
 use crate::task::{Task, file_place, task_of};
 use caf_base::outside::Source;
 use caf_base::place::Pos;
@@ -24,6 +23,7 @@ use caf_words::words::words_of;
 use fortran_tree::unit::Program;
 use rule_checker::check::check_tree;
 use rule_definitions::broken::Broken;
+use run_report::running::run_program;
 use source_reader::fault::{at, number};
 use source_reader::source::read;
 use std::alloc::Global;

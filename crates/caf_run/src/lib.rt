@@ -7,7 +7,6 @@
 
 pub mod due;
 pub mod reading;
-pub mod running;
 pub mod task;
 pub mod top;
 pub mod writing;

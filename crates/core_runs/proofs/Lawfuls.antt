@@ -90,7 +90,7 @@ module _ {C M B : Type 0} (r : Rules C M B) (b : Beginning C M B) (t : List Entr
   answered : Each (λ x. Answers x.event.ask x.event.reply) t
   answered = each_of_each (λ x. Answers x.event.ask x.event.reply) key_of t answered_at
 
-  answered_by : (i : ℕ) → AllAnswer Answers (said_by i t)
+  pub answered_by : (i : ℕ) → AllAnswer Answers (said_by i t)
   answered_by i = all_said (of_image i t) (each_keyed (λ x. Answers x.event.ask x.event.reply) (λ x. Answers x.event.ask x.event.reply) image_of i (λ x e h. h) t answered)
 
   -- an image that isn't of the run has no entry

@@ -12,7 +12,7 @@ use Rattle.trace_theory.specs.Machines.{Move, goes, asks, over, WalkTo}
 use Rattle.core_runs.specs.Lists.{said, list_at}
 use Rattle.core_runs.specs.Moments.{Rules, Moment, item_at, ready_there, memory_ready_at, can_move, can_move_from, can_step}
 use Rattle.core_runs.specs.Beginnings.{Beginning}
-use Rattle.core_runs.specs.Sequences.{HasEndedBy}
+use Rattle.core_runs.specs.Sequences.{HasEndedBy, EndsByItself}
 use Rattle.core_runs.specs.Kept.{IsKept}
 use Rattle.core_runs.specs.Traces.{IsTraceOf}
 use Rattle.core_runs.specs.Waits.{HasEndedIn, IsUnready, IsWaiting}
@@ -45,8 +45,7 @@ module _ {C M B : Type 0} (r : Rules C M B) (b : Beginning C M B) (m : Moment C 
   }
 
   -- an image that has ended made a step that ended it
-  pub stopped : IsOver (r.step c) → HasEndedIn i t
-  stopped o =
+  pub stopped : EndsByItself r.step (b.first i) → IsOver (r.step c) → HasEndedIn i t
+  stopped ends o =
       let lane = h.lanes i c at in
-      let in_run = is_image m.configs b.images i c h.count at in
-      subst HasEndedBy (sym (said_is r b m t h trace i)) ((h.fit.orderly i in_run).over (map said (list_at m.events i)) c (all_answer (list_at m.events i) lane.answered) lane.walks o)
+      subst HasEndedBy (sym (said_is r b m t h trace i)) (ends (map said (list_at m.events i)) c (all_answer (list_at m.events i) lane.answered) lane.walks o)

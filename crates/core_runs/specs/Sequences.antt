@@ -64,4 +64,8 @@ pub record IsOrderly {C : Type 0} (step : C → Move C Ask Reply) (first : C) : 
   pub joins : (es : List (Said Ask Reply)) (c : C) → AllAnswer Answers es → Walk step first es c → Joins es
   pub nothing_after : (es : List (Said Ask Reply)) (c : C) → AllAnswer Answers es → Walk step first es c → NothingAfterEnd es
   pub no_stamp_limit : (es : List (Said Ask Reply)) (c : C) → AllAnswer Answers es → Walk step first es c → Each (λ e. IsStampLimit e.ask → ⊥) es
-  pub over : (es : List (Said Ask Reply)) (c : C) → AllAnswer Answers es → WalkTo step first es c → IsOver (step c) → HasEndedBy es
+
+-- What is wanted of a machine's ends, apart from that: from here on it is over only behind a step that ended the image, whatever the replies are that answer. A run
+-- is one without this: it is asked where images that are over are said to have ended.
+abbrev pub EndsByItself : {C : Type 0} → (C → Move C Ask Reply) → C → Type 0
+EndsByItself {C} step first = (es : List (Said Ask Reply)) (c : C) → AllAnswer Answers es → WalkTo step first es c → IsOver (step c) → HasEndedBy es

@@ -13,6 +13,7 @@ ghost use Rattle.object_rules.specs.MemoryRules.{has_first_values};
 ghost use Rattle.core_runs.specs.Moments.{Moment, rules, item_at, ready_there, reply_there, can_step, Steps};
 ghost use Rattle.core_runs.specs.Beginnings.{Beginning, IsFirst};
 ghost use Rattle.core_runs.specs.CoreRuns.{IsCoreRun, IsFit};
+ghost use Rattle.core_runs.specs.Sequences.{EndsByItself};
 ghost use Rattle.core_runs.specs.Kept.{IsKept};
 ghost use Rattle.core_runs.specs.Lawful.{IsLawfulTrace, full_rules, full_beginning};
 ghost use Rattle.core_runs.specs.Traces.{IsTraceOf};
@@ -80,10 +81,10 @@ pub fn law_core_run_lawful<M: Walker>()
         → IsLawfulTrace coarrays n t }
 {}
 
-/// An image that has ended made a step that ended it.
+/// An image that has ended made a step that ended it, where its machine is over only behind such a step.
 pub fn law_ended<M: Walker, O: Object, B: Object>()
     ensures { (b : Beginning M.Config O.Made B.Made) (m : Moment M.Config O.Made B.Made) (t : List Entry) (i : ℕ) (c : M.Config)
-        → IsKept (rules M.Walker O.Object B.Object) b m → IsTraceOf m.events t
+        → IsKept (rules M.Walker O.Object B.Object) b m → IsTraceOf m.events t → EndsByItself M.step (b.first i)
         → item_at m.configs i ≡ Some c → IsOver (M.step c) → HasEndedIn i t }
 {}
 

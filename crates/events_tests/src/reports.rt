@@ -13,7 +13,7 @@ use caf_events::exchange::Exchange;
 use caf_events::fault::FaultKind;
 use caf_events::reply::Reply;
 use caf_events::round::Arriving;
-use caf_report::report::{Final, Report, Shown, Waiting};
+use caf_report::report::{Final, Race, Report, Shown, Waiting};
 use std::alloc::Global;
 use std::process::Abort;
 
@@ -155,4 +155,32 @@ fn final_values_and_the_trace_are_shown(rt: HostRuntime) {
     let wanted =
         "var 1 a = T\nvar 2 v = 7,-8\nvar 2 w = unallocated\n4 1 7 m2 write field:3 -5 > ok\n";
     says(&rt, alloc, report, true, 0, wanted);
+}
+
+#[test]
+fn a_race_comes_before_the_fault(rt: HostRuntime) {
+    let alloc = rt.alloc();
+    let name = Listing::from_slice(alloc, b"x").expect(&rt, "memory");
+    let names = Listing::of_one(alloc, name).expect(&rt, "memory");
+    let (first, second, owner, coarray, offset) = (0, 3, ImageNo(2), 0, 3);
+    let race = Race {
+        first,
+        second,
+        owner,
+        coarray,
+        offset,
+    };
+    let trace = faulty(&rt, alloc);
+    assert!(&rt; trace.entries.len() > second);
+    let report = Report::with_race(
+        2,
+        trace,
+        Some(race),
+        Listing::new(alloc),
+        names,
+        Listing::new(alloc),
+    );
+    let wanted =
+        "1: one\n1: \n1: three\n1: -4\n2: two\n2: \nrace on x:3 of image 2: image 2 event 1 line 7, image 1 event 2 line 7\n";
+    says(&rt, alloc, report, false, 5, wanted);
 }

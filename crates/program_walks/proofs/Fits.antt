@@ -11,12 +11,15 @@ use Rattle.image_acts.specs.Acts.{Act, ask, end_program}
 use Rattle.image_acts.specs.Meaning.{image_language}
 use Rattle.tree_meaning.specs.Forms.{bodies}
 use Rattle.tree_meaning.specs.Start.{first_core, start_of, walk_step}
-use Rattle.object_rules.specs.Cells.{Declared}
+use Rattle.object_rules.specs.Cells.{Declared, MadeMemory}
+use Rattle.core_runs.specs.Moments.{Moment}
+use Rattle.core_runs.specs.Lanes.{IsMoment}
+use Rattle.image_lanes.specs.Lanes.{OnLane}
 use Rattle.core_runs.specs.Beginnings.{IsOneOf}
 use Rattle.core_runs.specs.CoreRuns.{IsFit}
 use Rattle.program_walks.specs.Dues.{GoesInOrder}
-use Rattle.program_walks.specs.Hearing.{EndsWell}
-use Rattle.program_walks.specs.Runs.{lane_rules, lanes_begin, IsNeverStuck, program_hears, program_rules, program_begins, ProgramIsNeverStuck}
+use Rattle.program_walks.specs.Hearing.{EndsWell, GoesOnDue}
+use Rattle.program_walks.specs.Runs.{lane_rules, lanes_begin, program_rules, program_begins}
 use Rattle.program_walks.proofs.BoardAnswers.{board_answers, memory_answers}
 use Rattle.program_walks.proofs.Programs.{program_goes}
 use Rattle.program_walks.proofs.LaneOrder.{lane_fails}
@@ -25,19 +28,24 @@ use Rattle.program_walks.proofs.Hearing.{hears_due}
 
 pub lanes_fit : {C : Type 0} (step : C → Move C Ask Reply) (hears : C → Reply → Type 0) → ((c : C) (reply : Reply) → EndsWell step (step c) reply → hears c reply)
     → (coarrays : List Declared) (n : ℕ) (first : ℕ → C) (fails_at : ℕ → ℕ) (words : ℕ) → ((i : ℕ) → IsOneOf n i → GoesInOrder step (first i))
-    → IsNeverStuck step hears coarrays n first fails_at words → IsFit (lane_rules step hears) (lanes_begin coarrays n first fails_at words)
-lanes_fit step hears wells coarrays n first fails_at words order never = record {
+    → ((m : Moment (OnLane C) MadeMemory ℕ) → IsMoment (lane_rules step hears) (lanes_begin coarrays n first fails_at words) m → GoesOnDue step (lane_rules step hears) m)
+    → IsFit (lane_rules step hears) (lanes_begin coarrays n first fails_at words)
+lanes_fit step hears wells coarrays n first fails_at words order on = record {
   memory_answers = λ made h i a served ready. memory_answers made h i a ready;
   board_answers = λ made h i a served ready. board_answers made h i a ready;
-  orderly = λ i in_run. lane_orderly step i (fails_at i) words (first i) (order i in_run) (never.ends i in_run);
+  orderly = λ i in_run. lane_orderly step i (fails_at i) words (first i) (order i in_run);
   fails = λ i in_run es c answers w. lane_fails step (first i) (order i in_run) i (fails_at i) words es c answers w;
-  hears = λ m moment. hears_due step hears wells coarrays n first fails_at words order m moment (never.goes_on m moment);
+  hears = λ m moment. hears_due step hears wells coarrays n first fails_at words order m moment (on m moment);
 }
 
-pub program_fit : (p : checked.Program) (limit : ℕ) (coarrays : List Declared) (n : ℕ) (fails_at : ℕ → ℕ) (words : ℕ) → ProgramIsNeverStuck p limit coarrays n fails_at words
-    → IsFit (program_rules p limit) (program_begins p coarrays n fails_at words)
-program_fit p limit coarrays n fails_at words never =
-    lanes_fit (walk_step p limit) (program_hears p limit) (λ c reply h. h) coarrays n (λ i. start_of p i n) fails_at words (λ i in_run. program_goes p limit i n) never
+pub program_fit : (p : checked.Program) (limit : ℕ) (coarrays : List Declared) (n : ℕ) (fails_at : ℕ → ℕ) (words : ℕ) → IsFit (program_rules p limit) (program_begins p coarrays n fails_at words)
+program_fit p limit coarrays n fails_at words = record {
+  memory_answers = λ made h i a served ready. memory_answers made h i a ready;
+  board_answers = λ made h i a served ready. board_answers made h i a ready;
+  orderly = λ i in_run. lane_orderly (walk_step p limit) i (fails_at i) words (start_of p i n) (program_goes p limit i n);
+  fails = λ i in_run es c answers w. lane_fails (walk_step p limit) (start_of p i n) (program_goes p limit i n) i (fails_at i) words es c answers w;
+  hears = λ m moment i c a at next ready. tt;
+}
 
 -- what has the walks of a program goes in order as it does
 pub code_goes : (p : checked.Program) (limit me n : ℕ) (code : List (Line Act)) → HasWalksOf image_language Answers (ask end_program) (bodies p) p.end_line limit (first_core p me n) code

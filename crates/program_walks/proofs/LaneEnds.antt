@@ -50,14 +50,14 @@ module _ {C : Type 0} (step : C → Move C Ask Reply) where
   Ls = lane_step step
 
   -- ---- in a failure and at a limit
-  same_asks : (a b : Ask) (l m : ℕ) (j k : Reply → OnLane C) → ◌≡◌ {A = Move (OnLane C) Ask Reply} (asks a l j) (asks b m k) → (a ≡ b) × (l ≡ m) × (j ≡ k)
+  pub same_asks : (a b : Ask) (l m : ℕ) (j k : Reply → OnLane C) → ◌≡◌ {A = Move (OnLane C) Ask Reply} (asks a l j) (asks b m k) → (a ≡ b) × (l ≡ m) × (j ≡ k)
   same_asks a b l m j k h = (cc, cc, cc)
 
-  no_asks : (n : ℕ) (l : OnLane C) (a : Ask) (m : ℕ) (k : Reply → OnLane C) → Ls l ≡ over → go Ls n l ≡ asks a m k → ⊥
+  pub no_asks : (n : ℕ) (l : OnLane C) (a : Ask) (m : ℕ) (k : Reply → OnLane C) → Ls l ≡ over → go Ls n l ≡ asks a m k → ⊥
   no_asks zero l a m k e h = absurd (cc)
   no_asks (suc n) l a m k e h = (let x : ◌≡◌ {A = Move (OnLane C) Ask Reply} over (asks a m k) = sym (ap (λ v. goes_on v (go Ls n)) e) ∙ h in absurd (cc))
 
-  over_says_nothing : (es : List (Said Ask Reply)) (l m : OnLane C) → Ls l ≡ over → Walk Ls l es m → es ≡ []
+  pub over_says_nothing : (es : List (Said Ask Reply)) (l m : OnLane C) → Ls l ≡ over → Walk Ls l es m → es ≡ []
   over_says_nothing [] l m e w = refl
   over_says_nothing (x ∷ es) l m e (k, (n, h), w) = absurd (no_asks n l x.ask x.line k e h)
 
@@ -69,7 +69,7 @@ module _ {C : Type 0} (step : C → Move C Ask Reply) where
   stays_there zero l c a m k e h = same_config l c h
   stays_there (suc n) l c a m k e h = (let x : ◌≡◌ {A = Move (OnLane C) Ask Reply} (asks a m k) (goes c) = sym (ap (λ v. goes_on v (go Ls n)) e) ∙ h in absurd (cc))
 
-  asks_now : (n : ℕ) (l : OnLane C) (a b : Ask) (m q : ℕ) (j k : Reply → OnLane C) → Ls l ≡ asks a m j → go Ls n l ≡ asks b q k → (a ≡ b) × (m ≡ q) × (j ≡ k)
+  pub asks_now : (n : ℕ) (l : OnLane C) (a b : Ask) (m q : ℕ) (j k : Reply → OnLane C) → Ls l ≡ asks a m j → go Ls n l ≡ asks b q k → (a ≡ b) × (m ≡ q) × (j ≡ k)
   asks_now zero l a b m q j k e h = absurd (cc)
   asks_now (suc n) l a b m q j k e h = same_asks a b m q j k (sym (ap (λ v. goes_on v (go Ls n)) e) ∙ h)
 
@@ -118,10 +118,10 @@ module _ {C : Type 0} (step : C → Move C Ask Reply) where
   lane_goes (suc n) l c x h = goes_by n l c x (step x) refl h (λ d e. lane_goes n l c d e)
 
   -- where it comes to an ask its program comes to one
-  record Reached (l : OnLane C) (x : C) (a : Ask) (line : ℕ) (k : Reply → OnLane C) : Type 0 where
-    there : C
-    comes : Comes step x (goes there)
-    asked : program_next (at_program l there) (step there) ≡ asks a line k
+  pub record Reached (l : OnLane C) (x : C) (a : Ask) (line : ℕ) (k : Reply → OnLane C) : Type 0 where
+    pub there : C
+    pub comes : Comes step x (goes there)
+    pub asked : program_next (at_program l there) (step there) ≡ asks a line k
 
   reach_by : (n : ℕ) (l : OnLane C) (x : C) (a : Ask) (line : ℕ) (k : Reply → OnLane C) (v : Move C Ask Reply) → step x ≡ v → goes_on (program_next (at_program l x) v) (go Ls n) ≡ asks a line k
       → ((d : C) → go Ls n (at_program l d) ≡ asks a line k → Reached l d a line k) → Reached l x a line k
@@ -131,7 +131,7 @@ module _ {C : Type 0} (step : C → Move C Ask Reply) where
   reach_by n l x a line k (asks b m j) e h next = record { there = x; comes = (0, refl); asked = ap (program_next (at_program l x)) e ∙ sym (asks_stays (at_program l x) b m j (go Ls n)) ∙ h }
   reach_by n l x a line k over e h next = absurd (cc)
 
-  reach : (n : ℕ) (l : OnLane C) (x : C) (a : Ask) (line : ℕ) (k : Reply → OnLane C) → go Ls n (at_program l x) ≡ asks a line k → Reached l x a line k
+  pub reach : (n : ℕ) (l : OnLane C) (x : C) (a : Ask) (line : ℕ) (k : Reply → OnLane C) → go Ls n (at_program l x) ≡ asks a line k → Reached l x a line k
   reach zero l x a line k h = absurd (cc)
   reach (suc n) l x a line k h = reach_by n l x a line k (step x) refl h (λ d e. reach n l d a line k e)
 
@@ -199,12 +199,11 @@ module _ {C : Type 0} (step : C → Move C Ask Reply) where
     ]
   ]
 
-  pub lane_orderly : (image fails_at limit : ℕ) (first : C) → GoesInOrder step first → EndsInOrder step first → IsOrderly Ls (lane_start image fails_at limit first)
-  lane_orderly image fails_at limit first g ends = record {
+  pub lane_orderly : (image fails_at limit : ℕ) (first : C) → GoesInOrder step first → IsOrderly Ls (lane_start image fails_at limit first)
+  lane_orderly image fails_at limit first g = record {
     joins = λ es c answers w. lane_joins step first g image fails_at limit es c answers w;
     nothing_after = λ es c answers w. lane_nothing_after step first g image fails_at limit es c answers w;
     no_stamp_limit = λ es c answers w. lane_no_stamp step first g image fails_at limit es c answers w;
-    over = lane_over image fails_at limit first ends;
   }
 
   -- ---- a lane that goes by its program has walked as it did

@@ -11,3 +11,5 @@ pub mod LaneEnds
 pub mod Hearing
 pub mod Fits
 pub mod StuckTries
+pub mod LaneSame
+pub mod CodeRuns

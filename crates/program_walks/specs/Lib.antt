@@ -3,3 +3,4 @@ pub mod Keeping
 pub mod Ordered
 pub mod Hearing
 pub mod Runs
+pub mod Same

@@ -1,6 +1,7 @@
 //! The order of the asks of a program's walk, and of a lane over it.
 
-ghost use Rattle.std.specs.Prelude.{ℕ, List, [], IsTrue};
+ghost use Rattle.std.specs.Prelude.{ℕ, ◌≡◌, true, List, [], IsTrue};
+ghost use Rattle.std.specs.List.{list_all};
 ghost use Rattle.caf_events.specs.declared.ask.Ask.{Ask};
 ghost use Rattle.caf_events.specs.declared.reply.Reply.{Reply};
 ghost use Rattle.caf_events.specs.declared.event.Entry.{Entry};
@@ -9,18 +10,23 @@ ghost use Rattle.trace_theory.specs.Machines.{Said, Walk};
 ghost use Rattle.trace_theory.specs.Simulations.{AllAnswer};
 ghost use Rattle.object_rules.specs.BoardRules.{board_ready, board_reply};
 ghost use Rattle.object_rules.specs.Cells.{Declared, MadeMemory};
-ghost use Rattle.object_rules.specs.MemoryRules.{memory_ready, memory_reply};
+ghost use Rattle.object_rules.specs.MemoryRules.{has_first_values, memory_ready, memory_reply};
 ghost use Rattle.core_runs.specs.Beginnings.{IsOneOf};
 ghost use Rattle.core_runs.specs.Failures.{FailsFrom};
 ghost use Rattle.core_runs.specs.Lanes.{IsMoment, HearsDue};
-ghost use Rattle.core_runs.specs.CoreRuns.{IsFit};
+ghost use Rattle.core_runs.specs.CoreRuns.{IsFit, IsCoreRun};
+ghost use Rattle.core_runs.specs.Kept.{IsKept};
+ghost use Rattle.core_runs.specs.Lawful.{IsLawfulTrace};
+ghost use Rattle.core_runs.specs.Traces.{IsTraceOf};
 ghost use Rattle.core_runs.specs.Moments.{Moment};
-ghost use Rattle.core_runs.specs.Sequences.{IsOrderly, Joins, NothingAfterEnd};
+ghost use Rattle.core_runs.specs.Sequences.{IsOrderly, EndsByItself, Joins, NothingAfterEnd};
 ghost use Rattle.image_lanes.specs.Lanes.{OnLane, lane_step, lane_start};
 ghost use Rattle.walk_theory.specs.Code.{Line, at_place, code_step};
 ghost use Rattle.walk_theory.specs.Programs.{HasWalksOf};
 ghost use Rattle.checked_tree.specs.Statements as checked;
 ghost use Rattle.image_acts.specs.Acts.{Act, ask, end_program};
+ghost use Rattle.image_acts.specs.Core.{Core};
+ghost use Rattle.walk_theory.specs.Walks.{Config};
 ghost use Rattle.image_acts.specs.Meaning.{image_language};
 ghost use Rattle.tree_meaning.specs.Forms.{bodies};
 ghost use Rattle.tree_meaning.specs.Start.{first_core, start_of, walk_step};
@@ -28,7 +34,8 @@ ghost use Rattle.program_walks.specs.Dues.{GoesInOrder};
 ghost use Rattle.program_walks.specs.Keeping.{BodiesKeep};
 ghost use Rattle.program_walks.specs.Ordered.{IsOrdered, EndsInOrder};
 ghost use Rattle.program_walks.specs.Hearing.{EndsWell, GoesOnDue};
-ghost use Rattle.program_walks.specs.Runs.{lane_rules, lanes_begin, IsNeverStuck, program_rules, program_begins, ProgramIsNeverStuck};
+ghost use Rattle.program_walks.specs.Same.{SaysAs};
+ghost use Rattle.program_walks.specs.Runs.{lane_rules, lanes_begin, program_rules, program_begins, code_rules, code_begins};
 
 use caf_events::walker::Walker;
 
@@ -56,10 +63,10 @@ pub fn law_lane_goes_in_order<M: Walker>()
         → Joins es × NothingAfterEnd es × FailsFrom image es [] }
 {}
 
-/// It is orderly where the program is over only behind a step that ended its image, or behind FAIL IMAGE.
+/// It is orderly; and it is over only behind a step that ended its image, where the program is so or behind FAIL IMAGE.
 pub fn law_lane_orderly<M: Walker>()
-    ensures { (image fails_at limit : ℕ) (first : M.Config) → GoesInOrder M.step first → EndsInOrder M.step first
-        → IsOrderly (lane_step M.step) (lane_start image fails_at limit first) }
+    ensures orderly { (image fails_at limit : ℕ) (first : M.Config) → GoesInOrder M.step first → IsOrderly (lane_step M.step) (lane_start image fails_at limit first) }
+    ensures ends { (image fails_at limit : ℕ) (first : M.Config) → EndsInOrder M.step first → EndsByItself (lane_step M.step) (lane_start image fails_at limit first) }
 {}
 
 /// The reply of the control board is one of the forms that answer the ask, and so is that of a memory.
@@ -77,17 +84,27 @@ pub fn law_lane_hears_due<M: Walker>()
         → GoesOnDue M.step (lane_rules M.step M.hears) m → HearsDue (lane_rules M.step M.hears) m }
 {}
 
-/// A run of lanes over such programs is fit where they are never stuck.
+/// A run of lanes over such programs is fit where they aren't stuck behind the replies that are due.
 pub fn law_lanes_fit<M: Walker>()
     ensures { ((c : M.Config) (reply : Reply) → EndsWell M.step (M.step c) reply → M.hears c reply)
         → (coarrays : List Declared) (n : ℕ) (first : ℕ → M.Config) (fails_at : ℕ → ℕ) (words : ℕ) → ((i : ℕ) → IsOneOf n i → GoesInOrder M.step (first i))
-        → IsNeverStuck M.step M.hears coarrays n first fails_at words → IsFit (lane_rules M.step M.hears) (lanes_begin coarrays n first fails_at words) }
+        → ((m : Moment (OnLane M.Config) MadeMemory ℕ) → IsMoment (lane_rules M.step M.hears) (lanes_begin coarrays n first fails_at words) m → GoesOnDue M.step (lane_rules M.step M.hears) m)
+        → IsFit (lane_rules M.step M.hears) (lanes_begin coarrays n first fails_at words) }
 {}
 
-/// A run of a checked program is fit where the walk of its tree is never stuck.
+/// The run of a checked program is fit, on every number of images, with every list of failures and every limit: its traces are core runs, and lawful.
 pub fn law_program_fit()
-    ensures { (p : checked.Program) (limit : ℕ) (coarrays : List Declared) (n : ℕ) (fails_at : ℕ → ℕ) (words : ℕ)
-        → ProgramIsNeverStuck p limit coarrays n fails_at words → IsFit (program_rules p limit) (program_begins p coarrays n fails_at words) }
+    ensures { (p : checked.Program) (limit : ℕ) (coarrays : List Declared) (n : ℕ) (fails_at : ℕ → ℕ) (words : ℕ) → IsFit (program_rules p limit) (program_begins p coarrays n fails_at words) }
+{}
+
+/// So its traces are lawful: the trace of each moment that its steps lead to is a core run, and each core run is a lawful trace, where each static coarray of values
+/// has a first value of its kind for each of its cells.
+pub fn law_program_runs()
+    ensures kept { (p : checked.Program) (limit : ℕ) (coarrays : List Declared) (n : ℕ) (fails_at : ℕ → ℕ) (words : ℕ) (m : Moment (OnLane (Config Act Core)) MadeMemory ℕ) (t : List Entry)
+        → IsKept (program_rules p limit) (program_begins p coarrays n fails_at words) m → IsTraceOf m.events t
+        → IsCoreRun (program_rules p limit) (program_begins p coarrays n fails_at words) t }
+    ensures lawful { (p : checked.Program) (limit : ℕ) (coarrays : List Declared) (n : ℕ) (fails_at : ℕ → ℕ) (words : ℕ) (t : List Entry)
+        → list_all has_first_values coarrays ≡ true → IsCoreRun (program_rules p limit) (program_begins p coarrays n fails_at words) t → IsLawfulTrace coarrays n t }
 {}
 
 /// Code that has the walks of a program goes in order as the program does.
@@ -95,4 +112,19 @@ pub fn law_code_goes_in_order()
     ensures { (p : checked.Program) (limit me images : ℕ) (code : List (Line Act))
         → HasWalksOf image_language Answers (ask end_program) (bodies p) p.end_line limit (first_core p me images) code
         → GoesInOrder (code_step image_language code limit) (at_place 0 [] (first_core p me images) 0) }
+{}
+
+/// Lanes over programs that say the same say the same.
+pub fn law_lanes_say_the_same<M: Walker, N: Walker>()
+    ensures { (image fails_at limit : ℕ) (c : M.Config) (d : N.Config) → SaysAs M.step N.step c d
+        → (es : List (Said Ask Reply)) (m : OnLane M.Config) → AllAnswer Answers es → Walk (lane_step M.step) (lane_start image fails_at limit c) es m
+        → (o : OnLane N.Config) × Walk (lane_step N.step) (lane_start image fails_at limit d) es o }
+{}
+
+/// The runs of a program's code are the runs of the program: a trace is a core run of lanes over the code exactly where it is one of lanes over the tree's walk.
+pub fn law_code_runs()
+    ensures onward { (p : checked.Program) (limit : ℕ) (coarrays : List Declared) (n : ℕ) (fails_at : ℕ → ℕ) (words : ℕ) (t : List Entry)
+        → IsCoreRun (program_rules p limit) (program_begins p coarrays n fails_at words) t → IsCoreRun (code_rules p limit) (code_begins p coarrays n fails_at words) t }
+    ensures backward { (p : checked.Program) (limit : ℕ) (coarrays : List Declared) (n : ℕ) (fails_at : ℕ → ℕ) (words : ℕ) (t : List Entry)
+        → IsCoreRun (code_rules p limit) (code_begins p coarrays n fails_at words) t → IsCoreRun (program_rules p limit) (program_begins p coarrays n fails_at words) t }
 {}

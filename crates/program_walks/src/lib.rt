@@ -1,7 +1,7 @@
-//! The walks of checked programs, and of lanes over them, in the order that runs want: definitions and laws alone.
-//! It stands on `tree_meaning` and `core_runs`; a run of full programs stands on it.
-//! Its main contract is `law_program_goes_in_order`: whatever the replies are that answer, each arrival that joined is directly followed by its departure, and
-//! nothing follows the step that ends the image or begins its failure.
+//! The walks of checked programs, lanes over them and their runs: definitions and laws alone.
+//! It stands on `tree_meaning`, `image_lanes` and `core_runs`; a run of full programs stands on it.
+//! Its main contracts: each walk of a program is in order (`law_program_goes_in_order`), the run of a checked program is fit (`law_program_fit`), so that its
+//! traces are core runs and lawful (`law_program_runs`), and the runs of the program's code are the runs of the program (`law_code_runs`).
 #![tactic(auto)]
 
 pub mod laws;

@@ -115,8 +115,8 @@ fn posting(cell: CellName, reply: &Reply) -> Act
     }
 }
 
-// The numbers of these images.
-fn numbers(alloc: Global, images: &[ImageNo]) -> Result<Vec<u32>, NoMemory>
+/// The numbers of these images.
+pub fn numbers(alloc: Global, images: &[ImageNo]) -> Result<Vec<u32>, NoMemory>
     ensures { IfOk result (λ v. v.items ≡ map (λ i. i.0) images.now) }
 {
     Ok(images.iter().map(|i| i.0).collect(alloc)?)

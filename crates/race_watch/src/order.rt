@@ -1,12 +1,14 @@
 //! The clocks of images and of what waits while a trace is read.
 
 ghost use Rattle.std.specs.Prelude.{◌≡◌, ◌<◌, ◌≤◌, ◌+◌, ◌-◌, ◌^◌, ◌&&◌, ℕ, [], ◌∷◌, ◌++◌, length, get_or, set, nat_eq, cond, replicate, true, IfOk};
-ghost use Rattle.order_theory.specs.Acts.{names, arrives, leaves, pairs, unpairs, gets, unlocks, enters, exits, posts, waits, finishes, creates, deletes};
+ghost use Rattle.order_theory.specs.Order.{done};
+ghost use Rattle.order_theory.specs.Acts.{entries, names, arrives, leaves, pairs, unpairs, gets, unlocks, enters, exits, posts, waits, finishes, creates, deletes};
 ghost use Rattle.order_theory.specs.Acts as theory;
 ghost use Rattle.segment_clock.specs.Counts.{count_of, joined, ticked};
 ghost use Rattle.race_watch.specs.ActParts.{as_act, as_cell};
 ghost use Rattle.race_watch.specs.Tables.{counts_of, IsClockOf, queue_at};
-ghost use Rattle.race_watch.specs.Orders.{line_of, OnlyFinishes, Sized, Differ, IsSound, Ordered, Completing, GoingOn, paired};
+ghost use Rattle.order_axioms.specs.Views.{view};
+ghost use Rattle.race_watch.specs.Orders.{line_of, clock_of, OnlyFinishes, Sized, Differ, IsSound, Ordered, Completing, GoingOn, paired};
 
 use crate::act::{Act, CellName};
 use crate::queue::QueueTable;
@@ -394,6 +396,24 @@ impl Order {
             events: QueueTable::new(alloc),
             pairs: QueueTable::new(alloc),
         })
+    }
+
+    /// The clock of an image's present segment, ticked.
+    pub fn clock(&self, _n: u32, _before: &[Entry], image: ImageNo) -> &Clock
+        requires image { (0 < image.0) × (image.0 ≤ _n) }
+        requires order { Ordered _n _before.now self.now }
+        ensures { result.now ≡ clock_of self.now image.0 }
+    {
+        &self.images[(image.0 - 1) as usize]
+    }
+
+    /// How many segments an image has completed.
+    pub fn completed(&self, _n: u32, _before: &[Entry], image: ImageNo) -> u64
+        requires image { (0 < image.0) × (image.0 ≤ _n) }
+        requires order { Ordered _n _before.now self.now }
+        ensures { result ≡ done (entries (view _n)) image.0 _before.now }
+    {
+        self.completed[(image.0 - 1) as usize]
     }
 
     /// The next entry of the trace: what its act does. `told` covers the last segments of the failed images of which its status speaks.

@@ -1,7 +1,12 @@
 //! What is kept while the entries of a trace are read.
 
 ghost use Rattle.std.specs.Prelude.{◌≡◌, ◌<◌, ◌≤◌, ℕ, [], ◌∷◌, ◌++◌, length, get_or, IfOk, MatchBool};
-ghost use Rattle.order_axioms.specs.Views.{act_of};
+ghost use Rattle.order_theory.specs.Order.{done};
+ghost use Rattle.order_theory.specs.Clocks.{Covers};
+ghost use Rattle.order_theory.specs.Acts.{entries};
+ghost use Rattle.order_theory.specs.Stored.{present};
+ghost use Rattle.segment_clock.specs.Counts.{count_of};
+ghost use Rattle.order_axioms.specs.Views.{act_of, view, edges};
 ghost use Rattle.race_watch.specs.ActParts.{as_act};
 ghost use Rattle.race_watch.specs.Touched.{FitsMemory, MadeIs};
 ghost use Rattle.race_watch.specs.Marked.{Marked, HasPartner, TouchesAll, MayNote};
@@ -11,6 +16,7 @@ use crate::act::{Act, act_by};
 use crate::marks::Marks;
 use crate::order::{Order, line_of};
 use crate::touch::{Touch, touch_by};
+use caf_base::place::ImageNo;
 use caf_base::refusal::NoMemory;
 use caf_events::ask::Ask;
 use caf_events::event::Entry;
@@ -79,8 +85,8 @@ fn keep_made(
     }
 }
 
-// What an entry is to segment order.
-fn act_of(alloc: Global, e: &Entry) -> Result<Act, NoMemory>
+/// What an entry is to segment order.
+pub fn act_of(alloc: Global, e: &Entry) -> Result<Act, NoMemory>
     ensures { IfOk result (λ a. as_act a ≡ act_of e.now) }
 {
     let ask = e.event.told().ask(alloc);
@@ -103,8 +109,27 @@ impl Recorder {
         })
     }
 
-    // What an entry touches.
-    fn touch_of(
+    /// The clock of an image's present segment, ticked: it covers this segment and those that precede it.
+    pub fn clock(&self, _n: u32, _before: &[Entry], image: ImageNo) -> &Clock
+        requires image { (0 < image.0) × (image.0 ≤ _n) }
+        requires recorded { IsRecorded _n _before.now self.now }
+        ensures size { length result.now ≡ _n }
+        ensures covers { Covers (edges _n) _before.now (present (view _n) _before.now image.0 ∷ []) (count_of result.now) }
+    {
+        self.order.clock(_n, _before, image)
+    }
+
+    /// How many segments an image has completed.
+    pub fn completed(&self, _n: u32, _before: &[Entry], image: ImageNo) -> u64
+        requires image { (0 < image.0) × (image.0 ≤ _n) }
+        requires recorded { IsRecorded _n _before.now self.now }
+        ensures { result ≡ done (entries (view _n)) image.0 _before.now }
+    {
+        self.order.completed(_n, _before, image)
+    }
+
+    /// What an entry touches.
+    pub fn touch_of(
         &self,
         alloc: Global,
         n: u32,

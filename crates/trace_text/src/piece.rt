@@ -117,7 +117,7 @@ pub(crate) fn push_images(
 }
 
 /// Appends the name of the coarray of a number, nothing where it isn't one of them.
-pub(crate) fn push_name(out: &mut Vec<u8>, names: &[Text], coarray: u32) -> Result<(), NoMemory>
+pub fn push_name(out: &mut Vec<u8>, names: &[Text], coarray: u32) -> Result<(), NoMemory>
     ensures { OnOk result (out.new.items ≡ out.old.items ++ name_text names.now coarray) }
 {
     match names.get(coarray as usize) {

@@ -8,7 +8,8 @@ use Rattle.caf_words.specs.Words.{words_in, IsRun, IsCheck, IsValid}
 use Rattle.caf_words.proofs.Meanings.{not_both}
 use Rattle.caf_run.specs.declared.task.Task.{Task}
 use Rattle.caf_run.specs.declared.task.Task.TheVariants.{Check, Run}
-use Rattle.caf_run.specs.Dues.{IsRunStatus, IsDoneStatus, IsDue, IsTaskDone, ReportClause, RunClause}
+use Rattle.run_report.specs.Runs.{IsRunStatus}
+use Rattle.caf_run.specs.Dues.{IsDoneStatus, IsDue, IsTaskDone, ReportClause, RunClause}
 use Rattle.caf_run.specs.Reading.{HasBytes}
 use Rattle.caf_run.specs.Sources.{IsGood}
 use Rattle.caf_run.specs.Tasks.{Asks}

@@ -1,0 +1,130 @@
+//! The first partner of an entry in a race.
+
+ghost use Rattle.std.specs.Prelude.{◌≡◌, ◌<◌, ℕ, List, ◌∷◌, ◌++◌, length, IfOk, MatchOption, MatchBool};
+ghost use Rattle.caf_events.specs.declared.event.Entry.{Entry};
+ghost use Rattle.race_watch.specs.ActParts.{as_cell};
+ghost use Rattle.race_watch.specs.Recorded.{FitsRun, IsRecorded};
+ghost use Rattle.race_watch.specs.Marked.{Touching};
+ghost use Rattle.race_search.specs.Known.{Fits, AllFit, AllNoted};
+ghost use Rattle.race_search.specs.Partners.{Apart, RacesWith, LeastShared, NoneBelow, IsPartner};
+
+use crate::shared::shared;
+use crate::told::Watcher;
+use caf_base::refusal::NoMemory;
+use caf_events::event::Entry;
+use race_watch::act::CellName;
+use race_watch::recorder::Recorder;
+use race_watch::touch::Touch;
+use std::alloc::Global;
+
+/// The place of an entry, and the least cell that it shares with another.
+#[derive(Clone, Copy)]
+pub struct Partner {
+    pub at: usize,
+    pub cell: CellName,
+}
+
+// Whether neither segment precedes the other: that of x after the entries b, which `again` has recorded, and that of e after the entries g, which `s` has.
+fn is_apart(
+    n: u32,
+    again: &Recorder,
+    b: &[Entry],
+    x: &Entry,
+    s: &Recorder,
+    g: &[Entry],
+    e: &Entry,
+) -> bool
+    requires there { FitsRun n b.now x.now × IsRecorded n b.now again.now }
+    requires here { FitsRun n g.now e.now × IsRecorded n g.now s.now }
+    requires within { (h : List Entry) × (g.now ≡ b.now ++ x.now ∷ h) }
+    requires other { x.now.image.0 ≡ e.now.image.0 → ⊥ }
+    ensures { MatchBool result (Apart n b.now x.now g.now e.now) (Apart n b.now x.now g.now e.now → ⊥) }
+{
+    let is_before = s
+        .clock(n, g, e.image)
+        .covers(x.image, again.completed(n, b, x.image));
+    let is_after = again
+        .clock(n, b, x.image)
+        .covers(e.image, s.completed(n, g, e.image));
+    !is_before && !is_after
+}
+
+// The least cell that x shares with e, where the two are a race.
+fn race_cell(
+    alloc: Global,
+    n: u32,
+    again: &Recorder,
+    b: &[Entry],
+    x: &Entry,
+    s: &Recorder,
+    g: &[Entry],
+    e: &Entry,
+    touch: &Touch,
+) -> Result<Option<CellName>, NoMemory>
+    requires there { FitsRun n b.now x.now × IsRecorded n b.now again.now }
+    requires here { FitsRun n g.now e.now × IsRecorded n g.now s.now }
+    requires within { (h : List Entry) × (g.now ≡ b.now ++ x.now ∷ h) }
+    requires touch { Touching n g.now e.now touch.now }
+    ensures { IfOk result (λ o. MatchOption o (RacesWith n b.now x.now g.now e.now → ⊥) (λ c. RacesWith n b.now x.now g.now e.now × LeastShared b.now x.now g.now e.now (as_cell c))) }
+{
+    if x.image.0 == e.image.0 {
+        return Ok(None);
+    }
+    if !is_apart(n, again, b, x, s, g, e) {
+        return Ok(None);
+    }
+    let other = again.touch_of(alloc, n, b, x)?;
+    let cell = shared(n, b, x, &other, g, e, touch);
+    drop(other);
+    Ok(cell)
+}
+
+// The first entry that is a race with e, which touches these cells: the entries are recorded once more, for the clock of each where it stands.
+fn scan(
+    alloc: Global,
+    n: u32,
+    s: &Recorder,
+    before: &[Entry],
+    e: &Entry,
+    touch: &Touch,
+) -> Result<Option<Partner>, NoMemory>
+    requires all { AllFit n before.now × AllNoted n before.now }
+    requires fits { FitsRun n before.now e.now }
+    requires recorded { IsRecorded n before.now s.now }
+    requires touch { Touching n before.now e.now touch.now }
+    ensures { IfOk result (λ o. MatchOption o (NoneBelow n before.now e.now (length before.now)) (λ p. IsPartner n before.now e.now p.at (as_cell p.cell))) }
+{
+    let mut again = Watcher::new(alloc, n)?;
+    for at in 0..before.len() {
+        let b = &before[..at];
+        let x = &before[at];
+        if let Some(cell) = race_cell(alloc, n, &again.recorder, b, x, s, before, e, touch)? {
+            return Ok(Some(Partner { at, cell }));
+        }
+        again.follow(alloc, n, b, x)?;
+    }
+    Ok(None)
+}
+
+/// The first entry that is a race with e, and the least cell that both touch.
+pub fn first_partner(
+    alloc: Global,
+    n: u32,
+    s: &Recorder,
+    before: &[Entry],
+    e: &Entry,
+) -> Result<Option<Partner>, NoMemory>
+    requires all { AllFit n before.now × AllNoted n before.now }
+    requires fits { FitsRun n before.now e.now }
+    requires recorded { IsRecorded n before.now s.now }
+    ensures { IfOk result (λ o. MatchOption o (NoneBelow n before.now e.now (length before.now)) (λ p. IsPartner n before.now e.now p.at (as_cell p.cell))) }
+{
+    match s.touch_of(alloc, n, before, e)? {
+        Some(touch) => {
+            let partner = scan(alloc, n, s, before, e, &touch);
+            drop(touch);
+            partner
+        }
+        None => Ok(None),
+    }
+}

@@ -1,0 +1,72 @@
+//! The first race of a trace.
+
+ghost use Rattle.std.specs.Prelude.{◌≡◌, ◌<◌, ◌^◌, ℕ, List, length, IfOk, MatchOption};
+ghost use Rattle.object_rules.specs.Cells.{Declared};
+ghost use Rattle.core_runs.specs.Lawful.{IsLawfulTrace};
+ghost use Rattle.order_axioms.specs.Views.{edges};
+ghost use Rattle.order_axioms.specs.Touching.{touches};
+ghost use Rattle.order_axioms.specs.FirstRaces.{HasNoRace, IsFirstRace};
+ghost use Rattle.race_watch.specs.ActParts.{as_cell};
+ghost use Rattle.race_watch.specs.Recorded.{FitsRun, IsRecorded};
+ghost use Rattle.race_search.specs.Known.{AllFit, AllNoted};
+ghost use Rattle.race_search.specs.Partners.{NoneBelow, IsPartner};
+
+use crate::partner::{Partner, first_partner};
+use crate::told::Watcher;
+use caf_base::refusal::NoMemory;
+use caf_events::event::Entry;
+use race_watch::act::CellName;
+use race_watch::recorder::Recorder;
+use std::alloc::Global;
+
+/// Two entries by their places in the trace from 0, the earlier one first, and the least cell that both touch.
+#[derive(Clone, Copy)]
+pub struct Race {
+    pub first: usize,
+    pub second: usize,
+    pub cell: CellName,
+}
+
+// The first entry that is a race with the next one, and the least cell that both touch.
+fn partner_of(
+    alloc: Global,
+    n: u32,
+    s: &Recorder,
+    before: &[Entry],
+    e: &Entry,
+) -> Result<Option<Partner>, NoMemory>
+    requires all { AllFit n before.now × AllNoted n before.now }
+    requires fits { FitsRun n before.now e.now }
+    requires recorded { IsRecorded n before.now s.now }
+    ensures { IfOk result (λ o. MatchOption o (NoneBelow n before.now e.now (length before.now)) (λ p. IsPartner n before.now e.now p.at (as_cell p.cell))) }
+{
+    if s.clash(alloc, n, before, e)? {
+        first_partner(alloc, n, s, before, e)
+    } else {
+        Ok(None)
+    }
+}
+
+/// The first race of the trace of a run of n images: the earliest entry that is a race with an earlier one, the earliest such partner, and the least cell
+/// that both touch; None exactly where the trace has no race (ISO/IEC 1539-1:2018, 11.6.2). Condition: the trace is lawful for some coarrays, and has fewer
+/// than 2^62 entries.
+pub fn watch(alloc: Global, trace: &[Entry], n: u32) -> Result<Option<Race>, NoMemory>
+    requires lawful { (coarrays : List Declared) × IsLawfulTrace coarrays n trace.now }
+    requires short { length trace.now < 2 ^ 62 }
+    ensures { IfOk result (λ o. MatchOption o (HasNoRace (edges n) touches trace.now) (λ r. IsFirstRace (edges n) touches trace.now r.first r.second (as_cell r.cell))) }
+{
+    let mut watcher = Watcher::new(alloc, n)?;
+    for at in 0..trace.len() {
+        let before = &trace[..at];
+        let e = &trace[at];
+        if let Some(partner) = partner_of(alloc, n, &watcher.recorder, before, e)? {
+            return Ok(Some(Race {
+                first: partner.at,
+                second: at,
+                cell: partner.cell,
+            }));
+        }
+        watcher.follow(alloc, n, before, e)?;
+    }
+    Ok(None)
+}

@@ -1,0 +1,186 @@
+-- The report of a run is that of its trace.
+use Rattle.std.proofs.Common.{◌≡◌, ℕ, zero, suc, ◌+◌, ◌<◌, ◌≤◌, Bool, false, List, [], ◌∷◌, inl, inr, length, refl, ap, sym, ◌∙◌, subst, arith}
+use Rattle.std.specs.Prelude.{Option, Some, None, Ok, map, slice_get, nat_eq, MatchOption, IfSome, IfNone}
+use Rattle.std.specs.List.{filter, range_with_len}
+use Rattle.std.proofs.lemmas.Bool.{cases_Bool, cases_lt}
+use Rattle.caf_base.specs.declared.refusal.NoMemory.{NoMemory}
+use Rattle.caf_base.specs.declared.thin.ThinProgram.{ThinProgram}
+use Rattle.caf_events.specs.declared.event.Entry.{Entry}
+use Rattle.caf_events.specs.declared.event.Trace.{Trace}
+use Rattle.caf_events.specs.Events.{EndsRun}
+use Rattle.caf_events.specs.Walkers.{AsksNext, IsAtLine}
+use Rattle.trace_theory.specs.Entries.{Each}
+use Rattle.trace_theory.proofs.Filters.{of_inside, each_filter}
+use Rattle.trace_theory.proofs.Snocs.{each_at}
+use Rattle.core_runs.specs.Lists.{image_of}
+use Rattle.core_runs.specs.Moments.{Rules, Moment, item_at, can_step}
+use Rattle.core_runs.specs.Beginnings.{Beginning, IsImage, IsFirst}
+use Rattle.core_runs.specs.CoreRuns.{of_image, IsCoreRun}
+use Rattle.core_runs.specs.Kept.{IsKept}
+use Rattle.core_runs.specs.Sequences.{EndsByItself}
+use Rattle.core_runs.specs.Lawful.{IsLawfulTrace, made_memory}
+use Rattle.core_runs.specs.Orders.{candidates, EndsAtLast, IsWhole, IsOrderTrace}
+use Rattle.core_runs.specs.Traces.{IsTraceOf}
+use Rattle.core_runs.specs.Waits.{IsWaiting}
+use Rattle.core_runs.proofs.Lanes.{is_image}
+use Rattle.core_runs.proofs.OrderTraces.{order_trace, order_same}
+use Rattle.core_runs.proofs.Waits.{waiting, stopped}
+use Rattle.image_core.specs.declared.choices.RunEnd.{RunEnd}
+use Rattle.image_core.specs.declared.choices.RunEnd.TheVariants.{Ending, AllOver, AllWait}
+use Rattle.image_core.specs.declared.choices.Choices.{Choices}
+use Rattle.image_core.specs.declared.run.ImageRun.{ImageRun}
+use Rattle.image_core.specs.declared.parts.PartsOf.{PartsOf}
+use Rattle.image_core.specs.Choosing.{choosing}
+use Rattle.image_core.specs.Orders.{EndIs, IsOrderRun}
+use Rattle.image_core.specs.Parts.{event_lists}
+use Rattle.image_core.specs.Starts.{thin_moment}
+use Rattle.image_core.proofs.Slices.{map_length}
+use Rattle.thin_parts.specs.ThinBoard.{BoardMeaning}
+use Rattle.thin_parts.specs.ThinMemory.{MemoryMeaning}
+use Rattle.thin_parts.specs.ThinRuns.{thin_rules, thin_beginning}
+use Rattle.thin_parts.specs.ThinWalk.{Config, thin_step}
+use Rattle.thin_parts.proofs.ThinWalks.{thin_ends}
+use Rattle.object_rules.specs.Cells.{Declared}
+use Rattle.order_theory.specs.Races.{NoRace}
+use Rattle.order_axioms.specs.FirstRaces.{HasNoRace, Allowed}
+use Rattle.order_axioms.specs.Touching.{touches, accesses}
+use Rattle.order_axioms.specs.Views.{edges}
+use Rattle.order_axioms.proofs.AllLaws.{reads_of}
+use Rattle.order_axioms.proofs.MemoryRule.{lawful_reads_last}
+use Rattle.order_axioms.proofs.Quiet.{lawful_quiet}
+use Rattle.thin_lawful.specs.ThinCoarrays.{thin_coarrays}
+use Rattle.caf_report.specs.declared.report.End.{End}
+use Rattle.caf_report.specs.declared.report.End.TheVariants as ends
+use Rattle.caf_report.specs.declared.report.Race.{Race}
+use Rattle.caf_report.specs.declared.report.Report.{Report}
+use Rattle.caf_report.specs.declared.report.Waiting.{Waiting}
+use Rattle.caf_report.specs.Ends.{EndsAt, HasNoEnding, IsEndOf, IsPlain}
+use Rattle.run_report.specs.Runs.{choices_of, names_of, before_race, AreHeld, AreWaiting, IsRace, IsRunEnd, IsReportEnd, IsReportOf}
+
+-- an ordered run that was answered is whole
+pub whole_of : {C M B : Type 0} (r : Rules C M B) (m : Moment C M B) (xs : List Entry) (end : RunEnd) → EndIs r m xs end → IsWhole r xs m
+whole_of r m xs (Ending image) h = inl h.0
+whole_of r m xs AllOver h = inr (h.0, h.1)
+whole_of r m xs AllWait h = inr (h.0, h.1)
+
+none_passes : (p : ℕ → Bool) (a n i : ℕ) → filter p (range_with_len a n) ≡ [] → a ≤ i → i < a + n → p i ≡ false
+none_passes p a zero i h low high = absurd (omega arith)
+none_passes p a (suc n) i h low high = elim (cases_Bool (p a)) [
+  | inl t ↦ absurd (let g = rw t at h in cc)
+  | inr f ↦ elim (cases_lt a i) [
+    | inl l ↦ none_passes p (a + 1) n i (rw f at h) (omega arith) (omega arith)
+    | inr g ↦ (let e : a ≡ i = omega arith in subst (λ j. p j ≡ false) e f)
+  ]
+]
+
+-- where there is no candidate no image of the run can step
+cant_step : {C M B : Type 0} (r : Rules C M B) (b : Beginning C M B) (m : Moment C M B) → length m.configs ≡ b.images → candidates r m ≡ [] → (i : ℕ) → IsImage b i → can_step r m i ≡ false
+cant_step r b m l h i in_run = none_passes (can_step r m) 1 (length m.configs) i h (omega (arith, in_run.0)) (let k = in_run.1 in omega arith)
+
+none_at : (xs : List Entry) → ((k : ℕ) (x : Entry) → slice_get xs k ≡ Some x → EndsRun x.event → ⊥) → Each (λ x. EndsRun x.event → ⊥) xs
+none_at [] h = tt
+none_at (x ∷ xs) h = (h 0 x refl, none_at xs (λ k y at. h (suc k) y at))
+
+-- no entry of a trace without an ending event ends the run
+pub no_ending : (t : Trace) → HasNoEnding t → Each (λ x. EndsRun x.event → ⊥) t.entries
+no_ending t h = none_at t.entries (λ k x at ends. h k (ends_at k x at ends))
+  where
+    ends_at : (k : ℕ) (x : Entry) → slice_get t.entries k ≡ Some x → EndsRun x.event → EndsAt t k
+    ends_at k x at ends = rw at ends
+
+-- a trace without an ending event is that of steps of which none ends the run
+ends_nowhere : (t : Trace) (xs : List Entry) → ((i : ℕ) → of_image i t.entries ≡ of_image i xs) → HasNoEnding t → EndsAtLast xs → ⊥
+ends_nowhere t xs same none (before, last, all, rest, ends) =
+    each_at (λ x. EndsRun x.event → ⊥) (of_image (image_of last) before) [] last
+    (subst (Each (λ x. EndsRun x.event → ⊥)) (same (image_of last) ∙ ap (of_image (image_of last)) all ∙ of_inside image_of before [] last) (each_filter (λ x. EndsRun x.event → ⊥) (λ x. nat_eq (image_of x) (image_of last)) t.entries (no_ending t none)))
+    ends
+
+module _ {C M B : Type 0} (r : Rules C M B) (b : Beginning C M B) (m : Moment C M B) (t : Trace) (h : IsKept r b m) (trace : IsTraceOf m.events t.entries) (enders : (i : ℕ) → EndsByItself r.step (b.first i)) (stuck : candidates r m ≡ []) where
+  each_waits : (ws : List Waiting) → Each (λ w. (c : C) × (item_at m.configs w.image.0 ≡ Some c) × AsksNext (r.step c) w.ask × IsAtLine (r.step c) w.line) ws → Each (λ w. IsWaiting r b t.entries w.image.0 w.line w.ask) ws
+  each_waits [] e = tt
+  each_waits (w ∷ ws) ((c, at, ask, line), rest) =
+      (waiting r b m t.entries h trace w.image.0 c at (cant_step r b m h.count stuck w.image.0 (is_image m.configs b.images w.image.0 c h.count at)) w.ask w.line ask line, each_waits ws rest)
+
+  -- the images that haven't ended are those that wait
+  pub held_wait : (ws : List Waiting) → AreHeld r.step m.configs (length m.configs) ws → AreWaiting r b t ws
+  held_wait ws held = record {
+    rises = held.rises;
+    each = each_waits ws held.each;
+    all = λ i in_run. (let l = h.count in let k = in_run.1 in elim (held.all i in_run.0 (omega arith)) [
+      | inl (c, at, over) ↦ inl (stopped r b m t.entries h trace i c at (enders i) over)
+      | inr there ↦ inr there
+    ]);
+  }
+
+-- the end of a report of a whole run with the images that haven't ended is that of the run
+pub run_end : {C M B : Type 0} (r : Rules C M B) (b : Beginning C M B) (m : Moment C M B) (t : Trace) (xs : List Entry) (ws : List Waiting) (end : End) → IsKept r b m → IsTraceOf m.events t.entries → ((i : ℕ) → EndsByItself r.step (b.first i)) → ((i : ℕ) → of_image i t.entries ≡ of_image i xs)
+    → IsWhole r xs m → AreHeld r.step m.configs (length m.configs) ws → IsEndOf t ws end → IsRunEnd r b t end
+run_end r b m t xs ws end kept trace enders same (inl at_last) held is = record { ended = is.ended; open_end = λ none. absurd (ends_nowhere t xs same none at_last) }
+run_end r b m t xs ws end kept trace enders same (inr (rest, stuck)) held is = record { ended = is.ended; open_end = λ none. (ws, held_wait r b m t kept trace enders stuck ws held, is.open_end none) }
+
+-- the end of a report is the race that was found; where none was, that of the run
+end_of : {C M B : Type 0} (n : ℕ) (r : Rules C M B) (b : Beginning C M B) (t : Trace) (race : Option Race) (end : End) → MatchOption race (HasNoRace (edges n) touches t.entries) (IsRace n t)
+    → IfSome race (λ x. end ≡ ends.Raced x) → IfNone race (IsPlain end) → IfNone race (IsRunEnd r b t end) → IsReportEnd n r b t end
+end_of n r b t (Some x) end found raced plain run = subst (IsReportEnd n r b t) (sym raced) found
+end_of n r b t None (ends.Raced x) found raced plain run = absurd plain
+end_of n r b t None ends.Finished found raced plain run = (found, run)
+end_of n r b t None (ends.ErrorStop k) found raced plain run = (found, run)
+end_of n r b t None (ends.RunFault k) found raced plain run = (found, run)
+end_of n r b t None (ends.Clash k) found raced plain run = (found, run)
+end_of n r b t None (ends.Limit k) found raced plain run = (found, run)
+end_of n r b t None (ends.Stuck ws) found raced plain run = (found, run)
+
+-- no entry before the second one of the race has an earlier partner
+clean : {C M B : Type 0} (n : ℕ) (r : Rules C M B) (b : Beginning C M B) (t : Trace) (end : End) → IsReportEnd n r b t end → NoRace (edges n) touches t.entries (before_race t end)
+clean n r b t (ends.Raced x) is = is.earliest_second
+clean n r b t ends.Finished is = is.0
+clean n r b t (ends.ErrorStop k) is = is.0
+clean n r b t (ends.RunFault k) is = is.0
+clean n r b t (ends.Clash k) is = is.0
+clean n r b t (ends.Limit k) is = is.0
+clean n r b t (ends.Stuck ws) is = is.0
+
+-- a lawful trace is allowed as far as no two of its entries are a race
+allowed : (s : List Declared) (n : ℕ) (t : List Entry) → IsLawfulTrace s n t → (m : ℕ) → NoRace (edges n) touches t m → Allowed (edges n) (accesses (made_memory s)) t m
+allowed s n t lawful m none = record { no_race = none; justified = reads_of n (made_memory s) t (lawful_quiet s n t lawful) (lawful_reads_last s n t lawful) m none }
+
+-- a report without a race has the end of the run
+pub run_end_of : {C M B : Type 0} (n : ℕ) (r : Rules C M B) (b : Beginning C M B) (t : Trace) (end : End) → ((x : Race) → end ≡ ends.Raced x → ⊥) → IsReportEnd n r b t end → IsRunEnd r b t end
+run_end_of n r b t (ends.Raced x) plain is = absurd (plain x refl)
+run_end_of n r b t ends.Finished plain is = is.1
+run_end_of n r b t (ends.ErrorStop k) plain is = is.1
+run_end_of n r b t (ends.RunFault k) plain is = is.1
+run_end_of n r b t (ends.Clash k) plain is = is.1
+run_end_of n r b t (ends.Limit k) plain is = is.1
+run_end_of n r b t (ends.Stuck ws) plain is = is.1
+
+-- the report of the parts to which an ordered run leads from the first ones
+pub report_of : (p : ThinProgram) (n seed : ℕ) (parts parts' : PartsOf Config MemoryMeaning BoardMeaning) (s s' : Choices) (end : RunEnd) (t : Trace) (ws : List Waiting) (race : Option Race) (report : Report)
+    → IsFirst thin_rules (thin_beginning p n) (thin_moment parts) → IsKept thin_rules (thin_beginning p n) (thin_moment parts)
+    → s ≡ choices_of seed → (run : IsOrderRun {E = NoMemory} thin_rules s (thin_moment parts) s' (thin_moment parts') (Ok end))
+    → IsKept thin_rules (thin_beginning p n) (thin_moment parts') → IsTraceOf (event_lists parts'.images.items) t.entries → IsCoreRun thin_rules (thin_beginning p n) t.entries
+    → AreHeld thin_step (map (λ r. r.machine) parts'.images.items) (length parts'.images.items) ws → IsLawfulTrace (thin_coarrays p) n t.entries
+    → MatchOption race (HasNoRace (edges n) touches t.entries) (IsRace n t)
+    → report.images ≡ n → report.trace ≡ t → report.names ≡ names_of p → IfSome race (λ x. report.end ≡ ends.Raced x) → IfNone race (IsPlain report.end) → IfNone race (IsEndOf t ws report.end) → IsReportOf p n seed report
+report_of p n seed parts parts' s s' end t ws race report first kept seeded run kept' trace core held lawful found images traced named raced plain ended =
+    let whole = whole_of thin_rules (thin_moment parts') run.steps end run.so in
+    let b = thin_beginning p n in
+    let ordered = order_trace thin_rules b choosing s (thin_moment parts) run.steps s' (thin_moment parts') t.entries first run.ordered whole trace in
+    let same = order_same thin_rules b choosing s (thin_moment parts) run.steps s' (thin_moment parts') t.entries first run.ordered trace in
+    let many = map_length (λ (r : ImageRun Config). r.machine) parts'.images.items in
+    let waits = subst (λ k. AreHeld thin_step (map (λ r. r.machine) parts'.images.items) k ws) (sym many) held in
+    let without : IfNone race (IsRunEnd thin_rules b t report.end) = none_then race (λ is. run_end thin_rules b (thin_moment parts') t run.steps ws report.end kept' trace (λ i. thin_ends p i n) same whole waits is) ended in
+    let is_end : IsReportEnd n thin_rules b t report.end = end_of n thin_rules b t race report.end found raced plain without in
+    record {
+      images = images;
+      core = subst (λ v. IsCoreRun thin_rules b v.entries) (sym traced) core;
+      ordered = subst (λ v. IsOrderTrace thin_rules b choosing (choices_of seed) v.entries) (sym traced) (subst (λ v. IsOrderTrace thin_rules b choosing v t.entries) seeded ordered);
+      end = subst (λ v. IsReportEnd n thin_rules b v report.end) (sym traced) is_end;
+      allowed = subst (λ v. Allowed (edges n) (accesses (made_memory (thin_coarrays p))) v.entries (before_race v report.end)) (sym traced)
+          (allowed (thin_coarrays p) n t.entries lawful (before_race t report.end) (clean n thin_rules b t report.end is_end));
+      names = named;
+    }
+  where
+    none_then : {X Y : Type 0} (o : Option Race) → (X → Y) → IfNone o X → IfNone o Y
+    none_then None f h = f h
+    none_then (Some x) f h = h
