@@ -111,6 +111,45 @@ fn neighbour_read(rt: HostRuntime) {
     says(&rt, rt.alloc(), &words, NEIGHBOUR, behind, 0, "1: 4\n");
 }
 
+// A read of the neighbour on two images, with its trace behind the printed line: a line a step, `STAMP IMAGE LINE OBJECT ASK > REPLY`.
+#[test]
+fn trace_behind_the_printed_lines(rt: HostRuntime) {
+    let words = ["run", "-n", "2", "--order", "0", "--trace", "a.f90"];
+    let first = ["run", "--trace", "--order", "0", "-n", "2", "a.f90"];
+    let file =
+        b"integer :: x[*]\nx = this_image()\nsync all\nif (this_image() == 1) print *, x[2]\nend\n";
+    let wanted = "1: 2
+1 1 2 m1 write x:0 1 > ok
+1 2 2 m2 write x:0 2 > ok
+2 1 3 board arrive 1 sync > round 1
+3 2 3 board arrive 1 sync > round 1
+4 1 3 board leave 1 1 > 0
+5 1 4 m2 read x:0 > 2
+5 2 3 board leave 1 1 > 0
+6 1 4 own print 2 > ok
+6 2 5 board stop 0 > ok
+7 1 5 board stop 0 > ok
+";
+    says(&rt, rt.alloc(), &words, file, WHOLE, 0, wanted);
+    says(&rt, rt.alloc(), &first, file, WHOLE, 0, wanted);
+}
+
+// The neighbour's read without its barrier: the write of image 4 and the read of image 1 are in unordered segments.
+#[test]
+fn missing_barrier(rt: HostRuntime) {
+    let words = ["run", "-n", "4", "--order", "0", "a.f90"];
+    let file = b"integer :: x[*]\nx = this_image()\nif (this_image() == 1) print *, x[4]\nend\n";
+    says(
+        &rt,
+        rt.alloc(),
+        &words,
+        file,
+        WHOLE,
+        5,
+        "1: 4\nrace on x:0 of image 4: image 4 event 1 line 2, image 1 event 2 line 3\n",
+    );
+}
+
 #[test]
 fn neighbour_read_byte_by_byte(rt: HostRuntime) {
     let words = ["run", "-n", "4", "--order", "0", "a.f90"];
@@ -481,7 +520,7 @@ fn usage(rt: HostRuntime) {
         broken: &[1],
         failing: &[2],
     };
-    let table: [(&str, &[&str]); 29] = [
+    let table: [(&str, &[&str]); 34] = [
         ("usage: word 1\n", &[]),
         ("usage: word 1\n", &["chek", "a.f90"]),
         ("usage: word 2\n", &["check"]),
@@ -498,6 +537,14 @@ fn usage(rt: HostRuntime) {
         (
             "usage: word 4\n",
             &["run", "-n", "2", "-n", "3", "--order", "0", "a.f90"],
+        ),
+        ("usage: word 2\n", &["check", "--trace", "a.f90"]),
+        ("usage: word 3\n", &["run", "--trace"]),
+        ("usage: word 3\n", &["run", "--trace", "a.f90"]),
+        ("usage: word 5\n", &["run", "--order", "0", "--trace"]),
+        (
+            "usage: word 5\n",
+            &["run", "--trace", "--order", "0", "--trace", "a.f90"],
         ),
         ("usage: word 3\n", &["run", "-n"]),
         (

@@ -73,10 +73,11 @@ fn traces<R: Abort>(rt: &R, alloc: Global, n: &str, file: &[u8], end: (u8, &str)
     assert_eq!(rt; trace.as_str(), wanted);
 }
 
-// Whether a run of `SUMS` on three images in the order of a seed writes this text, and has these images in its trace, is judged.
-fn goes<R: Abort>(rt: &R, alloc: Global, seed: &str, text: &str, images: &str) {
+// Whether a run of `SUMS` on three images in the order of a seed prints this, tells this race, and has these images in its trace, is judged.
+fn goes<R: Abort>(rt: &R, alloc: Global, seed: &str, told: (&str, &str), images: &str) {
     let words = ["run", "-n", "3", "--order", seed, "a.f90"];
-    let done = done_of(rt, alloc, &words, SUMS, WHOLE, 0, text);
+    let text = format!(in alloc; "{}race on {}\n", told.0, told.1).expect(rt, "memory");
+    let done = done_of(rt, alloc, &words, SUMS, WHOLE, 5, text.as_str());
     let order = image_text(rt, alloc, &done);
     drop(done);
     assert!(rt; order.as_str() == images, "{seed}");
@@ -139,79 +140,133 @@ const SUMS: &[u8] =
 // stamp 1, image 2 reads x[1] (2) and x[2] (3), and image 3 reads x[1] (3). Of seed 2147483647 the numbers 15929, 4409, 9862,
 // 26718 leave 2, 2, 1, 0: image 3 writes (1) and reads x[1] (2), which is still 0, image 2 writes (1), and image 1 (3).
 // The first state of seed 2088216195 is 0, from which the generator goes on: image 1 twice.
+// Nothing orders the images before the barrier, so the race of a seed is the first entry that touches the cell of one before it of another image, one of both writing,
+// and the first of those before it. An image's first step is its write of line 2, its next three are the reads of line 3.
 #[test]
 fn twenty_seeds(rt: HostRuntime) {
     let table = [
-        ("0", "1: 6\n2: 6\n3: 6\n", "123112123123123123123233123123"),
-        ("1", "1: 6\n2: 6\n3: 6\n", "123223111312123123123332113322"),
-        ("2", "1: 6\n2: 6\n3: 3\n", "331312323212231231231211313221"),
-        ("3", "1: 4\n2: 9\n3: 6\n", "131131213231212123232323112332"),
-        ("5", "1: 9\n2: 9\n3: 6\n", "123313123231131231231222221331"),
-        ("7", "1: 8\n2: 8\n3: 5\n", "233131312323131231212122232311"),
+        (
+            "0",
+            "1: 6\n2: 6\n3: 6\n",
+            "x:0 of image 2: image 2 event 1 line 2, image 1 event 3 line 3",
+            "123112123123123123123233123123",
+        ),
+        (
+            "1",
+            "1: 6\n2: 6\n3: 6\n",
+            "x:0 of image 1: image 1 event 1 line 2, image 2 event 2 line 3",
+            "123223111312123123123332113322",
+        ),
+        (
+            "2",
+            "1: 6\n2: 6\n3: 3\n",
+            "x:0 of image 1: image 3 event 2 line 3, image 1 event 1 line 2",
+            "331312323212231231231211313221",
+        ),
+        (
+            "3",
+            "1: 4\n2: 9\n3: 6\n",
+            "x:0 of image 1: image 1 event 1 line 2, image 3 event 2 line 3",
+            "131131213231212123232323112332",
+        ),
+        (
+            "5",
+            "1: 9\n2: 9\n3: 6\n",
+            "x:0 of image 1: image 1 event 1 line 2, image 3 event 2 line 3",
+            "123313123231131231231222221331",
+        ),
+        (
+            "7",
+            "1: 8\n2: 8\n3: 5\n",
+            "x:0 of image 1: image 3 event 2 line 3, image 1 event 1 line 2",
+            "233131312323131231212122232311",
+        ),
         (
             "10",
             "1: 13\n2: 7\n3: 5\n",
+            "x:0 of image 1: image 2 event 2 line 3, image 1 event 1 line 2",
             "232313123332323112121211213123",
         ),
         (
             "12",
             "1: 13\n2: 6\n3: 6\n",
+            "x:0 of image 1: image 1 event 1 line 2, image 2 event 2 line 3",
             "123223123231323123131211123132",
         ),
-        ("31", "1: 8\n2: 6\n3: 5\n", "233131312222323123121311311232"),
-        ("64", "1: 6\n2: 6\n3: 3\n", "331312312323131231212221232131"),
+        (
+            "31",
+            "1: 8\n2: 6\n3: 5\n",
+            "x:0 of image 1: image 3 event 2 line 3, image 1 event 1 line 2",
+            "233131312222323123121311311232",
+        ),
+        (
+            "64",
+            "1: 6\n2: 6\n3: 3\n",
+            "x:0 of image 1: image 3 event 2 line 3, image 1 event 1 line 2",
+            "331312312323131231212221232131",
+        ),
         (
             "100",
             "1: 6\n2: 8\n3: 6\n",
+            "x:0 of image 1: image 2 event 2 line 3, image 1 event 1 line 2",
             "232131313121312123232321133122",
         ),
         (
             "999",
             "1: 4\n2: 15\n3: 9\n",
+            "x:0 of image 3: image 3 event 1 line 2, image 1 event 4 line 3",
             "131112111213323332323222123312",
         ),
         (
             "4096",
             "1: 6\n2: 6\n3: 6\n",
+            "x:0 of image 1: image 1 event 1 line 2, image 2 event 2 line 3",
             "123231112131312123232332331212",
         ),
         (
             "12345",
             "1: 7\n2: 3\n3: 7\n",
+            "x:0 of image 1: image 1 event 1 line 2, image 2 event 2 line 3",
             "122122232312123131313331322131",
         ),
         (
             "65535",
             "1: 8\n2: 5\n3: 5\n",
+            "x:0 of image 1: image 2 event 2 line 3, image 1 event 1 line 2",
             "232231313122323123131112131322",
         ),
         (
             "65536",
             "1: 8\n2: 5\n3: 5\n",
+            "x:0 of image 2: image 2 event 1 line 2, image 3 event 3 line 3",
             "233231231213231231231211332211",
         ),
         (
             "1000000",
             "1: 10\n2: 6\n3: 10\n",
+            "x:0 of image 1: image 1 event 1 line 2, image 2 event 2 line 3",
             "123212232212123131313331223113",
         ),
         (
             "2088216195",
             "1: 1\n2: 3\n3: 7\n",
+            "x:0 of image 2: image 1 event 3 line 3, image 2 event 1 line 2",
             "111122121212323232313333332112",
         ),
         (
             "2147483646",
             "1: 9\n2: 9\n3: 6\n",
+            "x:0 of image 1: image 1 event 1 line 2, image 3 event 2 line 3",
             "123132313233131212121232122133",
         ),
         (
             "2147483647",
             "1: 14\n2: 8\n3: 5\n",
+            "x:0 of image 1: image 3 event 2 line 3, image 1 event 1 line 2",
             "233132312332322121213111131232",
         ),
     ];
-    for (seed, wanted, images) in table {
-        goes(&rt, rt.alloc(), seed, wanted, images);
+    for (seed, printed, race, images) in table {
+        goes(&rt, rt.alloc(), seed, (printed, race), images);
     }
 }

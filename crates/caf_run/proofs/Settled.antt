@@ -28,7 +28,7 @@ not_run s (inr (inr h)) (inr (inr (inr k))) = omega arith
 -- a status with which a task is done is one of a run, and the other way round where it is known
 pub done_run : (task : Task) (s : ℕ) → IsDoneStatus task s → IsRunStatus s
 done_run Check s done = inl done
-done_run (Run n seed) s done = done
+done_run (Run o) s done = done
 
 pub run_done : (task : Task) (s : ℕ) → IsDoneStatus task s ⊎ (s ≡ 3) → IsRunStatus s → IsDoneStatus task s
 run_done task s (inl done) run = done

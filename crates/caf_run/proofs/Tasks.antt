@@ -1,5 +1,5 @@
 -- Words ask for one task of one file.
-use Rattle.std.proofs.Common.{◌≡◌, ℕ, ◌<◌, ◌≤◌, ◌-◌, inl, inr, List, length, Some, String, Global, refl, subst, arith}
+use Rattle.std.proofs.Common.{◌≡◌, ℕ, ◌<◌, ◌≤◌, ◌-◌, inl, inr, List, length, Some, String, Global, refl, ap, subst, arith}
 use Rattle.std.specs.Prelude.{slice_get}
 use Rattle.std.proofs.lemmas.List.{length-map}
 use Rattle.std.proofs.lemmas.Option.{slice_get_within}
@@ -8,7 +8,6 @@ use Rattle.caf_words.specs.Words.{words_in, IsValid, Means}
 use Rattle.caf_words.specs.declared.words.Command.{Command}
 use Rattle.caf_words.specs.declared.words.Command.TheVariants as commands
 use Rattle.caf_words.specs.declared.words.Input.TheVariants.{File}
-use Rattle.caf_words.specs.declared.words.Way.TheVariants.{Order}
 use Rattle.caf_words.proofs.Meanings.{one_run, not_both, run_images, run_last, check_last}
 use Rattle.caf_run.specs.declared.task.Task.{Task}
 use Rattle.caf_run.specs.declared.task.Task.TheVariants.{Check, Run}
@@ -16,7 +15,7 @@ use Rattle.caf_run.specs.Tasks.{Asks, IsTask, AsksAt, task_of, place_of_file}
 
 pub asks_valid : (words : List Word) (task : Task) (file : Word) → Asks words task file → IsValid words
 asks_valid words Check file asked = inr (file, asked)
-asks_valid words (Run n seed) file asked = inl (n, seed, file, asked)
+asks_valid words (Run o) file asked = inl (o, file, asked)
 
 -- the same task of the same file
 pub record Same (task : Task) (file : Word) (task' : Task) (file' : Word) : Type 0 where
@@ -25,21 +24,21 @@ pub record Same (task : Task) (file : Word) (task' : Task) (file' : Word) : Type
 
 pub one_task : (words : List Word) (task task' : Task) (file file' : Word) → Asks words task file → Asks words task' file' → Same task file task' file'
 one_task words Check Check file file' first second = record { of_task = refl; of_file = cc (first.form, second.form) }
-one_task words Check (Run n seed) file file' first second = absurd (not_both words n seed file' file second first)
-one_task words (Run n seed) Check file file' first second = absurd (not_both words n seed file file' first second)
-one_task words (Run n seed) (Run n' seed') file file' first second =
-    let same = one_run words n seed file n' seed' file' first second in
-    record { of_task = cc (same.images, same.order); of_file = same.name }
+one_task words Check (Run o) file file' first second = absurd (not_both words o file' file second first)
+one_task words (Run o) Check file file' first second = absurd (not_both words o file file' first second)
+one_task words (Run o) (Run o') file file' first second =
+    let same = one_run words o file o' file' first second in
+    record { of_task = ap (λ x. Run x) same.options; of_file = same.name }
 
 -- a command that the words mean is for the task that they ask for, and has its file
 pub means_at : (words : List Word) (command : Command) → Means words command → AsksAt words (task_of command) (place_of_file command)
-means_at words (commands.Run (File word) n (Order seed)) means = means
+means_at words (commands.Run (File word) o) means = means
 means_at words (commands.Check word) means = means
 
 -- the file is the last of the words
 asks_last : (words : List Word) (task : Task) (file : Word) → Asks words task file → slice_get words (length words - 1) ≡ Some file
 asks_last words Check file asked = check_last words file asked
-asks_last words (Run n seed) file asked = run_last words n seed file asked
+asks_last words (Run o) file asked = run_last words o file asked
 
 pub last_word : (words : List Word) (task : Task) (number : ℕ) (name : Word) (r : AsksAt words task number) → slice_get words (number - 1) ≡ Some name → name ≡ r.0
 last_word words task number name (file, asked, last) h =
@@ -56,4 +55,4 @@ place_within texts task number (file, asked, last) =
 
 pub task_within : (words : List Word) (task : Task) (number : ℕ) → AsksAt words task number → IsTask task
 task_within words Check number asked = tt
-task_within words (Run n seed) number (file, asked, last) = run_images words n seed file asked
+task_within words (Run o) number (file, asked, last) = run_images words o file asked

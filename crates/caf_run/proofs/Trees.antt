@@ -25,4 +25,4 @@ not_both found p at h k = cc
 -- a program that isn't built for a task isn't built for it
 pub not_built_none : (task : Task) (x : Program) (at : Pos) → IsNotBuilt task x at → IsBuilt task x → ⊥
 not_built_none Check x at none built = none
-not_built_none (Run n seed) x at none (p, found) = not_both (thin_of x) p at found none
+not_built_none (Run o) x at none (p, found) = not_both (thin_of x) p at found none

@@ -52,7 +52,7 @@ misread_bytes bytes f r task status at text report is nr pl s t e =
 ran_map : (task : Task) (K L : ThinProgram → Type 0) (report : Option Report) → ((p : ThinProgram) → K p → L p) → RanAs task K report → RanAs task L report
 ran_map task K L None wider ran = tt
 ran_map Check K L (Some r) wider ran = ran
-ran_map (Run n seed) K L (Some r) wider (p, is, of) = (p, wider p is, of)
+ran_map (Run o) K L (Some r) wider (p, is, of) = (p, wider p is, of)
 
 -- a source that is read
 pub read_bytes : (bytes : List ℕ) (x : Program) (task : Task) (status : ℕ) (text : List ℕ) (report : Option Report) → IsRead bytes x → TreeDue x task status text report → BytesDue bytes task status text report
@@ -107,17 +107,18 @@ whole_file files file task left' faults faults' bytes status text report whole f
 
 told_words : (words : List Word) (task : Task) (file : Word) (report : Option Report) (status : ℕ) (text : List ℕ) → Asks words task file → IsTold task report status text → ReportClause words report status text
 told_words words Check file None status text asked (inr (inr (inr (inr (s, t))))) = inr (inr (inr (inr (s, (file, asked), t))))
-told_words words (Run n seed) file None status text asked (inr (inr (inr (inr h)))) = absurd h
+told_words words (Run o) file None status text asked (inr (inr (inr (inr h)))) = absurd h
 told_words words task file None status text asked (inl s) = inl s
 told_words words task file None status text asked (inr (inl s)) = inr (inl s)
 told_words words task file None status text asked (inr (inr (inl s))) = inr (inr (inl s))
 told_words words task file None status text asked (inr (inr (inr (inl s)))) = inr (inr (inr (inl s)))
-told_words words task file (Some r) status text asked told = told
+told_words words Check file (Some r) status text asked (run, of, text_is) = absurd text_is
+told_words words (Run o) file (Some r) status text asked (run, of, text_is) = (run, of, (o, file, asked, text_is))
 
 ran_words : (words : List Word) (files : Option Files) (task : Task) (file : Word) (report : Option Report) → Asks words task file → RanAs task (λ p. (bytes : List ℕ) × HasBytesIfTold files file bytes × StandsFor bytes p) report → RunClause words files report
 ran_words words files task file None asked ran = tt
 ran_words words files Check file (Some r) asked ran = absurd ran
-ran_words words files (Run n seed) file (Some r) asked (p, (bytes, whole, stands), of) = (n, seed, file, bytes, p, asked, whole, stands, of)
+ran_words words files (Run o) file (Some r) asked (p, (bytes, whole, stands), of) = (o, file, bytes, p, asked, whole, stands, of)
 
 -- words that ask for a task of a file
 pub file_named : (words : List Word) (task : Task) (file : Word) (files : Option Files) (left' : Option (List ℕ)) (faults faults' status : ℕ) (text : List ℕ) (report : Option Report) → Asks words task file → FileDue files file task left' faults faults' status text report → IsDue words files left' faults faults' status text report

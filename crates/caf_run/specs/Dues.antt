@@ -16,9 +16,10 @@ use Rattle.thin_form.specs.ThinForms.{thin_of}
 use Rattle.caf_base.specs.declared.place.Pos.{Pos}
 use Rattle.caf_words.specs.Usages.{Word}
 use Rattle.caf_words.specs.Words.{IsRun, ChecksSome, IsValid, UsageIs}
+use Rattle.caf_words.specs.declared.words.Options.{Options}
 use Rattle.caf_run.specs.declared.task.Task.{Task}
 use Rattle.caf_run.specs.declared.task.Task.TheVariants.{Check, Run}
-use Rattle.caf_run.specs.Tasks.{Asks, NamesFile}
+use Rattle.caf_run.specs.Tasks.{Asks, NamesFile, seed_of}
 use Rattle.caf_run.specs.Reading.{HasBytesIfTold, HasBytes, HasNothingLeft, IsLonger}
 use Rattle.run_report.specs.Runs.{IsReportOf, IsRunStatus}
 use Rattle.caf_run.specs.Sources.{BreaksNone, BreaksFirst, IsAccepted, StandsFor, IsBuilt, IsNotBuilt, IsGood, IsRefusal, refusal_text}
@@ -35,7 +36,7 @@ ok_text = codes "ok\n"
 -- a status with which the task is done: 0 of a check, and of a run that of its end
 abbrev pub IsDoneStatus : Task → ℕ → Type 0
 IsDoneStatus Check s = s ≡ 0
-IsDoneStatus (Run n seed) s = IsRunStatus s
+IsDoneStatus (Run o) s = IsRunStatus s
 
 -- the bytes aren't good for the task
 abbrev pub IsBad : Task → List ℕ → Type 0
@@ -58,7 +59,7 @@ pub record AcceptanceClause (words : List Word) (files : Option Files) (status :
 -- told exactly where the run's trace has one, and up to it each reference gives the last definition in segment order (`IsReportOf`: `end`, `allowed`).
 abbrev pub RunClause : List Word → Option Files → Option Report → Type 0
 RunClause words files None = Unit {0}
-RunClause words files (Some r) = (n : ℕ) × (seed : ℕ) × (file : Word) × (bytes : List ℕ) × (p : ThinProgram) × IsRun words n seed file × HasBytesIfTold files file bytes × StandsFor bytes p × IsReportOf p n seed r
+RunClause words files (Some r) = (o : Options) × (file : Word) × (bytes : List ℕ) × (p : ThinProgram) × IsRun words o file × HasBytesIfTold files file bytes × StandsFor bytes p × IsReportOf p o.images (seed_of o.way) r
 
 -- Input: after a run, a check or a refusal nothing of the file is left.
 abbrev pub InputClause : Option Files → Option (List ℕ) → ℕ → Type 0
@@ -80,14 +81,19 @@ pub record ExactClause (words : List Word) (files : Option Files) (faults faults
   pub absent : (file : Word) → NamesFile words file → HaveNot files file → status ≡ 10
   pub settled : (task : Task) (file : Word) (bytes : List ℕ) → Asks words task file → HasBytes files file bytes → Settle task bytes status ⊎ ((status ≡ 10) × Rose faults faults')
 
--- nothing is shown beside what was printed and the end
-abbrev pub plain : Shown
-plain = record { vars = false; trace = false }
+-- what a run shows beside what was printed and the end: its trace where it is told to
+abbrev pub shown_of : Options → Shown
+shown_of o = record { vars = false; trace = o.trace }
 
--- Report: one is there exactly where a run's status is due, which is that of its end, and the text due is its text; without one 0 is due of a check alone, whose text is `ok`.
+-- the text of a report is the one that the words ask for
+abbrev pub IsTextOf : List Word → Report → List ℕ → Type 0
+IsTextOf words r text = (o : Options) × (file : Word) × IsRun words o file × (text ≡ report_text (shown_of o) r)
+
+-- Report: one is there exactly where a run's status is due, which is that of its end, and the text due is its text, with the trace exactly where the words ask for it; without one 0 is due of a
+-- check alone, whose text is `ok`.
 abbrev pub ReportClause : List Word → Option Report → ℕ → List ℕ → Type 0
 ReportClause words None status text = (status ≡ 2) ⊎ (status ≡ 3) ⊎ (status ≡ 10) ⊎ (status ≡ 13) ⊎ ((status ≡ 0) × ChecksSome words × (text ≡ ok_text))
-ReportClause words (Some r) status text = IsRunStatus status × (status ≡ status_of r.end) × (text ≡ report_text plain r)
+ReportClause words (Some r) status text = IsRunStatus status × (status ≡ status_of r.end) × IsTextOf words r text
 
 -- all that is due for these words over this source
 pub record IsDue (words : List Word) (files : Option Files) (left' : Option (List ℕ)) (faults faults' status : ℕ) (text : List ℕ) (report : Option Report) : Type 0 where
@@ -121,7 +127,7 @@ IsAnswer words files left' faults faults' written written' sink_faults sink_faul
 -- a task is done: a check by 0 and no report, a run by a report and exactly the status of its end
 abbrev pub IsTaskDone : Task → Option Report → ℕ → Type 0
 IsTaskDone Check report answered = IsNone report × (answered ≡ 0)
-IsTaskDone (Run n seed) report answered = (r : Report) × (report ≡ Some r) × (answered ≡ status_of r.end)
+IsTaskDone (Run o) report answered = (r : Report) × (report ≡ Some r) × (answered ≡ status_of r.end)
 
 -- Completeness: valid words, a source of at most 65,536 bytes that is good for their task and no rise of either count of faults give a report and exactly the status of its end, of a check 0, or want of memory.
 abbrev pub CompletenessClause : List Word → Option Files → ℕ → ℕ → ℕ → ℕ → ℕ → Option Report → Type 0
@@ -133,16 +139,20 @@ CompletenessClause words files faults faults' sink_faults sink_faults' answered 
 abbrev pub RanAs : Task → (ThinProgram → Type 0) → Option Report → Type 0
 RanAs task Kind None = Unit {0}
 RanAs Check Kind (Some r) = ⊥
-RanAs (Run n seed) Kind (Some r) = (p : ThinProgram) × Kind p × IsReportOf p n seed r
+RanAs (Run o) Kind (Some r) = (p : ThinProgram) × Kind p × IsReportOf p o.images (seed_of o.way) r
 
 -- what is told of a task: its report with the status and the text of that; without one `ok`, of a check, or what keeps the task from being done
 abbrev pub IsOk : Task → ℕ → List ℕ → Type 0
 IsOk Check status text = (status ≡ 0) × (text ≡ ok_text)
-IsOk (Run n seed) status text = ⊥
+IsOk (Run o) status text = ⊥
+
+abbrev pub IsShown : Task → Report → List ℕ → Type 0
+IsShown Check r text = ⊥
+IsShown (Run o) r text = text ≡ report_text (shown_of o) r
 
 abbrev pub IsTold : Task → Option Report → ℕ → List ℕ → Type 0
 IsTold task None status text = (status ≡ 2) ⊎ (status ≡ 3) ⊎ (status ≡ 10) ⊎ (status ≡ 13) ⊎ IsOk task status text
-IsTold task (Some r) status text = IsRunStatus status × (status ≡ status_of r.end) × (text ≡ report_text plain r)
+IsTold task (Some r) status text = IsRunStatus status × (status ≡ status_of r.end) × IsShown task r text
 
 -- how a program that is read was judged: the first rule that it breaks, or the checked program that it is accepted as
 abbrev pub IsVerdict : Program → Option Broken → Type 0

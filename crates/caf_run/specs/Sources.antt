@@ -40,12 +40,12 @@ pub record StandsFor (bytes : List ℕ) (p : ThinProgram) : Type 0 where
 -- a program has the form that is built for the task: any to be checked, the thin one to be run
 abbrev pub IsBuilt : Task → Program → Type 0
 IsBuilt Check x = ⊤
-IsBuilt (Run n seed) x = (p : ThinProgram) × (thin_of x ≡ Ok p)
+IsBuilt (Run o) x = (p : ThinProgram) × (thin_of x ≡ Ok p)
 
 -- it hasn't, and this is the first place of what isn't built
 abbrev pub IsNotBuilt : Task → Program → Pos → Type 0
 IsNotBuilt Check x at = ⊥
-IsNotBuilt (Run n seed) x at = thin_of x ≡ not_built at
+IsNotBuilt (Run o) x at = thin_of x ≡ not_built at
 
 -- the bytes are good for the task: they are read as a program that breaks no rule and has the form that is built for it
 pub record IsGood (task : Task) (bytes : List ℕ) : Type 0 where

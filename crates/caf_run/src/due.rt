@@ -6,20 +6,21 @@ ghost use Rattle.caf_report.specs.declared.report.Report.{Report};
 ghost use Rattle.caf_run.specs.Dues.{usage_text, IsDue, IsTold, IsVerdict, BytesDue, FileDue, TreeDue};
 ghost use Rattle.run_report.specs.Runs.{IsReportOf};
 ghost use Rattle.caf_run.specs.Sources.{refusal_text};
+ghost use Rattle.caf_run.specs.Tasks as of_task;
 ghost use Rattle.caf_run.specs.Tasks.{IsTask, AsksAt};
 ghost use Rattle.caf_run.specs.declared.task.Task.TheVariants as tasks;
 ghost use Rattle.caf_words.specs.Words.{words_in, IsValid};
 ghost use Rattle.fortran_tree.specs.UnitViews.{program};
 
 use crate::reading::{ReadEnd, read_file};
-use crate::task::{Task, file_place, task_of};
+use crate::task::{Task, file_place, seed_of, task_of};
 use caf_base::outside::Source;
 use caf_base::place::Pos;
 use caf_base::refusal::{NoMemory, Refusal};
 use caf_base::thin::{THIN_SOURCE_BYTES, ThinProgram};
 use caf_report::report::{Report, Shown};
 use caf_text::push_number;
-use caf_words::words::words_of;
+use caf_words::words::{Options, words_of};
 use fortran_tree::unit::Program;
 use rule_checker::check::check_tree;
 use rule_definitions::broken::Broken;
@@ -62,17 +63,18 @@ fn usage_due(alloc: Global, word: u32) -> Result<Due, NoMemory>
     })
 }
 
-// The run of a program on n images, in the order of a seed, with its report and the text of that.
-fn run_due(alloc: Global, program: ThinProgram, n: u32, seed: u32) -> Result<Due, NoMemory>
-    requires images { (1 ≤ n) × (n ≤ 64) }
+// The run of a program as the options say, with its report and the text of that.
+fn run_due(alloc: Global, program: ThinProgram, options: Options) -> Result<Due, NoMemory>
+    requires images { IsTask (tasks.Run options) }
     requires few { most_moves program ≤ 262000 }
     requires declared { IsDeclared program }
-    ensures { IfOk result (λ d. (r : Report) × (d.report ≡ Some r) × IsTold (tasks.Run n seed) d.report d.status d.text.items × IsReportOf program n seed r) }
+    ensures { IfOk result (λ d. (r : Report) × (d.report ≡ Some r) × IsTold (tasks.Run options) d.report d.status d.text.items × IsReportOf program options.images (of_task.seed_of options.way) r) }
 {
-    let report = run_program(alloc, program, n, seed)?;
+    let seed = seed_of(options.way);
+    let report = run_program(alloc, program, options.images, seed)?;
     let shown = Shown {
         vars: false,
-        trace: false,
+        trace: options.trace,
     };
     let text = report.text(alloc, shown)?;
     Ok(Due {
@@ -115,15 +117,15 @@ fn broken_rule(alloc: Global, tree: &Program) -> Result<Option<Broken>, NoMemory
 }
 
 // What is due for a program that is to be run and breaks no rule.
-fn thin_due(alloc: Global, tree: Program, n: u32, seed: u32) -> Result<Due, NoMemory>
-    requires images { (1 ≤ n) × (n ≤ 64) }
+fn thin_due(alloc: Global, tree: Program, options: Options) -> Result<Due, NoMemory>
+    requires images { IsTask (tasks.Run options) }
     requires accepted { IsVerdict (program tree) None }
-    ensures { IfOk result (λ d. TreeDue (program tree) (tasks.Run n seed) d.status d.text.items d.report) }
+    ensures { IfOk result (λ d. TreeDue (program tree) (tasks.Run options) d.status d.text.items d.report) }
 {
     let thin = thin(alloc, &tree);
     drop(tree);
     match thin {
-        Ok(program) => run_due(alloc, program, n, seed),
+        Ok(program) => run_due(alloc, program, options),
         Err(Refusal::Cause(fault)) => refused_due(alloc, 10, fault.at),
         Err(Refusal::NoMemory) => Err(NoMemory),
     }
@@ -140,7 +142,7 @@ fn accepted_due(alloc: Global, tree: Program, task: Task) -> Result<Due, NoMemor
             drop(tree);
             said(alloc, 0, b"ok\n")
         }
-        Task::Run { n, seed } => thin_due(alloc, tree, n, seed),
+        Task::Run(options) => thin_due(alloc, tree, options),
     }
 }
 

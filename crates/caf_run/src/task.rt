@@ -3,15 +3,15 @@
 ghost use Rattle.std.specs.Prelude.{◌≡◌};
 ghost use Rattle.caf_run.specs.Tasks as spec;
 
-use caf_words::words::{Command, Input, Way};
+use caf_words::words::{Command, Input, Options, Way};
 
 /// What is to be done with a source.
 #[derive(Clone, Copy)]
 pub enum Task {
     /// To check it.
     Check,
-    /// To check it, and then to run it on `n` images, from 1 to 64, in the order of a seed.
-    Run { n: u32, seed: u32 },
+    /// To check it, and then to run it as the options say, on 1 to 64 images.
+    Run(Options),
 }
 
 /// The task of a command.
@@ -19,11 +19,7 @@ pub fn task_of(command: &Command) -> Task
     ensures { result ≡ spec.task_of command.now }
 {
     match command {
-        Command::Run {
-            n,
-            way: Way::Order(seed),
-            ..
-        } => Task::Run { n: *n, seed: *seed },
+        Command::Run { options, .. } => Task::Run(*options),
         Command::Check { .. } => Task::Check,
     }
 }
@@ -38,5 +34,14 @@ pub fn file_place(command: &Command) -> u32
             ..
         }
         | Command::Check { word } => *word,
+    }
+}
+
+/// The seed of the order in which the images take turns.
+pub fn seed_of(way: Way) -> u32
+    ensures { result ≡ spec.seed_of way }
+{
+    match way {
+        Way::Order(seed) => seed,
     }
 }

@@ -1,47 +1,41 @@
 -- The first word.
 use Rattle.std.proofs.Common.{◌≡◌, ℕ, suc, ◌+◌, List, [], ◌∷◌, refl, ap, ◌∙◌, inl, inr, arith, zero-add, Result, Ok, Err, IfOk, IfErr, IsOk, String, Global}
-use Rattle.std.specs.Prelude.{None, codes, string_bytes}
+use Rattle.std.specs.Prelude.{codes, string_bytes}
 use Rattle.caf_base.specs.declared.refusal.Refusal.{Refusal}
 use Rattle.caf_base.specs.declared.refusal.Refusal.TheVariants.{Cause}
 use Rattle.caf_words.specs.Usages.{Word, Begins, UsageOf}
-use Rattle.caf_words.specs.Words.{words_in, IsValid, UsageIs, Means}
+use Rattle.caf_words.specs.Words.{words_in, nothing, IsValid, UsageIs, Means}
 use Rattle.caf_words.specs.Readings.{Rests, FileAlone, IsRefusedFrom}
 use Rattle.caf_words.specs.declared.words.Usage.{Usage}
-use Rattle.caf_words.specs.declared.words.Given.{Given}
 use Rattle.caf_words.specs.declared.words.Command.{Command}
 use Rattle.caf_words.specs.declared.words.Command.TheVariants.{Run, Check}
 use Rattle.caf_words.specs.declared.words.Input.TheVariants.{File}
-use Rattle.caf_words.specs.declared.words.Way.TheVariants.{Order}
 use Rattle.caf_words.proofs.Usages.{usage_none, usage_first, usage_behind, usage_once, usage_invalid}
 use Rattle.caf_words.proofs.Options.{alone_begins}
-
--- no options yet
-abbrev pub nothing : Given
-nothing = record { images = None; order = None }
 
 valid_begins : Begins IsValid []
 valid_begins = let (rest, alone) = alone_begins in (codes "check" ∷ rest, inr (alone.0, record { form = ap (λ l. codes "check" ∷ l) alone.1; name = alone.2 }))
 
 valid_none : IsValid [] → ⊥
-valid_none (inl (n, seed, file, run)) = cc run.form
+valid_none (inl (o, file, run)) = cc run.form
 valid_none (inr (file, check)) = cc check.form
 
 run_onward : (rest : List Word) → Rests nothing rest → IsValid (codes "run" ∷ rest)
-run_onward rest (n, seed, file, options) = inl (n, seed, file, record { rest = rest; form = refl; options = options })
+run_onward rest (o, file, options) = inl (o, file, record { rest = rest; form = refl; options = options })
 
 run_back : (rest : List Word) → IsValid (codes "run" ∷ rest) → Rests nothing rest
-run_back rest (inl (n, seed, file, run)) = let e : rest ≡ run.rest = cc run.form in (n, seed, file, rw e run.options)
+run_back rest (inl (o, file, run)) = let e : rest ≡ run.rest = cc run.form in (o, file, rw e run.options)
 run_back rest (inr (file, check)) = cc check.form
 
 check_onward : (rest : List Word) → FileAlone rest → IsValid (codes "check" ∷ rest)
 check_onward rest (file, form, name) = inr (file, record { form = ap (λ l. codes "check" ∷ l) form; name = name })
 
 check_back : (rest : List Word) → IsValid (codes "check" ∷ rest) → FileAlone rest
-check_back rest (inl (n, seed, file, run)) = cc run.form
+check_back rest (inl (o, file, run)) = cc run.form
 check_back rest (inr (file, check)) = (file, cc check.form, check.name)
 
 other_first : (word : Word) → (word ≡ codes "run" → ⊥) → (word ≡ codes "check" → ⊥) → (rest : List Word) → IsValid (word ∷ rest) → ⊥
-other_first word no_run no_check rest (inl (n, seed, file, run)) = no_run (cc run.form)
+other_first word no_run no_check rest (inl (o, file, run)) = no_run (cc run.form)
 other_first word no_run no_check rest (inr (file, check)) = no_check (cc check.form)
 
 pub usage_nothing : UsageOf IsValid [] 1
@@ -67,7 +61,7 @@ refused_check words behind first (Err x) e is (k, usage, told) =
 
 -- words that mean a command are valid
 means_valid : (words : List Word) (c : Command) → Means words c → IsValid words
-means_valid words (Run (File word) n (Order seed)) (file, run, last) = inl (n, seed, file, run)
+means_valid words (Run (File word) o) (file, run, last) = inl (o, file, run)
 means_valid words (Check word) (file, check, last) = inr (file, check)
 
 -- valid words mean a command

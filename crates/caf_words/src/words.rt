@@ -6,8 +6,8 @@ ghost use Rattle.caf_words.specs.declared.words.Key.{Key};
 ghost use Rattle.caf_words.specs.declared.words.Given.{Given};
 ghost use Rattle.caf_words.specs.Usages.{Word};
 ghost use Rattle.caf_words.specs.Words.{words_in, Means, IsValid, UsageIs, IsRefusalOf, IsFileName};
-ghost use Rattle.caf_words.specs.Words.{images_or_four};
-ghost use Rattle.caf_words.specs.Readings.{IsFirst, Rests, FileAlone, RunsFrom, ChecksFrom, IsRefusedFrom, IsNextKey, Gives};
+ghost use Rattle.caf_words.specs.Words as spec;
+ghost use Rattle.caf_words.specs.Readings.{IsFirst, Rests, FileAlone, RunsFrom, ChecksFrom, IsRefusedFrom, IsNextKey, Flags, IsNoOption, Gives};
 
 use crate::number::number_between;
 use caf_base::limits::IMAGES;
@@ -29,8 +29,8 @@ pub const DEFAULT_IMAGES: u32 = 4;
 /// What the words ask for.
 #[derive(Drop)]
 pub enum Command {
-    /// To run a source on `n` images, from 1 to 64.
-    Run { input: Input, n: u32, way: Way },
+    /// To run a source.
+    Run { input: Input, options: Options },
     /// To check the file whose name is this word, from 1.
     Check { word: u32 },
 }
@@ -49,14 +49,25 @@ pub enum Way {
     Order(u32),
 }
 
+/// What a run is told by its options.
+#[derive(Clone, Copy)]
+pub struct Options {
+    /// How many images there are, from 1 to 64.
+    pub images: u32,
+    pub way: Way,
+    /// Whether the trace is shown.
+    pub trace: bool,
+}
+
 /// The options of a run that were given so far.
 #[derive(Clone, Copy)]
 pub struct Given {
     pub images: Option<u32>,
     pub order: Option<u32>,
+    pub trace: bool,
 }
 
-/// An option that may come next.
+/// An option with a number that may come next.
 #[derive(Clone, Copy)]
 pub enum Key {
     Images,
@@ -64,8 +75,8 @@ pub enum Key {
 }
 
 /// The command that the words mean: `run OPTIONS FILE` or `check FILE`. OPTIONS are, in any order and each at most once, `-n N`, with N from 1 to 64, 4 where it
-/// isn't given, and `--order SEED`, with SEED from 0 to 2147483647, which has to be there. Numbers are decimal digits without a sign and without a leading
-/// zero other than `0` itself; FILE isn't empty and doesn't begin with `-`.
+/// isn't given, `--order SEED`, with SEED from 0 to 2147483647, which has to be there, and `--trace`. Numbers are decimal digits without a sign and without a
+/// leading zero other than `0` itself; FILE isn't empty and doesn't begin with `-`.
 /// Other words have a usage number. Want of memory comes only where there are more words than a number can tell.
 pub fn words_of(words: &[String]) -> Result<Command, Refusal<Usage>>
     ensures means { IfOk result (Means (words_in words.now)) }
@@ -107,6 +118,7 @@ fn command_of(words: &[String]) -> Result<Command, Refusal<Usage>>
     let none = Given {
         images: None,
         order: None,
+        trace: false,
     };
     match first.as_str() {
         "run" => options_of(rest, 1, none),
@@ -115,7 +127,7 @@ fn command_of(words: &[String]) -> Result<Command, Refusal<Usage>>
     }
 }
 
-/// The key of an option that isn't given yet.
+/// The key of an option with a number that isn't given yet.
 fn next_key(word: &str, given: Given) -> Option<Key>
     ensures key { IfSome result (IsNextKey given word.now) }
     ensures none { IfNone result ((k : Key) → ¬ IsNextKey given word.now k) }
@@ -123,6 +135,20 @@ fn next_key(word: &str, given: Given) -> Option<Key>
     match word {
         "-n" if given.images.is_none() => Some(Key::Images),
         "--order" if given.order.is_none() => Some(Key::Order),
+        _ => None,
+    }
+}
+
+/// What is given with an option without a number that isn't given yet.
+fn flagged_with(word: &str, given: Given) -> Option<Given>
+    ensures given { IfSome result (Flags given word.now) }
+    ensures none { IfNone result ((h : Given) → ¬ Flags given word.now h) }
+{
+    match word {
+        "--trace" if !given.trace => Some(Given {
+            trace: true,
+            ..given
+        }),
         _ => None,
     }
 }
@@ -153,7 +179,11 @@ fn options_of(words: &[String], place: u32, given: Given) -> Result<Command, Ref
     let [first, behind @ ..] = words else {
         return Err(wrong_at(place));
     };
-    let Some(key) = next_key(first.as_str(), given) else {
+    let word = first.as_str();
+    if let Some(next) = flagged_with(word, given) {
+        return options_of(behind, place + 1, next);
+    }
+    let Some(key) = next_key(word, given) else {
         return file_of(words, place, given);
     };
     let [second, rest @ ..] = behind else {
@@ -165,20 +195,25 @@ fn options_of(words: &[String], place: u32, given: Given) -> Result<Command, Ref
     options_of(rest, place + 2, next)
 }
 
-/// The number of images of a run.
-fn images_of(given: Given) -> u32
-    ensures { result ≡ images_or_four given.images }
+/// What a run is told by its options, in the order of a seed.
+fn told(given: Given, seed: u32) -> Options
+    ensures { result ≡ spec.told given seed }
 {
-    match given.images {
+    let images = match given.images {
         Some(n) => n,
         None => DEFAULT_IMAGES,
+    };
+    Options {
+        images,
+        way: Way::Order(seed),
+        trace: given.trace,
     }
 }
 
 /// The command whose file's name stands at a place, behind all options.
 fn file_of(words: &[String], place: u32, given: Given) -> Result<Command, Refusal<Usage>>
     requires few { place + length words.now < 4294967295 }
-    requires no_key { IsFirst (words_in words.now) (λ word. (k : Key) → ¬ IsNextKey given word k) }
+    requires no_option { IsFirst (words_in words.now) (IsNoOption given) }
     ensures means { IfOk result (RunsFrom given (words_in words.now) (place + length words.now)) }
     ensures refused { IfErr result (IsRefusedFrom (Rests given) (words_in words.now) place) }
 {
@@ -188,8 +223,7 @@ fn file_of(words: &[String], place: u32, given: Given) -> Result<Command, Refusa
     match file_alone(words, place) {
         Ok(word) => Ok(Command::Run {
             input: Input::File { word },
-            n: images_of(given),
-            way: Way::Order(seed),
+            options: told(given, seed),
         }),
         Err(refusal) => Err(refusal),
     }
