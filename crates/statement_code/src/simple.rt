@@ -4,6 +4,7 @@ ghost use Rattle.std.specs.Prelude.{◌≡◌, [], ◌∷◌, map, pos, OnOk};
 ghost use Rattle.checked_tree.specs.ExpressionViews as view;
 ghost use Rattle.checked_tree.specs.StatementViews as statements;
 ghost use Rattle.image_acts.specs.Acts as act;
+ghost use Rattle.tree_meaning.specs.Allocation as allocations;
 ghost use Rattle.tree_meaning.specs.Assignments as assignments;
 ghost use Rattle.tree_meaning.specs.Environment.{procedure_in};
 ghost use Rattle.tree_meaning.specs.Forms as meaning;
@@ -15,9 +16,12 @@ ghost use Rattle.statement_code.specs.Simple.{SimplyWritten};
 ghost use Rattle.statement_code.specs.Texts.{HasTexts};
 
 use crate::output::push_output;
+use allocation_code::allocation::push_allocate;
+use allocation_code::object::push_deallocate;
 use assignment_code::assignment::{push_assignment, push_images_assignment};
 use caf_base::refusal::NoMemory;
-use checked_tree::data::{DataType, Local};
+use checked_tree::action::Allocation;
+use checked_tree::data::{DataType, Local, Object};
 use checked_tree::expr::{Argument, Designator, ResultVariable, TypedExpr, WrittenOrder};
 use checked_tree::format::Format;
 use checked_tree::statement::{ImageSet, Item, ListedImages, StatementForm};
@@ -235,6 +239,36 @@ fn event_wait(
     draft.release(before, line)
 }
 
+// ALLOCATE.
+fn allocate(
+    draft: &mut Draft,
+    env: &Env<'_>,
+    objects: &[Allocation],
+    stat: &Option<ResultVariable>,
+    line: u32,
+) -> Result<(), NoMemory>
+    ensures { OnOk result (draft.new ≡ written line (released (allocations.allocate (environment env.now) (map statements.allocation objects.now) (view.maybe_result stat.now))) draft.old) }
+{
+    let before = draft.look();
+    push_allocate(draft, env, objects, stat, line)?;
+    draft.release(before, line)
+}
+
+// DEALLOCATE.
+fn deallocate(
+    draft: &mut Draft,
+    env: &Env<'_>,
+    objects: &[Object],
+    stat: &Option<ResultVariable>,
+    line: u32,
+) -> Result<(), NoMemory>
+    ensures { OnOk result (draft.new ≡ written line (released (allocations.deallocate (environment env.now) objects.now (view.maybe_result stat.now))) draft.old) }
+{
+    let before = draft.look();
+    push_deallocate(draft, env, objects, stat, line)?;
+    draft.release(before, line)
+}
+
 // STOP (11.4).
 fn stop(
     draft: &mut Draft,
@@ -298,8 +332,8 @@ pub fn push_simple(
         StatementForm::Stop { code } => stop(draft, env, code, line),
         StatementForm::ErrorStop { code } => error_stop(draft, env, code, line),
         StatementForm::FailImage => draft.push(Step::Ask(AskStep::Fail), line),
-        StatementForm::Allocate { .. } => Err(NoMemory),
-        StatementForm::Deallocate { .. } => Err(NoMemory),
+        StatementForm::Allocate { objects, stat } => allocate(draft, env, objects, stat, line),
+        StatementForm::Deallocate { objects, stat } => deallocate(draft, env, objects, stat, line),
         StatementForm::SyncAll { stat } => sync_all(draft, env, stat, line),
         StatementForm::SyncMemory { stat } => sync_memory(draft, env, stat, line),
         StatementForm::SyncImages { images, stat } => sync_images(draft, env, images, stat, line),
