@@ -1,0 +1,13 @@
+use Rattle.std.proofs.Common.{rules}
+use Rattle.checked_tree.specs.ExpressionViews as view
+use Rattle.tree_meaning.specs.Expressions.{expression}
+use Rattle.std.proofs.lemmas.Result.{on_ok_weaker}
+use Rattle.expr_code.specs.Environments.{environment}
+use Rattle.statement_code.proofs.Ends.{released_by}
+use Rattle.statement_code.proofs.head.push_condition.Goals as goal
+
+pub returns : goal.returns
+returns c =
+    let parts = expression (environment c.args.env.now) (view.expression c.args.condition.now) in
+    let last = released_by c.args.line parts c.args.draft.now c.look-before.new.self c.push_expr.new.draft c.release.new.self c.look-before.result c.look-before.ensures.before c.look-before.ensures.draft c.in_ok-push_expr.ensures in
+    search (rules, on_ok_weaker)

@@ -1,0 +1,14 @@
+use Rattle.std.proofs.Common.{rules}
+use Rattle.checked_tree.specs.ExpressionViews as view
+use Rattle.tree_meaning.specs.Environment.{procedure_in}
+use Rattle.tree_meaning.specs.Forms.{called}
+use Rattle.std.proofs.lemmas.Result.{on_ok_weaker}
+use Rattle.expr_code.specs.Environments.{environment}
+use Rattle.statement_code.proofs.Ends.{released_by}
+use Rattle.statement_code.proofs.simple.call_of.Goals as goal
+
+pub returns : goal.returns
+returns c =
+    let parts = called (environment c.args.env.now) c.args.procedure (procedure_in (environment c.args.env.now) c.args.procedure) (view.arguments c.args.arguments.now) in
+    let last = released_by c.args.line parts c.args.draft.now c.look-before.new.self c.push_call.new.draft c.release.new.self c.look-before.result c.look-before.ensures.before c.look-before.ensures.draft c.in_ok-push_call.ensures in
+    search (rules, on_ok_weaker)

@@ -1,0 +1,14 @@
+use Rattle.std.proofs.Common.{rules}
+use Rattle.checked_tree.specs.ExpressionViews as view
+use Rattle.checked_tree.specs.StatementViews as statements
+use Rattle.tree_meaning.specs.ImageControl.{sync_images}
+use Rattle.std.proofs.lemmas.Result.{on_ok_weaker}
+use Rattle.expr_code.specs.Environments.{environment}
+use Rattle.statement_code.proofs.Ends.{released_by}
+use Rattle.statement_code.proofs.simple.sync_images.Goals as goal
+
+pub returns : goal.returns
+returns c =
+    let parts = sync_images (environment c.args.env.now) (statements.image_set c.args.images.now) (view.maybe_result c.args.stat.now) in
+    let last = released_by c.args.line parts c.args.draft.now c.look-before.new.self c.push_sync_images.new.draft c.release.new.self c.look-before.result c.look-before.ensures.before c.look-before.ensures.draft c.in_ok-push_sync_images.ensures in
+    search (rules, on_ok_weaker)

@@ -1,0 +1,13 @@
+use Rattle.std.proofs.Common.{rules}
+use Rattle.checked_tree.specs.ExpressionViews as view
+use Rattle.tree_meaning.specs.ImageControl.{sync_team}
+use Rattle.std.proofs.lemmas.Result.{on_ok_weaker}
+use Rattle.expr_code.specs.Environments.{environment}
+use Rattle.statement_code.proofs.Ends.{released_by}
+use Rattle.statement_code.proofs.simple.sync_team.Goals as goal
+
+pub returns : goal.returns
+returns c =
+    let parts = sync_team (environment c.args.env.now) (view.expression c.args.team.now) (view.maybe_result c.args.stat.now) in
+    let last = released_by c.args.line parts c.args.draft.now c.look-before.new.self c.push_sync_team.new.draft c.release.new.self c.look-before.result c.look-before.ensures.before c.look-before.ensures.draft c.in_ok-push_sync_team.ensures in
+    search (rules, on_ok_weaker)
