@@ -1,0 +1,6 @@
+pub mod Blocks
+pub mod Constructs
+pub mod OpenLoops
+pub mod Programs
+pub mod Sizes
+pub mod Texts

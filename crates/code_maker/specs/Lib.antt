@@ -1,0 +1,4 @@
+pub mod Blocks
+pub mod Loops
+pub mod Programs
+pub mod Sizes
