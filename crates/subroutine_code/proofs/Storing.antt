@@ -1,5 +1,5 @@
 -- The store of a result variable.
-use Rattle.std.proofs.Common.{◌≡◌, ℕ, ◌+◌, refl, arith}
+use Rattle.std.proofs.Common.{◌≡◌, ℕ, ◌+◌, refl}
 use Rattle.walk_theory.specs.Made.{parts_size}
 use Rattle.checked_tree.specs.Expressions as t
 use Rattle.tree_meaning.specs.Expressions.{storing, result_size}

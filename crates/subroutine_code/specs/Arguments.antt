@@ -1,7 +1,6 @@
 -- The arguments of intrinsic subroutines in memory, as what puts them down.
 use Rattle.std.specs.Prelude.{List, map}
 use Rattle.checked_tree.specs.ExpressionViews as view
-use Rattle.checked_tree.specs.StatementViews as statements
 use Rattle.tree_meaning.specs.Environment.{Environment}
 use Rattle.tree_meaning.specs.Pieces.{Piece}
 use Rattle.tree_meaning.specs.Subroutines.{value_piece, optional_piece, result_piece, stat_piece, cell_piece, collected_piece}

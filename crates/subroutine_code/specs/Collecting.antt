@@ -12,7 +12,7 @@ use Rattle.image_acts.specs.Acts as a
 use Rattle.image_acts.specs.Acts.{Act, stack, variable, bounded, selector, ask}
 use Rattle.tree_meaning.specs.Environment.{Environment}
 use Rattle.tree_meaning.specs.Pieces.{Piece, depth, fetching}
-use Rattle.tree_meaning.specs.Sequences.{◌▸◌, doing, dropping, copying, pushing, choosing}
+use Rattle.tree_meaning.specs.Sequences.{◌▸◌, doing, copying, pushing, choosing}
 use Rattle.tree_meaning.specs.Subroutines.{as_array, collected_piece, collected_value, collected_put, dropping_collected, succeeded}
 use Rattle.subroutine_code.specs.declared.collective.Beneath.{Beneath}
 use Rattle.subroutine_code.specs.declared.collective.Root.{Root}
