@@ -5,6 +5,7 @@ ghost use Rattle.checked_tree.specs.ExpressionViews as view;
 ghost use Rattle.checked_tree.specs.StatementViews as statements;
 ghost use Rattle.image_acts.specs.Acts as act;
 ghost use Rattle.tree_meaning.specs.Allocation as allocations;
+ghost use Rattle.tree_meaning.specs.Subroutines as subroutines;
 ghost use Rattle.tree_meaning.specs.Assignments as assignments;
 ghost use Rattle.tree_meaning.specs.Environment.{procedure_in};
 ghost use Rattle.tree_meaning.specs.Forms as meaning;
@@ -20,7 +21,7 @@ use allocation_code::allocation::push_allocate;
 use allocation_code::object::push_deallocate;
 use assignment_code::assignment::{push_assignment, push_images_assignment};
 use caf_base::refusal::NoMemory;
-use checked_tree::action::Allocation;
+use checked_tree::action::{Allocation, IntrinsicCall};
 use checked_tree::data::{DataType, Local, Object};
 use checked_tree::expr::{Argument, Designator, ResultVariable, TypedExpr, WrittenOrder};
 use checked_tree::format::Format;
@@ -34,6 +35,7 @@ use expr_code::draft::Draft;
 use expr_code::env::Env;
 use expr_code::expr::push_call;
 use image_code::step::{AskStep, Step};
+use subroutine_code::subroutine::push_intrinsic_call;
 
 // Assignment.
 fn assign(
@@ -269,6 +271,20 @@ fn deallocate(
     draft.release(before, line)
 }
 
+// CALL of an intrinsic subroutine.
+fn call_intrinsic(
+    draft: &mut Draft,
+    env: &Env<'_>,
+    call: &IntrinsicCall,
+    line: u32,
+) -> Result<(), NoMemory>
+    ensures { OnOk result (draft.new ≡ written line (released (subroutines.intrinsic_call (environment env.now) (statements.intrinsic_subroutine call.now.form) call.now.order)) draft.old) }
+{
+    let before = draft.look();
+    push_intrinsic_call(draft, env, call, line)?;
+    draft.release(before, line)
+}
+
 // STOP (11.4).
 fn stop(
     draft: &mut Draft,
@@ -324,7 +340,7 @@ pub fn push_simple(
             procedure,
             arguments,
         } => { call_of(draft, env, *procedure, arguments, line) }
-        StatementForm::CallIntrinsic(_) => Err(NoMemory),
+        StatementForm::CallIntrinsic(call) => call_intrinsic(draft, env, call, line),
         StatementForm::Print { format, items } => print(draft, env, format, items, line),
         StatementForm::Exit { .. } => Ok(()),
         StatementForm::Cycle { .. } => Ok(()),
