@@ -72,19 +72,3 @@ same_bytes (Some fs) file bytes told whole has = cc
 pub whole_settles : (files : Option Files) (file : Word) (bytes told : List ℕ) (task : Task) (status : ℕ) (text : List ℕ) (report : Option Report) → HasBytesIfTold files file bytes → HasBytes files file told → length bytes ≤ 65536 → BytesDue bytes task status text report → Settle task told status
 whole_settles files file bytes told task status text report whole has few b =
     subst (λ v. Settle task v status) (same_bytes files file bytes told whole has) (bytes_settle bytes task status text report few b)
-
--- a longer file settles it too
-long_bytes : (files : Option Files) (file : Word) (told : List ℕ) (limit : ℕ) → IsLonger files file limit → HasBytes files file told → limit < length told
-long_bytes None file told limit longer has = absurd has
-long_bytes (Some fs) file told limit longer has =
-    let same : longer.0 ≡ told = cc (longer.1, has) in
-    subst (λ v. limit < length v) same longer.2
-
-pub longer_settles : (files : Option Files) (file : Word) (told : List ℕ) (task : Task) (status : ℕ) → IsLonger files file 65536 → HasBytes files file told → status ≡ 13 → Settle task told status
-longer_settles files file told task status longer has s =
-    let long : 65536 < length told = long_bytes files file told 65536 longer has in
-    record {
-      too_long = (λ _. long, λ _. s);
-      refused = (λ k. absurd (omega arith), λ h. absurd (omega (arith, h.0)));
-      done = (λ d. absurd (not_done task status d (inr (inr (inr s)))), λ h. absurd (omega (arith, h.0)));
-    }

@@ -1,16 +1,16 @@
 -- What is written of a block is its code.
-use Rattle.std.proofs.Common.{◌≡◌, ℕ, suc, ◌+◌, List, [], ◌∷◌, ◌++◌, length, refl, ap, ap₂, sym, ◌∙◌, arith, length-append, subst}
+use Rattle.std.proofs.Common.{◌≡◌, ℕ, ◌+◌, List, [], ◌∷◌, ◌++◌, length, refl, ap, ap₂, sym, ◌∙◌, arith, length-append}
 use Rattle.std.specs.Prelude.{Bool, true, false, ◌||◌}
 use Rattle.std.specs.List.{list_any}
 use Rattle.std.proofs.Math.Bool.{or_assoc}
-use Rattle.walk_theory.specs.Syntax.{Parts, Form, simple, choose, loop, around, exit, cycle, return, Branches, otherwise, branch, Steps, stop, also}
+use Rattle.walk_theory.specs.Syntax.{Form, simple, choose, loop, around, exit, cycle, return, Branches, otherwise, branch, Steps, stop, also}
 use Rattle.walk_theory.specs.Code.{Line, on, count_one, jump, jump_if, jump_unless, go_back}
 use Rattle.walk_theory.specs.Made.{parts_size, steps_size, form_size, branches_size, Places, places, exit_instr, cycle_instr, parts_code, steps_code, form_code, branches_code}
 use Rattle.walk_theory.proofs.Places.{parts_long, steps_long, form_long}
 use Rattle.image_acts.specs.Acts.{Act}
 use Rattle.expr_code.specs.Drafts.{Body, counted, kept, Drafted, lines_in, body_with, body_with_lines, line_takes, with_line, with_lines, starts_of, written}
 use Rattle.expr_code.proofs.Lines.{body_nothing, body_first, body_twice, written_code, written_long}
-use Rattle.code_maker.specs.Blocks.{places_at, first_iteration, iterations_begun, passing, steps_written, form_written, branches_written}
+use Rattle.code_maker.specs.Blocks.{places_at, steps_written, form_written, branches_written}
 
 -- lines, none and one and then others: and whether one of them takes evaluation cells
 took_first : (x y z : Bool) → (y || (x || z)) ≡ ((x || y) || z)

@@ -1,6 +1,6 @@
 -- The code of a whole program.
 use mathlib.Core.Path.{fun_ext}
-use Rattle.std.proofs.Common.{◌≡◌, ℕ, zero, suc, ◌+◌, ◌<◌, ◌≤◌, List, [], ◌∷◌, ◌++◌, drop, length, subst, refl, ap, ap₂, sym, ◌∙◌, arith, length-append, append_assoc, append-nil}
+use Rattle.std.proofs.Common.{◌≡◌, ℕ, zero, suc, ◌+◌, ◌<◌, ◌≤◌, List, [], ◌∷◌, ◌++◌, drop, length, subst, refl, ap, ap₂, sym, ◌∙◌, arith, length-append, append_assoc}
 use Rattle.std.proofs.Math.ListN.{drop_of_length-le}
 use Rattle.std.proofs.lemmas.Result.{IfOk-weaker}
 use Rattle.std.specs.Prelude.{false, slice_index_or, map, Result, IfOk}
@@ -17,7 +17,7 @@ use Rattle.image_acts.specs.Acts.{Act, Scope, host}
 use Rattle.image_code.specs.Code.{Program, Whole, code_of}
 use Rattle.image_code.specs.declared.tables.Tables.{Tables}
 use Rattle.tree_meaning.specs.Forms.{environment_of, procedure_bodies, steps}
-use Rattle.expr_code.specs.Drafts.{Body, kept, Drafted, lines_in, body_with, body_with_lines, starts_of, with_line, with_lines}
+use Rattle.expr_code.specs.Drafts.{kept, Drafted, lines_in, body_with, body_with_lines, starts_of, with_line}
 use Rattle.code_maker.specs.Blocks.{steps_written}
 use Rattle.code_maker.specs.Programs.{starts_from, end_from, procedure_written, procedures_written, beginning_written, program_written, HasLiterals}
 use Rattle.code_maker.proofs.Blocks.{steps_made}

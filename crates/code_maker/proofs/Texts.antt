@@ -1,14 +1,14 @@
 -- The texts of a draft stay when code is written.
-use Rattle.std.proofs.Common.{◌≡◌, ℕ, ◌+◌, List, refl, sym, subst}
+use Rattle.std.proofs.Common.{◌≡◌, ℕ, List, refl, sym, subst}
 use Rattle.walk_theory.specs.Syntax.{Parts, Form, Steps}
-use Rattle.walk_theory.specs.Code.{Line, on, jump, jump_unless}
-use Rattle.walk_theory.specs.Made.{Places, parts_code, steps_size, steps_code, form_code}
+use Rattle.walk_theory.specs.Code.{Line}
+use Rattle.walk_theory.specs.Made.{Places, parts_code, steps_code, form_code}
 use Rattle.image_acts.specs.Acts.{Act}
 use Rattle.tree_meaning.specs.Environment.{Environment}
 use Rattle.expr_code.specs.Drafts.{Body, counted, kept, Drafted, lines_in, body_with, body_with_lines, starts_of, with_line, with_lines, written}
 use Rattle.expr_code.proofs.Lines.{written_code}
 use Rattle.statement_code.specs.Texts.{AreTexts, HasTexts}
-use Rattle.code_maker.specs.Blocks.{passing, steps_written, form_written, branch_written}
+use Rattle.code_maker.specs.Blocks.{steps_written, form_written}
 use Rattle.code_maker.proofs.Blocks.{steps_behind, form_made}
 
 beside_one : (i : Line Act) (b : Body) (ts ls : List (List ℕ)) → AreTexts b ts ls → AreTexts (body_with i b) ts ls
@@ -53,11 +53,5 @@ pub texts_behind_form : (e : Environment) (xs : List Places) (l : ℕ) (f : Form
 texts_behind_form e xs l f d x g h =
     subst (λ (y : Drafted). HasTexts e y) (sym g)
     (subst (λ (y : Drafted). HasTexts e y) (sym (form_made xs l f d (lines_in d.body) refl)) (texts_lines e (form_code (starts_of d) xs (lines_in d.body) l f) d h))
-
-pub texts_behind_branch : (e : Environment) (xs : List Places) (behind l : ℕ) (b : Steps Act) (d x : Drafted) → x ≡ branch_written xs behind l b d → HasTexts e d → HasTexts e x
-texts_behind_branch e xs behind l b d x g h =
-    subst (λ (y : Drafted). HasTexts e y) (sym g)
-    (texts_line e (on l (jump behind)) (steps_written xs b (passing l (steps_size b) d))
-    (texts_steps e xs b (passing l (steps_size b) d) (texts_line e (on l (jump_unless (lines_in d.body + 1 + steps_size b + 1))) d h)))
 
 pub ruleset laws = (texts_behind_line, texts_behind_parts, texts_behind_steps)

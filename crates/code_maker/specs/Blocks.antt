@@ -1,6 +1,6 @@
 -- What blocks and constructs add to code that is being made: each hands the draft on to the next. Their sizes stand only in the jumps that go on.
-use Rattle.std.specs.Prelude.{ℕ, ◌+◌, List, [], ◌∷◌}
-use Rattle.walk_theory.specs.Syntax.{Parts, Form, simple, choose, loop, around, exit, cycle, return, Branches, otherwise, branch, Steps, stop, also}
+use Rattle.std.specs.Prelude.{ℕ, ◌+◌, List, ◌∷◌}
+use Rattle.walk_theory.specs.Syntax.{Form, simple, choose, loop, around, exit, cycle, return, Branches, otherwise, branch, Steps, stop, also}
 use Rattle.walk_theory.specs.Code.{on, count_one, jump, jump_if, jump_unless, go_back}
 use Rattle.walk_theory.specs.Made.{parts_size, steps_size, branches_size, Places, exit_instr, cycle_instr}
 use Rattle.image_acts.specs.Acts.{Act}

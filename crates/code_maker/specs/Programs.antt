@@ -1,5 +1,5 @@
 -- What the whole program adds to code that is being made, and where its procedures begin.
-use Rattle.std.specs.Prelude.{ℕ, zero, suc, ◌+◌, List, [], ◌∷◌}
+use Rattle.std.specs.Prelude.{ℕ, ◌+◌, List, [], ◌∷◌}
 use Rattle.walk_theory.specs.Syntax.{Steps}
 use Rattle.walk_theory.specs.Code.{on, does_act, count_one, call, go_back}
 use Rattle.walk_theory.specs.Made.{steps_size}

@@ -8,13 +8,13 @@ use Rattle.caf_events.specs.declared.reply.Reply.{Reply}
 use Rattle.caf_events.specs.Events.{counts_words, words_by, EndsImage}
 use Rattle.caf_events.specs.Walkers.{AsksNext, IsAtLine, Continues, IsOver, EndsAfter}
 use Rattle.trace_theory.specs.Machines.{Move, goes, asks, over, go, Rests}
-use Rattle.image_lanes.specs.Lanes.{by_program, failing, OnLane, is_due, is_full, is_failure, begins_to_fail, fails_on, is_limited, goes_past, program_next, failure_next, course_next, lane_step, lane_hears, heard_by_program, heard_on, course_left, lane_left}
+use Rattle.image_lanes.specs.Lanes.{by_program, failing, OnLane, is_due, is_full, is_failure, fails_on, goes_past, program_next, failure_next, course_next, lane_step, lane_hears, heard_by_program, heard_on, course_left, lane_left}
 use Rattle.core_runs.specs.Failures.{LockPlace, release_of}
 use Rattle.image_lanes.specs.Holds.{steps_from, rest_of}
 use Rattle.image_lanes.specs.declared.course.Failing.{Failing}
 use Rattle.image_lanes.specs.declared.course.Failing.TheVariants as steps
 use Rattle.image_lanes.specs.LaneStates.{Given}
-use Rattle.image_lanes.proofs.LaneLaws.{at_program, go_lane, rests_lane, rests_failing, over_lane, lane_over, fewer_failing, fewer_limited, fewer_past}
+use Rattle.image_lanes.proofs.LaneLaws.{at_program, go_lane, rests_lane, rests_failing, over_lane, lane_over, fewer_past}
 
 -- ---- in a failure: of its steps the last alone ends the image
 abbrev pub EndsLast : List Ask → Reply → Type 0
@@ -26,45 +26,6 @@ module _ {C : Type 0} (step : C → Move C Ask Reply) where
   -- ---- what the lane asks, of what the program asks
   by_step : (l : OnLane C) → l.course ≡ by_program → lane_step step l ≡ program_next l (step l.program)
   by_step l by = ap (course_next step l) by
-
-  fail_move : (l : OnLane C) (m : Move C Ask Reply) (ask : Ask) (line : ℕ) → AsksNext (program_next l m) ask → IsAtLine (program_next l m) line → (is_due l || is_failure ask) ≡ true
-      → program_next l m ≡ asks asking.Fail line (λ r. begins_to_fail l line)
-  fail_move l (goes c) ask line = λ a n b. absurd a
-  fail_move l over ask line = λ a n b. absurd a
-  fail_move l (asks p q k) ask line = elim (cases_Bool (is_due l)) [
-    | inl t ↦ rw t (λ a n b. ap (λ (x : ℕ). asks asking.Fail x (λ (r : Reply). begins_to_fail l x)) (sym n))
-    | inr f ↦ rw f (elim (cases_Bool (is_failure p)) [
-      | inl t ↦ rw t (λ a n b. ap (λ (x : ℕ). asks asking.Fail x (λ (r : Reply). begins_to_fail l x)) (sym n))
-      | inr g ↦ rw g (elim (cases_Bool (is_full l)) [
-        | inl t ↦ rw t (λ a n b. absurd (never_limit ask a b))
-        | inr i ↦ rw i (λ a n b. absurd (never_both ask p a g b))
-      ])
-    ])
-  ]
-    where
-      never_limit : (x : Ask) → x ≡ asking.LimitWords l.words → is_failure x ≡ true → ⊥
-      never_limit x e t = let u : is_failure (asking.LimitWords l.words) ≡ true = sym (ap is_failure e) ∙ t in absurd (cc)
-
-      never_both : (x y : Ask) → x ≡ y → is_failure y ≡ false → is_failure x ≡ true → ⊥
-      never_both x y e f t = let u : false ≡ true = sym f ∙ sym (ap is_failure e) ∙ t in absurd (cc)
-
-  limit_move : (l : OnLane C) (m : Move C Ask Reply) (ask : Ask) (line : ℕ) → AsksNext (program_next l m) ask → IsAtLine (program_next l m) line → (is_due l || is_failure ask) ≡ false → is_full l ≡ true
-      → program_next l m ≡ asks (asking.LimitWords l.words) line (λ r. is_limited l)
-  limit_move l (goes c) ask line = λ a n b full. absurd a
-  limit_move l over ask line = λ a n b full. absurd a
-  limit_move l (asks p q k) ask line = elim (cases_Bool (is_due l)) [
-    | inl t ↦ rw t (λ a n b full. absurd (cc))
-    | inr f ↦ rw f (elim (cases_Bool (is_failure p)) [
-      | inl t ↦ rw t (λ a n b full. absurd (fails ask a b))
-      | inr g ↦ rw g (elim (cases_Bool (is_full l)) [
-        | inl t ↦ rw t (λ a n b full. ap (λ (x : ℕ). asks (asking.LimitWords l.words) x (λ (r : Reply). is_limited l)) (sym n))
-        | inr i ↦ rw i (λ a n b full. absurd (cc))
-      ])
-    ])
-  ]
-    where
-      fails : (x : Ask) → x ≡ asking.Fail → is_failure x ≡ false → ⊥
-      fails x e f = let u : is_failure asking.Fail ≡ false = sym (ap is_failure e) ∙ f in absurd (cc)
 
   -- the ask is the program's own
   pub record Past (l : OnLane C) (m : Move C Ask Reply) (ask : Ask) (line : ℕ) : Type 0 where
@@ -107,27 +68,9 @@ module _ {C : Type 0} (step : C → Move C Ask Reply) where
     at_by : IsAtLine (program_next l (step l.program)) line
     at_by = subst (λ m. IsAtLine m line) (by_step l by) at
 
-    from_move : (a : Ask) (n : ℕ) (k : Reply → OnLane C) → lane_step step l ≡ asks a n k → Rests (lane_step step (k reply)) → (IsOver (lane_step step (k reply)) ↔ EndsImage a reply) → lane_left step (k reply) < lane_left step l
-        → Given step l reply (k reply)
-    from_move a n k e rests ends spends = record {
-      goes = subst (λ m. Continues (lane_step step) m reply (k reply)) (sym e) (0, refl);
-      rests = rests;
-      ends = subst (λ m. IsOver (lane_step step (k reply)) ↔ EndsAfter m reply) (sym e) ends;
-      spends = spends;
-    }
-
-    pub given_failure : (is_due l || is_failure ask) ≡ true → Given step l reply (begins_to_fail l line)
-    given_failure fails = from_move asking.Fail line (λ r. begins_to_fail l line) (by_step l by ∙ fail_move l (step l.program) ask line asked_by at_by fails) tt (λ x. x, λ x. x) (fewer_failing step l by ask asked_by line)
-
-    pub given_limit : (is_due l || is_failure ask) ≡ false → is_full l ≡ true → Given step l reply (is_limited l)
-    given_limit goes_on full = from_move (asking.LimitWords l.words) line (λ r. is_limited l) (by_step l by ∙ limit_move l (step l.program) ask line asked_by at_by goes_on full) tt (λ x. tt, λ x. tt) (fewer_limited step l by ask asked_by)
-
     module _ (goes_on : (is_due l || is_failure ask) ≡ false) (room : is_full l ≡ false) where
       past : Past l (step l.program) ask line
       past = past_move l (step l.program) ask line asked_by at_by goes_on room
-
-      pub program_asks : AsksNext (step l.program) ask
-      program_asks = subst (λ m. AsksNext m ask) (sym past.program) refl
 
       pub program_at : IsAtLine (step l.program) line
       program_at = subst (λ m. IsAtLine m line) (sym past.program) refl

@@ -10,7 +10,7 @@ use Rattle.caf_events.specs.Walkers.{AsksNext, IsOver}
 use Rattle.trace_theory.specs.Machines.{Move, goes, asks, over, go, goes_on, Rests}
 use Rattle.core_runs.specs.Failures.{LockPlace, same_place, lock_place, without, held_after, release_of, failure_steps}
 use Rattle.object_rules.specs.Locks.{has_status, acquires}
-use Rattle.image_lanes.specs.Lanes.{by_program, OnLane, is_due, is_full, is_failure, begins_to_fail, is_limited, goes_past, lane_start, program_next, failure_next, lane_step, program_left, course_left, lane_left}
+use Rattle.image_lanes.specs.Lanes.{by_program, OnLane, is_due, is_full, is_failure, goes_past, lane_start, program_next, failure_next, lane_step, program_left, course_left, lane_left}
 
 -- the lane with its program at c
 abbrev pub at_program : {C : Type 0} → OnLane C → C → OnLane C
@@ -134,12 +134,6 @@ module _ {C : Type 0} (step : C → Move C Ask Reply) (l : OnLane C) (by : l.cou
     now = left_is ∙ busy (step l.program) ask asked
 
     -- fewer are to come after the beginning of a failure, after a limit, and after a step of the program
-    pub fewer_failing : (line : ℕ) → lane_left step (begins_to_fail l line) < lane_left step l
-    fewer_failing line = let a = now in let b = failure_length l.image l.held in omega arith
-
-    pub fewer_limited : lane_left step (is_limited l) < lane_left step l
-    fewer_limited = let a = now in omega arith
-
     pub fewer_past : (a : Ask) (r : Reply) (c : C) → is_full l ≡ false → (counts_words a ≡ false → IsOver (step c)) → lane_left step (goes_past l a r c) < lane_left step l
     fewer_past a r c room ends =
         let m : OnLane C = goes_past l a r c in

@@ -1,15 +1,15 @@
 -- The clocks of some images joined one after the other.
-use Rattle.std.proofs.Common.{◌≡◌, ℕ, zero, suc, ◌+◌, ◌<◌, max, List, [], ◌∷◌, ◌++◌, length, map, get_or, take, replicate, inl, inr, refl, ap, sym, ◌∙◌, subst, arith}
+use Rattle.std.proofs.Common.{◌≡◌, ℕ, zero, suc, ◌+◌, ◌<◌, max, List, [], ◌∷◌, ◌++◌, length, map, get_or, take, inl, inr, refl, ap, sym, ◌∙◌, subst, arith}
 use Rattle.std.specs.Prelude.{Option}
 use Rattle.std.proofs.lemmas.List.{take_more, map-append}
 use Rattle.caf_events.specs.declared.event.Entry.{Entry}
 use Rattle.order_theory.specs.Order.{Within}
 use Rattle.order_theory.specs.Clocks.{Covers}
 use Rattle.order_theory.specs.Stored.{present}
-use Rattle.order_theory.proofs.Clocks.{covers_same, covers_join, covers_none}
+use Rattle.order_theory.proofs.Clocks.{covers_same, covers_join}
 use Rattle.order_theory.proofs.Sources.{sound}
 use Rattle.segment_clock.specs.Counts.{count_of, joined}
-use Rattle.segment_clock.proofs.Joins.{count_joined, count_none}
+use Rattle.segment_clock.proofs.Joins.{count_joined}
 use Rattle.order_axioms.specs.Views.{speaks_by, view, edges}
 use Rattle.race_watch.specs.Recorded.{IsTold}
 use Rattle.race_search.specs.Known.{TellsOf}
@@ -20,9 +20,6 @@ within_at (x ∷ xs) zero l = inl refl
 within_at (x ∷ xs) (suc i) l = inr (within_at xs i (omega arith))
 
 module _ (n : ℕ) (g : List Entry) where
-  pub none_joined : Covers (edges n) g [] (count_of (replicate n 0))
-  none_joined = covers_same Entry (edges n) (sound Entry (view n)) g [] (λ i. 0) (count_of (replicate n 0)) (λ i. count_none n i) (covers_none Entry (edges n) (sound Entry (view n)) g)
-
   pub joined_next : (clock own xs : List ℕ) (i : ℕ) → i < length xs → length own ≡ length clock → Covers (edges n) g (map (present (view n) g) (take i xs)) (count_of clock)
       → Covers (edges n) g (present (view n) g (get_or xs i 0) ∷ []) (count_of own) → Covers (edges n) g (map (present (view n) g) (take (i + 1) xs)) (count_of (joined clock own))
   joined_next clock own xs i l same old new =

@@ -2,10 +2,8 @@ use Rattle.std.proofs.Common.{◌≡◌, ◌+◌, ◌∙◌, ap, ap₂, rules}
 use Rattle.std.proofs.lemmas.Result.{IfOk-weaker}
 use Rattle.std.specs.Prelude.{true}
 use Rattle.walk_theory.specs.Made.{steps_size, parts_size}
-use Rattle.walk_theory.specs.Syntax.{Form}
 use Rattle.checked_tree.specs.StatementViews as view
 use Rattle.checked_tree.specs.StatementViews.{typed_statement_forms}
-use Rattle.image_acts.specs.Acts.{Act}
 use Rattle.tree_meaning.specs.Environment.{hidden_cell}
 use Rattle.tree_meaning.specs.Forms as meaning
 use Rattle.tree_meaning.specs.Sequences.{doing}
