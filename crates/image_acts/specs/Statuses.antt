@@ -31,6 +31,10 @@ most_access_cells = 4096
 abbrev pub most_frames : ℕ
 most_frames = 256
 
+-- the most teams that are current one in another: CHANGE TEAM stands 64 levels deep at most in each of 257 bodies
+abbrev pub most_teams : ℕ
+most_teams = 32768
+
 -- the most items of the texts that are begun: values have as many evaluation cells at most, literals have none
 abbrev pub most_items : ℕ
 most_items = 131072
