@@ -14,14 +14,13 @@ use Rattle.image_acts.specs.Places.{place_size}
 use Rattle.image_acts.specs.Acts as a
 use Rattle.image_acts.specs.Acts.{Act, Scope}
 use Rattle.image_acts.specs.Core.{Core}
-use Rattle.image_acts.specs.Taking.{tested}
-use Rattle.image_acts.specs.Meaning.{operate}
+use Rattle.image_acts.specs.Meaning.{effect_of}
 use Rattle.tree_meaning.specs.Environment.{Environment, scope_of, kind_of, declared_bounds, rank_in, procedure_in}
 use Rattle.tree_meaning.specs.Sequences.{◌▸◌, doing, dropping, copying, bringing}
 use Rattle.tree_meaning.specs.Expressions as view
 use Rattle.program_walks.specs.Dues.{Due, owing}
 use Rattle.program_walks.specs.Keeping.{IsClear, PartsKeep, KeepsOrder}
-use Rattle.program_walks.proofs.FreeActs.{IsFree, fine_act}
+use Rattle.program_walks.proofs.FreeActs.{IsFree, free_act}
 use Rattle.program_walks.proofs.Walks.{effect_more, each_test}
 
 abbrev pub Quiet : Parts Act → Type 0
@@ -34,10 +33,10 @@ Quiet (either a b q) = Quiet a × Quiet b × Quiet q
 quiet_then : (p : Parts Act) → Quiet p → (After : Due → Core → Type 0) → ((e : Core) → After (owing None) e) → (c : Core) → PartsKeep p After (owing None) c
 quiet_then end_parts h After k c = k c
 quiet_then (value p q) h After k c = quiet_then p h.0 (PartsKeep q After) (quiet_then q h.1 After k) c
-quiet_then (act x q) h After k c = effect_more IsClear (PartsKeep q After) (λ d e s. subst (λ y. PartsKeep q After y e) (sym s) (quiet_then q h.1 After k e)) (operate x c) (owing None) (fine_act x c h.0).kept
+quiet_then (act x q) h After k c = effect_more IsClear (PartsKeep q After) (λ d e s. subst (λ y. PartsKeep q After y e) (sym s) (quiet_then q h.1 After k e)) (effect_of x c) (owing None) (free_act x c h.0)
 quiet_then (enter n q) h After k c = (refl, quiet_then q h After k)
 quiet_then (either a b q) h After k c =
-    each_test (tested c) (PartsKeep a (PartsKeep q After) (owing None)) (PartsKeep b (PartsKeep q After) (owing None)) (quiet_then a h.0 (PartsKeep q After) (quiet_then q h.2 After k)) (quiet_then b h.1 (PartsKeep q After) (quiet_then q h.2 After k))
+    each_test c (PartsKeep a (PartsKeep q After) (owing None)) (PartsKeep b (PartsKeep q After) (owing None)) (quiet_then a h.0 (PartsKeep q After) (quiet_then q h.2 After k)) (quiet_then b h.1 (PartsKeep q After) (quiet_then q h.2 After k))
 
 pub quiet_keeps : (p : Parts Act) → Quiet p → KeepsOrder p
 quiet_keeps p h c = quiet_then p h IsClear (λ e. refl) c

@@ -22,7 +22,6 @@ use Rattle.checked_tree.specs.Statements as s
 use Rattle.image_acts.specs.Places.{place_size, digits, numbers_of_form}
 use Rattle.image_acts.specs.Acts as a
 use Rattle.image_acts.specs.Acts.{Act, Scope, here, host}
-use Rattle.image_acts.specs.Taking.{tested}
 use Rattle.tree_meaning.specs.Environment.{Environment, scope_of, kind_of, procedure_in, hidden_cell}
 use Rattle.tree_meaning.specs.Sequences.{◌▸◌, doing, dropping, copying, bringing, pushing, choosing, takes, released, is_one_of}
 use Rattle.tree_meaning.specs.Expressions as view
@@ -50,7 +49,7 @@ next : {p q : Parts Act} → Ordered p → Ordered q → Ordered (value p q)
 next {p} {q} h k = record { kept = kept_then p h.kept (PartsKeep q IsClear) k.kept }
 
 chosen : {p q : Parts Act} → Ordered p → Ordered q → Ordered (choosing p q)
-chosen {p} {q} h k = record { kept = λ c. each_test (tested c) (PartsKeep p IsClear (owing None)) (PartsKeep q IsClear (owing None)) h.kept k.kept }
+chosen {p} {q} h k = record { kept = λ c. each_test c (PartsKeep p IsClear (owing None)) (PartsKeep q IsClear (owing None)) h.kept k.kept }
 
 either_ordered : (b : Bool) (p q : Parts Act) → Ordered p → Ordered q → Ordered (cond b p q)
 either_ordered true p q h k = h
