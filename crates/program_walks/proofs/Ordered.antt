@@ -33,12 +33,15 @@ pub record Ordered (p : Parts Act) : Type 0 where
   pub kept : KeepsOrder p
   pub steady : Steady p
 
-pub none : Ordered end_parts
-none = record { kept = kept_none; steady = steady_none }
+pub no_parts : Ordered end_parts
+no_parts = record { kept = kept_none; steady = steady_none }
 
 -- an act that is neither an arrival nor a departure, and neither begins a frame nor ends one
 pub acts : {x : Act} {q : Parts Act} → IsFree x → is_frame x ≡ false → Ordered q → Ordered (act x q)
 acts {x} {q} h f k = record { kept = kept_act x q h k.kept; steady = steady_then f k.steady }
+
+pub one : {x : Act} → IsFree x → is_frame x ≡ false → Ordered (act x end_parts)
+one h f = acts h f no_parts
 
 pub both : {p q : Parts Act} → Ordered p → Ordered q → Ordered (value p q)
 both {p} {q} h k = record { kept = kept_both p q h.kept k.kept; steady = steady_both h.steady k.steady }

@@ -78,7 +78,7 @@ AreLeft (again m ∷ ts) = LoopKeeps m × ((e : Core) → TasksKeep ts (owing No
 AreLeft (iterate m ∷ ts) = AreLeft ts
 AreLeft (back ∷ ts) = ((e : Core) → TasksKeep ts (owing None) e) × AreLeft ts
 
-abbrev Clear : List (Task Act) → Type 0
+abbrev pub Clear : List (Task Act) → Type 0
 Clear ts = ((e : Core) → TasksKeep ts (owing None) e) × AreLeft ts
 
 none_of : {X : Type 0} (n : ℕ) → 0 ≡ suc n → X
