@@ -27,7 +27,7 @@ use Rattle.image_acts.specs.Owning.{own_in, with_own}
 use Rattle.image_acts.specs.Teams.{behind_first, members, index_of, is_established, member_at, cosubscripts_behind, index_in}
 use Rattle.image_acts.specs.Taking.{Acted, giving, put_down, given, found_in, unless, taken, taking_one, taking_two, taking, seeing, taking_array, seeing_array, using}
 use Rattle.image_acts.specs.Operate.Stack.{stack_effect}
-use Rattle.image_acts.specs.Operate.Variables.{variable_effect, value_at, allocated}
+use Rattle.image_acts.specs.Operate.Variables.{variable_effect, value_at, allocated, if_room}
 use Rattle.image_acts.specs.Operate.Operators.{operator_effect}
 use Rattle.image_acts.specs.Operate.Bounds.{bounds_effect, owned}
 use Rattle.image_acts.specs.Operate.Allocating.{allocation_effect, bounds_size, cobounds_size}
@@ -143,7 +143,7 @@ put_there o p f = allocates o (λ l. elim (elements_at (offsets p) l.elements) [
 
 abbrev resized : a.Scope → ℕ → Option Local → ℕ → List ℤ → Core → Acted
 resized s x old before vs c = unless room (nat_le ((c.local_cells - before) + length vs) most_cells)
-    (goes_to (record (with_array_in s x (Some (record { bounds = (pos 1, pos (length vs)) ∷ []; elements = vs })) c) { local_cells = (c.local_cells - before) + length vs }))
+    (if_room (record (with_array_in s x (Some (record { bounds = (pos 1, pos (length vs)) ∷ []; elements = vs })) c) { local_cells = (c.local_cells - before) + length vs }))
 
 abbrev images_into : a.Scope → ℕ → Option Local → List ℤ → Core → Acted
 images_into s x None vs c = resized s x None 0 vs c
