@@ -22,13 +22,13 @@ use Rattle.image_acts.specs.Faults.{room, depth_fault, shape_fault, not_allocate
 use Rattle.image_acts.specs.Acts as a
 use Rattle.image_acts.specs.Acts.{Act, constant, stack, variable, operator, bounded, allocation, selector, team, call, print, ask}
 use Rattle.image_acts.specs.Core.{Core, Array, Local, Own, Team, Frame, Item, Printing, with_values, pushed, with_array}
-use Rattle.image_acts.specs.Places.{Place, place_in, place_size, extents_of, offsets, elements_at, digits, numbers_of_form, triplets, subscripts_in, place_of, no_place, place_numbers, cells_of}
+use Rattle.image_acts.specs.Places.{Place, place_in, place_size, extents_of, digits, numbers_of_form, triplets, subscripts_in, place_within, no_place, place_numbers, cells_of}
 use Rattle.image_acts.specs.Frames.{pairs_in, array_in, with_array_in, with_cell, with_frame, with_last}
 use Rattle.image_acts.specs.Owning.{own_in, with_own}
 use Rattle.image_acts.specs.Teams.{behind_first, members, index_of, is_established, member_at, cosubscripts_behind, index_in}
 use Rattle.image_acts.specs.Taking.{Acted, giving, put_down, given, found_in, unless, taken, taking_one, taking_two, taking, seeing, taking_array, seeing_array, using}
 use Rattle.image_acts.specs.Operate.Stack.{stack_effect}
-use Rattle.image_acts.specs.Operate.Variables.{variable_effect, value_at, allocated}
+use Rattle.image_acts.specs.Operate.Variables.{variable_effect, value_at, allocated, elements_there, if_room}
 use Rattle.image_acts.specs.Operate.Operators.{operator_effect}
 use Rattle.image_acts.specs.Operate.Bounds.{bounds_effect, owned}
 use Rattle.image_acts.specs.Operate.Allocating.{allocation_effect, bounds_size, cobounds_size}
@@ -129,7 +129,7 @@ teams n (Some x) f h = h x
 valued : (n rank : ℕ) (p : Place) (vs : List ℤ) (c : Core) → length c.callers ≡ n → Fine n (value_at rank p vs c)
 valued n zero p [] c k = no_operand n
 valued n zero p (v ∷ vs) c k = goes n (pushed v c) k
-valued n (suc rank) p vs c k = goes n (with_array (record { extents = extents_of p; elements = vs }) c) k
+valued n (suc rank) p vs c k = so n room _ _ (goes n (with_array (record { extents = extents_of p; elements = vs }) c) k)
 
 -- a frame in the place of another one
 as_long : (f : Frame) (fs : List Frame) → length (with_last f fs) ≡ length fs
@@ -156,18 +156,18 @@ first_element n [] c k = no_operand n
 first_element n (v ∷ vs) c k = goes n (pushed v c) k
 
 loaded : (n : ℕ) (o : Option Local) (rank : ℕ) (p : Place) (c : Core) → length c.callers ≡ n
-    → Fine n (allocated o (λ l. elim (elements_at (offsets p) l.elements) [ None ↦ faults shape_fault | Some vs ↦ value_at rank p vs c ]))
-loaded n o rank p c k = allocates n o (λ l. elim (elements_at (offsets p) l.elements) [ None ↦ faults shape_fault | Some vs ↦ value_at rank p vs c ])
-    (λ l. there_or n shape_fault (elements_at (offsets p) l.elements) (λ vs. value_at rank p vs c) (λ vs. valued n rank p vs c k))
+    → Fine n (allocated o (λ l. elim (elements_there p l) [ None ↦ faults shape_fault | Some vs ↦ value_at rank p vs c ]))
+loaded n o rank p c k = allocates n o (λ l. elim (elements_there p l) [ None ↦ faults shape_fault | Some vs ↦ value_at rank p vs c ])
+    (λ l. there_or n shape_fault (elements_there p l) (λ vs. value_at rank p vs c) (λ vs. valued n rank p vs c k))
 
 put_there : (n : ℕ) (o : Option Local) (p : Place) (f : Local → Core) → ((l : Local) → length (f l).callers ≡ n)
-    → Fine n (allocated o (λ l. elim (elements_at (offsets p) l.elements) [ None ↦ faults shape_fault | Some vs ↦ goes_to (f l) ]))
-put_there n o p f k = allocates n o (λ l. elim (elements_at (offsets p) l.elements) [ None ↦ faults shape_fault | Some vs ↦ goes_to (f l) ])
-    (λ l. there_or n shape_fault (elements_at (offsets p) l.elements) (λ vs. goes_to (f l)) (λ vs. goes n (f l) (k l)))
+    → Fine n (allocated o (λ l. elim (elements_there p l) [ None ↦ faults shape_fault | Some vs ↦ goes_to (f l) ]))
+put_there n o p f k = allocates n o (λ l. elim (elements_there p l) [ None ↦ faults shape_fault | Some vs ↦ goes_to (f l) ])
+    (λ l. there_or n shape_fault (elements_there p l) (λ vs. goes_to (f l)) (λ vs. goes n (f l) (k l)))
 
 abbrev resized : a.Scope → ℕ → Option Local → ℕ → List ℤ → Core → Acted
 resized s x old before vs c = unless room (nat_le ((c.local_cells - before) + length vs) most_cells)
-    (goes_to (record (with_array_in s x (Some (record { bounds = (pos 1, pos (length vs)) ∷ []; elements = vs })) c) { local_cells = (c.local_cells - before) + length vs }))
+    (if_room (record (with_array_in s x (Some (record { bounds = (pos 1, pos (length vs)) ∷ []; elements = vs })) c) { local_cells = (c.local_cells - before) + length vs }))
 
 abbrev images_into : a.Scope → ℕ → Option Local → List ℤ → Core → Acted
 images_into s x None vs c = resized s x None 0 vs c
@@ -192,7 +192,7 @@ begins s x t vs c = no_operand (length c.callers)
 
 abbrev co_placing : Option Own → List ℕ → List ℤ → Core → Acted
 co_placing None ds vs c = goes_to (with_values c (put_down (place_numbers (no_place (triplets ds))) c.values))
-co_placing (Some o) ds vs c = found_in (place_of o.bounds (subscripts_in ds vs)) (λ p. goes_to (with_values c (put_down (place_numbers p) c.values)))
+co_placing (Some o) ds vs c = found_in (place_within o.bounds (subscripts_in ds vs)) (λ p. goes_to (with_values c (put_down (place_numbers p) c.values)))
 
 co_placed : (o : Option Own) (ds : List ℕ) (vs : List ℤ) (c : Core) → Fine (length c.callers) (co_placing o ds vs c)
 co_placed None ds vs c = search fine
@@ -374,12 +374,12 @@ fine_allocation (a.plan_local s x depth rank) c =
     seen (length c.callers) (depth + 3) (bounds_size rank) c (λ vs. taking 3 c (λ plan d. planned (not (is_some (array_in s x d)) && are_of_kind_4 vs) 0 (size_of (pairs_in vs)) plan d))
     (λ vs. some_of (length c.callers) 3 c (λ plan d. planned (not (is_some (array_in s x d)) && are_of_kind_4 vs) 0 (size_of (pairs_in vs)) plan d)
     (λ plan ws. plans (not (is_some (array_in s x (with_values c ws))) && are_of_kind_4 vs) 0 (size_of (pairs_in vs)) plan (with_values c ws)))
-fine_allocation (a.note_made k depth rank corank) c = search fine
+fine_allocation (a.note_made k depth rank corank) c = search fine depth 7
 fine_allocation a.end_plan c = search fine
-fine_allocation (a.make s x depth rank) c = search fine
+fine_allocation (a.make s x depth rank) c = search fine depth 7
 fine_allocation (a.free s x) c = frees s x (array_in s x c) c
 fine_allocation (a.note_freed k) c = frees_own k (own_in c k) c
-fine_allocation (a.lay_out x rank) c = search fine
+fine_allocation (a.lay_out x rank) c = search fine depth 7
 
 fine_selector : (x : a.SelectorAct) (c : Core) → Fine (length c.callers) (selector_effect x c)
 fine_selector (a.own_image rank) c = search fine
