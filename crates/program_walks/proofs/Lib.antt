@@ -12,6 +12,7 @@ pub mod Programs
 pub mod Lists
 pub mod LaneOrder
 pub mod BoardAnswers
+pub mod SilentSteps
 pub mod LaneEnds
 pub mod Hearing
 pub mod Fits

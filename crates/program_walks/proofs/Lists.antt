@@ -139,8 +139,3 @@ ordered step first g = record {
   no_later_steps = λ es c answers w. no_later es (owing None) (g es c answers w);
   no_stamp_limit = λ es c answers w. no_stamp es (owing None) (g es c answers w);
 }
-
--- behind a last step nothing is due
-pub due_at_last : (es : List (Said Ask Reply)) (e : Said Ask Reply) (d : Due) → is_last e.ask e.reply ≡ true → due_behind d (es ++ e ∷ []) ≡ ended
-due_at_last [] e d l = after_last e.ask e.reply l
-due_at_last (x ∷ es) e d l = due_at_last es e (due_after x.ask x.reply) l
