@@ -18,3 +18,4 @@ pub mod Hearing
 pub mod Fits
 pub mod LaneSame
 pub mod CodeRuns
+pub mod LaneProgramEnds
