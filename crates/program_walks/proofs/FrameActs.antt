@@ -15,7 +15,7 @@ use Rattle.image_acts.specs.Replies.{leave_reply}
 use Rattle.image_acts.specs.Taking.{Acted, given, unless, taken, taking_one, taking, taking_array}
 use Rattle.image_acts.specs.Operate.Asking.{ask_effect}
 use Rattle.image_acts.specs.Meaning.{operate, missed, settled, effect_of}
-use Rattle.program_walks.proofs.FreeActs.{Calm, IsFree, IsSteady, calm_act, to_caller}
+use Rattle.program_walks.proofs.FreeActs.{Calm, calm_act, to_caller}
 
 -- so many callers are left
 abbrev Leaves : ℕ → Acted → Type 0

@@ -272,8 +272,8 @@ along c g =
     top (length c.callers) c (λ dim d. taking_array d (λ x e. numbered (pairs_in x.elements) (natural dim) (λ b. unless overflow (fits_kind kinds.I4 (g b)) (giving (g b) e))))
     (λ dim vs. top_array (length c.callers) (with_values c vs) (λ x e. numbered (pairs_in x.elements) (natural dim) (λ b. unless overflow (fits_kind kinds.I4 (g b)) (giving (g b) e)))
     (λ x xs. (
-        let e = record c { values = vs; arrays = xs } in
-        along_one (length c.callers) (pairs_in x.elements) (natural dim) (λ b. unless overflow (fits_kind kinds.I4 (g b)) (giving (g b) e)) (λ b. search fine))))
+    let e = record c { values = vs; arrays = xs } in
+    along_one (length c.callers) (pairs_in x.elements) (natural dim) (λ b. unless overflow (fits_kind kinds.I4 (g b)) (giving (g b) e)) (λ b. search fine))))
 
 prints : (n : ℕ) (xs : List Item) (ps : List Printing) (c : Core) → length c.callers ≡ n
     → Fine n (elim ps [ [] ↦ stuck | q ∷ qs ↦ unless room (nat_le (open_items c.printing + length xs) most_items) (goes_to (record c { printing = record q { items = reverse xs ++ q.items } ∷ qs })) ])
@@ -387,8 +387,8 @@ fine_selector (a.owner k rank corank) c =
     top (length c.callers) c (λ t d. taking corank d (λ ss e. seeing 0 (place_size rank) e (λ ns. owner_in e (natural t) (own_in e k) ss (place_in ns))))
     (λ t vs. some_of (length c.callers) corank (with_values c vs) (λ ss e. seeing 0 (place_size rank) e (λ ns. owner_in e (natural t) (own_in e k) ss (place_in ns)))
     (λ ss ws. (
-        let e = with_values c ws in
-        seen (length c.callers) 0 (place_size rank) e (λ ns. owner_in e (natural t) (own_in e k) ss (place_in ns)) (λ ns. owner_found e (natural t) (own_in e k) ss (place_in ns)))))
+    let e = with_values c ws in
+    seen (length c.callers) 0 (place_size rank) e (λ ns. owner_in e (natural t) (own_in e k) ss (place_in ns)) (λ ns. owner_found e (natural t) (own_in e k) ss (place_in ns)))))
 fine_selector a.this_team c = search fine
 fine_selector a.team_value c = search fine
 fine_selector a.sibling_team c = search fine
@@ -402,9 +402,9 @@ fine_selector (a.cosubscript k) c =
     top (length c.callers) c (λ t d. taking_one d (λ dim e. owned (own_in e k) (λ o. numbered_cosubscript (cosubscripts_behind o.lowers o.extents (index_in e.me (members e (natural t)) - 1)) (natural dim) e)))
     (λ t vs. top (length c.callers) (with_values c vs) (λ dim e. owned (own_in e k) (λ o. numbered_cosubscript (cosubscripts_behind o.lowers o.extents (index_in e.me (members e (natural t)) - 1)) (natural dim) e))
     (λ dim ws. (
-        let e = with_values c ws in
-        owns (length c.callers) (own_in e k) (λ o. numbered_cosubscript (cosubscripts_behind o.lowers o.extents (index_in e.me (members e (natural t)) - 1)) (natural dim) e)
-        (λ o. cosubscript_found (cosubscripts_behind o.lowers o.extents (index_in e.me (members e (natural t)) - 1)) (natural dim) e))))
+    let e = with_values c ws in
+    owns (length c.callers) (own_in e k) (λ o. numbered_cosubscript (cosubscripts_behind o.lowers o.extents (index_in e.me (members e (natural t)) - 1)) (natural dim) e)
+    (λ o. cosubscript_found (cosubscripts_behind o.lowers o.extents (index_in e.me (members e (natural t)) - 1)) (natural dim) e))))
 fine_selector a.is_root c = search fine
 
 fine_team : (x : a.TeamAct) (c : Core) → Fine (length c.callers) (team_effect x c)

@@ -1,5 +1,5 @@
 -- An image that runs a checked program, or code that has its walks, is over only behind a step that ended it.
-use Rattle.std.proofs.Common.{◌≡◌, ℕ, List, [], subst, sym}
+use Rattle.std.proofs.Common.{ℕ, List, [], subst}
 use Rattle.checked_tree.specs.Statements as checked
 use Rattle.caf_events.specs.declared.ask.Ask.{Ask}
 use Rattle.caf_events.specs.declared.reply.Reply.{Reply}

@@ -1,6 +1,6 @@
 -- Each statement and construct keeps the order of arrivals and departures, and the frames.
 use Rattle.std.proofs.Common.{◌≡◌, ℕ, zero, suc, ◌+◌, Bool, true, false, cond, List, [], ◌∷◌, ◌++◌, length, refl}
-use Rattle.std.specs.Prelude.{ℤ, pos, ◌==◌, None}
+use Rattle.std.specs.Prelude.{ℤ, pos, ◌==◌}
 use Rattle.caf_base.specs.declared.value.Kind.{Kind}
 use Rattle.caf_base.specs.declared.value.Kind.TheVariants as kinds
 use Rattle.caf_base.specs.declared.value.AtomicOp.{AtomicOp}

@@ -15,7 +15,7 @@ use Rattle.walk_theory.specs.Walks.{Loop, Task, run, eval, tally, decide, pick, 
 use Rattle.image_acts.specs.Acts.{Act}
 use Rattle.image_acts.specs.Core.{Core, with_values}
 use Rattle.image_acts.specs.Taking.{tested}
-use Rattle.image_acts.specs.Meaning.{effect_of, frames, image_language}
+use Rattle.image_acts.specs.Meaning.{effect_of, image_language}
 use Rattle.program_walks.specs.Dues.{Due, ended, owing, due_after, MayCome, InOrder, due_behind, GoesInOrder}
 use Rattle.program_walks.specs.Keeping.{IsClear, EffectKeeps, TestKeeps, PartsKeep, KeepsOrder, FormKeeps, BranchesKeep, StepsKeep}
 use Rattle.program_walks.proofs.Frames.{StepsFit, Framed, FramesFollow, in_body, begun, step_frames}
