@@ -80,12 +80,16 @@ quiet_out (p ∷ ps) = both (quiet_out ps) (either_way p.goes_back (view.copying
 
 quiet_going_back : (p : view.Passed) (depth : ℕ) → Ordered (view.going_back p depth)
 quiet_going_back p depth =
-    let scalar = doing (a.variable (a.put p.scope p.actual 0) ∷ []) in let array = doing (a.variable (a.put_array p.scope p.actual p.rank) ∷ []) in either_way (p.place == 0) (doing (a.variable (a.store p.scope p.actual) ∷ [])) (copying depth p.place ▸ cond (p.rank == 0) scalar array) (one tt refl) (both (quiet_copying depth p.place) (either_way (p.rank == 0) scalar array (one tt refl) (one tt refl)))
+    let scalar = doing (a.variable (a.put p.scope p.actual 0) ∷ []) in
+    let array = doing (a.variable (a.put_array p.scope p.actual p.rank) ∷ []) in
+    either_way (p.place == 0) (doing (a.variable (a.store p.scope p.actual) ∷ [])) (copying depth p.place ▸ cond (p.rank == 0) scalar array) (one tt refl) (both (quiet_copying depth p.place)
+    (either_way (p.rank == 0) scalar array (one tt refl) (one tt refl)))
 
 quiet_back : (ps : List view.Passed) (n : ℕ) → Ordered (view.putting_back ps n)
 quiet_back [] n = no_parts
 quiet_back (p ∷ ps) n =
-    let depth = view.out_sizes (p ∷ ps) + (n + (view.passed_sizes ps + view.value_size p.rank)) in (both (either_way p.goes_back (view.going_back p depth) end_parts (quiet_going_back p depth) no_parts) (quiet_back ps n))
+    let depth = view.out_sizes (p ∷ ps) + (n + (view.passed_sizes ps + view.value_size p.rank)) in
+    (both (either_way p.goes_back (view.going_back p depth) end_parts (quiet_going_back p depth) no_parts) (quiet_back ps n))
 
 quiet_bounds_acts : (bs : List (ℤ × ℤ)) (x : Act) → IsFree x → is_frame x ≡ false → Ordered (doing (view.bounds_acts bs ++ x ∷ []))
 quiet_bounds_acts [] x h f = acts h f no_parts
@@ -224,10 +228,13 @@ module _ (e : Environment) where
 
     quiet_designator : (d : t.Designator) (rank : ℕ) → Ordered (view.designator e d rank)
     quiet_designator (t.part (objects.Local v) ss sel) rank =
-        either_way (view.is_scalar ss rank) (doing (a.variable (a.cell (scope_of v.home) v.variable) ∷ [])) (view.subscripts e ss ▸ view.local_value e (scope_of v.home) v.variable (view.form_of ss rank) rank) (one tt refl) (both (quiet_subscripts ss) (both (acts tt refl (one tt refl)) (quiet_cells rank)))
+        either_way (view.is_scalar ss rank) (doing (a.variable (a.cell (scope_of v.home) v.variable) ∷ []))
+        (view.subscripts e ss ▸ view.local_value e (scope_of v.home) v.variable (view.form_of ss rank) rank) (one tt refl) (both (quiet_subscripts ss) (both
+        (acts tt refl (one tt refl)) (quiet_cells rank)))
     quiet_designator (t.part (objects.Constant n) ss sel) rank = both (quiet_subscripts ss) (both (acts tt refl (one tt refl)) (quiet_cells rank))
     quiet_designator (t.part (objects.Coarray c) ss sel) rank =
-        both (quiet_subscripts ss) (both (one tt refl) (both (quiet_owner c rank sel) (both (quiet_own c (view.is_scalar ss rank) sel) (both (quiet_reading c rank) (both (one tt refl) (both (quiet_status 1 (view.stat_of sel)) (both (quiet_dropping (view.optional_size (view.stat_of sel))) (quiet_as_value rank))))))))
+        both (quiet_subscripts ss) (both (one tt refl) (both (quiet_owner c rank sel) (both (quiet_own c (view.is_scalar ss rank) sel) (both (quiet_reading c rank) (both (one tt refl)
+        (both (quiet_status 1 (view.stat_of sel)) (both (quiet_dropping (view.optional_size (view.stat_of sel))) (quiet_as_value rank))))))))
 
     pub quiet_arguments : (vs : List Variable) (ds : List Dummy) (es : t.Arguments) → Ordered (view.arguments e vs ds es)
     quiet_arguments vs ds t.no_arguments = no_parts
@@ -240,7 +247,9 @@ module _ (e : Environment) where
 
     quiet_actual : (d : t.Designator) (rank : ℕ) → Ordered (view.actual e d rank)
     quiet_actual (t.part (objects.Local v) ss sel) rank =
-        either_way (view.is_scalar ss rank) (doing (a.variable (a.cell (scope_of v.home) v.variable) ∷ [])) (view.subscripts e ss ▸ doing (a.bounded (a.section (scope_of v.home) v.variable (view.form_of ss rank)) ∷ []) ▸ copying 0 (place_size rank) ▸ doing (a.variable (a.load (scope_of v.home) v.variable rank) ∷ []) ▸ view.taking_cells rank) (one tt refl) (both (quiet_subscripts ss) (both (one tt refl) (both (quiet_copying 0 (place_size rank)) (both (one tt refl) (quiet_cells rank)))))
+        either_way (view.is_scalar ss rank) (doing (a.variable (a.cell (scope_of v.home) v.variable) ∷ []))
+        (view.subscripts e ss ▸ doing (a.bounded (a.section (scope_of v.home) v.variable (view.form_of ss rank)) ∷ []) ▸ copying 0 (place_size rank) ▸ doing (a.variable (a.load (scope_of v.home) v.variable rank) ∷ []) ▸ view.taking_cells rank) (one tt refl)
+        (both (quiet_subscripts ss) (both (one tt refl) (both (quiet_copying 0 (place_size rank)) (both (one tt refl) (quiet_cells rank)))))
     quiet_actual (t.part (objects.Constant n) ss sel) rank = no_parts
     quiet_actual (t.part (objects.Coarray c) ss sel) rank = no_parts
 
@@ -253,7 +262,8 @@ module _ (e : Environment) where
     quiet_bounds (t.typed (t.number z) type rank) = no_parts
     quiet_bounds (t.typed (t.logical b) type rank) = no_parts
     quiet_bounds (t.typed (t.call n es) type rank) =
-        both (both (quiet_arguments (procedure_in e n).unit.variables (procedure_in e n).dummies es) (quiet_calling n (procedure_in e n) (view.passed (procedure_in e n).unit.variables (procedure_in e n).dummies es))) (one tt refl)
+        both
+        (both (quiet_arguments (procedure_in e n).unit.variables (procedure_in e n).dummies es) (quiet_calling n (procedure_in e n) (view.passed (procedure_in e n).unit.variables (procedure_in e n).dummies es))) (one tt refl)
     quiet_bounds (t.typed (t.intrinsic i) type rank) = both (quiet_intrinsic i (kind_of type)) (one tt refl)
     quiet_bounds (t.typed (t.parenthesized x) type rank) = both (quiet_expression x) (one tt refl)
     quiet_bounds (t.typed (t.array_constructor es) type rank) = both (one tt refl) (both (quiet_items es) (one tt refl))
@@ -267,7 +277,8 @@ module _ (e : Environment) where
     quiet_part (t.part (objects.Coarray c) t.no_subscripts sel) rank = one tt refl
     quiet_part (t.part (objects.Coarray c) (t.more_subscripts s ss) t.no_selector) rank = both (quiet_subscript s) (both (quiet_subscripts ss) (acts tt refl (acts tt refl (one tt refl))))
     quiet_part (t.part (objects.Coarray c) (t.more_subscripts s ss) (t.selector cs which stat)) rank =
-        both (quiet_subscript s) (both (quiet_subscripts ss) (both (one tt refl) (both (quiet_owner c rank (t.selector cs which stat)) (both (quiet_dropping 1) (both (one tt refl) (quiet_dropping (view.optional_size stat)))))))
+        both (quiet_subscript s) (both (quiet_subscripts ss) (both (one tt refl) (both (quiet_owner c rank (t.selector cs which stat)) (both (quiet_dropping 1)
+        (both (one tt refl) (quiet_dropping (view.optional_size stat)))))))
 
     quiet_intrinsic : (i : t.Intrinsic) (k : Kind) → Ordered (view.intrinsic e i k)
     quiet_intrinsic (t.abs x) k = both (quiet_expression x) (one tt refl)

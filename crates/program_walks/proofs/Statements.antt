@@ -53,6 +53,22 @@ numbers_steady (n ∷ ns) x f = steady_then refl (numbers_steady ns x f)
 copied_steady : (k : ℕ) (x : a.AskAct) {q : Parts Act} → Steady q → Steady (copying k 1 ▸ doing (a.ask x ∷ []) ▸ copying k 1 ▸ doing (a.ask a.leave ∷ []) ▸ q)
 copied_steady k x h = steady_both (steady_then refl steady_none) (steady_both (steady_then refl steady_none) (steady_both (steady_then refl steady_none) (steady_both (steady_then refl steady_none) h)))
 
+-- ---- rounds, in which an arrival and a departure stand
+sync_rounds : Ordered (control.round (doing (a.ask a.arrive_sync ∷ [])))
+sync_rounds = record { kept = sync_round; steady = round_steady (steady_then refl steady_none) }
+
+end_rounds : Ordered (control.round (doing (a.ask a.arrive_end ∷ [])))
+end_rounds = record { kept = end_round; steady = round_steady (steady_then refl steady_none) }
+
+form_rounds : (depth : ℕ) → Ordered (control.round (copying depth 2 ▸ doing (a.ask a.arrive_form ∷ [])))
+form_rounds depth = record { kept = form_round depth; steady = round_steady (steady_both (steady_then refl steady_none) (steady_then refl steady_none)) }
+
+collects : (op : GatherOp) (k : Kind) → Ordered (doing (a.ask (a.gather op k) ∷ a.ask a.take ∷ []))
+collects op k = record { kept = collective op k; steady = steady_then refl (steady_then refl steady_none) }
+
+pairs : Ordered (doing (a.ask a.pair ∷ a.ask a.unpair ∷ []))
+pairs = record { kept = paired; steady = steady_then refl (steady_then refl steady_none) }
+
 -- ---- statuses
 quiet_one_of : (ss : List ℤ) → Ordered (is_one_of ss)
 quiet_one_of [] = no_parts
@@ -83,7 +99,9 @@ quiet_fitting from to (suc r) depth = either_way (assignments.narrows from to) (
 
 quiet_fitting_section : (from to : Kind) (r : ℕ) (x : Scope) (n f rank : ℕ) → Ordered (assignments.fitting_section from to r x n f rank)
 quiet_fitting_section from to r x n f rank =
-    either_way (assignments.narrows from to) (doing (a.bounded (a.is_there x n) ∷ []) ▸ choosing (assignments.sectioning x n f ▸ assignments.fitting from to r (place_size rank)) (assignments.fitting from to r (numbers_of_form (digits f)) ▸ assignments.sectioning x n f)) (assignments.sectioning x n f) (both (one tt refl) (fork (both (one tt refl) (quiet_fitting from to r (place_size rank))) (both (quiet_fitting from to r (numbers_of_form (digits f))) (one tt refl)) no_parts)) (one tt refl)
+    either_way (assignments.narrows from to) (doing (a.bounded (a.is_there x n) ∷ []) ▸ choosing (assignments.sectioning x n f ▸ assignments.fitting from to r (place_size rank))
+    (assignments.fitting from to r (numbers_of_form (digits f)) ▸ assignments.sectioning x n f)) (assignments.sectioning x n f) (both (one tt refl) (fork
+    (both (one tt refl) (quiet_fitting from to r (place_size rank))) (both (quiet_fitting from to r (numbers_of_form (digits f))) (one tt refl)) no_parts)) (one tt refl)
 
 quiet_agreeing : (r depth rank : ℕ) → Ordered (assignments.agreeing r depth rank)
 quiet_agreeing zero depth rank = no_parts
@@ -112,9 +130,14 @@ quiet_lifting (suc r) size place = no_parts
 module _ (e : Environment) where
   quiet_assigned : (d : t.Designator) (k : Kind) (rank : ℕ) (from : Kind) (r : ℕ) → Ordered (assignments.assigned e d k rank from r)
   quiet_assigned (t.part (objects.Local v) ss sel) k rank from r =
-      either_way (view.is_scalar ss rank) (assignments.fitting from k 0 0 ▸ doing (a.variable (a.store (scope_of v.home) v.variable) ∷ [])) (view.subscripts e ss ▸ assignments.fitting_section from k r (scope_of v.home) v.variable (view.form_of ss rank) rank ▸ assignments.agreeing r 0 rank ▸ assignments.putting r (scope_of v.home) v.variable rank) (both (quiet_fitting from k 0 0) (one tt refl)) (both (quiet_subscripts e ss) (both (quiet_fitting_section from k r (scope_of v.home) v.variable (view.form_of ss rank) rank) (both (quiet_agreeing r 0 rank) (quiet_putting r (scope_of v.home) v.variable rank))))
+      either_way (view.is_scalar ss rank) (assignments.fitting from k 0 0 ▸ doing (a.variable (a.store (scope_of v.home) v.variable) ∷ []))
+      (view.subscripts e ss ▸ assignments.fitting_section from k r (scope_of v.home) v.variable (view.form_of ss rank) rank ▸ assignments.agreeing r 0 rank ▸ assignments.putting r (scope_of v.home) v.variable rank)
+      (both (quiet_fitting from k 0 0) (one tt refl)) (both (quiet_subscripts e ss) (both (quiet_fitting_section from k r (scope_of v.home) v.variable (view.form_of ss rank) rank)
+      (both (quiet_agreeing r 0 rank) (quiet_putting r (scope_of v.home) v.variable rank))))
   quiet_assigned (t.part (objects.Coarray c) ss sel) k rank from r =
-      both (quiet_subscripts e ss) (both (one tt refl) (both (quiet_owner e c rank sel) (both (quiet_lifting r (view.optional_size (view.stat_of sel)) (place_size rank + 1)) (both (quiet_fitting from k r (place_size rank + 1)) (both (quiet_own c (view.is_scalar ss rank) sel) (both (quiet_agreeing r 1 rank) (both (quiet_writing r c rank k) (both (one tt refl) (both (quiet_status 1 (view.stat_of sel)) (quiet_dropping (assignments.left_over r (view.optional_size (view.stat_of sel)))))))))))))
+      both (quiet_subscripts e ss) (both (one tt refl) (both (quiet_owner e c rank sel) (both (quiet_lifting r (view.optional_size (view.stat_of sel)) (place_size rank + 1))
+      (both (quiet_fitting from k r (place_size rank + 1)) (both (quiet_own c (view.is_scalar ss rank) sel) (both (quiet_agreeing r 1 rank) (both (quiet_writing r c rank k)
+      (both (one tt refl) (both (quiet_status 1 (view.stat_of sel)) (quiet_dropping (assignments.left_over r (view.optional_size (view.stat_of sel)))))))))))))
   quiet_assigned (t.part (objects.Constant n) ss sel) k rank from r = no_parts
 
   quiet_listing : (l : ListedImages) → Ordered (assignments.listing e l)
@@ -169,49 +192,69 @@ module _ (e : Environment) where
   quiet_there (t.part (objects.Constant n) ss sel) = no_parts
 
   sync_all_ordered : (stat : t.OptionalResult) → Ordered (control.sync_all e stat)
-  sync_all_ordered stat = both (quiet_place e stat) (both (record { kept = sync_round; steady = round_steady (steady_then refl steady_none) }) (settled stat 1 [] (view.optional_size stat)))
+  sync_all_ordered stat = both (quiet_place e stat) (both sync_rounds (settled stat 1 [] (view.optional_size stat)))
 
   sync_images_ordered : (is : s.ImageSet) (stat : t.OptionalResult) → Ordered (control.sync_images e is stat)
   sync_images_ordered is stat =
-      both (quiet_image_set is) (both (quiet_place e stat) (both (one tt refl) (both (fork (record { kept = paired; steady = steady_then refl (steady_then refl steady_none) }) (both (one tt refl) (one tt refl)) no_parts) (settled stat 1 [] (view.optional_size stat)))))
+      both (quiet_image_set is) (both (quiet_place e stat) (both (one tt refl) (both (fork pairs (both (one tt refl) (one tt refl)) no_parts) (settled stat 1 [] (view.optional_size stat)))))
 
   sync_team_ordered : (x : t.Expression) (stat : t.OptionalResult) → Ordered (control.sync_team e x stat)
   sync_team_ordered x stat =
-      let tail : Ordered (settling stat 1 [] ▸ dropping (view.optional_size stat + 1)) = (settled stat 1 [] (view.optional_size stat + 1)) in both ((quiet_expression e x)) (both ((one tt refl)) (both ((quiet_place e stat)) (record { kept = sync_team_round (view.optional_size stat) (PartsKeep (settling stat 1 [] ▸ dropping (view.optional_size stat + 1)) IsClear) tail.kept; steady = copied_steady (view.optional_size stat) a.arrive_sync tail.steady })))
+      let tail : Ordered (settling stat 1 [] ▸ dropping (view.optional_size stat + 1)) = settled stat 1 [] (view.optional_size stat + 1) in
+      let rounds = sync_team_round (view.optional_size stat) (PartsKeep (settling stat 1 [] ▸ dropping (view.optional_size stat + 1)) IsClear) tail.kept in
+      both (quiet_expression e x) (both (one tt refl) (both (quiet_place e stat) (record { kept = rounds; steady = copied_steady (view.optional_size stat) a.arrive_sync tail.steady })))
 
   form_team_ordered : (x : t.Expression) (v : Local) (index : t.OptionalExpression) (stat : t.OptionalResult) (order : WrittenOrder) → Ordered (control.form_team e x v index stat order)
   form_team_ordered x v index stat order =
-      both (quiet_expression e x) (both (quiet_put_down order (control.or_number e index (pushing (pos 0))) 1 (view.optional_place e stat) (view.optional_size stat) (quiet_or index (pushing (pos 0)) (one tt refl)) (quiet_place e stat)) (both (record { kept = form_round (view.optional_size stat + 1); steady = round_steady (steady_both (steady_then refl steady_none) (steady_then refl steady_none)) }) (both (one tt refl) (settled stat 1 [] (view.optional_size stat + 2)))))
+      both (quiet_expression e x)
+      (both (quiet_put_down order (control.or_number e index (pushing (pos 0))) 1 (view.optional_place e stat) (view.optional_size stat) (quiet_or index (pushing (pos 0)) (one tt refl)) (quiet_place e stat))
+      (both (form_rounds (view.optional_size stat + 1)) (both (one tt refl) (settled stat 1 [] (view.optional_size stat + 2)))))
 
   quiet_lock : (d : t.Designator) (acquired stat : t.OptionalResult) (order : WrittenOrder) → Ordered (control.lock e d acquired stat order)
   quiet_lock d t.no_result stat order =
-      both (quiet_cell d) (both (quiet_place e stat) (both (quiet_there d) (both (quiet_copying (view.optional_size stat) 2) (both (acts tt refl (one tt refl)) (both (quiet_selector_status (control.cell_stat e d) (view.optional_size stat + 4)) (both (quiet_settling stat 1 _) (quiet_dropping (view.optional_size stat + control.cell_size e d))))))))
+      both (quiet_cell d) (both (quiet_place e stat) (both (quiet_there d) (both (quiet_copying (view.optional_size stat) 2) (both (acts tt refl (one tt refl))
+      (both (quiet_selector_status (control.cell_stat e d) (view.optional_size stat + 4))
+      (both (quiet_settling stat 1 _) (quiet_dropping (view.optional_size stat + control.cell_size e d))))))))
   quiet_lock d (t.result acquired) stat order =
-      let n = view.optional_size (t.result acquired) in (both (quiet_cell d) (both (quiet_put_down order (view.optional_place e (t.result acquired)) n (view.optional_place e stat) (view.optional_size stat) (quiet_place e (t.result acquired)) (quiet_place e stat)) (both (quiet_there d) (both (quiet_copying (n + view.optional_size stat) 2) (both (acts tt refl (one tt refl)) (both (quiet_selector_status (control.cell_stat e d) (n + (view.optional_size stat + 5))) (both (one tt refl) (both (quiet_storing (view.optional_size stat + 3) acquired) (both (quiet_settling stat 2 _) (quiet_dropping (1 + (n + (view.optional_size stat + control.cell_size e d)))))))))))))
+      let n = view.optional_size (t.result acquired) in
+      (both (quiet_cell d)
+      (both (quiet_put_down order (view.optional_place e (t.result acquired)) n (view.optional_place e stat) (view.optional_size stat) (quiet_place e (t.result acquired)) (quiet_place e stat))
+      (both (quiet_there d) (both (quiet_copying (n + view.optional_size stat) 2) (both (acts tt refl (one tt refl))
+      (both (quiet_selector_status (control.cell_stat e d) (n + (view.optional_size stat + 5))) (both (one tt refl) (both (quiet_storing (view.optional_size stat + 3) acquired)
+      (both (quiet_settling stat 2 _) (quiet_dropping (1 + (n + (view.optional_size stat + control.cell_size e d)))))))))))))
 
   quiet_on_cell : (d : t.Designator) (stat : t.OptionalResult) (x : a.AskAct) → IsFree (a.ask x) → Ordered (control.on_cell e d stat x)
   quiet_on_cell d stat x h =
-      both (quiet_cell d) (both (quiet_place e stat) (both (quiet_there d) (both (quiet_copying (view.optional_size stat) 2) (both (acts h refl (one tt refl)) (both (quiet_selector_status (control.cell_stat e d) (view.optional_size stat + 4)) (both (quiet_settling stat 1 []) (quiet_dropping (view.optional_size stat + control.cell_size e d))))))))
+      both (quiet_cell d) (both (quiet_place e stat) (both (quiet_there d) (both (quiet_copying (view.optional_size stat) 2) (both (acts h refl (one tt refl))
+      (both (quiet_selector_status (control.cell_stat e d) (view.optional_size stat + 4))
+      (both (quiet_settling stat 1 []) (quiet_dropping (view.optional_size stat + control.cell_size e d))))))))
 
   quiet_event_wait : (d : t.Designator) (until : t.OptionalExpression) (stat : t.OptionalResult) (order : WrittenOrder) → Ordered (control.event_wait e d until stat order)
   quiet_event_wait d until stat order =
-      both (quiet_cell d) (both (one tt refl) (both (quiet_put_down order (control.or_number e until (pushing (pos 1))) 1 (view.optional_place e stat) (view.optional_size stat) (quiet_or until (pushing (pos 1)) (one tt refl)) (quiet_place e stat)) (both (one tt refl) (both (quiet_copying (view.optional_size stat) 2) (both (one tt refl) (both (quiet_settling stat 1 []) (quiet_dropping (view.optional_size stat + 2))))))))
+      both (quiet_cell d) (both (one tt refl)
+      (both (quiet_put_down order (control.or_number e until (pushing (pos 1))) 1 (view.optional_place e stat) (view.optional_size stat) (quiet_or until (pushing (pos 1)) (one tt refl)) (quiet_place e stat))
+      (both (one tt refl) (both (quiet_copying (view.optional_size stat) 2) (both (one tt refl) (both (quiet_settling stat 1 []) (quiet_dropping (view.optional_size stat + 2))))))))
 
   quiet_critical : (n : ℕ) (stat : t.OptionalResult) → Ordered (control.critical e n stat)
   quiet_critical n stat = both (quiet_place e stat) (both (one tt refl) (both (quiet_settling stat 1 _) (quiet_dropping (view.optional_size stat))))
 
   change_team_ordered : (x : t.Expression) (stat : t.OptionalResult) → Ordered (control.change_team e x stat)
   change_team_ordered x stat =
-      let tail : Ordered (copying (view.optional_size stat + 1) 1 ▸ doing (Act.team a.make_current ∷ []) ▸ settling stat 1 [] ▸ dropping (view.optional_size stat + 1)) = (both (quiet_copying (view.optional_size stat + 1) 1) (both (one tt refl) (settled stat 1 [] (view.optional_size stat + 1)))) in both ((quiet_expression e x)) (both ((one tt refl)) (both ((quiet_place e stat)) (record { kept = change_team_round (view.optional_size stat) (PartsKeep (copying (view.optional_size stat + 1) 1 ▸ doing (Act.team a.make_current ∷ []) ▸ settling stat 1 [] ▸ dropping (view.optional_size stat + 1)) IsClear) tail.kept; steady = copied_steady (view.optional_size stat) a.arrive_change tail.steady })))
+      let tail : Ordered (copying (view.optional_size stat + 1) 1 ▸ doing (Act.team a.make_current ∷ []) ▸ settling stat 1 [] ▸ dropping (view.optional_size stat + 1)) =
+      both (quiet_copying (view.optional_size stat + 1) 1) (both (one tt refl) (settled stat 1 [] (view.optional_size stat + 1))) in
+      let rounds = change_team_round (view.optional_size stat) (PartsKeep
+      (copying (view.optional_size stat + 1) 1 ▸ doing (Act.team a.make_current ∷ []) ▸ settling stat 1 [] ▸ dropping (view.optional_size stat + 1)) IsClear) tail.kept in
+      both (quiet_expression e x) (both (one tt refl) (both (quiet_place e stat) (record { kept = rounds; steady = copied_steady (view.optional_size stat) a.arrive_change tail.steady })))
 
   quiet_deleting : (ns : List ℕ) (c : ℕ) → Ordered (control.deleting e ns c)
   quiet_deleting [] c = no_parts
   quiet_deleting (n ∷ ns) c =
-      both (either_way (control.is_allocatable_in e e.program.main.variables n) (control.deleting_one e c) end_parts (both (one tt refl) (fork (acts tt refl (one tt refl)) no_parts no_parts)) no_parts) (quiet_deleting ns (suc c))
+      both (either_way (control.is_allocatable_in e e.program.main.variables n) (control.deleting_one e c) end_parts (both (one tt refl) (fork
+      (acts tt refl (one tt refl)) no_parts no_parts)) no_parts) (quiet_deleting ns (suc c))
 
   end_team_ordered : (stat : t.OptionalResult) → Ordered (control.end_team e stat)
   end_team_ordered stat =
-      both (quiet_place e stat) (both (record { kept = end_round; steady = round_steady (steady_then refl steady_none) }) (both (quiet_deleting e.program.coarrays 0) (both (one tt refl) (settled stat 1 [] (view.optional_size stat)))))
+      both (quiet_place e stat) (both end_rounds (both (quiet_deleting e.program.coarrays 0) (both (one tt refl) (settled stat 1 [] (view.optional_size stat)))))
 
   -- ---- intrinsic subroutines
   abbrev QuietPieces : List Piece → Type 0
@@ -240,11 +283,14 @@ module _ (e : Environment) where
   quiet_atomic : (ps : List Piece) (ds : List ℕ) (atom : ℕ) (d : t.Designator) (op : AtomicOp) (k : Kind) (x y : Parts Act) (old : t.OptionalResult) (rd : ℕ) (stat : t.OptionalResult) (sd : ℕ)
       → QuietPieces ps → Ordered x → Ordered y → Ordered (sub.atomic e ps ds atom d op k x y old rd stat sd)
   quiet_atomic ps ds atom d op k x y old rd stat sd h hx hy =
-      both (quiet_evaluating ps ds h) (both (quiet_there d) (both (quiet_fetching ps ds atom 0 2) (both hx (both hy (both (acts tt refl (one tt refl)) (both (quiet_selector_status (control.cell_stat e d) (depth ps ds atom + 5)) (both (quiet_fetched old (depth ps ds rd + 3)) (both (quiet_settling stat (depth ps ds sd + 2) []) (quiet_dropping (sizes ps ds + 1))))))))))
+      both (quiet_evaluating ps ds h) (both (quiet_there d) (both (quiet_fetching ps ds atom 0 2) (both hx (both hy (both (acts tt refl (one tt refl))
+      (both (quiet_selector_status (control.cell_stat e d) (depth ps ds atom + 5)) (both (quiet_fetched old (depth ps ds rd + 3))
+      (both (quiet_settling stat (depth ps ds sd + 2) []) (quiet_dropping (sizes ps ds + 1))))))))))
 
   quiet_query : (ps : List Piece) (ds : List ℕ) (d : t.Designator) (count : t.ResultVariable) (stat : t.OptionalResult) → QuietPieces ps → Ordered (sub.query e ps ds d count stat)
   quiet_query ps ds d count stat h =
-      both (quiet_evaluating ps ds h) (both (one tt refl) (both (quiet_fetching ps ds 0 0 2) (both (one tt refl) (both (one tt refl) (both (quiet_storing (depth ps ds 1 + 1) count) (both (one tt refl) (both (quiet_settling stat (depth ps ds 2 + 1) []) (quiet_dropping (sizes ps ds)))))))))
+      both (quiet_evaluating ps ds h) (both (one tt refl) (both (quiet_fetching ps ds 0 0 2) (both (one tt refl) (both (one tt refl) (both (quiet_storing (depth ps ds 1 + 1) count)
+      (both (one tt refl) (both (quiet_settling stat (depth ps ds 2 + 1) []) (quiet_dropping (sizes ps ds)))))))))
 
   quiet_as_array : (rank : ℕ) (p : Parts Act) → Ordered p → Ordered (sub.as_array e rank p)
   quiet_as_array zero p h = both (one tt refl) (both h (one tt refl))
@@ -260,7 +306,11 @@ module _ (e : Environment) where
 
   quiet_collected : (d : t.Designator) (rank : ℕ) → Ordered (sub.collected_piece e d rank).parts
   quiet_collected (t.part (objects.Local v) ss sel) rank =
-      let loaded = copying 0 (place_size rank) ▸ doing (a.variable (a.load (scope_of v.home) v.variable rank) ∷ []) in either_piece (view.is_scalar ss rank) (record { parts = sub.as_array e 0 (doing (a.variable (a.cell (scope_of v.home) v.variable) ∷ [])); size = 0 }) (record { parts = view.subscripts e ss ▸ doing (a.bounded (a.section (scope_of v.home) v.variable (view.form_of ss rank)) ∷ []) ▸ sub.as_array e rank loaded; size = place_size rank }) (both (one tt refl) (both (one tt refl) (one tt refl))) (both (quiet_subscripts e ss) (both (one tt refl) (quiet_as_array rank loaded (both (quiet_copying 0 (place_size rank)) (one tt refl)))))
+      let loaded = copying 0 (place_size rank) ▸ doing (a.variable (a.load (scope_of v.home) v.variable rank) ∷ []) in
+      either_piece (view.is_scalar ss rank) (record { parts = sub.as_array e 0 (doing (a.variable (a.cell (scope_of v.home) v.variable) ∷ [])); size = 0 })
+      (record { parts = view.subscripts e ss ▸ doing (a.bounded (a.section (scope_of v.home) v.variable (view.form_of ss rank)) ∷ []) ▸ sub.as_array e rank loaded; size = place_size rank })
+      (both (one tt refl) (both (one tt refl) (one tt refl))) (both (quiet_subscripts e ss) (both (one tt refl) (quiet_as_array rank loaded
+      (both (quiet_copying 0 (place_size rank)) (one tt refl)))))
   quiet_collected (t.part (objects.Coarray c) ss sel) rank = both (quiet_subscripts e ss) (both (one tt refl) (quiet_owner e c rank sel))
   quiet_collected (t.part (objects.Constant n) ss sel) rank = no_parts
 
@@ -277,13 +327,15 @@ module _ (e : Environment) where
 
   quiet_collected_put : (d : t.Designator) (k : Kind) (rank : ℕ) (place : Parts Act) → Ordered place → Ordered (sub.collected_put e d k rank place)
   quiet_collected_put (t.part (objects.Local v) ss sel) k rank place h =
-      either_way (view.is_scalar ss rank) (doing (a.stack a.only_element ∷ a.variable (a.store (scope_of v.home) v.variable) ∷ [])) (place ▸ doing (a.variable (a.put_array (scope_of v.home) v.variable rank) ∷ [])) (acts tt refl (one tt refl)) (both h (one tt refl))
+      either_way (view.is_scalar ss rank) (doing (a.stack a.only_element ∷ a.variable (a.store (scope_of v.home) v.variable) ∷ []))
+      (place ▸ doing (a.variable (a.put_array (scope_of v.home) v.variable rank) ∷ [])) (acts tt refl (one tt refl)) (both h (one tt refl))
   quiet_collected_put (t.part (objects.Coarray c) ss sel) k rank place h = both h (both (quiet_writing 1 c rank k) (both (one tt refl) (one tt refl)))
   quiet_collected_put (t.part (objects.Constant n) ss sel) k rank place h = no_parts
 
   combined_ordered : (x : s.Collected) (op : GatherOp) (ps : List Piece) (ds : List ℕ) (root comes : Parts Act) → Ordered root → Ordered comes → Ordered (sub.combined e x op ps ds root comes)
   combined_ordered x op ps ds root comes h k =
-      both (quiet_collected_value x.variable x.rank (sub.place_in e x ps ds 0) (quiet_fetching ps ds 0 0 _)) (both h (both (record { kept = collective op x.kind; steady = steady_then refl (steady_then refl steady_none) }) (both (quiet_succeeded 0) (fork (both k (fork (quiet_collected_put x.variable x.kind x.rank (sub.place_in e x ps ds 1) (quiet_fetching ps ds 0 1 _)) (one tt refl) no_parts)) (one tt refl) no_parts))))
+      both (quiet_collected_value x.variable x.rank (sub.place_in e x ps ds 0) (quiet_fetching ps ds 0 0 _)) (both h (both (collects op x.kind) (both (quiet_succeeded 0) (fork (both k
+      (fork (quiet_collected_put x.variable x.kind x.rank (sub.place_in e x ps ds 1) (quiet_fetching ps ds 0 1 _)) (one tt refl) no_parts)) (one tt refl) no_parts))))
 
   rooted_ordered : (x : s.Collected) (ps : List Piece) (ds : List ℕ) (p : Parts Act) → Ordered p → Ordered (sub.rooted e x ps ds p)
   rooted_ordered x ps ds p h = both (quiet_fetching ps ds 1 0 1) (both (one tt refl) (fork h (both (quiet_dropping_collected x.variable) (one tt refl)) no_parts))
@@ -298,11 +350,13 @@ module _ (e : Environment) where
   combine_ordered ps ds x op t.missing stat h =
       both (quiet_evaluating ps ds h) (both (combined_ordered x op ps ds (pushing (pos 0)) (pushing (pos 1)) (one tt refl) (one tt refl)) (quiet_settled ps ds stat))
   combine_ordered ps ds x op (t.given r) stat h =
-      both (quiet_evaluating ps ds h) (both (rooted_ordered x ps ds (sub.combined e x op ps ds (fetching ps ds 1 0 1) (sub.root_test e ps ds)) (combined_ordered x op ps ds (fetching ps ds 1 0 1) (sub.root_test e ps ds) (quiet_fetching ps ds 1 0 1) (quiet_root_test ps ds))) (quiet_settled ps ds stat))
+      both (quiet_evaluating ps ds h)
+      (both (rooted_ordered x ps ds (sub.combined e x op ps ds (fetching ps ds 1 0 1) (sub.root_test e ps ds)) (combined_ordered x op ps ds (fetching ps ds 1 0 1) (sub.root_test e ps ds) (quiet_fetching ps ds 1 0 1) (quiet_root_test ps ds))) (quiet_settled ps ds stat))
 
   broadcast_ordered : (ps : List Piece) (ds : List ℕ) (x : s.Collected) (stat : t.OptionalResult) → QuietPieces ps → Ordered (sub.broadcast e ps ds x stat)
   broadcast_ordered ps ds x stat h =
-      both (quiet_evaluating ps ds h) (both (rooted_ordered x ps ds (sub.combined e x gathers.Broadcast ps ds (fetching ps ds 1 0 1) (pushing (pos 1))) (combined_ordered x gathers.Broadcast ps ds (fetching ps ds 1 0 1) (pushing (pos 1)) (quiet_fetching ps ds 1 0 1) (one tt refl))) (quiet_settled ps ds stat))
+      both (quiet_evaluating ps ds h)
+      (both (rooted_ordered x ps ds (sub.combined e x gathers.Broadcast ps ds (fetching ps ds 1 0 1) (pushing (pos 1))) (combined_ordered x gathers.Broadcast ps ds (fetching ps ds 1 0 1) (pushing (pos 1)) (quiet_fetching ps ds 1 0 1) (one tt refl))) (quiet_settled ps ds stat))
 
   quiet_optional_piece : (x : t.OptionalExpression) → Ordered (sub.optional_piece e x).parts
   quiet_optional_piece t.missing = no_parts
@@ -389,11 +443,14 @@ module _ (e : Environment) where
 
   allocate_ordered : (xs : List s.Allocation) (stat : t.OptionalResult) → Ordered (alloc.allocate e xs stat)
   allocate_ordered xs stat =
-      both (quiet_objects_bounds xs) (both (quiet_place e stat) (both (one tt refl) (both (quiet_planning xs (view.optional_size stat)) (both (one tt refl) (both (quiet_named_once (alloc.objects_of xs)) (both (fork (both (quiet_making xs (view.optional_size stat)) (allocates (alloc.coarrays_in (alloc.objects_of xs)))) (one tt refl) no_parts) (settled stat 1 [] (alloc.object_sizes xs + view.optional_size stat))))))))
+      both (quiet_objects_bounds xs) (both (quiet_place e stat) (both (one tt refl) (both (quiet_planning xs (view.optional_size stat)) (both (one tt refl)
+      (both (quiet_named_once (alloc.objects_of xs)) (both (fork
+      (both (quiet_making xs (view.optional_size stat)) (allocates (alloc.coarrays_in (alloc.objects_of xs)))) (one tt refl) no_parts) (settled stat 1 [] (alloc.object_sizes xs + view.optional_size stat))))))))
 
   deallocate_ordered : (xs : List Object) (stat : t.OptionalResult) → Ordered (alloc.deallocate e xs stat)
   deallocate_ordered xs stat =
-      both (quiet_place e stat) (both (one tt refl) (both (quiet_are_allocated xs) (both (quiet_named_once xs) (both (fork (both (deallocates (alloc.coarrays_in xs)) (quiet_freeing xs)) (one tt refl) no_parts) (settled stat 1 [] (view.optional_size stat))))))
+      both (quiet_place e stat) (both (one tt refl) (both (quiet_are_allocated xs) (both (quiet_named_once xs) (both (fork
+      (both (deallocates (alloc.coarrays_in xs)) (quiet_freeing xs)) (one tt refl) no_parts) (settled stat 1 [] (view.optional_size stat))))))
 
   -- ---- forms of statements
   condition : (x : t.Expression) → Ordered (released (view.expression e x))
@@ -424,7 +481,9 @@ module _ (e : Environment) where
     form_ordered : (l : ℕ) (f : s.StatementForm) → FormOrdered (form e l f)
     form_ordered l (s.assign d type rank x) = free_again (assignments.assignment e d type rank x) (both (quiet_expression e x) (quiet_assigned d (kind_of type) rank (assignments.kind_in x) (assignments.rank_in x)))
     form_ordered l (s.assign_images v k images which) = free_again (assignments.images_assignment e v images which) (both (quiet_listed_team which) (both (quiet_listing images) (one tt refl)))
-    form_ordered l (s.call n es) = free_again (called e n (procedure_in e n) es) (both (quiet_arguments e (procedure_in e n).unit.variables (procedure_in e n).dummies es) (quiet_calling n (procedure_in e n) (view.passed (procedure_in e n).unit.variables (procedure_in e n).dummies es)))
+    form_ordered l (s.call n es) =
+        free_again (called e n (procedure_in e n) es)
+        (both (quiet_arguments e (procedure_in e n).unit.variables (procedure_in e n).dummies es) (quiet_calling n (procedure_in e n) (view.passed (procedure_in e n).unit.variables (procedure_in e n).dummies es)))
     form_ordered l (s.call_intrinsic i w) = free_again (sub.intrinsic_call e i w) (subroutine_ordered i (written_dummies w))
     form_ordered l (s.print f items) = free_again (assignments.output e f items) (both (quiet_beginning f) (both (quiet_items items) (one tt refl)))
     form_ordered l (s.exit n) = tt
@@ -452,7 +511,8 @@ module _ (e : Environment) where
     form_ordered l (s.do_forever body) = (no_parts, no_parts, one tt refl, steps_ordered body)
     form_ordered l (s.select x n cs other) = (both (condition x) (one tt refl), cases_ordered (hidden_cell e n) cs (steps e other) (steps_ordered other))
     form_ordered l (s.critical n stat body m) = (free_again (control.critical e n stat) (quiet_critical n stat), steps_ordered body, one tt refl)
-    form_ordered l (s.change_team x stat body end_stat m) = (free_again (control.change_team e x stat) (change_team_ordered x stat), steps_ordered body, free_again (control.end_team e end_stat) (end_team_ordered end_stat))
+    form_ordered l (s.change_team x stat body end_stat m) =
+        (free_again (control.change_team e x stat) (change_team_ordered x stat), steps_ordered body, free_again (control.end_team e end_stat) (end_team_ordered end_stat))
 
     pub steps_ordered : (ss : s.Statements) → StepsOrdered (steps e ss)
     steps_ordered s.no_statements = tt
