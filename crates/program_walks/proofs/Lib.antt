@@ -19,3 +19,4 @@ pub mod Fits
 pub mod LaneSame
 pub mod CodeRuns
 pub mod LaneProgramEnds
+pub mod MissingTries
