@@ -3,7 +3,8 @@ use Rattle.std.proofs.Common.{◌≡◌, ℕ, ◌+◌, List, [], ◌∷◌, refl
 use Rattle.caf_events.specs.declared.ask.Ask.{Ask}
 use Rattle.caf_events.specs.declared.reply.Reply.{Reply}
 use Rattle.caf_events.specs.Answers.{Answers}
-use Rattle.trace_theory.specs.Machines.{Move, goes, asks, Said, go, goes_on, Comes, Walk, WalkTo, Rests}
+use Rattle.trace_theory.specs.Equivalence.{SameWalks}
+use Rattle.trace_theory.specs.Machines.{Move, goes, asks, over, Said, go, goes_on, Comes, Walk, WalkTo, Rests}
 use Rattle.trace_theory.specs.Simulations.{AllAnswer, SameRest}
 use Rattle.trace_theory.proofs.Machines.{stays, go_more, one_next_ask, one_stop, comes_later, walk_to_later}
 use Rattle.trace_theory.proofs.Rests.{same_rest_rests, standing, one_place}
@@ -85,3 +86,15 @@ module _ {C D : Type 0} (source : C → Move C Ask Reply) (target : D → Move D
       let n = likewise x st.at y s.ask s.line k st.steps says st.comes at in
       let r = walks_same es (k s.reply) e (n.then s.reply) (n.onward s.reply answer) answers w in
       (r.0, (n.then, comes_later D Ask Reply target n.steps y n.there s.ask s.line n.then n.comes n.asked, r.1))
+
+  same_back : (v : Move C Ask Reply) (u : Move D Ask Reply) → SameRest v u → SameRest u v
+  same_back (goes c) u h = absurd h
+  same_back (asks a l j) u h = subst (λ x. SameRest x (asks a l j)) (sym h.1) (j, refl)
+  same_back over u h = subst (λ x. SameRest {D = C} x over) (sym h) refl
+
+  -- machines with the same walks say the same, both ways
+  pub says_onward : (after near : C → D → Type 0) (c : C) (d : D) → SameWalks Answers after near source c target d → SaysAs source target c d
+  says_onward after near c d h es e answers w rests = (let r = h.rests_onward es e answers w rests in (r.0, r.1, r.3))
+
+  pub says_backward : (after near : C → D → Type 0) (c : C) (d : D) → SameWalks Answers after near source c target d → SaysAs target source d c
+  says_backward after near c d h es f answers w rests = (let r = h.rests_backward es f answers w rests in (r.0, r.1, same_back (source r.0) (target f) r.3))
