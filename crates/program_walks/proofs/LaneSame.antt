@@ -49,6 +49,9 @@ module _ {C D : Type 0} (source : C → Move C Ask Reply) (target : D → Move D
   AlikeMoves (asks a n j) u = (k : Reply → OnLane D) × ((r : Reply) → Answers a r → Alike (j r) (k r)) × (u ≡ asks a n k)
   AlikeMoves over u = u ≡ over
 
+  both_are : (v w : Move (OnLane C) Ask Reply) (u t : Move (OnLane D) Ask Reply) → v ≡ w → u ≡ t → AlikeMoves w t → AlikeMoves v u
+  both_are v w u t p q h = subst (λ x. AlikeMoves x u) (sym p) (subst (AlikeMoves w) (sym q) h)
+
   next_alike : (l : OnLane C) (x : C) (f : D) (a : Ask) (line : ℕ) (k : Reply → C) (j : Reply → D) → ((r : Reply) → Answers a r → SaysAs source target (k r) (j r))
       → AlikeMoves (program_next (at_program l x) (asks a line k)) (program_next (at_program (other_lane l f) f) (asks a line j))
   next_alike l x f a line k j onward =
@@ -60,7 +63,11 @@ module _ {C D : Type 0} (source : C → Move C Ask Reply) (target : D → Move D
           | inr none ↦ elim (cases_Bool (is_full l)) [
             | inl full ↦ rw (free, none, full) (λ r. comes_to_end (at_program q f), λ r ok. record { program = f; is = refl; says = tt }, refl)
             | inr room ↦ elim (cases_Bool (counts_words a)) [
-              | inl counts ↦ rw (free, none, room, counts) (λ r. goes_past (at_program q f) a r (j r), λ r ok. record { program = j r; is = refl; says = onward r ok }, refl)
+              | inl counts ↦ (
+                  let here : program_next (at_program l x) (asks a line k) ≡ asks a line (λ r. goes_past (at_program l x) a r (k r)) = rw (free, none, room, counts) refl in
+                  let there : program_next (at_program q f) (asks a line j) ≡ asks a line (λ r. goes_past (at_program q f) a r (j r)) = rw (free, none, room, counts) refl in
+                  both_are (program_next (at_program l x) (asks a line k)) (asks a line (λ r. goes_past (at_program l x) a r (k r))) (program_next (at_program q f) (asks a line j)) (asks a line (λ r. goes_past (at_program q f) a r (j r))) here there
+                  (λ r. goes_past (at_program q f) a r (j r), λ r ok. record { program = j r; is = refl; says = onward r ok }, refl))
               | inr silent ↦ rw (free, none, room, silent) (λ r. comes_to_end (at_program q f), λ r ok. record { program = f; is = refl; says = tt }, refl)
             ]
           ]
@@ -110,12 +117,16 @@ module _ {C D : Type 0} (source : C → Move C Ask Reply) (target : D → Move D
 
   matched_program : (l : OnLane C) (d : D) (v : Move C Ask Reply) → source l.program ≡ v → SaysAs source target l.program d
       → Matches Alike Answers (lane_step target) (program_next (with_course l by_program) v) (other_lane (with_course l by_program) d)
-  matched_program l d (goes c) at says =
-      (0, other_lane (with_course l by_program) d, refl, record {
-        program = d;
-        is = refl;
-        says = λ es e answers w rests. says es e answers (walk_to_later C Ask Reply source 1 l.program c e es (ap (λ v. goes_on v (go source 0)) at) w) rests;
-      })
+  matched_program l d (goes c) at says = (
+    0,
+    other_lane (with_course l by_program) d,
+    refl,
+    record {
+      program = d;
+      is = refl;
+      says = λ es e answers w rests. says es e answers (walk_to_later C Ask Reply source 1 l.program c e es (ap (λ v. goes_on v (go source 0)) at) w) rests;
+    },
+  )
   matched_program l d (asks a line k) at says = matched_near _ _ (program_next (with_course l by_program) (asks a line k)) (near_program l d (asks a line k) at says tt)
   matched_program l d over at says = matched_near (with_course l by_program) (other_lane (with_course l by_program) d) over (near_program l d over at says tt)
 
