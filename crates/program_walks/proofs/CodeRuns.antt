@@ -1,12 +1,10 @@
 -- The runs of a program's code are the runs of the program.
-use Rattle.std.proofs.Common.{ℕ, List, [], refl, sym, subst}
+use Rattle.std.proofs.Common.{ℕ, List, []}
 use Rattle.caf_events.specs.declared.ask.Ask.{Ask}
 use Rattle.caf_events.specs.declared.reply.Reply.{Reply}
 use Rattle.caf_events.specs.declared.event.Entry.{Entry}
 use Rattle.caf_events.specs.Answers.{Answers}
-use Rattle.trace_theory.specs.Machines.{Move, goes, asks, over}
-use Rattle.trace_theory.specs.Equivalence.{SameWalks}
-use Rattle.trace_theory.specs.Simulations.{SameRest}
+use Rattle.trace_theory.specs.Machines.{Move}
 use Rattle.walk_theory.specs.Code.{at_place, code_step}
 use Rattle.walk_theory.specs.Made.{program_code}
 use Rattle.walk_theory.specs.Programs.{HasWalksOf}
@@ -17,16 +15,15 @@ use Rattle.image_acts.specs.Meaning.{image_language}
 use Rattle.tree_meaning.specs.Forms.{bodies}
 use Rattle.tree_meaning.specs.Start.{first_core, start_of, walk_step}
 use Rattle.object_rules.specs.Cells.{Declared}
-use Rattle.core_runs.specs.CoreRuns.{IsFit, IsCoreRun, said_by}
+use Rattle.core_runs.specs.CoreRuns.{IsFit, IsCoreRun}
 use Rattle.core_runs.specs.Lawful.{full_rules}
-use Rattle.core_runs.proofs.Lawfuls.{answered_by}
-use Rattle.image_lanes.specs.Lanes.{lane_step, lane_start}
+use Rattle.image_lanes.specs.Lanes.{lane_step}
 use Rattle.core_runs.specs.Same.{SaysAs}
 use Rattle.core_runs.proofs.SaysSame.{says_onward, says_backward}
 use Rattle.image_lanes.specs.LaneRuns.{lanes_begin}
 use Rattle.program_walks.specs.Runs.{program_rules, program_begins, code_rules, code_begins}
 use Rattle.program_walks.proofs.BoardAnswers.{board_answers, memory_answers}
-use Rattle.program_walks.proofs.Fits.{program_fit, code_goes}
+use Rattle.program_walks.proofs.Fits.{code_goes}
 use Rattle.program_walks.proofs.LaneOrder.{lane_fails}
 use Rattle.program_walks.proofs.LaneEnds.{lane_orderly}
 use Rattle.program_walks.proofs.LaneSame.{lanes_core}

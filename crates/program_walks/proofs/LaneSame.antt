@@ -18,8 +18,8 @@ use Rattle.core_runs.specs.Orders.{Chooser, IsOrderTrace}
 use Rattle.core_runs.specs.Same.{SaysAs, RepliesAnswer}
 use Rattle.core_runs.specs.Waits.{IsWaiting}
 use Rattle.core_runs.proofs.SameRuns.{core_by_replies, order_by_replies, waits_by_replies}
-use Rattle.core_runs.proofs.SaysSame.{Came, come, behind}
-use Rattle.image_lanes.specs.Lanes.{Course, by_program, failing, at_end, OnLane, is_due, is_full, is_failure, begins_to_fail, comes_to_end, goes_past, fails_on, program_next, course_next, lane_step, lane_start}
+use Rattle.core_runs.proofs.SaysSame.{come, behind}
+use Rattle.image_lanes.specs.Lanes.{Course, by_program, failing, at_end, OnLane, is_due, is_full, is_failure, begins_to_fail, comes_to_end, goes_past, fails_on, program_next, lane_step, lane_start}
 use Rattle.image_lanes.specs.LaneRuns.{lanes_begin}
 use Rattle.image_lanes.proofs.LaneLaws.{at_program, go_lane}
 use Rattle.program_walks.proofs.BoardAnswers.{board_answers, memory_answers}
