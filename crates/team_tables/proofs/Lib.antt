@@ -1,0 +1,4 @@
+pub mod EntryLaws
+pub mod FormedLaws
+pub mod CurrentLaws
+pub mod KeptLaws
