@@ -27,7 +27,7 @@ use Rattle.image_acts.specs.Owning.{own_in, with_own}
 use Rattle.image_acts.specs.Teams.{behind_first, members, index_of, is_established, member_at, cosubscripts_behind, index_in}
 use Rattle.image_acts.specs.Taking.{Acted, giving, put_down, given, found_in, unless, taken, taking_one, taking_two, taking, seeing, taking_array, seeing_array, using}
 use Rattle.image_acts.specs.Operate.Stack.{stack_effect}
-use Rattle.image_acts.specs.Operate.Variables.{variable_effect, value_at, allocated}
+use Rattle.image_acts.specs.Operate.Variables.{variable_effect, value_at, allocated, elements_there, if_room}
 use Rattle.image_acts.specs.Operate.Operators.{operator_effect}
 use Rattle.image_acts.specs.Operate.Bounds.{bounds_effect, owned}
 use Rattle.image_acts.specs.Operate.Allocating.{allocation_effect, bounds_size, cobounds_size}
@@ -125,7 +125,7 @@ teams (Some x) f h = h x
 valued : (rank : ℕ) (p : Place) (vs : List ℤ) (c : Core) → Fine (value_at rank p vs c)
 valued zero p [] c = no_operand
 valued zero p (v ∷ vs) c = goes (pushed v c)
-valued (suc rank) p vs c = goes (with_array (record { extents = extents_of p; elements = vs }) c)
+valued (suc rank) p vs c = so _ _ _ (goes _)
 
 ruleset fine = (goes, fault, no_operand, there, top, top_two, some_of, seen, top_array, seen_array, room_for, find, so, either_way, allocates, owns, teams, valued)
 
@@ -133,17 +133,17 @@ first_element : (vs : List ℤ) (c : Core) → Fine (elim vs [ [] ↦ stuck | w 
 first_element [] c = no_operand
 first_element (v ∷ vs) c = goes (pushed v c)
 
-loaded : (o : Option Local) (rank : ℕ) (p : Place) (c : Core) → Fine (allocated o (λ l. elim (elements_at (offsets p) l.elements) [ None ↦ faults shape_fault | Some vs ↦ value_at rank p vs c ]))
-loaded o rank p c = allocates o (λ l. elim (elements_at (offsets p) l.elements) [ None ↦ faults shape_fault | Some vs ↦ value_at rank p vs c ])
-    (λ l. there_or shape_fault (elements_at (offsets p) l.elements) (λ vs. value_at rank p vs c) (λ vs. valued rank p vs c))
+loaded : (o : Option Local) (rank : ℕ) (p : Place) (c : Core) → Fine (allocated o (λ l. elim (elements_there p l) [ None ↦ faults shape_fault | Some vs ↦ value_at rank p vs c ]))
+loaded o rank p c = allocates o (λ l. elim (elements_there p l) [ None ↦ faults shape_fault | Some vs ↦ value_at rank p vs c ])
+    (λ l. there_or shape_fault (elements_there p l) (λ vs. value_at rank p vs c) (λ vs. valued rank p vs c))
 
-put_there : (o : Option Local) (p : Place) (f : Local → Core) → Fine (allocated o (λ l. elim (elements_at (offsets p) l.elements) [ None ↦ faults shape_fault | Some vs ↦ goes_to (f l) ]))
-put_there o p f = allocates o (λ l. elim (elements_at (offsets p) l.elements) [ None ↦ faults shape_fault | Some vs ↦ goes_to (f l) ])
-    (λ l. there_or shape_fault (elements_at (offsets p) l.elements) (λ vs. goes_to (f l)) (λ vs. goes (f l)))
+put_there : (o : Option Local) (p : Place) (f : Local → Core) → Fine (allocated o (λ l. elim (elements_there p l) [ None ↦ faults shape_fault | Some vs ↦ goes_to (f l) ]))
+put_there o p f = allocates o (λ l. elim (elements_there p l) [ None ↦ faults shape_fault | Some vs ↦ goes_to (f l) ])
+    (λ l. there_or shape_fault (elements_there p l) (λ vs. goes_to (f l)) (λ vs. goes (f l)))
 
 abbrev resized : a.Scope → ℕ → Option Local → ℕ → List ℤ → Core → Acted
 resized s x old before vs c = unless room (nat_le ((c.local_cells - before) + length vs) most_cells)
-    (goes_to (record (with_array_in s x (Some (record { bounds = (pos 1, pos (length vs)) ∷ []; elements = vs })) c) { local_cells = (c.local_cells - before) + length vs }))
+    (if_room (record (with_array_in s x (Some (record { bounds = (pos 1, pos (length vs)) ∷ []; elements = vs })) c) { local_cells = (c.local_cells - before) + length vs }))
 
 abbrev images_into : a.Scope → ℕ → Option Local → List ℤ → Core → Acted
 images_into s x None vs c = resized s x None 0 vs c
