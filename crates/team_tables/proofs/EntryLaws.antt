@@ -18,11 +18,6 @@ pub within_last : (n : ℕ) (e : Entry) (es : List Entry) → AreWithin n (es ++
 within_last n e [] h = h.0
 within_last n e (x ∷ es) h = within_last n e es h.1
 
--- no entry is left
-pub none_left : (es : List Entry) → length es ≡ 0 → es ≡ []
-none_left [] h = refl
-none_left (e ∷ es) h = absurd (omega arith)
-
 module _ (left older : List Entry) (e : Entry) (split : left ≡ older ++ e ∷ []) where
   pub known_split : (ms : List ℕ) → known_in ms left ≡ team_at ms e ∷ known_in ms older
   known_split ms = ap (known_in ms) split ∙ ap (map (team_at ms)) (reverse-append older (e ∷ []))

@@ -2,3 +2,4 @@ pub mod EntryLaws
 pub mod FormedLaws
 pub mod CurrentLaws
 pub mod KeptLaws
+pub mod NamedLaws

@@ -7,4 +7,5 @@
 mod current;
 mod entries;
 mod formed;
+mod named;
 pub mod teams;

@@ -3,13 +3,13 @@
 ghost use Rattle.std.specs.Prelude.{◌≡◌, ◌+◌, ◌*◌, ◌<◌, ◌≤◌, ◌^◌, ◌∷◌, [], pos, length, nat_lt, vec_capacity, IfOk, OnOk};
 ghost use Rattle.std.specs.Option.{option_map};
 ghost use Rattle.image_acts.specs.Statuses.{most_teams};
-ghost use Rattle.image_acts.specs.Teams.{behind_first, current_team, is_established, is_in, members, numbered_team, team_in};
+ghost use Rattle.image_acts.specs.Teams.{behind_first};
 ghost use Rattle.image_acts.specs.Replies.{fitting};
 ghost use Rattle.team_tables.specs.Entries.{first_entry};
-ghost use Rattle.team_tables.specs.Tables.{HasRoom, core_with, first_table, images_from, image_count_of_number, index_here, is_child, is_near, is_root, newly_known, team_at_level, team_with, with_noted};
+ghost use Rattle.team_tables.specs.Tables.{HasRoom, current_of, first_table, images_from, members_here, newly_known, team_with, with_noted};
 
-use crate::current::{holds, newest_of, older, up_to};
-use crate::entries::{Entry, is_in, members_of, newest, newest_sibling, newest_with, note};
+use crate::current::newest_of;
+use crate::entries::{Entry, members_of, newest, newest_with, note};
 use crate::formed::{add_teams, fitting_count};
 use caf_base::place::ImageNo;
 use caf_base::refusal::NoMemory;
@@ -23,13 +23,13 @@ const MOST_TEAMS: usize = 32_768;
 /// The teams that one image knows: the current ones, those that FORM TEAM made with the image's parent teams, and those of the last reply that aren't noted yet.
 #[derive(Drop)]
 pub struct Teams {
-    current: Vec<u64>,
-    known: Vec<Entry>,
+    pub(crate) current: Vec<u64>,
+    pub(crate) known: Vec<Entry>,
     formed: Vec<Entry>,
-    members: Vec<u32>,
+    pub(crate) members: Vec<u32>,
     placed: usize,
-    me: u32,
-    images: u32,
+    pub(crate) me: u32,
+    pub(crate) images: u32,
 }
 
 impl Model for Teams {
@@ -74,7 +74,7 @@ impl Teams {
 
     /// The current team, the initial one where none is left.
     fn current(&self) -> u64
-        ensures value { result ≡ current_team (core_with self.now) }
+        ensures value { result ≡ current_of self.now }
         ensures small { result < 2 ^ 63 }
     {
         newest_of(&self.current)
@@ -82,14 +82,14 @@ impl Teams {
 
     /// The current team as a number of the stack.
     pub fn this_team(&self) -> i64
-        ensures { result ≡ pos (current_team (core_with self.now)) }
+        ensures { result ≡ pos (current_of self.now) }
     {
         self.current() as i64
     }
 
     /// The members of a team in index order; none where the image doesn't know it.
     pub fn members(&self, team: u64) -> &[u32]
-        ensures value { result.now ≡ members (core_with self.now) team }
+        ensures value { result.now ≡ members_here self.now team }
         ensures few { length result.now < 2 ^ 33 }
     {
         match newest(&self.known, team) {
@@ -100,7 +100,7 @@ impl Teams {
 
     /// The members of the current team.
     pub fn current_members(&self) -> &[u32]
-        ensures value { result.now ≡ members (core_with self.now) (current_team (core_with self.now)) }
+        ensures value { result.now ≡ members_here self.now (current_of self.now) }
         ensures few { length result.now < 2 ^ 33 }
     {
         self.members(self.current())
