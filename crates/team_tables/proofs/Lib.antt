@@ -3,3 +3,4 @@ pub mod FormedLaws
 pub mod CurrentLaws
 pub mod KeptLaws
 pub mod NamedLaws
+pub mod StepLaws

@@ -7,5 +7,6 @@
 mod current;
 mod entries;
 mod formed;
-mod named;
+pub mod laws;
+pub mod named;
 pub mod teams;
