@@ -21,7 +21,7 @@ use Rattle.image_acts.specs.Faults.{room, shape_fault, not_allocated, no_team, z
 use Rattle.image_acts.specs.Acts as a
 use Rattle.image_acts.specs.Acts.{Act, constant, stack, variable, operator, bounded, allocation, selector, team, call, print, ask}
 use Rattle.image_acts.specs.Core.{Core, Array, Local, Own, Team, Frame, Item, Printing, with_values, pushed, with_array}
-use Rattle.image_acts.specs.Places.{Place, place_in, place_size, extents_of, offsets, elements_at, digits, numbers_of_form, triplets, subscripts_in, place_of, no_place, place_numbers, cells_of}
+use Rattle.image_acts.specs.Places.{Place, place_in, place_size, extents_of, offsets, elements_at, digits, numbers_of_form, triplets, subscripts_in, place_within, no_place, place_numbers, cells_of}
 use Rattle.image_acts.specs.Frames.{pairs_in, array_in, with_array_in, with_cell}
 use Rattle.image_acts.specs.Owning.{own_in, with_own}
 use Rattle.image_acts.specs.Teams.{behind_first, members, index_of, is_established, member_at, cosubscripts_behind, index_in}
@@ -168,11 +168,11 @@ begins s x t vs c = no_operand
 
 abbrev co_placing : Option Own → List ℕ → List ℤ → Core → Acted
 co_placing None ds vs c = goes_to (with_values c (put_down (place_numbers (no_place (triplets ds))) c.values))
-co_placing (Some o) ds vs c = found_in (place_of o.bounds (subscripts_in ds vs)) (λ p. goes_to (with_values c (put_down (place_numbers p) c.values)))
+co_placing (Some o) ds vs c = found_in (place_within o.bounds (subscripts_in ds vs)) (λ p. goes_to (with_values c (put_down (place_numbers p) c.values)))
 
 co_placed : (o : Option Own) (ds : List ℕ) (vs : List ℤ) (c : Core) → Fine (co_placing o ds vs c)
 co_placed None ds vs c = goes _
-co_placed (Some o) ds vs c = find (place_of o.bounds (subscripts_in ds vs)) (λ p. goes_to (with_values c (put_down (place_numbers p) c.values))) (λ p. goes _)
+co_placed (Some o) ds vs c = find (place_within o.bounds (subscripts_in ds vs)) (λ p. goes_to (with_values c (put_down (place_numbers p) c.values))) (λ p. goes _)
 
 abbrev are_cobounds : List ℤ → Bool
 are_cobounds [] = true
