@@ -2,6 +2,7 @@
 
 ghost use Rattle.std.specs.Prelude.{◌≡◌, ◌^◌, ◌<◌, ℕ, List, pos, length, IfSome};
 ghost use Rattle.std.specs.Option.{option_map};
+ghost use Rattle.caf_base.specs.Arithmetic.{natural};
 ghost use Rattle.image_acts.specs.Teams.{is_in, team_in};
 ghost use Rattle.team_tables.specs.Entries.{AreWithin, IsWithin, known_in, team_at};
 ghost use Rattle.team_tables.specs.Tables.{current_of, image_count_of_number, index_here, is_child, is_established_here, is_near, is_root, members_here, numbered_here, sibling_of, team_at_level};
@@ -10,6 +11,14 @@ use crate::current::{holds, newest_of, older, up_to};
 use crate::entries::{Entry, is_in, members_of, newest, newest_sibling};
 use crate::teams::Teams;
 use array_places::images::index_in;
+
+/// The team that a number of the stack names; one below 0 names none, as 0.
+pub fn team_of(number: i64) -> u64
+    ensures value { result ≡ natural number }
+    ensures small { result < 2 ^ 63 }
+{
+    if number < 0 { 0 } else { number as u64 }
+}
 
 /// The team that was formed beside the current one, with a team number.
 fn numbered(known: &[Entry], current: u64, number: &i64) -> Option<Entry>

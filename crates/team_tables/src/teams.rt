@@ -73,7 +73,7 @@ impl Teams {
     }
 
     /// The current team, the initial one where none is left.
-    fn current(&self) -> u64
+    pub fn current(&self) -> u64
         ensures value { result ≡ current_of self.now }
         ensures small { result < 2 ^ 63 }
     {
@@ -104,6 +104,14 @@ impl Teams {
         ensures few { length result.now < 2 ^ 33 }
     {
         self.members(self.current())
+    }
+
+    /// How many images the current team has.
+    pub fn current_size(&self) -> usize
+        ensures value { result ≡ length (members_here self.now (current_of self.now)) }
+        ensures few { result < 2 ^ 33 }
+    {
+        self.current_members().len()
     }
 
     /// Whether there is a place for one current team more.
