@@ -1,6 +1,6 @@
 -- Teams that are put down behind others.
 use Rattle.std.proofs.Common.{◌≡◌, ℕ, zero, suc, ◌+◌, ◌-◌, ◌^◌, ◌<◌, ◌≤◌, cond, true, false, List, [], ◌∷◌, ◌++◌, length, take, drop, refl, ap, sym, ◌∙◌, append_assoc, arith}
-use Rattle.std.specs.Prelude.{map, reverse, sum_by, nat_lt}
+use Rattle.std.specs.Prelude.{map, reverse, nat_lt}
 use Rattle.std.proofs.lemmas.Bool.Decides.{nat_tests}
 use Rattle.std.proofs.lemmas.List.{reverse-append, map-append, length-append, take-append-le}
 use Rattle.std.proofs.lemmas.List.Sums.{sum_by-cons}

@@ -1,15 +1,15 @@
 -- The teams of an image in memory.
-use Rattle.std.proofs.Common.{◌≡◌, ℕ, zero, suc, ◌+◌, ◌-◌, ◌*◌, ◌^◌, ◌<◌, ◌≤◌, cond, List, [], ◌∷◌, ◌++◌, length, take, drop, refl, ap, sym, ◌∙◌, subst, true, false, arith}
-use Rattle.std.specs.Prelude.{map, reverse, sum_by, Option, Some}
+use Rattle.std.proofs.Common.{◌≡◌, ℕ, zero, suc, ◌+◌, ◌-◌, ◌≤◌, List, [], ◌∷◌, ◌++◌, length, drop, refl, ap, sym, ◌∙◌, subst, true, false, arith}
+use Rattle.std.specs.Prelude.{map, reverse, Option, Some}
 use Rattle.std.specs.Option.{option_map}
-use Rattle.std.proofs.lemmas.List.{reverse-append, map-append, length-append, length-drop, length-map, length-reverse, length-take}
+use Rattle.std.proofs.lemmas.List.{reverse-append, map-append, length-drop, length-map, length-reverse, length-take}
 use Rattle.std.proofs.lemmas.List.Sums.{sum_by-cons, sum_by_push}
 use Rattle.caf_base.specs.declared.place.ImageNo.{ImageNo}
 use Rattle.caf_events.specs.declared.reply.FormedTeam.{FormedTeam}
 use Rattle.image_acts.specs.Core.{Team}
 use Rattle.image_acts.specs.Teams.{is_in}
-use Rattle.team_tables.specs.Entries.{AreKept, ArePacked, AreWithin, IsWithin, formed_at, formed_by, formed_in, known_in, members_at, team_at, weight_of}
-use Rattle.team_tables.specs.Tables.{Room, Table, images_from, known_as, members_in, team_with}
+use Rattle.team_tables.specs.Entries.{AreKept, ArePacked, AreWithin, formed_at, formed_by, formed_in, known_in, members_at, team_at, weight_of}
+use Rattle.team_tables.specs.Tables.{Table, images_from, known_as, members_in, team_with}
 use Rattle.team_tables.specs.declared.entries.Entry.{Entry}
 use Rattle.team_tables.proofs.FormedLaws.{packed_le, within_packed}
 

@@ -1,5 +1,5 @@
 -- Indices and current teams that are looked up.
-use Rattle.std.proofs.Common.{◌≡◌, ℕ, zero, suc, ◌<◌, ◌≤◌, true, false, cond, List, [], ◌∷◌, length, refl, ap, sym, ◌∙◌, arith}
+use Rattle.std.proofs.Common.{◌≡◌, ℕ, zero, suc, ◌<◌, ◌≤◌, true, false, cond, List, [], ◌∷◌, length, refl, ap, sym, arith}
 use Rattle.std.specs.Prelude.{nat_eq}
 use Rattle.image_acts.specs.Teams.{is_in, index_in, from_team, behind_first}
 

@@ -6,7 +6,7 @@ use Rattle.caf_events.specs.declared.reply.FormedTeam.{FormedTeam}
 use Rattle.caf_events.specs.declared.reply.Reply.TheVariants as replies
 use Rattle.walk_theory.specs.Language.{goes_to, faults}
 use Rattle.image_acts.specs.Acts as a
-use Rattle.image_acts.specs.Core.{Core, Team, with_values, pushed}
+use Rattle.image_acts.specs.Core.{Core, with_values, pushed}
 use Rattle.image_acts.specs.Faults.{no_team, room}
 use Rattle.image_acts.specs.Frames.{with_cell}
 use Rattle.image_acts.specs.Statuses.{most_teams}

@@ -1,5 +1,4 @@
-use Rattle.std.proofs.Common.{refl, pos, ℕ}
-use Rattle.image_acts.specs.Core.{Team}
+use Rattle.std.proofs.Common.{refl, pos}
 use Rattle.team_tables.specs.Tables.{numbered_here}
 use Rattle.team_tables.specs.Steps.{core_of}
 use Rattle.team_tables.proofs.StepLaws.{at_level, counted, found_of}

@@ -1,6 +1,4 @@
-use Rattle.std.proofs.Common.{◌≡◌, ◌∙◌, length, rules, ap, arith}
-use Rattle.std.specs.Prelude.{vec_len}
-use Rattle.team_tables.specs.Tables.{images_from}
+use Rattle.std.proofs.Common.{◌∙◌, length, ap, arith}
 use Rattle.team_tables.proofs.KeptLaws.{images_long}
 use Rattle.team_tables.proofs.teams.all_images.Goals as goal
 

@@ -1,11 +1,10 @@
-use Rattle.std.proofs.Common.{◌≡◌, ◌+◌, ◌*◌, ◌^◌, ◌<◌, ◌≤◌, ℕ, List, length, take, ap, sym, subst, ◌∙◌, refl, arith}
+use Rattle.std.proofs.Common.{◌≡◌, ◌+◌, ◌*◌, ◌^◌, ◌<◌, ◌≤◌, ℕ, length, take, ap, sym, subst, ◌∙◌, refl, arith}
 use Rattle.std.specs.Prelude.{vec_capacity}
 use Rattle.std.proofs.lemmas.List.{length-take}
 use Rattle.image_acts.specs.Replies.{fitting}
-use Rattle.team_tables.specs.Entries.{ArePacked, known_in, weight_of}
+use Rattle.team_tables.specs.Entries.{ArePacked, weight_of}
 use Rattle.team_tables.specs.Tables.{HasRoom, Table}
 use Rattle.team_tables.specs.contracts.teams.Teams.{the_view}
-use Rattle.team_tables.specs.declared.entries.Entry.{Entry}
 use Rattle.team_tables.proofs.FormedLaws.{known_same, weight_within, within_packed}
 use Rattle.team_tables.proofs.KeptLaws.{formed_long, known_long, members_placed, placed_within, same_table, weight_long}
 use Rattle.team_tables.proofs.teams.Teams.hear_formed.Goals as goal

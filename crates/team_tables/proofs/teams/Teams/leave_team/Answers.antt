@@ -1,5 +1,5 @@
-use Rattle.std.proofs.Common.{◌≤◌, ◌≡◌, arith}
-use Rattle.std.specs.Prelude.{option_to_list, vec_capacity}
+use Rattle.std.proofs.Common.{arith}
+use Rattle.std.specs.Prelude.{option_to_list}
 use Rattle.team_tables.proofs.CurrentLaws.{small_at, small_front}
 use Rattle.team_tables.proofs.teams.Teams.leave_team.Goals as goal
 

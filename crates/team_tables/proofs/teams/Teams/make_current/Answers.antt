@@ -1,5 +1,4 @@
-use Rattle.std.proofs.Common.{◌≤◌, ◌≡◌, arith, sym}
-use Rattle.std.specs.Prelude.{vec_capacity}
+use Rattle.std.proofs.Common.{arith, sym}
 use Rattle.team_tables.proofs.CurrentLaws.{small_at, small_more}
 use Rattle.team_tables.proofs.teams.Teams.make_current.Goals as goal
 

@@ -1,4 +1,4 @@
-use Rattle.std.proofs.Common.{ap, sym, subst, length, ℕ, ◌∙◌}
+use Rattle.std.proofs.Common.{ap, sym, subst, length, ℕ}
 use Rattle.std.proofs.Common.{List}
 use Rattle.team_tables.specs.Entries.{AreWithin, IsWithin}
 use Rattle.team_tables.specs.declared.entries.Entry.{Entry}

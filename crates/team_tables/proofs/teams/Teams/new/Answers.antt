@@ -1,9 +1,9 @@
-use Rattle.std.proofs.Common.{rules, ◌≡◌, ◌≤◌, ◌+◌, ◌-◌, ◌*◌, ◌^◌, ◌<◌, ◌∷◌, ◌∙◌, ℕ, List, [], length, take, refl, ap, sym, subst, lit<, arith}
+use Rattle.std.proofs.Common.{◌≡◌, ◌-◌, ◌∷◌, ◌∙◌, ℕ, List, [], length, take, refl, ap, sym, subst, lit<, arith}
 use Rattle.std.specs.Prelude.{vec_capacity, reverse, negsuc}
 use Rattle.std.proofs.lemmas.List.{take_all}
 use Rattle.image_acts.specs.Core.{Team}
-use Rattle.team_tables.specs.Entries.{ArePacked, first_entry, formed_in, known_in}
-use Rattle.team_tables.specs.Tables.{AreSmall, initial_team, images_from}
+use Rattle.team_tables.specs.Entries.{ArePacked, formed_in, known_in}
+use Rattle.team_tables.specs.Tables.{AreSmall, images_from}
 use Rattle.team_tables.specs.declared.entries.Entry.{Entry}
 use Rattle.team_tables.proofs.KeptLaws.{images_long, same_table, table}
 use Rattle.team_tables.proofs.teams.Teams.new.Goals as goal

@@ -1,4 +1,4 @@
-use Rattle.std.proofs.Common.{rules, ◌≡◌, ◌<◌, ◌^◌, ◌∙◌, w64, ℕ, pos, ap, arith}
+use Rattle.std.proofs.Common.{◌≡◌, ◌<◌, ◌^◌, ◌∙◌, w64, ℕ, pos, ap, arith}
 use Rattle.std.proofs.lemmas.Int.{ints, to_z_pos}
 use Rattle.image_acts.specs.Teams.{index_in}
 use Rattle.team_tables.specs.Tables.{Table, members_here}

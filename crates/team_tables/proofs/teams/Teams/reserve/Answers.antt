@@ -1,8 +1,7 @@
-use Rattle.std.proofs.Common.{rules, ◌≡◌, ◌≤◌, ◌+◌, ◌*◌, List, length, arith, ap, sym, ◌∙◌}
-use Rattle.std.specs.Prelude.{vec_capacity, vec_len}
+use Rattle.std.proofs.Common.{rules, ◌≡◌, length, arith, ap, ◌∙◌}
+use Rattle.std.specs.Prelude.{vec_len}
 use Rattle.team_tables.specs.Entries.{known_in}
 use Rattle.team_tables.specs.Tables.{members_in}
-use Rattle.team_tables.specs.declared.entries.Entry.{Entry}
 use Rattle.team_tables.proofs.KeptLaws.{known_long, members_placed, placed_within}
 use Rattle.team_tables.proofs.teams.Teams.reserve.Goals as goal
 
