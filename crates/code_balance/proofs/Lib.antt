@@ -1,0 +1,4 @@
+pub mod Turns
+pub mod Digits
+pub mod Forms
+pub mod Calls
