@@ -61,7 +61,7 @@ pushed z = one_act
 pub scalar_facts : (r : ℕ) → (r == 0) ≡ true → (r ≡ 0) × (numbers_loaded r ≡ 1) × (arrays_loaded r ≡ 0) × (view.value_size r ≡ 1)
 scalar_facts r e = (let z = eqb-true r 0 e in (z, ap numbers_loaded z, ap arrays_loaded z, ap (λ b. cond b 1 0) e))
 
-array_loaded : (r : ℕ) → 1 ≤ r → (numbers_loaded r ≡ 0) × (arrays_loaded r ≡ 1)
+pub array_loaded : (r : ℕ) → 1 ≤ r → (numbers_loaded r ≡ 0) × (arrays_loaded r ≡ 1)
 array_loaded zero h = absurd (omega arith)
 array_loaded (suc r) h = (refl, refl)
 

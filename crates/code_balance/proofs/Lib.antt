@@ -2,3 +2,4 @@ pub mod Turns
 pub mod Digits
 pub mod Forms
 pub mod Calls
+pub mod Expressions
