@@ -3,3 +3,5 @@ pub mod Digits
 pub mod Forms
 pub mod Calls
 pub mod Expressions
+pub mod Assignments
+pub mod ImageControl

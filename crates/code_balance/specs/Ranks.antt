@@ -46,6 +46,20 @@ IsNamed (objects.Local v) = Unit {0}
 IsNamed (objects.Coarray c) = Unit {0}
 IsNamed (objects.Constant n) = ⊥
 
+-- a scalar variable as a whole gets a scalar (10.2.1.2)
+abbrev pub ScalarToScalar : t.Subscripts → ℕ → ℕ → Type 0
+ScalarToScalar t.no_subscripts zero q = q ≡ 0
+ScalarToScalar t.no_subscripts (suc r) q = Unit {0}
+ScalarToScalar (t.more_subscripts x ss) r q = Unit {0}
+
+-- an argument is written once
+abbrev pub times : ℕ → List ℕ → ℕ
+times d [] = 0
+times d (b ∷ bs) = cond (b == d) 1 0 + times d bs
+
+abbrev pub IsOnce : List ℕ → ℕ → Type 0
+IsOnce ds d = times d ds ≡ 1
+
 module _ (procedures : List s.Procedure) where
   abbrev pub procedure_at : ℕ → s.Procedure
   procedure_at n = slice_index_or procedures n empty_procedure
@@ -163,12 +177,7 @@ module _ (procedures : List s.Procedure) where
     HasIntrinsicRank (t.get_team level) r = (r ≡ 0) × IsOptionalScalar level
 
   -- ---- statements
-  -- the variable of an assignment (10.2.1): a scalar variable as a whole gets a scalar
-  abbrev pub ScalarToScalar : t.Subscripts → ℕ → ℕ → Type 0
-  ScalarToScalar t.no_subscripts zero q = q ≡ 0
-  ScalarToScalar t.no_subscripts (suc r) q = Unit {0}
-  ScalarToScalar (t.more_subscripts x ss) r q = Unit {0}
-
+  -- the variable and the value of an assignment (10.2.1)
   abbrev pub IsAssigned : t.Designator → ℕ → t.Expression → Type 0
   IsAssigned (t.part (objects.Local v) ss sel) r (t.typed f type q) = HasRank f q × AreSubscripts ss × IsSection ss r × ScalarToScalar ss r q
   IsAssigned (t.part (objects.Coarray c) ss sel) r (t.typed f type q) = HasRank f q × IsPart (t.part (objects.Coarray c) ss sel) r
@@ -217,14 +226,6 @@ module _ (procedures : List s.Procedure) where
   IsCollected (t.part (objects.Coarray c) ss t.no_selector) r = AreSubscripts ss × IsSection ss r
   IsCollected (t.part (objects.Coarray c) ss (t.selector cs which stat)) r = ⊥
   IsCollected (t.part (objects.Constant n) ss sel) r = ⊥
-
-  -- an argument is written once
-  abbrev pub times : ℕ → List ℕ → ℕ
-  times d [] = 0
-  times d (b ∷ bs) = cond (b == d) 1 0 + times d bs
-
-  abbrev pub IsOnce : List ℕ → ℕ → Type 0
-  IsOnce ds d = times d ds ≡ 1
 
   abbrev pub IsOnceIfGiven : List ℕ → t.OptionalExpression → ℕ → Type 0
   IsOnceIfGiven ds t.missing d = Unit {0}
