@@ -5,3 +5,4 @@ pub mod Calls
 pub mod Expressions
 pub mod Assignments
 pub mod ImageControl
+pub mod Allocation
