@@ -6,3 +6,7 @@ pub mod Expressions
 pub mod Assignments
 pub mod ImageControl
 pub mod Allocation
+pub mod Subroutines
+pub mod Blocks
+pub mod Lengths
+pub mod Fine
