@@ -21,13 +21,13 @@ use Rattle.image_acts.specs.Faults.{room, shape_fault, not_allocated, no_team, z
 use Rattle.image_acts.specs.Acts as a
 use Rattle.image_acts.specs.Acts.{Act, constant, stack, variable, operator, bounded, allocation, selector, team, call, print, ask}
 use Rattle.image_acts.specs.Core.{Core, Array, Local, Own, Team, Frame, Item, Printing, with_values, pushed, with_array}
-use Rattle.image_acts.specs.Places.{Place, place_in, place_size, extents_of, offsets, elements_at, digits, numbers_of_form, triplets, subscripts_in, place_of, no_place, place_numbers, cells_of}
+use Rattle.image_acts.specs.Places.{Place, place_in, place_size, extents_of, offsets, elements_at, digits, numbers_of_form, triplets, subscripts_in, place_within, no_place, place_numbers, cells_of}
 use Rattle.image_acts.specs.Frames.{pairs_in, array_in, with_array_in, with_cell}
 use Rattle.image_acts.specs.Owning.{own_in, with_own}
 use Rattle.image_acts.specs.Teams.{behind_first, members, index_of, is_established, member_at, cosubscripts_behind, index_in}
 use Rattle.image_acts.specs.Taking.{Acted, giving, put_down, given, found_in, unless, taken, taking_one, taking_two, taking, seeing, taking_array, seeing_array, using}
 use Rattle.image_acts.specs.Operate.Stack.{stack_effect}
-use Rattle.image_acts.specs.Operate.Variables.{variable_effect, value_at, allocated}
+use Rattle.image_acts.specs.Operate.Variables.{variable_effect, value_at, allocated, elements_there, if_room}
 use Rattle.image_acts.specs.Operate.Operators.{operator_effect}
 use Rattle.image_acts.specs.Operate.Bounds.{bounds_effect, owned}
 use Rattle.image_acts.specs.Operate.Allocating.{allocation_effect, bounds_size, cobounds_size}
@@ -125,7 +125,7 @@ teams (Some x) f h = h x
 valued : (rank : ℕ) (p : Place) (vs : List ℤ) (c : Core) → Fine (value_at rank p vs c)
 valued zero p [] c = no_operand
 valued zero p (v ∷ vs) c = goes (pushed v c)
-valued (suc rank) p vs c = goes (with_array (record { extents = extents_of p; elements = vs }) c)
+valued (suc rank) p vs c = so _ _ _ (goes _)
 
 ruleset fine = (goes, fault, no_operand, there, top, top_two, some_of, seen, top_array, seen_array, room_for, find, so, either_way, allocates, owns, teams, valued)
 
@@ -133,17 +133,17 @@ first_element : (vs : List ℤ) (c : Core) → Fine (elim vs [ [] ↦ stuck | w 
 first_element [] c = no_operand
 first_element (v ∷ vs) c = goes (pushed v c)
 
-loaded : (o : Option Local) (rank : ℕ) (p : Place) (c : Core) → Fine (allocated o (λ l. elim (elements_at (offsets p) l.elements) [ None ↦ faults shape_fault | Some vs ↦ value_at rank p vs c ]))
-loaded o rank p c = allocates o (λ l. elim (elements_at (offsets p) l.elements) [ None ↦ faults shape_fault | Some vs ↦ value_at rank p vs c ])
-    (λ l. there_or shape_fault (elements_at (offsets p) l.elements) (λ vs. value_at rank p vs c) (λ vs. valued rank p vs c))
+loaded : (o : Option Local) (rank : ℕ) (p : Place) (c : Core) → Fine (allocated o (λ l. elim (elements_there p l) [ None ↦ faults shape_fault | Some vs ↦ value_at rank p vs c ]))
+loaded o rank p c = allocates o (λ l. elim (elements_there p l) [ None ↦ faults shape_fault | Some vs ↦ value_at rank p vs c ])
+    (λ l. there_or shape_fault (elements_there p l) (λ vs. value_at rank p vs c) (λ vs. valued rank p vs c))
 
-put_there : (o : Option Local) (p : Place) (f : Local → Core) → Fine (allocated o (λ l. elim (elements_at (offsets p) l.elements) [ None ↦ faults shape_fault | Some vs ↦ goes_to (f l) ]))
-put_there o p f = allocates o (λ l. elim (elements_at (offsets p) l.elements) [ None ↦ faults shape_fault | Some vs ↦ goes_to (f l) ])
-    (λ l. there_or shape_fault (elements_at (offsets p) l.elements) (λ vs. goes_to (f l)) (λ vs. goes (f l)))
+put_there : (o : Option Local) (p : Place) (f : Local → Core) → Fine (allocated o (λ l. elim (elements_there p l) [ None ↦ faults shape_fault | Some vs ↦ goes_to (f l) ]))
+put_there o p f = allocates o (λ l. elim (elements_there p l) [ None ↦ faults shape_fault | Some vs ↦ goes_to (f l) ])
+    (λ l. there_or shape_fault (elements_there p l) (λ vs. goes_to (f l)) (λ vs. goes (f l)))
 
 abbrev resized : a.Scope → ℕ → Option Local → ℕ → List ℤ → Core → Acted
 resized s x old before vs c = unless room (nat_le ((c.local_cells - before) + length vs) most_cells)
-    (goes_to (record (with_array_in s x (Some (record { bounds = (pos 1, pos (length vs)) ∷ []; elements = vs })) c) { local_cells = (c.local_cells - before) + length vs }))
+    (if_room (record (with_array_in s x (Some (record { bounds = (pos 1, pos (length vs)) ∷ []; elements = vs })) c) { local_cells = (c.local_cells - before) + length vs }))
 
 abbrev images_into : a.Scope → ℕ → Option Local → List ℤ → Core → Acted
 images_into s x None vs c = resized s x None 0 vs c
@@ -168,11 +168,11 @@ begins s x t vs c = no_operand
 
 abbrev co_placing : Option Own → List ℕ → List ℤ → Core → Acted
 co_placing None ds vs c = goes_to (with_values c (put_down (place_numbers (no_place (triplets ds))) c.values))
-co_placing (Some o) ds vs c = found_in (place_of o.bounds (subscripts_in ds vs)) (λ p. goes_to (with_values c (put_down (place_numbers p) c.values)))
+co_placing (Some o) ds vs c = found_in (place_within o.bounds (subscripts_in ds vs)) (λ p. goes_to (with_values c (put_down (place_numbers p) c.values)))
 
 co_placed : (o : Option Own) (ds : List ℕ) (vs : List ℤ) (c : Core) → Fine (co_placing o ds vs c)
 co_placed None ds vs c = goes _
-co_placed (Some o) ds vs c = find (place_of o.bounds (subscripts_in ds vs)) (λ p. goes_to (with_values c (put_down (place_numbers p) c.values))) (λ p. goes _)
+co_placed (Some o) ds vs c = find (place_within o.bounds (subscripts_in ds vs)) (λ p. goes_to (with_values c (put_down (place_numbers p) c.values))) (λ p. goes _)
 
 abbrev are_cobounds : List ℤ → Bool
 are_cobounds [] = true
