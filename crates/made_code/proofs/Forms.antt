@@ -13,9 +13,9 @@ use Rattle.image_acts.specs.Acts.{Act, Scope}
 use Rattle.image_code.specs.Sizes.{Size, numbers, with_arrays, with_texts, numbers_loaded, arrays_loaded, act_size, operator_size}
 use Rattle.tree_meaning.specs.Sequences.{◌▸◌, doing, nothing, dropping, copying, bringing, choosing, pushing}
 use Rattle.tree_meaning.specs.Expressions as view
-use Rattle.code_balance.specs.Ranks.{IsSection}
-use Rattle.code_balance.proofs.Digits.{section_numbers, section_rank, subscripts_size}
-use Rattle.code_balance.proofs.Turns.{Turns, Does, Closes, closes, ended, acts, enters, ◌⨾◌, part, chosen, by_cases, either_way}
+use Rattle.made_code.specs.Ranks.{IsSection}
+use Rattle.made_code.proofs.Digits.{section_numbers, section_rank, subscripts_size}
+use Rattle.made_code.proofs.Turns.{Turns, Does, Closes, closes, ended, acts, enters, ◌⨾◌, part, chosen, by_cases, either_way}
 
 -- a value of a rank: a number, or an array
 abbrev pub valued : ℕ → Size

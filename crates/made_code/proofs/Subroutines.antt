@@ -25,14 +25,14 @@ use Rattle.tree_meaning.specs.Expressions as view
 use Rattle.tree_meaning.specs.ImageControl as control
 use Rattle.tree_meaning.specs.Pieces.{Piece, no_piece, piece_of, evaluating, sizes, depth, fetching}
 use Rattle.tree_meaning.specs.Subroutines as sub
-use Rattle.code_balance.specs.Ranks as ranks
-use Rattle.code_balance.specs.Ranks.{IsSection, times}
-use Rattle.code_balance.proofs.Digits.{subscripts_size}
-use Rattle.code_balance.proofs.Turns.{Turns, closes, ended, acts, enters, ◌⨾◌, part, chosen, by_cases, either_way}
-use Rattle.code_balance.proofs.Forms.{valued, none, idle, one_act, dropped, copied, brought, pushed, sectioned, co_sectioned, own_needed, read_out, stored, scalar_rank}
-use Rattle.code_balance.proofs.Expressions.{scalar_turns, subscripts_turns, place_turns, result_turns}
-use Rattle.code_balance.proofs.Assignments.{settled, selector_settled, wrote}
-use Rattle.code_balance.proofs.ImageControl.{cell_turns, there_turns}
+use Rattle.made_code.specs.Ranks as ranks
+use Rattle.made_code.specs.Ranks.{IsSection, times}
+use Rattle.made_code.proofs.Digits.{subscripts_size}
+use Rattle.made_code.proofs.Turns.{Turns, closes, ended, acts, enters, ◌⨾◌, part, chosen, by_cases, either_way}
+use Rattle.made_code.proofs.Forms.{valued, none, idle, one_act, dropped, copied, brought, pushed, sectioned, co_sectioned, own_needed, read_out, stored, scalar_rank}
+use Rattle.made_code.proofs.Expressions.{scalar_turns, subscripts_turns, place_turns, result_turns}
+use Rattle.made_code.proofs.Assignments.{settled, selector_settled, wrote}
+use Rattle.made_code.proofs.ImageControl.{cell_turns, there_turns}
 
 -- ---- pieces: the first one may leave array values beside its numbers
 abbrev AllTurn : List Piece → Type 0

@@ -21,12 +21,12 @@ use Rattle.tree_meaning.specs.Sequences.{◌▸◌, doing, nothing, dropping, co
 use Rattle.tree_meaning.specs.Settling.{settling, settling_selector}
 use Rattle.tree_meaning.specs.Expressions as view
 use Rattle.tree_meaning.specs.Assignments as assignments
-use Rattle.code_balance.specs.Ranks as ranks
-use Rattle.code_balance.specs.Ranks.{IsSection, ScalarToScalar}
-use Rattle.code_balance.proofs.Digits.{section_numbers, section_rank, subscripts_size}
-use Rattle.code_balance.proofs.Turns.{Turns, closes, ended, acts, enters, ◌⨾◌, part, chosen, by_cases, either_way}
-use Rattle.code_balance.proofs.Forms.{valued, none, idle, one_act, dropped, copied, brought, pushed, co_sectioned, sectioned, stored, status_stored, own_needed, size_small, then_one}
-use Rattle.code_balance.proofs.Expressions.{expression_turns, scalar_turns, subscripts_turns, owner_turns, form_turns}
+use Rattle.made_code.specs.Ranks as ranks
+use Rattle.made_code.specs.Ranks.{IsSection, ScalarToScalar}
+use Rattle.made_code.proofs.Digits.{section_numbers, section_rank, subscripts_size}
+use Rattle.made_code.proofs.Turns.{Turns, closes, ended, acts, enters, ◌⨾◌, part, chosen, by_cases, either_way}
+use Rattle.made_code.proofs.Forms.{valued, none, idle, one_act, dropped, copied, brought, pushed, co_sectioned, sectioned, stored, status_stored, own_needed, size_small, then_one}
+use Rattle.made_code.proofs.Expressions.{expression_turns, scalar_turns, subscripts_turns, owner_turns, form_turns}
 
 -- evaluation cells are free again
 pub free_again : {z : Size} {p : Parts Act} → Turns z p → Turns z (released p)

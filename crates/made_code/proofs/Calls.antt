@@ -17,8 +17,8 @@ use Rattle.tree_meaning.specs.Environment.{declared_bounds, rank_in}
 use Rattle.tree_meaning.specs.Sequences.{◌▸◌, doing, nothing, dropping, copying, bringing}
 use Rattle.tree_meaning.specs.Expressions as view
 use Rattle.tree_meaning.specs.Expressions.{Passed}
-use Rattle.code_balance.proofs.Turns.{Turns, closes, ended, acts, enters, ◌⨾◌, part, by_cases, either_way}
-use Rattle.code_balance.proofs.Forms.{valued, none, idle, one_act, dropped, copied, brought, scalar_facts, array_facts, value_numbers, scalar_rank, cells_taken}
+use Rattle.made_code.proofs.Turns.{Turns, closes, ended, acts, enters, ◌⨾◌, part, by_cases, either_way}
+use Rattle.made_code.proofs.Forms.{valued, none, idle, one_act, dropped, copied, brought, scalar_facts, array_facts, value_numbers, scalar_rank, cells_taken}
 
 -- how many array values the arguments are, and those that go back
 abbrev pub passed_arrays : List Passed → ℕ

@@ -10,3 +10,4 @@ pub mod Subroutines
 pub mod Blocks
 pub mod Lengths
 pub mod Fine
+pub mod Made

@@ -23,12 +23,12 @@ use Rattle.tree_meaning.specs.Environment.{Environment, scope_of, kind_of, rank_
 use Rattle.tree_meaning.specs.Sequences.{◌▸◌, doing, nothing, dropping, copying, bringing, pushing}
 use Rattle.tree_meaning.specs.Expressions as view
 use Rattle.tree_meaning.specs.Assignments as assignments
-use Rattle.code_balance.specs.Ranks as ranks
-use Rattle.code_balance.specs.Ranks.{IsSection, GivesRank}
-use Rattle.code_balance.proofs.Digits.{section_numbers, section_rank, subscripts_size, subscript_size, one_given, element_digits}
-use Rattle.code_balance.proofs.Turns.{Turns, closes, ended, acts, enters, ◌⨾◌, part, by_cases, either_way}
-use Rattle.code_balance.proofs.Forms.{valued, none, idle, one_act, of_rank_0, as_scalar, as_array, dropped, copied, brought, pushed, value_numbers, scalar_rank, array_loaded, cells_taken, co_sectioned, sectioned, loaded, one_operand, two_operands, written_two, written_beside, then_one, then_two, owned, coarray_read}
-use Rattle.code_balance.proofs.Calls.{passed_arrays, called, all_go}
+use Rattle.made_code.specs.Ranks as ranks
+use Rattle.made_code.specs.Ranks.{IsSection, GivesRank}
+use Rattle.made_code.proofs.Digits.{section_numbers, section_rank, subscripts_size, subscript_size, one_given, element_digits}
+use Rattle.made_code.proofs.Turns.{Turns, closes, ended, acts, enters, ◌⨾◌, part, by_cases, either_way}
+use Rattle.made_code.proofs.Forms.{valued, none, idle, one_act, of_rank_0, as_scalar, as_array, dropped, copied, brought, pushed, value_numbers, scalar_rank, array_loaded, cells_taken, co_sectioned, sectioned, loaded, one_operand, two_operands, written_two, written_beside, then_one, then_two, owned, coarray_read}
+use Rattle.made_code.proofs.Calls.{passed_arrays, called, all_go}
 
 arithmetic_size : (o : ArithmeticOperator) (k : Kind) → operator_size (view.arithmetic_act o k) ≡ numbers 2 1
 arithmetic_size arithmetics.Power k = refl

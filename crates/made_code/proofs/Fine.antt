@@ -23,7 +23,7 @@ use Rattle.image_code.specs.Draft.{shapes, nothing, Within, after, lead, leads, 
 use Rattle.image_code.specs.Levels.{Part, of_numbers, of_arrays, of_texts, part_of, tested_of, taken_of, left_of}
 use Rattle.image_code.proofs.TextFree.{same_for_texts}
 use Rattle.image_code.proofs.GoodCode.{step_of, shape_there}
-use Rattle.code_balance.proofs.Lengths.{program_many}
+use Rattle.made_code.proofs.Lengths.{program_many}
 
 -- ---- lists
 as_long : {X Y : Type 0} (xs : List X) (ys : List Y) → length xs ≡ length ys → (p : ℕ) (y : Y) → slice_get ys p ≡ Some y → (x : X) × (slice_get xs p ≡ Some x)

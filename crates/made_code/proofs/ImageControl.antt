@@ -19,12 +19,12 @@ use Rattle.tree_meaning.specs.Settling.{settling, settling_selector}
 use Rattle.tree_meaning.specs.Expressions as view
 use Rattle.tree_meaning.specs.Assignments as assignments
 use Rattle.tree_meaning.specs.ImageControl as control
-use Rattle.code_balance.specs.Ranks as ranks
-use Rattle.code_balance.proofs.Digits.{subscripts_size}
-use Rattle.code_balance.proofs.Turns.{Turns, closes, ended, acts, enters, ◌⨾◌, part, chosen, by_cases, either_way}
-use Rattle.code_balance.proofs.Forms.{valued, none, idle, one_act, dropped, copied, brought, pushed, co_sectioned, stored, own_needed}
-use Rattle.code_balance.proofs.Expressions.{expression_turns, scalar_turns, subscripts_turns, owner_turns, form_turns, place_turns, result_turns}
-use Rattle.code_balance.proofs.Assignments.{settled, selector_settled}
+use Rattle.made_code.specs.Ranks as ranks
+use Rattle.made_code.proofs.Digits.{subscripts_size}
+use Rattle.made_code.proofs.Turns.{Turns, closes, ended, acts, enters, ◌⨾◌, part, chosen, by_cases, either_way}
+use Rattle.made_code.proofs.Forms.{valued, none, idle, one_act, dropped, copied, brought, pushed, co_sectioned, stored, own_needed}
+use Rattle.made_code.proofs.Expressions.{expression_turns, scalar_turns, subscripts_turns, owner_turns, form_turns, place_turns, result_turns}
+use Rattle.made_code.proofs.Assignments.{settled, selector_settled}
 
 -- a round: what arrives takes the team on top
 pub rounded : {p : Parts Act} {n : ℕ} → Turns (numbers (n + 1) n) p → Turns (numbers n (n + 1)) (control.round p)

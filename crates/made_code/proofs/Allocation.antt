@@ -17,12 +17,12 @@ use Rattle.tree_meaning.specs.Settling.{settling}
 use Rattle.tree_meaning.specs.Expressions as view
 use Rattle.tree_meaning.specs.ImageControl as control
 use Rattle.tree_meaning.specs.Allocation as alloc
-use Rattle.code_balance.specs.Ranks as ranks
-use Rattle.code_balance.proofs.Turns.{Turns, closes, ended, acts, enters, ◌⨾◌, part, chosen, by_cases, either_way}
-use Rattle.code_balance.proofs.Forms.{valued, none, idle, one_act, dropped, copied, brought, pushed}
-use Rattle.code_balance.proofs.Expressions.{scalar_turns, place_turns}
-use Rattle.code_balance.proofs.Assignments.{settled}
-use Rattle.code_balance.proofs.ImageControl.{rounded, or_number}
+use Rattle.made_code.specs.Ranks as ranks
+use Rattle.made_code.proofs.Turns.{Turns, closes, ended, acts, enters, ◌⨾◌, part, chosen, by_cases, either_way}
+use Rattle.made_code.proofs.Forms.{valued, none, idle, one_act, dropped, copied, brought, pushed}
+use Rattle.made_code.proofs.Expressions.{scalar_turns, place_turns}
+use Rattle.made_code.proofs.Assignments.{settled}
+use Rattle.made_code.proofs.ImageControl.{rounded, or_number}
 
 planned_one : (x : s.Allocation) (depth : ℕ) → Turns (numbers (depth + 3 + alloc.object_size x) (depth + 3 + alloc.object_size x)) (alloc.planning_one x depth)
 planned_one (s.allocate_local v type bs) depth = one_act

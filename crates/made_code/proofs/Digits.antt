@@ -4,7 +4,7 @@ use Rattle.std.specs.Prelude.{◌/◌, ◌%◌, ◌==◌}
 use Rattle.checked_tree.specs.Expressions as t
 use Rattle.image_acts.specs.Places.{digits, with_digit, numbers_in, numbers_of_form, triplets}
 use Rattle.tree_meaning.specs.Expressions.{one_if, digit_of, whole_form, digits_of, form_of, count_of, element_form}
-use Rattle.code_balance.specs.Ranks.{subscripts_in, is_triplet, triplets_in, IsSection}
+use Rattle.made_code.specs.Ranks.{subscripts_in, is_triplet, triplets_in, IsSection}
 
 -- how many numbers subscripts are
 abbrev pub one_given : t.OptionalExpression → ℕ

@@ -21,17 +21,17 @@ use Rattle.tree_meaning.specs.ImageControl as control
 use Rattle.tree_meaning.specs.Subroutines as sub
 use Rattle.tree_meaning.specs.Pieces.{written_dummies}
 use Rattle.tree_meaning.specs.Forms.{in_range, in_more_ranges, in_ranges, parameter, do_start, called, form, steps, else_ifs, cases, environment_of, procedure_bodies, bodies}
-use Rattle.code_balance.specs.Ranks as ranks
-use Rattle.code_balance.specs.Ranks.{GivesNothing, IsRankedProgram}
-use Rattle.code_balance.proofs.Turns.{Turns, closes, ended, acts, enters, ◌⨾◌, part, chosen, by_cases, either_way}
-use Rattle.code_balance.proofs.Forms.{none, idle, one_act, pushed, then_one}
-use Rattle.code_balance.proofs.Calls.{passed_arrays, all_go}
-use Rattle.code_balance.proofs.Calls as calls
-use Rattle.code_balance.proofs.Expressions.{scalar_turns, arguments_turns}
-use Rattle.code_balance.proofs.Assignments.{free_again, assignment_turns, images_turns, output_turns}
-use Rattle.code_balance.proofs.ImageControl.{or_number, sync_all_turns, sync_memory_turns, sync_images_turns, sync_team_turns, form_team_turns, lock_turns, unlock_turns, post_turns, wait_turns, critical_turns, end_critical_turns, change_team_turns, end_team_turns}
-use Rattle.code_balance.proofs.Subroutines.{subroutine_turns}
-use Rattle.code_balance.proofs.Allocation.{allocate_turns, deallocate_turns}
+use Rattle.made_code.specs.Ranks as ranks
+use Rattle.made_code.specs.Ranks.{GivesNothing, IsRankedProgram}
+use Rattle.made_code.proofs.Turns.{Turns, closes, ended, acts, enters, ◌⨾◌, part, chosen, by_cases, either_way}
+use Rattle.made_code.proofs.Forms.{none, idle, one_act, pushed, then_one}
+use Rattle.made_code.proofs.Calls.{passed_arrays, all_go}
+use Rattle.made_code.proofs.Calls as calls
+use Rattle.made_code.proofs.Expressions.{scalar_turns, arguments_turns}
+use Rattle.made_code.proofs.Assignments.{free_again, assignment_turns, images_turns, output_turns}
+use Rattle.made_code.proofs.ImageControl.{or_number, sync_all_turns, sync_memory_turns, sync_images_turns, sync_team_turns, form_team_turns, lock_turns, unlock_turns, post_turns, wait_turns, critical_turns, end_critical_turns, change_team_turns, end_team_turns}
+use Rattle.made_code.proofs.Subroutines.{subroutine_turns}
+use Rattle.made_code.proofs.Allocation.{allocate_turns, deallocate_turns}
 
 -- ---- cases of SELECT
 range_then : (x : ℕ) (r : CaseRange) (k m : ℕ) (rest : List Act) → Turns (numbers (k + 1) m) (doing rest) → Turns (numbers k m) (doing (in_range x r ++ rest))
