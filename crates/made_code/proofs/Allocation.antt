@@ -1,7 +1,6 @@
 -- ALLOCATE and DEALLOCATE leave nothing.
-use Rattle.std.proofs.Common.{◌≡◌, ℕ, zero, suc, ◌+◌, ◌-◌, ◌*◌, ◌≤◌, Bool, true, false, cond, List, [], ◌∷◌, ◌++◌, length, refl, ap, sym, ◌∙◌, subst, arith}
-use Rattle.std.specs.Prelude.{ℤ, pos, ◌==◌}
-use Rattle.walk_theory.specs.Syntax.{Parts, end_parts, value, act, enter, either}
+use Rattle.std.proofs.Common.{◌≡◌, ℕ, ◌+◌, List, [], ◌∷◌, ◌++◌, length, refl, ap, ◌∙◌, subst, arith}
+use Rattle.std.specs.Prelude.{pos}
 use Rattle.checked_tree.specs.declared.data.Object.{Object}
 use Rattle.checked_tree.specs.declared.data.Object.TheVariants as objects
 use Rattle.checked_tree.specs.Expressions as t
@@ -9,17 +8,15 @@ use Rattle.checked_tree.specs.Statements as s
 use Rattle.image_acts.specs.Acts as a
 use Rattle.image_acts.specs.Acts.{Act, Scope}
 use Rattle.image_acts.specs.Statuses.{bad_argument}
-use Rattle.image_acts.specs.Operate.Allocating.{bounds_size, cobounds_size}
-use Rattle.image_code.specs.Sizes.{Size, numbers, with_arrays, act_size}
-use Rattle.tree_meaning.specs.Environment.{Environment, scope_of}
-use Rattle.tree_meaning.specs.Sequences.{◌▸◌, doing, nothing, dropping, copying, bringing, pushing, choosing}
-use Rattle.tree_meaning.specs.Settling.{settling}
+use Rattle.image_acts.specs.Operate.Allocating.{bounds_size}
+use Rattle.image_code.specs.Sizes.{numbers, act_size}
+use Rattle.tree_meaning.specs.Environment.{Environment}
+use Rattle.tree_meaning.specs.Sequences.{doing}
 use Rattle.tree_meaning.specs.Expressions as view
-use Rattle.tree_meaning.specs.ImageControl as control
 use Rattle.tree_meaning.specs.Allocation as alloc
 use Rattle.made_code.specs.Ranks as ranks
-use Rattle.made_code.proofs.Turns.{Turns, closes, ended, acts, enters, ◌⨾◌, part, chosen, by_cases, either_way}
-use Rattle.made_code.proofs.Forms.{valued, none, idle, one_act, dropped, copied, brought, pushed}
+use Rattle.made_code.proofs.Turns.{Turns, closes, ended, acts, ◌⨾◌, part, chosen, either_way}
+use Rattle.made_code.proofs.Forms.{none, idle, one_act, dropped, pushed}
 use Rattle.made_code.proofs.Expressions.{scalar_turns, place_turns}
 use Rattle.made_code.proofs.Assignments.{settled}
 use Rattle.made_code.proofs.ImageControl.{rounded, or_number}

@@ -1,10 +1,10 @@
 -- Statuses, assignment and output leave nothing.
-use Rattle.std.proofs.Common.{◌≡◌, ℕ, zero, suc, ◌+◌, ◌*◌, ◌≤◌, Bool, true, false, cond, List, [], ◌∷◌, ◌++◌, refl, ap, sym, ◌∙◌, subst, arith}
+use Rattle.std.proofs.Common.{◌≡◌, ℕ, zero, suc, ◌+◌, ◌≤◌, true, List, [], ◌∷◌, ap, arith}
 use Rattle.std.proofs.lemmas.Bool.{eqb-true, eqb-false}
 use Rattle.std.specs.Prelude.{ℤ, pos, ◌==◌}
 use Rattle.caf_base.specs.declared.value.Kind.{Kind}
 use Rattle.caf_base.specs.declared.value.Kind.TheVariants as kinds
-use Rattle.walk_theory.specs.Syntax.{Parts, end_parts, value, act, enter, either}
+use Rattle.walk_theory.specs.Syntax.{Parts}
 use Rattle.checked_tree.specs.declared.data.Local.{Local}
 use Rattle.checked_tree.specs.declared.data.DataType.{DataType}
 use Rattle.checked_tree.specs.declared.data.Object.TheVariants as objects
@@ -12,21 +12,21 @@ use Rattle.checked_tree.specs.declared.statement.ListedImages.{ListedImages}
 use Rattle.checked_tree.specs.declared.statement.ListedImages.TheVariants as lists
 use Rattle.checked_tree.specs.Expressions as t
 use Rattle.checked_tree.specs.Statements as s
-use Rattle.image_acts.specs.Places.{place_size, digits, numbers_of_form, triplets}
+use Rattle.image_acts.specs.Places.{place_size, digits, numbers_of_form}
 use Rattle.image_acts.specs.Acts as a
 use Rattle.image_acts.specs.Acts.{Act, Scope}
-use Rattle.image_code.specs.Sizes.{Size, numbers, with_arrays, with_texts, numbers_loaded, arrays_loaded, act_size}
+use Rattle.image_code.specs.Sizes.{Size, numbers, with_arrays, with_texts, numbers_loaded, arrays_loaded}
 use Rattle.tree_meaning.specs.Environment.{Environment, scope_of, kind_of}
-use Rattle.tree_meaning.specs.Sequences.{◌▸◌, doing, nothing, dropping, copying, bringing, pushing, choosing, takes, released, is_one_of, requiring}
+use Rattle.tree_meaning.specs.Sequences.{◌▸◌, doing, dropping, takes, released, is_one_of, requiring}
 use Rattle.tree_meaning.specs.Settling.{settling, settling_selector}
 use Rattle.tree_meaning.specs.Expressions as view
 use Rattle.tree_meaning.specs.Assignments as assignments
 use Rattle.made_code.specs.Ranks as ranks
 use Rattle.made_code.specs.Ranks.{IsSection, ScalarToScalar}
-use Rattle.made_code.proofs.Digits.{section_numbers, section_rank, subscripts_size}
-use Rattle.made_code.proofs.Turns.{Turns, closes, ended, acts, enters, ◌⨾◌, part, chosen, by_cases, either_way}
-use Rattle.made_code.proofs.Forms.{valued, none, idle, one_act, dropped, copied, brought, pushed, co_sectioned, sectioned, stored, status_stored, own_needed, size_small, then_one}
-use Rattle.made_code.proofs.Expressions.{expression_turns, scalar_turns, subscripts_turns, owner_turns, form_turns}
+use Rattle.made_code.proofs.Digits.{section_numbers, subscripts_size}
+use Rattle.made_code.proofs.Turns.{Turns, closes, ended, acts, ◌⨾◌, part, chosen, by_cases, either_way}
+use Rattle.made_code.proofs.Forms.{none, one_act, dropped, copied, brought, pushed, co_sectioned, sectioned, stored, status_stored, own_needed, size_small, then_one}
+use Rattle.made_code.proofs.Expressions.{scalar_turns, subscripts_turns, owner_turns, form_turns}
 
 -- evaluation cells are free again
 pub free_again : {z : Size} {p : Parts Act} → Turns z p → Turns z (released p)

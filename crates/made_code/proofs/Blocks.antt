@@ -1,30 +1,28 @@
 -- Each statement leaves the stack as it was, and each test its truth value: the bodies of a program are even.
-use Rattle.std.proofs.Common.{◌≡◌, ℕ, zero, suc, ◌+◌, ◌*◌, ◌≤◌, Bool, true, false, cond, List, [], ◌∷◌, ◌++◌, refl, ap, sym, ◌∙◌, subst, arith}
-use Rattle.std.specs.Prelude.{ℤ, pos, Option, Some, None}
+use Rattle.std.proofs.Common.{◌≡◌, ℕ, ◌+◌, List, [], ◌∷◌, ◌++◌, refl, subst, arith}
+use Rattle.std.specs.Prelude.{pos, Option, Some, None}
 use Rattle.caf_base.specs.declared.value.Kind.{Kind}
-use Rattle.walk_theory.specs.Syntax.{Parts, end_parts, value, act, enter, either, Steps}
+use Rattle.walk_theory.specs.Syntax.{Parts, Steps}
 use Rattle.code_heights.specs.MadeHeights.{Leaves, IsEven, IsEvenForm, AreEven, AllEven}
 use Rattle.checked_tree.specs.declared.data.Local.{Local}
-use Rattle.checked_tree.specs.declared.action.WrittenArguments.{WrittenArguments}
 use Rattle.checked_tree.specs.declared.statement.CaseRange.{CaseRange}
 use Rattle.checked_tree.specs.declared.statement.CaseRange.TheVariants as ranges
 use Rattle.checked_tree.specs.Expressions as t
 use Rattle.checked_tree.specs.Statements as s
 use Rattle.image_acts.specs.Acts as a
 use Rattle.image_acts.specs.Acts.{Act, Scope, here, host}
-use Rattle.image_code.specs.Sizes.{Size, numbers, with_arrays, arrays_loaded, act_size}
+use Rattle.image_code.specs.Sizes.{numbers, arrays_loaded, act_size}
 use Rattle.image_code.specs.Levels.{Part, of_numbers, of_arrays, of_texts, tested_of, taken_of, left_of}
 use Rattle.tree_meaning.specs.Environment.{Environment, scope_of, hidden_cell, procedure_in}
-use Rattle.tree_meaning.specs.Sequences.{◌▸◌, doing, nothing, pushing, released}
+use Rattle.tree_meaning.specs.Sequences.{◌▸◌, doing, released}
 use Rattle.tree_meaning.specs.Expressions as view
 use Rattle.tree_meaning.specs.ImageControl as control
-use Rattle.tree_meaning.specs.Subroutines as sub
 use Rattle.tree_meaning.specs.Pieces.{written_dummies}
 use Rattle.tree_meaning.specs.Forms.{in_range, in_more_ranges, in_ranges, parameter, do_start, called, form, steps, else_ifs, cases, environment_of, procedure_bodies, bodies}
 use Rattle.made_code.specs.Ranks as ranks
 use Rattle.made_code.specs.Ranks.{GivesNothing, IsRankedProgram}
-use Rattle.made_code.proofs.Turns.{Turns, closes, ended, acts, enters, ◌⨾◌, part, chosen, by_cases, either_way}
-use Rattle.made_code.proofs.Forms.{none, idle, one_act, pushed, then_one}
+use Rattle.made_code.proofs.Turns.{Turns, closes, ended, acts, ◌⨾◌, part}
+use Rattle.made_code.proofs.Forms.{none, idle, one_act, pushed}
 use Rattle.made_code.proofs.Calls.{passed_arrays, all_go}
 use Rattle.made_code.proofs.Calls as calls
 use Rattle.made_code.proofs.Expressions.{scalar_turns, arguments_turns}

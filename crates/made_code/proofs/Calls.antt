@@ -1,8 +1,7 @@
 -- Calls of procedures: arguments, an instance's frame, and what is left of both.
-use Rattle.std.proofs.Common.{◌≡◌, ℕ, zero, suc, ◌+◌, ◌*◌, ◌≤◌, ◌⊎◌, inl, inr, Bool, true, false, cond, List, [], ◌∷◌, ◌++◌, length, refl, ap, sym, ◌∙◌, subst, arith}
+use Rattle.std.proofs.Common.{◌≡◌, ℕ, zero, suc, ◌+◌, ◌*◌, ◌≤◌, ◌⊎◌, inl, inr, Bool, true, false, cond, List, [], ◌∷◌, ◌++◌, length, refl, ap, ◌∙◌, arith}
 use Rattle.std.proofs.lemmas.Bool.{eqb-true, eqb-false}
 use Rattle.std.specs.Prelude.{ℤ, ◌==◌, Option, Some, None}
-use Rattle.walk_theory.specs.Syntax.{Parts, end_parts, value, act, enter, either}
 use Rattle.checked_tree.specs.declared.data.Object.TheVariants as objects
 use Rattle.checked_tree.specs.declared.data.Variable.{Variable}
 use Rattle.checked_tree.specs.declared.program.Dummy.{Dummy}
@@ -12,13 +11,13 @@ use Rattle.image_acts.specs.Places.{place_size}
 use Rattle.image_acts.specs.Acts as a
 use Rattle.image_acts.specs.Acts.{Act, Scope}
 use Rattle.image_acts.specs.Operate.Allocating.{bounds_size}
-use Rattle.image_code.specs.Sizes.{Size, numbers, with_arrays, numbers_loaded, arrays_loaded, act_size}
+use Rattle.image_code.specs.Sizes.{numbers, with_arrays, numbers_loaded, arrays_loaded}
 use Rattle.tree_meaning.specs.Environment.{declared_bounds, rank_in}
-use Rattle.tree_meaning.specs.Sequences.{◌▸◌, doing, nothing, dropping, copying, bringing}
+use Rattle.tree_meaning.specs.Sequences.{doing, nothing}
 use Rattle.tree_meaning.specs.Expressions as view
 use Rattle.tree_meaning.specs.Expressions.{Passed}
-use Rattle.made_code.proofs.Turns.{Turns, closes, ended, acts, enters, ◌⨾◌, part, by_cases, either_way}
-use Rattle.made_code.proofs.Forms.{valued, none, idle, one_act, dropped, copied, brought, scalar_facts, array_facts, value_numbers, scalar_rank, cells_taken}
+use Rattle.made_code.proofs.Turns.{Turns, closes, ended, acts, enters, ◌⨾◌, part, by_cases}
+use Rattle.made_code.proofs.Forms.{none, idle, one_act, dropped, copied, brought, scalar_facts, array_facts, value_numbers, scalar_rank, cells_taken}
 
 -- how many array values the arguments are, and those that go back
 abbrev pub passed_arrays : List Passed → ℕ
@@ -84,12 +83,12 @@ a_place p (inr h) n = h
 gone_back : (p : Passed) (depth k : ℕ) → Goes p → k + view.value_size p.rank ≡ depth → Turns (with_arrays (depth + p.place) (k + p.place) (arrays_loaded p.rank) 0) (view.going_back p depth)
 gone_back p depth k g e = by_cases (p.place == 0)
     (λ z. (let n : p.place ≡ 0 = eqb-true p.place 0 z in
-      let r : p.rank ≡ 0 = no_place p g n in
-      let v : view.value_size p.rank ≡ 1 = value_numbers p.rank ∙ ap numbers_loaded r in
-      let w : arrays_loaded p.rank ≡ 0 = ap arrays_loaded r in
-      closes (acts ended) (omega arith)))
+    let r : p.rank ≡ 0 = no_place p g n in
+    let v : view.value_size p.rank ≡ 1 = value_numbers p.rank ∙ ap numbers_loaded r in
+    let w : arrays_loaded p.rank ≡ 0 = ap arrays_loaded r in
+    closes (acts ended) (omega arith)))
     (λ z. (let n = a_place p g (eqb-false p.place 0 z) in
-      closes (part (copied depth p.place) ⨾ part (put_back p n)) (omega arith)))
+    closes (part (copied depth p.place) ⨾ part (put_back p n)) (omega arith)))
   where
     -- the value and a place on top
     put_back : (q : Passed) → q.place ≡ place_size q.rank → Turns (with_arrays (q.place + view.value_size q.rank) 0 (arrays_loaded q.rank) 0) (cond (q.rank == 0) (doing (a.variable (a.put q.scope q.actual 0) ∷ [])) (doing (a.variable (a.put_array q.scope q.actual q.rank) ∷ [])))

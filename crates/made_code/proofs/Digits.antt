@@ -1,5 +1,5 @@
 -- The form of a designator's subscripts: how many numbers they are, and how many of them are triplets.
-use Rattle.std.proofs.Common.{◌≡◌, ℕ, zero, suc, ◌+◌, ◌*◌, ◌≤◌, ◌<◌, cond, List, [], ◌∷◌, refl, ap, ap₂, sym, ◌∙◌, subst, arith}
+use Rattle.std.proofs.Common.{◌≡◌, ℕ, zero, suc, ◌+◌, ◌*◌, ◌≤◌, ◌<◌, cond, List, [], ◌∷◌, refl, ap, ap₂, ◌∙◌, arith}
 use Rattle.std.specs.Prelude.{◌/◌, ◌%◌, ◌==◌}
 use Rattle.checked_tree.specs.Expressions as t
 use Rattle.image_acts.specs.Places.{digits, with_digit, numbers_in, numbers_of_form, triplets}

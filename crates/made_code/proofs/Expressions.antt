@@ -1,9 +1,9 @@
 -- Each expression leaves its value: a number, or an array.
-use Rattle.std.proofs.Common.{◌≡◌, ℕ, zero, suc, ◌+◌, ◌*◌, ◌≤◌, Bool, true, false, cond, List, [], ◌∷◌, ◌++◌, refl, ap, sym, ◌∙◌, subst, arith}
-use Rattle.std.specs.Prelude.{ℤ, pos, ◌==◌, Option, Some, None}
+use Rattle.std.proofs.Common.{◌≡◌, ℕ, zero, suc, ◌+◌, ◌≤◌, true, false, cond, List, [], ◌∷◌, refl, ap, ◌∙◌, subst, arith}
+use Rattle.std.specs.Prelude.{Option, Some, None}
 use Rattle.caf_base.specs.Arithmetic.{huge_of, truth}
 use Rattle.caf_base.specs.declared.value.Kind.{Kind}
-use Rattle.walk_theory.specs.Syntax.{Parts, end_parts, value, act, enter, either}
+use Rattle.walk_theory.specs.Syntax.{Parts}
 use Rattle.checked_tree.specs.declared.data.Object.TheVariants as objects
 use Rattle.checked_tree.specs.declared.data.Variable.{Variable}
 use Rattle.checked_tree.specs.declared.program.Dummy.{Dummy}
@@ -15,19 +15,19 @@ use Rattle.checked_tree.specs.declared.expr.LogicalOperator.{LogicalOperator}
 use Rattle.checked_tree.specs.declared.expr.LogicalOperator.TheVariants as logics
 use Rattle.checked_tree.specs.Expressions as t
 use Rattle.checked_tree.specs.Statements.{Procedure, Unit'}
-use Rattle.image_acts.specs.Places.{place_size, digits, numbers_of_form, triplets}
+use Rattle.image_acts.specs.Places.{place_size}
 use Rattle.image_acts.specs.Acts as a
 use Rattle.image_acts.specs.Acts.{Act, Scope}
-use Rattle.image_code.specs.Sizes.{Size, numbers, with_arrays, numbers_loaded, arrays_loaded, act_size, operator_size}
-use Rattle.tree_meaning.specs.Environment.{Environment, scope_of, kind_of, rank_in, procedure_in, constant_place, corank}
-use Rattle.tree_meaning.specs.Sequences.{◌▸◌, doing, nothing, dropping, copying, bringing, pushing}
+use Rattle.image_code.specs.Sizes.{numbers, with_arrays, numbers_loaded, arrays_loaded, operator_size}
+use Rattle.tree_meaning.specs.Environment.{Environment, scope_of, kind_of, rank_in, procedure_in, constant_place}
+use Rattle.tree_meaning.specs.Sequences.{◌▸◌, doing, dropping, copying}
 use Rattle.tree_meaning.specs.Expressions as view
 use Rattle.tree_meaning.specs.Assignments as assignments
 use Rattle.made_code.specs.Ranks as ranks
 use Rattle.made_code.specs.Ranks.{IsSection, GivesRank}
 use Rattle.made_code.proofs.Digits.{section_numbers, section_rank, subscripts_size, subscript_size, one_given, element_digits}
-use Rattle.made_code.proofs.Turns.{Turns, closes, ended, acts, enters, ◌⨾◌, part, by_cases, either_way}
-use Rattle.made_code.proofs.Forms.{valued, none, idle, one_act, of_rank_0, as_scalar, as_array, dropped, copied, brought, pushed, value_numbers, scalar_rank, array_loaded, cells_taken, co_sectioned, sectioned, loaded, one_operand, two_operands, written_two, written_beside, then_one, then_two, owned, coarray_read}
+use Rattle.made_code.proofs.Turns.{Turns, closes, ended, acts, ◌⨾◌, part, by_cases}
+use Rattle.made_code.proofs.Forms.{valued, idle, one_act, of_rank_0, as_scalar, as_array, dropped, copied, pushed, value_numbers, scalar_rank, cells_taken, co_sectioned, sectioned, loaded, one_operand, two_operands, written_two, written_beside, then_one, then_two, owned, coarray_read}
 use Rattle.made_code.proofs.Calls.{passed_arrays, called, all_go}
 
 arithmetic_size : (o : ArithmeticOperator) (k : Kind) → operator_size (view.arithmetic_act o k) ≡ numbers 2 1

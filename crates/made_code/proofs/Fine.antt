@@ -1,5 +1,5 @@
 -- No instruction of made code is bad, where the bodies of its program are even.
-use Rattle.std.proofs.Common.{◌≡◌, ◌≢◌, ℕ, zero, suc, ◌+◌, ◌-◌, ◌<◌, ◌≤◌, ◌⊎◌, inl, inr, Bool, true, false, cond, List, [], ◌∷◌, length, refl, ap, sym, ◌∙◌, subst, arith}
+use Rattle.std.proofs.Common.{◌≡◌, ℕ, zero, suc, ◌+◌, ◌-◌, ◌<◌, ◌≤◌, inl, inr, Bool, true, false, cond, List, [], ◌∷◌, length, refl, ap, sym, ◌∙◌, subst, arith}
 use Rattle.std.specs.Prelude.{Option, Some, None, slice_get}
 use Rattle.std.proofs.lemmas.Option.{slice_get_within}
 use Rattle.walk_theory.specs.Syntax.{Steps}
@@ -10,7 +10,6 @@ use Rattle.walk_theory.proofs.MadeGood.{made_code_is_good}
 use Rattle.code_heights.specs.Heights.{Level, IsLevel}
 use Rattle.code_heights.specs.MadeHeights.{AllEven, program_heights}
 use Rattle.code_heights.proofs.MadeHeights.{made_is_level}
-use Rattle.image_acts.specs.Acts as a
 use Rattle.image_acts.specs.Acts.{Act}
 use Rattle.image_code.specs.declared.shape.Flow.TheVariants as flows
 use Rattle.image_code.specs.declared.shape.Height.{Height}

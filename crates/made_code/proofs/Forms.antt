@@ -1,21 +1,20 @@
 -- What stands between operands, over any parts: by what the operands leave.
-use Rattle.std.proofs.Common.{◌≡◌, ℕ, zero, suc, ◌+◌, ◌*◌, ◌≤◌, Bool, true, false, cond, List, [], ◌∷◌, ◌++◌, refl, ap, sym, ◌∙◌, subst, arith}
-use Rattle.std.specs.Prelude.{ℤ, pos, ◌==◌, ◌||◌}
+use Rattle.std.proofs.Common.{◌≡◌, ℕ, zero, suc, ◌+◌, ◌≤◌, Bool, true, false, cond, [], ◌∷◌, refl, ap, sym, ◌∙◌, subst, arith}
+use Rattle.std.specs.Prelude.{ℤ, ◌==◌}
 use Rattle.std.proofs.lemmas.Bool.{eqb-true, eqb-false}
-use Rattle.walk_theory.specs.Syntax.{Parts, end_parts, value, act, enter, either}
-use Rattle.checked_tree.specs.declared.data.Local.{Local}
+use Rattle.walk_theory.specs.Syntax.{Parts, end_parts, act}
 use Rattle.checked_tree.specs.declared.expr.WrittenOrder.{WrittenOrder}
 use Rattle.checked_tree.specs.declared.expr.WrittenOrder.TheVariants as orders
 use Rattle.checked_tree.specs.Expressions as t
-use Rattle.image_acts.specs.Places.{place_size, digits, numbers_of_form, triplets}
+use Rattle.image_acts.specs.Places.{place_size}
 use Rattle.image_acts.specs.Acts as a
 use Rattle.image_acts.specs.Acts.{Act, Scope}
-use Rattle.image_code.specs.Sizes.{Size, numbers, with_arrays, with_texts, numbers_loaded, arrays_loaded, act_size, operator_size}
-use Rattle.tree_meaning.specs.Sequences.{◌▸◌, doing, nothing, dropping, copying, bringing, choosing, pushing}
+use Rattle.image_code.specs.Sizes.{Size, numbers, with_arrays, numbers_loaded, arrays_loaded, act_size, operator_size}
+use Rattle.tree_meaning.specs.Sequences.{◌▸◌, doing, nothing, dropping, copying, bringing, pushing}
 use Rattle.tree_meaning.specs.Expressions as view
 use Rattle.made_code.specs.Ranks.{IsSection}
 use Rattle.made_code.proofs.Digits.{section_numbers, section_rank, subscripts_size}
-use Rattle.made_code.proofs.Turns.{Turns, Does, Closes, closes, ended, acts, enters, ◌⨾◌, part, chosen, by_cases, either_way}
+use Rattle.made_code.proofs.Turns.{Turns, Closes, closes, ended, acts, ◌⨾◌, part, chosen, by_cases, either_way}
 
 -- a value of a rank: a number, or an array
 abbrev pub valued : ℕ → Size

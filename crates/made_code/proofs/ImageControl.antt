@@ -1,29 +1,26 @@
 -- Image control statements leave nothing.
-use Rattle.std.proofs.Common.{◌≡◌, ℕ, zero, suc, ◌+◌, ◌*◌, ◌≤◌, Bool, true, false, cond, List, [], ◌∷◌, ◌++◌, refl, ap, sym, ◌∙◌, subst, arith}
-use Rattle.std.specs.Prelude.{ℤ, pos, ◌==◌}
-use Rattle.walk_theory.specs.Syntax.{Parts, end_parts, value, act, enter, either}
+use Rattle.std.proofs.Common.{◌≡◌, ℕ, zero, suc, ◌+◌, List, [], ◌∷◌, refl, ap, arith}
+use Rattle.std.specs.Prelude.{pos}
+use Rattle.walk_theory.specs.Syntax.{Parts}
 use Rattle.checked_tree.specs.declared.data.Local.{Local}
 use Rattle.checked_tree.specs.declared.data.Object.TheVariants as objects
 use Rattle.checked_tree.specs.declared.expr.WrittenOrder.{WrittenOrder}
 use Rattle.checked_tree.specs.declared.expr.WrittenOrder.TheVariants as orders
 use Rattle.checked_tree.specs.Expressions as t
 use Rattle.checked_tree.specs.Statements as s
-use Rattle.image_acts.specs.Places.{place_size}
 use Rattle.image_acts.specs.Acts as a
 use Rattle.image_acts.specs.Acts.{Act, Scope}
 use Rattle.image_acts.specs.Statuses.{bad_argument, unlocked_failed_image, failed_image}
-use Rattle.image_code.specs.Sizes.{Size, numbers, with_arrays, numbers_loaded, arrays_loaded, act_size, ask_size}
-use Rattle.tree_meaning.specs.Environment.{Environment, scope_of}
-use Rattle.tree_meaning.specs.Sequences.{◌▸◌, doing, nothing, dropping, copying, bringing, pushing, choosing}
-use Rattle.tree_meaning.specs.Settling.{settling, settling_selector}
+use Rattle.image_code.specs.Sizes.{numbers, with_arrays, ask_size}
+use Rattle.tree_meaning.specs.Environment.{Environment}
+use Rattle.tree_meaning.specs.Sequences.{doing}
 use Rattle.tree_meaning.specs.Expressions as view
 use Rattle.tree_meaning.specs.Assignments as assignments
 use Rattle.tree_meaning.specs.ImageControl as control
 use Rattle.made_code.specs.Ranks as ranks
-use Rattle.made_code.proofs.Digits.{subscripts_size}
-use Rattle.made_code.proofs.Turns.{Turns, closes, ended, acts, enters, ◌⨾◌, part, chosen, by_cases, either_way}
-use Rattle.made_code.proofs.Forms.{valued, none, idle, one_act, dropped, copied, brought, pushed, co_sectioned, stored, own_needed}
-use Rattle.made_code.proofs.Expressions.{expression_turns, scalar_turns, subscripts_turns, owner_turns, form_turns, place_turns, result_turns}
+use Rattle.made_code.proofs.Turns.{Turns, closes, ended, acts, ◌⨾◌, part, chosen, either_way}
+use Rattle.made_code.proofs.Forms.{none, idle, one_act, dropped, copied, brought, pushed, co_sectioned, stored, own_needed}
+use Rattle.made_code.proofs.Expressions.{scalar_turns, subscripts_turns, owner_turns, form_turns, place_turns, result_turns}
 use Rattle.made_code.proofs.Assignments.{settled, selector_settled}
 
 -- a round: what arrives takes the team on top

@@ -1,5 +1,5 @@
 -- The code of a program is never bad where its ranks are right, and has its walks.
-use Rattle.std.proofs.Common.{◌≡◌, ℕ, true, List, refl, sym, subst}
+use Rattle.std.proofs.Common.{◌≡◌, ℕ, refl, sym, subst}
 use Rattle.caf_events.specs.Answers.{Answers}
 use Rattle.walk_theory.specs.Made.{program_code}
 use Rattle.walk_theory.specs.Programs.{HasWalksOf}

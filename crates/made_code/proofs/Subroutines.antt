@@ -1,36 +1,32 @@
 -- Calls of intrinsic subroutines leave nothing.
-use Rattle.std.proofs.Common.{◌≡◌, ◌≢◌, ℕ, zero, suc, ◌+◌, ◌*◌, ◌≤◌, ◌⊎◌, inl, inr, Bool, true, false, cond, List, [], ◌∷◌, ◌++◌, refl, ap, sym, ◌∙◌, subst, arith}
-use Rattle.std.proofs.lemmas.Bool.{eqb-true, eqb-false}
+use Rattle.std.proofs.Common.{◌≡◌, ℕ, zero, suc, ◌+◌, ◌≤◌, inl, inr, Bool, true, false, cond, List, [], ◌∷◌, refl, ap, ◌∙◌, arith}
 use Rattle.std.proofs.lemmas.Bool.Decides.{eqb_tells}
-use Rattle.std.specs.Prelude.{ℤ, pos, ◌==◌}
+use Rattle.std.specs.Prelude.{pos, ◌==◌}
 use Rattle.caf_base.specs.declared.value.Kind.{Kind}
 use Rattle.caf_base.specs.declared.value.Kind.TheVariants as kinds
 use Rattle.caf_base.specs.declared.value.AtomicOp.{AtomicOp}
 use Rattle.caf_base.specs.declared.value.AtomicOp.TheVariants as atomics
 use Rattle.caf_events.specs.declared.round.GatherOp.{GatherOp}
 use Rattle.caf_events.specs.declared.round.GatherOp.TheVariants as gathers
-use Rattle.walk_theory.specs.Syntax.{Parts, end_parts, value, act, enter, either}
+use Rattle.walk_theory.specs.Syntax.{Parts}
 use Rattle.checked_tree.specs.declared.data.Object.TheVariants as objects
 use Rattle.checked_tree.specs.Expressions as t
 use Rattle.checked_tree.specs.Statements as s
 use Rattle.image_acts.specs.Places.{place_size}
-use Rattle.image_acts.specs.Acts as a
-use Rattle.image_acts.specs.Acts.{Act, Scope}
+use Rattle.image_acts.specs.Acts.{Act}
 use Rattle.image_acts.specs.Statuses.{bad_argument}
-use Rattle.image_code.specs.Sizes.{Size, numbers, with_arrays, numbers_loaded, arrays_loaded, act_size}
+use Rattle.image_code.specs.Sizes.{numbers, with_arrays, numbers_loaded, arrays_loaded}
 use Rattle.tree_meaning.specs.Environment.{Environment, scope_of}
-use Rattle.tree_meaning.specs.Sequences.{◌▸◌, doing, nothing, dropping, copying, bringing, pushing, choosing}
-use Rattle.tree_meaning.specs.Settling.{settling, settling_selector}
+use Rattle.tree_meaning.specs.Sequences.{◌▸◌}
 use Rattle.tree_meaning.specs.Expressions as view
 use Rattle.tree_meaning.specs.ImageControl as control
-use Rattle.tree_meaning.specs.Pieces.{Piece, no_piece, piece_of, evaluating, sizes, depth, fetching}
+use Rattle.tree_meaning.specs.Pieces.{Piece, piece_of, evaluating, sizes, depth, fetching}
 use Rattle.tree_meaning.specs.Subroutines as sub
 use Rattle.made_code.specs.Ranks as ranks
 use Rattle.made_code.specs.Ranks.{IsSection, times}
-use Rattle.made_code.proofs.Digits.{subscripts_size}
-use Rattle.made_code.proofs.Turns.{Turns, closes, ended, acts, enters, ◌⨾◌, part, chosen, by_cases, either_way}
-use Rattle.made_code.proofs.Forms.{valued, none, idle, one_act, dropped, copied, brought, pushed, sectioned, co_sectioned, own_needed, read_out, stored, scalar_rank}
-use Rattle.made_code.proofs.Expressions.{scalar_turns, subscripts_turns, place_turns, result_turns}
+use Rattle.made_code.proofs.Turns.{Turns, closes, ended, acts, ◌⨾◌, part, chosen, by_cases}
+use Rattle.made_code.proofs.Forms.{none, idle, one_act, dropped, copied, pushed, sectioned, co_sectioned, own_needed, read_out, stored}
+use Rattle.made_code.proofs.Expressions.{scalar_turns, subscripts_turns, result_turns}
 use Rattle.made_code.proofs.Assignments.{settled, selector_settled, wrote}
 use Rattle.made_code.proofs.ImageControl.{cell_turns, there_turns}
 

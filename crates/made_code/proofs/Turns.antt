@@ -1,7 +1,7 @@
 -- Parts by what they take from the three parts of the stack and what they leave there.
-use Rattle.std.proofs.Common.{◌≡◌, ℕ, zero, suc, ◌+◌, ◌-◌, ◌≤◌, Bool, true, false, cond, List, [], ◌∷◌, ◌++◌, refl, ap, sym, ◌∙◌, subst, arith}
-use Rattle.walk_theory.specs.Syntax.{Parts, end_parts, value, act, enter, either}
-use Rattle.code_heights.specs.MadeHeights.{after, Balanced, Leaves}
+use Rattle.std.proofs.Common.{◌≡◌, ℕ, ◌+◌, ◌-◌, ◌≤◌, Bool, true, false, cond, List, [], ◌∷◌, ◌++◌, refl, ap, sym, ◌∙◌, subst, arith}
+use Rattle.walk_theory.specs.Syntax.{Parts, end_parts, act, enter}
+use Rattle.code_heights.specs.MadeHeights.{after, Balanced}
 use Rattle.image_acts.specs.Acts.{Act}
 use Rattle.image_code.specs.Sizes.{Size, numbers, act_size}
 use Rattle.image_code.specs.Levels.{Part, of_numbers, of_arrays, of_texts, part_of, tested_of, taken_of, left_of}
