@@ -1,0 +1,4 @@
+mod Counting
+mod Laws
+mod Dims
+mod Allotments

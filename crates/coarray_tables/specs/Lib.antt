@@ -1,1 +1,5 @@
 pub mod Owns
+pub mod Images
+pub mod Sections
+pub mod Asks
+pub mod Start

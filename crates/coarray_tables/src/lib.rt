@@ -6,5 +6,11 @@
 #![tactic(auto)]
 
 pub mod coarrays;
+mod cobounds;
 mod few;
+pub mod images;
+pub mod asks;
+pub mod plans;
+pub mod sections;
+mod start;
 mod shape;
