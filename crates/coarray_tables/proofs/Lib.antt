@@ -2,3 +2,4 @@ mod Counting
 mod Laws
 mod Dims
 mod Allotments
+mod Beginning

@@ -1,5 +1,6 @@
 use Rattle.std.proofs.Common.{◌≡◌, ◌∙◌, ◌+◌, ◌*◌, ◌∷◌, ◌++◌, [], ℤ, List, pos, length, sym, ap, arith, append_assoc}
 use Rattle.std.proofs.lemmas.List.{length-append}
+use Rattle.image_acts.specs.Places.{no_place, place_numbers}
 use Rattle.coarray_tables.proofs.Dims.{no_place_length, no_place_more}
 use Rattle.coarray_tables.proofs.sections.no_place.Goals as goal
 
@@ -19,4 +20,4 @@ push-requires-in-loop-k c =
 pub loop-k-preserved : goal.loop-k-preserved
 loop-k-preserved c =
     c.push-in-loop-k.ensures ∙ ap (λ (vs : List ℤ). vs ++ pos 0 ∷ []) (c.push.ensures ∙ ap (λ (vs : List ℤ). vs ++ pos 1 ∷ []) c.loop-k.invariant)
-    ∙ append_assoc _ (pos 1 ∷ []) (pos 0 ∷ []) ∙ sym (no_place_more c.loop-k.k)
+    ∙ append_assoc (place_numbers (no_place c.loop-k.k)) (pos 1 ∷ []) (pos 0 ∷ []) ∙ sym (no_place_more c.loop-k.k)
