@@ -10,7 +10,7 @@ use Rattle.image_code.specs.declared.tables.Coarray.{Coarray}
 use Rattle.coarray_tables.specs.Owns.{own_of}
 use Rattle.coarray_tables.specs.Start.{cobound_numbers, first_own}
 use Rattle.coarray_tables.specs.declared.shape.Shape.{Shape}
-use Rattle.coarray_tables.proofs.Laws.{pairs_again}
+use Rattle.coarray_tables.proofs.Keeping.{pairs_again}
 
 extent_again : (l e : ℤ) → (((l +ℤ e) -ℤ pos 1) -ℤ l) +ℤ pos 1 ≡ e
 extent_again l e = omega (arith, ints)

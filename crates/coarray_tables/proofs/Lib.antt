@@ -1,5 +1,6 @@
 mod Counting
-mod Laws
+mod Keeping
 mod Dims
 mod Allotments
 mod Beginning
+mod Agreeing

@@ -3,3 +3,4 @@ pub mod Images
 pub mod Sections
 pub mod Asks
 pub mod Start
+pub mod Steps

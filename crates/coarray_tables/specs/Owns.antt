@@ -1,7 +1,9 @@
 -- The coarrays of an image: those that are allocated here, and their cells.
-use Rattle.std.specs.Prelude.{ℕ, ◌+◌, ◌-◌, ℤ, pos, min, Bool, true, false, ◌&&◌, nat_eq, nat_le, int_le, cond, List, [], ◌∷◌, map, take, drop, Option, Some, None, slice_get, slice_set}
+use Rattle.std.specs.Prelude.{ℕ, ◌+◌, ◌-◌, ℤ, pos, min, Bool, true, false, ◌&&◌, not, nat_eq, nat_le, int_le, cond, List, [], ◌∷◌, map, take, drop, Option, Some, None, is_some, slice_get, slice_set}
 use Rattle.std.specs.Option.{option_map}
-use Rattle.caf_base.specs.Arithmetic.{natural}
+use Rattle.std.specs.List.{list_all}
+use Rattle.caf_base.specs.declared.value.Kind.TheVariants as kinds
+use Rattle.caf_base.specs.Arithmetic.{fits_kind, natural}
 use Rattle.coarray_types.specs.Places.{size_of}
 use Rattle.image_acts.specs.Core.{Own}
 use Rattle.image_acts.specs.Frames.{joined, pairs_in}
@@ -40,6 +42,10 @@ abbrev pub are_cobounds : List ℤ → Bool
 are_cobounds [] = true
 are_cobounds (l ∷ []) = true
 are_cobounds (l ∷ u ∷ vs) = int_le l u && are_cobounds vs
+
+-- Whether a coarray may be allocated with the bounds of its rank and cobounds behind them: it isn't allocated here, and all of them are numbers of kind 4.
+abbrev pub may_be_made : Option Own → ℕ → List ℤ → Bool
+may_be_made o rank vs = not (is_some o) && (list_all (fits_kind kinds.I4) vs && are_cobounds (drop (bounds_size rank) vs))
 
 -- the last of some numbers, or this one
 abbrev pub last_from : ℤ → List ℤ → ℤ

@@ -8,6 +8,7 @@
 pub mod coarrays;
 mod cobounds;
 mod few;
+pub mod laws;
 pub mod images;
 pub mod asks;
 pub mod plans;

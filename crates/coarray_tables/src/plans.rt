@@ -1,14 +1,10 @@
 //! Plans of an ALLOCATE statement (ISO/IEC 1539-1:2018, 9.7.1): whether all is well, and the cells that would be in use.
 
-ghost use Rattle.std.specs.Prelude.{◌≡◌, ◌≤◌, ◌+◌, ◌&&◌, not, pos, min, drop, length, is_some};
-ghost use Rattle.std.specs.List.{list_all};
-ghost use Rattle.caf_base.specs.declared.value.Kind.TheVariants as kinds;
-ghost use Rattle.caf_base.specs.Arithmetic.{fits_kind, natural};
+ghost use Rattle.std.specs.Prelude.{◌≡◌, ◌≤◌, length};
 ghost use Rattle.coarray_types.specs.Places.{size_of};
 ghost use Rattle.image_acts.specs.Frames.{pairs_in};
-ghost use Rattle.image_acts.specs.Statuses.{most_cells};
 ghost use Rattle.image_acts.specs.Operate.Allocating.{bounds_size};
-ghost use Rattle.coarray_tables.specs.Owns.{are_cobounds, own_at, sum_of_cells};
+ghost use Rattle.coarray_tables.specs.Owns.{may_be_made, own_at, sum_of_cells};
 
 use crate::coarrays::Coarrays;
 use crate::cobounds::{are_cobounds, are_of_kind_4};
@@ -23,7 +19,7 @@ impl Coarrays {
     /// cobound is below its lower one.
     pub fn may_be_made(&self, coarray: u32, rank: u32, numbers: &[i64]) -> bool
         requires { bounds_size rank ≤ length numbers.now }
-        ensures { result ≡ (not (is_some (own_at self.now.coarrays coarray)) && (list_all (fits_kind kinds.I4) numbers.now && are_cobounds (drop (bounds_size rank) numbers.now))) }
+        ensures { result ≡ may_be_made (own_at self.now.coarrays coarray) rank numbers.now }
     {
         !self.is_there(coarray)
             && are_of_kind_4(numbers)

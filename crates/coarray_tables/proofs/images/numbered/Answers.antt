@@ -5,7 +5,7 @@ use Rattle.std.proofs.lemmas.Int.{to_z-of_z}
 use Rattle.image_acts.specs.Owning.{lowers_in, extents_in}
 use Rattle.image_acts.specs.Teams.{cosubscripts_behind}
 use Rattle.array_places.specs.Images.{numbered_in, of_kind_4}
-use Rattle.coarray_tables.proofs.Laws.{number_behind}
+use Rattle.coarray_tables.proofs.Keeping.{number_behind}
 use Rattle.coarray_tables.proofs.images.numbered.Goals as goal
 
 pub returns-in-Some : goal.returns-in-Some

@@ -1,4 +1,4 @@
-use Rattle.coarray_tables.proofs.Laws.{whole}
+use Rattle.coarray_tables.proofs.Keeping.{whole}
 use Rattle.coarray_tables.proofs.shape.whole.Goals as goal
 
 pub returns : goal.returns

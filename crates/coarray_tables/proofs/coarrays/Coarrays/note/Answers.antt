@@ -1,7 +1,7 @@
 use Rattle.std.proofs.Common.{◌∙◌, sym, ap}
 use Rattle.image_acts.specs.Frames.{pairs_in}
 use Rattle.coarray_tables.specs.Owns.{Owned, noted_in}
-use Rattle.coarray_tables.proofs.Laws.{noted_is}
+use Rattle.coarray_tables.proofs.Keeping.{noted_is}
 use Rattle.coarray_tables.proofs.coarrays.Coarrays.note.Goals as goal
 
 pub returns-clause-made : goal.returns-clause-made

@@ -4,7 +4,7 @@ use Rattle.coarray_types.specs.Places.{size_of}
 use Rattle.image_acts.specs.Frames.{joined, pairs_in}
 use Rattle.coarray_tables.specs.Owns.{Owned, freed}
 use Rattle.coarray_tables.specs.declared.shape.Shape.{Shape}
-use Rattle.coarray_tables.proofs.Laws.{freed_is}
+use Rattle.coarray_tables.proofs.Keeping.{freed_is}
 use Rattle.coarray_tables.proofs.coarrays.Coarrays.note_freed.Goals as goal
 
 pub returns-clause-freed : goal.returns-clause-freed
