@@ -1,8 +1,13 @@
-pub mod Walks
 pub mod FreeActs
+pub mod FrameActs
+pub mod Frames
+pub mod FrameParts
+pub mod Walks
+pub mod Ordered
 pub mod Quiet
 pub mod Rounds
 pub mod Statements
+pub mod Ends
 pub mod Programs
 pub mod Lists
 pub mod LaneOrder
@@ -11,6 +16,7 @@ pub mod SilentSteps
 pub mod LaneEnds
 pub mod Hearing
 pub mod Fits
-pub mod StuckTries
 pub mod LaneSame
 pub mod CodeRuns
+pub mod LaneProgramEnds
+pub mod MissingTries

@@ -51,6 +51,12 @@ pub fn law_program_goes_in_order()
     ensures { (p : checked.Program) (limit me images : ℕ) → GoesInOrder (walk_step p limit) (start_of p me images) }
 {}
 
+/// It is over only behind a step that ended its image, or behind FAIL IMAGE, whatever the replies are that answer its asks: it never ends by itself for want of
+/// an operand or of a frame.
+pub fn law_program_ends_in_order()
+    ensures { (p : checked.Program) (limit me images : ℕ) → EndsInOrder (walk_step p limit) (start_of p me images) }
+{}
+
 /// In the words of runs: such walks are ordered, and nothing follows FAIL IMAGE, which is the only step of a failure that a program makes.
 pub fn law_order_in_words<M: Walker>()
     ensures { (first : M.Config) → GoesInOrder M.step first → IsOrdered M.step first }
@@ -117,6 +123,21 @@ pub fn law_code_goes_in_order()
     ensures { (p : checked.Program) (limit me images : ℕ) (code : List (Line Act))
         → HasWalksOf image_language Answers (ask end_program) (bodies p) p.end_line limit (first_core p me images) code
         → GoesInOrder (code_step image_language code limit) (at_place 0 [] (first_core p me images) 0) }
+{}
+
+/// And it ends in order as the program does.
+pub fn law_code_ends_in_order()
+    ensures { (p : checked.Program) (limit me images : ℕ) (code : List (Line Act))
+        → HasWalksOf image_language Answers (ask end_program) (bodies p) p.end_line limit (first_core p me images) code
+        → EndsInOrder (code_step image_language code limit) (at_place 0 [] (first_core p me images) 0) }
+{}
+
+/// So an image that runs a checked program, or code that has its walks, is over only behind a step that ended it.
+pub fn law_images_end_by_themselves()
+    ensures program { (p : checked.Program) (limit image images fails_at words : ℕ) → EndsByItself (lane_step (walk_step p limit)) (lane_start image fails_at words (start_of p image images)) }
+    ensures code { (p : checked.Program) (limit image images fails_at words : ℕ) (code : List (Line Act))
+        → HasWalksOf image_language Answers (ask end_program) (bodies p) p.end_line limit (first_core p image images) code
+        → EndsByItself (lane_step (code_step image_language code limit)) (lane_start image fails_at words (at_place 0 [] (first_core p image images) 0)) }
 {}
 
 /// Lanes over programs that say the same say the same.
