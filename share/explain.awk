@@ -25,6 +25,7 @@ function explain(entry,   kind) {
     print "    " meaning[entry]
     if (entry in output) print "    standard output: " output[entry]
     if (entry in standard) print "    " (standard[entry] ~ /^[0-9]/ ? "ISO/IEC 1539-1:2018, " : "") standard[entry]
+    if (kind == "status" && (key_at[entry] in advice)) print "    what to do: " advice[key_at[entry]]
     if (entry in example) show_example(example[entry], place[entry])
     if ((kind == "status" || kind == "refusal" || kind == "fault") && !(entry in is_told) && entry != "status 1") {
         print "    today's program doesn't tell it yet"

@@ -1,16 +1,19 @@
 # What an answer of `caf` means, in messages of the form FILE:LINE:COL: TEXT, each with its line and a caret.
 # Its operands are the words of the call; FILE is the last. The environment tells the rest: CAF_STATUS; CAF_TEXT, the file with
-# the program's output; CAF_SOURCE, the file to show lines of, or empty; CAF_TABLES, docs/REFUSALS.md; CAF_HELP, the help text.
+# the program's output; CAF_SOURCE, the file to show lines of, or empty; CAF_TABLES, docs/REFUSALS.md; CAF_HELP, the help text;
+# CAF_CALLED, the launcher as it was called.
 
 BEGIN {
     status = ENVIRON["CAF_STATUS"]
     shown_name = ARGV[ARGC - 1]
+    called = ENVIRON["CAF_CALLED"] == "" ? "./caf" : ENVIRON["CAF_CALLED"]
     read_tables(ENVIRON["CAF_TABLES"])
-    while ((getline line < ENVIRON["CAF_TEXT"]) > 0) take_line(line)
+    while ((getline line < ENVIRON["CAF_TEXT"]) > 0) if (line !~ /^[0-9]/) take_line(line)
     add_waits()
     read_source(ENVIRON["CAF_SOURCE"])
     for (i = 1; i <= message_count; i++) tell(i)
-    if (hint != "") print "caf: ./caf --explain " hint " says more"
+    if (refusal != "") tell_left_out()
+    if (hint != "") print "caf: " called " --explain " hint " says more"
 }
 
 # A message for a place; column 0 stands for the first character of the line that isn't a blank, line 0 for no place.
@@ -22,11 +25,11 @@ function add(number, column, text) {
     if (number > 0) is_wanted[number + 0] = 1
 }
 
-# The lines of an end begin with their own words, those of an image's output with its number.
+# The lines of an end begin with their own words, those of an image's output and of the trace with a number.
 function take_line(line,   w) {
     split(line, w, " ")
     if (line ~ /^refused [0-9]+ at [0-9]+:[0-9]+$/) take_refusal(w[2], w[4])
-    else if (line ~ /^usage: word [0-9]+$/) take_usage(w[3])
+    else if (line ~ /^usage: word [0-9]+$/) take_usage(w[3] + 0)
     else if (line ~ /^fault image /) take_fault(w[3], w[5], w[6])
     else if (line ~ /^error stop image /) take_error_stop(w[4], w[6], w[8])
     else if (line ~ /^clash image /) take_clash(w[3], w[5], w[8], w[10])
@@ -35,30 +38,16 @@ function take_line(line,   w) {
     else if (line ~ /^race on /) take_race(line)
 }
 
-function take_refusal(number, at,   entry, parts) {
-    entry = "refusal " number
+function take_refusal(number, at,   parts) {
+    refusal = number
     split(at, parts, ":")
-    add(parts[1], parts[2], "refused: " meaning[entry] " (" number " " name[entry] ")")
+    add(parts[1], parts[2], "")
     hint = number
 }
 
-# The words of the call with a caret below the wrong one, the form of its command, or all forms where it has none, and what the help text says of the word before it.
-function take_usage(number,   i, said, line, w, form, forms, of_option) {
-    if (number >= ARGC) print "caf: word " number " is missing"
-    else print "caf: word " number " is wrong: " ARGV[number]
-    said = "caf"
-    for (i = 1; i < ARGC && i < number; i++) said = said " " ARGV[i]
-    line = said
-    for (; i < ARGC; i++) line = line " " ARGV[i]
-    print_excerpt("    ", line, length(said) + 2)
-    while ((getline line < ENVIRON["CAF_HELP"]) > 0 && line !~ /^Examples/) {
-        split(line, w, " ")
-        if (line ~ /^    caf [a-z]/) forms = forms line "\n"
-        if (line ~ /^    caf [a-z]/ && number > 1 && w[2] == ARGV[1]) form = line "\n"
-        if (line ~ /^    -/ && number > 1 && w[1] == ARGV[number - 1]) of_option = line
-    }
-    printf "%s", form == "" ? forms : form
-    if (of_option != "") print of_option
+function take_usage(number) {
+    tell_usage(number, ENVIRON["CAF_HELP"])
+    print "caf: " called " --help has every word"
 }
 
 function take_fault(image, number, kind) {
@@ -79,8 +68,10 @@ function take_clash(image, number, other, at) {
     hint = 9
 }
 
-function take_limit(image, number, what, count) {
-    add(number, 0, "limit of image " image ": " meaning["limit " what] " (" what ", N = " count ")")
+function take_limit(image, number, what, count,   text) {
+    text = meaning["limit " what]
+    gsub(/ N /, " " count " ", text)
+    add(number, 0, "limit of image " image ": " text " (" what ")")
     hint = 7
 }
 
@@ -120,17 +111,67 @@ function read_source(path,   line, number) {
     while ((getline line < path) > 0) if (++number in is_wanted) source[number] = line
 }
 
-function tell(i,   number, column) {
+# The token that begins in the column of a line, or nothing.
+function token_at(text, column,   rest) {
+    rest = substr(text, column)
+    if (match(rest, /^([A-Za-z][A-Za-z0-9_]*|[0-9]+|\.[A-Za-z]+\.|::|==|\/=|<=|>=|\*\*|[!-~])/)) return substr(rest, 1, RLENGTH)
+    return ""
+}
+
+function tell(i,   number, column, text) {
     number = line_of[i]
     column = column_of[i]
+    text = text_of[i]
+    if (text == "") text = refusal_text(source[number], column)
     if (number == 0) {
-        print shown_name ": " text_of[i]
+        print shown_name ": " text
         return
     }
     if (column == 0) {
         match(source[number] "x", /[^ \t]/)
         column = RSTART
     }
-    print shown_name ":" number ":" column ": " text_of[i]
+    print shown_name ":" number ":" column ": " text
     if (number in source) print_excerpt(sprintf("%5d", number), source[number], column)
+}
+
+function refusal_text(text, column,   entry, token) {
+    entry = "refusal " refusal
+    token = token_at(text, column)
+    return "refused" (token == "" ? "" : " at `" token "`") ": " meaning[entry] " (" refusal " " name[entry] ")"
+}
+
+# What there is in the place of a form of Fortran that isn't read, where the refused line has one: by the token at its place, the word before, or the statement's first word.
+function tell_left_out(   text, column, token, word) {
+    if (refusal != 5 && refusal != 7 && refusal != 20 && refusal != 35) return
+    text = tolower(source[line_of[1]])
+    column = column_of[1]
+    token = token_at(text, column)
+    word = left_at(text, column, token)
+    if (word == "") word = left_before(substr(text, 1, column - 1))
+    if (word == "" && refusal == 7) word = left_first(text)
+    if (word != "") print "caf: there is no " toupper(word) ": " meaning["left " word]
+}
+
+function left_at(text, column, token,   before) {
+    before = substr(text, column - 1, 1)
+    if (token == "." && (before ~ /[0-9]/ || substr(text, column + 1, 1) ~ /[0-9]/)) return "real"
+    if (token ~ /^[de][0-9]*$/ && before ~ /[0-9]/) return "real"
+    if (token ~ /^[0-9]+$/ && substr(text, 1, column - 1) ~ /^[ \t]*$/) return "label"
+    return ("left " token) in meaning ? token : ""
+}
+
+function left_before(front) {
+    if (!match(front, /(concurrent|errmsg|quiet|type)[ (=]*$/)) return ""
+    sub(/[ (=]*$/, "", front)
+    match(front, /[a-z]*$/)
+    return substr(front, RSTART)
+}
+
+# The first word of a statement that is no assignment to it.
+function left_first(text,   word) {
+    if (text ~ /^[ \t]*[a-z][a-z0-9_]*[ \t]*=/) return ""
+    match(text, /[^ \t]/)
+    word = token_at(text, RSTART)
+    return ("left " word) in meaning ? word : ""
 }
