@@ -1,4 +1,5 @@
-# Prints the entries of docs/REFUSALS.md whose number or name is CAF_WORD, and ends with 1 where there is none. CAF_TABLES is that file.
+# Prints the entries of docs/REFUSALS.md whose number or name is CAF_WORD, or what there is in the place of that form of Fortran, and ends with 1 where there is
+# nothing. CAF_TABLES is that file.
 
 BEGIN {
     word = tolower(ENVIRON["CAF_WORD"])
@@ -8,6 +9,11 @@ BEGIN {
         if (tolower(key_at[entry]) != word && tolower(name[entry]) != word) continue
         if (found++) print ""
         explain(entry)
+    }
+    if (("left " word) in meaning) {
+        if (found++) print ""
+        print "there is no " toupper(word)
+        print "    " meaning["left " word]
     }
     exit found == 0
 }
