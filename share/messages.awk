@@ -38,11 +38,12 @@ function take_line(line,   w) {
     else if (line ~ /^race on /) take_race(line)
 }
 
+# A number below 20 is that of a status too, so the hint has the name.
 function take_refusal(number, at,   parts) {
     refusal = number
     split(at, parts, ":")
     add(parts[1], parts[2], "")
-    hint = number
+    hint = number < 20 ? name["refusal " number] : number
 }
 
 function take_usage(number) {
@@ -59,20 +60,20 @@ function take_error_stop(image, number, code,   entry) {
     entry = "code " code
     if (entry in meaning) add(number, 0, "image " image " ended the run with code " code ": " meaning[entry] " (" name[entry] ")")
     else add(number, 0, "image " image " ended the run: error stop with code " code)
-    hint = entry in meaning ? code : 4
+    hint = entry in meaning ? code : name["status 4"]
 }
 
 function take_clash(image, number, other, at) {
     add(number, 0, "clash: image " image " is here and image " other " of its team at line " at ", and all must execute the same statement")
     add(at, 0, "image " other " is here")
-    hint = 9
+    hint = name["status 9"]
 }
 
 function take_limit(image, number, what, count,   text) {
     text = meaning["limit " what]
     gsub(/ N /, " " count " ", text)
     add(number, 0, "limit of image " image ": " text " (" what ")")
-    hint = 7
+    hint = name["status 7"]
 }
 
 # Images that wait in one place for one thing are told together.
@@ -91,7 +92,7 @@ function add_waits(   i, parts, key, is_many) {
         split(key, parts, " ")
         is_many = index(waiting[key], ",")
         add(parts[1], 0, "stuck: image" (is_many ? "s " : " ") waiting[key] (is_many ? " wait for " : " waits for ") meaning["wait " parts[2]] " (" parts[2] ")")
-        hint = 6
+        hint = name["status 6"]
     }
 }
 
@@ -103,7 +104,7 @@ function take_race(line,   w, cell) {
     split(line, w, " ")
     add(w[12], 0, "race on cell " cell[2] " of " cell[1] " of image " w[6] ": image " w[8] " uses it here, in its step " w[10])
     add(w[18], 0, "and image " w[14] " here, in its step " w[16] ", and nothing orders the two segments")
-    hint = 5
+    hint = name["status 5"]
 }
 
 function read_source(path,   line, number) {
