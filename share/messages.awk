@@ -136,14 +136,21 @@ function tell(i,   number, column, text) {
     if (number in source) print_excerpt(sprintf("%5d", number), source[number], column)
 }
 
-function refusal_text(text, column,   entry, token) {
-    entry = "refusal " refusal
+# The rule that a refused place breaks, with the token there. Past a statement's end, and in a file without a statement, 7 has no token to speak of.
+function refusal_text(text, column,   token, rule, said) {
     token = token_at(text, column)
-    return "refused" (token == "" ? "" : " at `" token "`") ": " meaning[entry] " (" refusal " " name[entry] ")"
+    said = token == "" ? "" : " at `" token "`"
+    rule = meaning["refusal " refusal]
+    if (refusal == 7 && line_of[1] == 1 && column == 1 && token ~ /^[!;&]?$/) {
+        said = ""
+        rule = "the file has no statement"
+    } else if (refusal == 7 && token == "") rule = "the statement needs more than this"
+    return "refused" said ": " rule " (" refusal " " name["refusal " refusal] ")"
 }
 
 # What there is in the place of a form of Fortran that isn't read, where the refused line has one: by the token at its place, the word before, or the statement's first word.
 function tell_left_out(   text, column, token, word) {
+    if (refusal == 1 && source[1] ~ /^\357\273\277/) print "caf: the file begins with a byte order mark: save it as text without one"
     if (refusal != 5 && refusal != 7 && refusal != 20 && refusal != 35) return
     text = tolower(source[line_of[1]])
     column = column_of[1]
