@@ -7,9 +7,9 @@ use Rattle.coarray_types.specs.Distances.{distance}
 use Rattle.coarray_types.specs.Places.{extent_of, size_of}
 use Rattle.walk_theory.specs.Terms.{Found, found, at_fault, with_found}
 use Rattle.image_acts.specs.Frames.{pairs_in}
-use Rattle.image_acts.specs.Places.{Subscript, Dimension, dimension, dimensions, start_of, steps_of, dims_numbers, subscripts_in, with_digit, numbers_in}
+use Rattle.image_acts.specs.Places.{Subscript, Dimension, dimension, dimensions, start_of, steps_of, dims_numbers, subscripts_in, with_digit, numbers_in, spread_of}
 use Rattle.array_places.specs.declared.triplet.Subscripts.{Subscripts}
-use Rattle.array_places.specs.Sections.{Lies, Fine, numbers_from, seen, spread_of, subscript_in}
+use Rattle.array_places.specs.Sections.{Lies, Fine, numbers_from, seen, subscript_in}
 use Rattle.array_places.proofs.Counting.{capped_times}
 use Rattle.array_places.proofs.Subscripts.{extent_is, grows, grows_right}
 

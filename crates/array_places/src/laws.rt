@@ -2,7 +2,7 @@
 
 ghost use Rattle.std.specs.Prelude.{◌≡◌, ◌<◌, ℤ, List};
 ghost use Rattle.coarray_types.specs.Places.{size_of};
-ghost use Rattle.array_places.specs.Sections.{spread_of};
+ghost use Rattle.image_acts.specs.Places.{spread_of};
 
 /// Where an array has an element, counting an empty dimension as one changes nothing of its size (5.4.6): so `section::place_of` may be asked for the places of each
 /// array that has an element and fits in memory.

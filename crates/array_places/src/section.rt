@@ -5,8 +5,8 @@ ghost use Rattle.coarray_types.specs.Distances.{distance};
 ghost use Rattle.coarray_types.specs.Places.{extent_of};
 ghost use Rattle.walk_theory.specs.Terms.{found, at_fault};
 ghost use Rattle.image_acts.specs.Frames.{pairs_in};
-ghost use Rattle.image_acts.specs.Places.{digits, with_digit, subscripts_in, place_of as place_found};
-ghost use Rattle.array_places.specs.Sections.{Fine, Lies, numbers_from, numbers_of, spread_of};
+ghost use Rattle.image_acts.specs.Places.{digits, with_digit, subscripts_in, place_of as place_found, spread_of};
+ghost use Rattle.array_places.specs.Sections.{Fine, Lies, numbers_from, numbers_of};
 
 use crate::bounds::{BOUNDS, extent};
 use crate::list::PlaceNumbers;

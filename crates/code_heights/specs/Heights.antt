@@ -1,5 +1,5 @@
 -- How many values stand on one part of the stack at each place of flat code.
-use Rattle.std.specs.Prelude.{ℕ, ◌+◌, ◌≤◌, ◌≡◌, ◌⊎◌, Bool, false, List, [], ◌∷◌, Option, Some, None, slice_get}
+use Rattle.std.specs.Prelude.{ℕ, ◌+◌, ◌-◌, ◌≤◌, ◌≡◌, ◌⊎◌, Bool, false, List, [], ◌∷◌, Option, Some, None, slice_get}
 use Rattle.trace_theory.specs.Machines.{Move, goes, asks, over}
 use Rattle.walk_theory.specs.Language.{Effect, goes_to, faults, asking, ends_with, stuck, Tested, no_value, holds, fails, Language}
 use Rattle.walk_theory.specs.Code.{Instr, does_act, count_one, jump, jump_if, jump_unless, skip, skip_unless, call, go_back, Line, on, State}
@@ -13,11 +13,11 @@ module _ {A C Q R : Type 0} (L : Language A C Q R) (height : C → ℕ) (tested 
   Moves h t l e (ends_with q) = Unit {0}
   Moves h t l e stuck = Unit {0}
 
-  -- a truth value that was taken is so many of them: one of the numbers, none of another part
+  -- a truth value that was taken is so many of them, or all where there are fewer: one of the numbers, none of another part
   abbrev pub TakesTested : ℕ → Tested C → Type 0
   TakesTested h no_value = Unit {0}
-  TakesTested h (holds d) = height d + tested ≤ h
-  TakesTested h (fails d) = height d + tested ≤ h
+  TakesTested h (holds d) = height d ≤ h - tested
+  TakesTested h (fails d) = height d ≤ h - tested
 
   -- each act of the code takes and leaves as many values as is said, and so does a test
   pub record IsSized (code : List (Line A)) : Type 0 where

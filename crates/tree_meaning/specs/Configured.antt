@@ -3,6 +3,7 @@ use Rattle.std.specs.Prelude.{[], ◌∷◌, map, Option, Some, None}
 use Rattle.walk_theory.specs.Walks.{Config, start}
 use Rattle.image_acts.specs.Acts.{Act, ask, end_program}
 use Rattle.image_acts.specs.Core.{Core, Local, Own}
+use Rattle.image_acts.specs.Frames.{room_for_arrays}
 use Rattle.tree_meaning.specs.declared.start.LocalArray.{LocalArray}
 use Rattle.tree_meaning.specs.declared.start.OwnCoarray.{OwnCoarray}
 use Rattle.tree_meaning.specs.declared.start.TreeConfig.{TreeConfig}
@@ -27,6 +28,7 @@ core_of t = record {
   frame = record { cells = t.cells; arrays = map local_of t.arrays.items; base = 0; need = t.local_cells };
   callers = [];
   local_cells = t.local_cells;
+  array_room = room_for_arrays (map local_of t.arrays.items);
   coarrays = map own_of t.coarrays.items;
   coarray_cells = t.coarray_cells;
   teams = 1 ∷ [];

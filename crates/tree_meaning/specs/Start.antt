@@ -16,6 +16,7 @@ use Rattle.checked_tree.specs.Statements as s
 use Rattle.caf_base.specs.Arithmetic.{number_of}
 use Rattle.image_acts.specs.Acts.{Act, ask, end_program}
 use Rattle.image_acts.specs.Core.{Core, Frame, Local, Own, Team}
+use Rattle.image_acts.specs.Frames.{room_for_arrays}
 use Rattle.image_acts.specs.Meaning.{image_language}
 use Rattle.tree_meaning.specs.Environment.{declared_bounds, total_cells}
 use Rattle.tree_meaning.specs.Forms.{bodies}
@@ -93,6 +94,7 @@ first_core p me n = record {
   frame = first_frame p;
   callers = [];
   local_cells = total_cells p.main.variables;
+  array_room = room_for_arrays (first_frame p).arrays;
   coarrays = own_coarrays p;
   coarray_cells = own_sizes (own_coarrays p);
   teams = 1 ∷ [];

@@ -1,6 +1,6 @@
 use Rattle.std.proofs.Common.{◌≡◌, ◌-◌, ◌^◌, min, max, arith}
 use Rattle.image_acts.specs.Frames.{pairs_in}
-use Rattle.array_places.specs.Sections.{spread_of}
+use Rattle.image_acts.specs.Places.{spread_of}
 use Rattle.array_places.proofs.Ways.{spread_turn}
 use Rattle.array_places.proofs.section.spread_between.Goals as goal
 

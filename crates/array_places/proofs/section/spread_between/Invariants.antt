@@ -1,6 +1,6 @@
 use Rattle.std.proofs.Common.{◌≡◌, ◌-◌, ◌*◌, ◌^◌, ◌≤◌, min, length}
 use Rattle.image_acts.specs.Frames.{pairs_in}
-use Rattle.array_places.specs.Sections.{spread_of}
+use Rattle.image_acts.specs.Places.{spread_of}
 use Rattle.array_places.proofs.section.spread_between.Given as goal
 
 -- the cells of the dimensions so far, and those that are left
