@@ -100,10 +100,11 @@ function add_waits(   i, parts, key, is_many) {
 function take_race(line,   w, cell) {
     split(line, w, " ")
     split(w[3], cell, ":")
+    raced = cell[1]
     gsub(/[:,]/, "", line)
     split(line, w, " ")
-    add(w[12], 0, "race on cell " cell[2] " of " cell[1] " of image " w[6] ": image " w[8] " uses it here, in its step " w[10])
-    add(w[18], 0, "and image " w[14] " here, in its step " w[16] ", and nothing orders the two segments")
+    add(w[12], 0, "race on cell " cell[2] " of " raced " of image " w[6] ": image " w[8] " %s it here, in its step " w[10])
+    add(w[18], 0, "and image " w[14] " %s it here, in its step " w[16] ", and nothing orders the two segments")
     hint = name["status 5"]
 }
 
@@ -124,6 +125,10 @@ function tell(i,   number, column, text) {
     column = column_of[i]
     text = text_of[i]
     if (text == "") text = refusal_text(source[number], column)
+    if (raced != "") {
+        sub(/%s/, use_of(raced, source[number]), text)
+        column = use_at
+    }
     if (number == 0) {
         print shown_name ": " text
         return
