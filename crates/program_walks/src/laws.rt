@@ -37,7 +37,7 @@ ghost use Rattle.tree_meaning.specs.Start.{first_core, start_of, walk_step};
 ghost use Rattle.program_walks.specs.Dues.{GoesInOrder};
 ghost use Rattle.program_walks.specs.Keeping.{BodiesKeep};
 ghost use Rattle.program_walks.specs.Ordered.{IsOrdered, EndsInOrder};
-ghost use Rattle.program_walks.specs.Hearing.{TellsNoTeam, DueToPrograms};
+ghost use Rattle.program_walks.specs.Hearing.{TellsNoTeam, HearsEach, DueToPrograms};
 ghost use Rattle.program_walks.specs.Runs.{program_rules, program_begins, code_rules, code_begins};
 
 use caf_events::walker::Walker;
@@ -88,8 +88,8 @@ pub fn law_objects_answer()
 /// At each moment of a run of lanes an image hears the reply that is due, where its machine hears every reply; or where it hears those that tell of no team, and
 /// no other is due to a program then.
 pub fn law_lane_hears_due<M: Walker>()
-    ensures all { ((c : M.Config) (reply : Reply) → M.hears c reply) → (m : Moment (OnLane M.Config) MadeMemory ℕ) → HearsDue (lane_rules M.step M.hears) m }
-    ensures no_team { ((c : M.Config) (reply : Reply) → TellsNoTeam reply → M.hears c reply)
+    ensures all { HearsEach M.step M.hears (λ reply. Unit {0}) → (m : Moment (OnLane M.Config) MadeMemory ℕ) → HearsDue (lane_rules M.step M.hears) m }
+    ensures no_team { HearsEach M.step M.hears TellsNoTeam
         → (m : Moment (OnLane M.Config) MadeMemory ℕ) → DueToPrograms M.step TellsNoTeam (lane_rules M.step M.hears) m → HearsDue (lane_rules M.step M.hears) m }
 {}
 
@@ -97,10 +97,10 @@ pub fn law_lane_hears_due<M: Walker>()
 /// moment of the run no other is due to a program.
 pub fn law_lanes_fit<M: Walker>()
     ensures all { (coarrays : List Declared) (n : ℕ) (first : ℕ → M.Config) (fails_at : ℕ → ℕ) (words : ℕ) → ((i : ℕ) → IsOneOf n i → GoesInOrder M.step (first i))
-        → ((c : M.Config) (reply : Reply) → M.hears c reply)
+        → HearsEach M.step M.hears (λ reply. Unit {0})
         → IsFit (lane_rules M.step M.hears) (lanes_begin coarrays n first fails_at words) }
     ensures no_team { (coarrays : List Declared) (n : ℕ) (first : ℕ → M.Config) (fails_at : ℕ → ℕ) (words : ℕ) → ((i : ℕ) → IsOneOf n i → GoesInOrder M.step (first i))
-        → ((c : M.Config) (reply : Reply) → TellsNoTeam reply → M.hears c reply)
+        → HearsEach M.step M.hears TellsNoTeam
         → ((m : Moment (OnLane M.Config) MadeMemory ℕ) → IsMoment (lane_rules M.step M.hears) (lanes_begin coarrays n first fails_at words) m
         → DueToPrograms M.step TellsNoTeam (lane_rules M.step M.hears) m)
         → IsFit (lane_rules M.step M.hears) (lanes_begin coarrays n first fails_at words) }
