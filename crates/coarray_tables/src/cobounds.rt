@@ -89,7 +89,11 @@ fn digit_of(lower: &i64, subscript: &i64, width: u128) -> Option<u64>
         return None;
     }
     let digit = subscript.abs_diff(*lower);
-    if u128::from(digit) < width { Some(digit) } else { None }
+    if u128::from(digit) < width {
+        Some(digit)
+    } else {
+        None
+    }
 }
 
 /// A place among images with a digit more, or the largest number of 64 bits where it is larger.
