@@ -27,7 +27,7 @@ pub(crate) fn are_cobounds(cobounds: &[i64]) -> bool
 }
 
 /// Whether a number is one of kind 4.
-fn is_of_kind_4(number: &i64) -> bool
+pub(crate) fn is_of_kind_4(number: &i64) -> bool
     ensures { result ≡ fits_kind kinds.I4 number.now }
 {
     -2_147_483_648 <= *number && *number <= 2_147_483_647

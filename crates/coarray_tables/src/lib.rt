@@ -9,6 +9,7 @@ pub mod asks;
 pub mod coarrays;
 mod cobounds;
 mod few;
+pub mod fits;
 pub mod images;
 pub mod laws;
 pub mod plans;
