@@ -1,5 +1,5 @@
 -- What tables that are fit have.
-use Rattle.std.proofs.Common.{◌≡◌, ◌∙◌, ℕ, zero, suc, ◌+◌, ◌^◌, ◌<◌, ◌≤◌, ℤ, pos, negsuc, ◌+ℤ◌, ◌-ℤ◌, ◌≤ℤ◌, Bool, true, false, ◌&&◌, ◌||◌, cond, List, [], ◌∷◌, map, length, refl, sym, ap, arith}
+use Rattle.std.proofs.Common.{◌≡◌, ◌∙◌, ℕ, ◌+◌, ◌^◌, ◌<◌, ◌≤◌, ℤ, pos, ◌+ℤ◌, ◌-ℤ◌, ◌≤ℤ◌, Bool, true, false, ◌&&◌, ◌||◌, List, [], ◌∷◌, map, length, refl, sym, arith}
 use Rattle.std.specs.Prelude.{FitsSigned, int_le, nat_le, sum_by}
 use Rattle.std.specs.Int.{w32}
 use Rattle.std.proofs.lemmas.Bool.Decides.{nat_tests}
@@ -11,7 +11,7 @@ use Rattle.coarray_types.specs.Coplaces.{HasCobounds}
 use Rattle.image_acts.specs.Statuses.{most_cells}
 use Rattle.image_acts.specs.Teams.{has_none}
 use Rattle.image_code.specs.declared.tables.Coarray.{Coarray}
-use Rattle.coarray_tables.specs.Start.{AreFew, HasFew, IsFew, first_own, own_size}
+use Rattle.coarray_tables.specs.Start.{AreFew, IsFew, first_own, own_size}
 use Rattle.coarray_tables.specs.Fits.{are_first_cobounds, are_fit, is_fit}
 
 both : (a b : Bool) → (a && b) ≡ true → (a ≡ true) × (b ≡ true)
