@@ -1,5 +1,5 @@
 -- What acts on coarrays do, by the definitions of this crate.
-use Rattle.std.proofs.Common.{◌≡◌, ◌∙◌, ℕ, zero, suc, ◌+◌, ◌-◌, ℤ, pos, Bool, true, false, ◌&&◌, cond, List, [], ◌∷◌, take, drop, length, refl, ap}
+use Rattle.std.proofs.Common.{◌≡◌, ℕ, zero, suc, ◌+◌, ◌-◌, ℤ, pos, Bool, true, false, ◌&&◌, cond, List, take, length, refl, ap}
 use Rattle.std.specs.Prelude.{Option, Some, None, ◌||◌, ◌==◌, not, nat_le, slice_get}
 use Rattle.std.proofs.Math.Path.{fun_ext}
 use Rattle.caf_base.specs.declared.value.Kind.TheVariants as kinds
@@ -60,7 +60,7 @@ owner_is c t (Some o) ss p =
 
 pub owner_agrees : (k rank corank : ℕ) (c : Core) → selector_effect (a.owner k rank corank) c
     ≡ taking_one c (λ t d. taking corank d (λ ss e. seeing 0 (place_size rank) e (λ ns. found_in
-        (owner_found (own_at e.coarrays k) (is_established e (made_team (own_at e.coarrays k)) (natural t)) (members e (natural t)) ss (place_in ns)) (λ i. giving (pos i) e))))
+    (owner_found (own_at e.coarrays k) (is_established e (made_team (own_at e.coarrays k)) (natural t)) (members e (natural t)) ss (place_in ns)) (λ i. giving (pos i) e))))
 owner_agrees k rank corank c =
     ap (taking_one c) (fun_ext (λ t. fun_ext (λ d. ap (taking corank d) (fun_ext (λ ss. fun_ext (λ e. ap (seeing 0 (place_size rank) e) (fun_ext (λ ns. owner_is e (natural t) (own_in e k) ss (place_in ns)))))))))
 

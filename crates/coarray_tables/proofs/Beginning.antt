@@ -1,15 +1,14 @@
 -- Coarrays that are there from the start.
-use Rattle.std.proofs.Common.{◌≡◌, ◌∙◌, ℕ, ℤ, pos, ◌+ℤ◌, ◌-ℤ◌, Bool, true, false, cond, List, [], ◌∷◌, refl, sym, ap, arith}
-use Rattle.std.specs.Prelude.{Option, Some, None}
+use Rattle.std.proofs.Common.{◌≡◌, ◌∙◌, ℤ, pos, ◌+ℤ◌, ◌-ℤ◌, Bool, false, cond, List, [], ◌∷◌, refl, sym, ap, arith}
+use Rattle.std.specs.Prelude.{Some, None}
 use Rattle.std.proofs.lemmas.Int.{ints}
 use Rattle.coarray_types.specs.Coplaces.{HasCobounds}
 use Rattle.image_acts.specs.Core.{Own}
-use Rattle.image_acts.specs.Frames.{pairs_in, pairs_numbers}
+use Rattle.image_acts.specs.Frames.{pairs_numbers}
 use Rattle.image_acts.specs.Owning.{lowers_in, extents_in}
 use Rattle.image_code.specs.declared.tables.Coarray.{Coarray}
 use Rattle.coarray_tables.specs.Owns.{own_of}
 use Rattle.coarray_tables.specs.Start.{cobound_numbers, first_own}
-use Rattle.coarray_tables.specs.declared.shape.Shape.{Shape}
 use Rattle.coarray_tables.proofs.Keeping.{pairs_again}
 
 extent_again : (l e : ℤ) → (((l +ℤ e) -ℤ pos 1) -ℤ l) +ℤ pos 1 ≡ e

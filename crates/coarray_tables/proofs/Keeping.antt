@@ -1,5 +1,5 @@
 -- Bounds as numbers, and coarrays as they are kept.
-use Rattle.std.proofs.Common.{◌≡◌, ◌∙◌, ℕ, zero, suc, ◌+◌, ◌-◌, ◌*◌, ◌/◌, ◌≤◌, min, ℤ, Bool, true, false, cond, List, [], ◌∷◌, map, take, length, refl, sym, ap, arith}
+use Rattle.std.proofs.Common.{◌≡◌, ◌∙◌, ℕ, zero, suc, ◌+◌, ◌-◌, ◌*◌, ◌/◌, ℤ, Bool, true, false, cond, List, [], ◌∷◌, take, length, refl, sym, ap, arith}
 use Rattle.std.specs.Prelude.{Option, Some, None, nat_le, slice_get, slice_set}
 use Rattle.std.specs.Option.{option_map}
 use Rattle.std.proofs.lemmas.List.{map-set}
@@ -45,7 +45,7 @@ noted_is ss new cells n k t bs cs bv cv p q e f =
     let a : Owned = record { coarrays = owns_of ss; cells = cells } in
     let s : Shape = record { bounds = bs; cobounds = cs; team = t } in
     let g : new ≡ slice_set ss k (Some s) =
-        f ∙ ap (λ (vs : List ℤ). slice_set ss k (Some (record { bounds = vs; cobounds = cv; team = t }))) p ∙ ap (λ (vs : List ℤ). slice_set ss k (Some (record { bounds = bs; cobounds = vs; team = t }))) q in
+    f ∙ ap (λ (vs : List ℤ). slice_set ss k (Some (record { bounds = vs; cobounds = cv; team = t }))) p ∙ ap (λ (vs : List ℤ). slice_set ss k (Some (record { bounds = bs; cobounds = vs; team = t }))) q in
     fitting (nat_le (cells + size_of (pairs_in bs)) most_cells) (cells + size_of (pairs_in bs)) n (λ m. with_own a k (Some o) m) e
     ∙ ap (λ (os : List (Option Own)). Some (record { coarrays = os; cells = n })) (sym (owns_set ss k (Some s)) ∙ ap owns_of (sym g))
 

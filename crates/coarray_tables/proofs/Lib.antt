@@ -4,3 +4,4 @@ mod Dims
 mod Allotments
 mod Beginning
 mod Agreeing
+mod Fitting

@@ -4,7 +4,7 @@ use Rattle.caf_events.specs.declared.round.Allotted.{Allotted}
 use Rattle.image_acts.specs.Core.{Own}
 use Rattle.image_acts.specs.Places.{dims_in}
 use Rattle.image_acts.specs.Words.{word, short}
-use Rattle.coarray_tables.specs.Owns.{own_at, last_from}
+use Rattle.coarray_tables.specs.Owns.{own_at}
 
 -- the dimensions of the span of a place: those of one cell are left out
 abbrev pub span_dims : List ℤ → List (ℕ × ℤ)

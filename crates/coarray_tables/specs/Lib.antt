@@ -4,3 +4,4 @@ pub mod Sections
 pub mod Asks
 pub mod Start
 pub mod Steps
+pub mod Fits

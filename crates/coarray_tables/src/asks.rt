@@ -10,8 +10,8 @@ ghost use Rattle.image_acts.specs.Operate.Asking.{span_of};
 ghost use Rattle.coarray_tables.specs.Owns.{own_at, own_of};
 ghost use Rattle.coarray_tables.specs.Asks.{allotment, allotted, allotted_as, span_dims};
 
-use crate::cobounds::last_lower;
 use crate::coarrays::Coarrays;
+use crate::cobounds::last_lower;
 use crate::shape::Shape;
 use array_places::bounds::cells_between;
 use array_places::place::{first_pair, natural};

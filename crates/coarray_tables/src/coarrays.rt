@@ -4,6 +4,7 @@ ghost use Rattle.std.specs.Prelude.{◌≡◌, ◌+◌, ◌*◌, ◌^◌, ◌<�
 ghost use Rattle.std.specs.Option.{option_map};
 ghost use Rattle.image_acts.specs.Frames.{pairs_in, pairs_numbers};
 ghost use Rattle.image_acts.specs.Operate.Allocating.{bounds_size, cobounds_size};
+ghost use Rattle.coarray_tables.specs.Steps.{made_team};
 ghost use Rattle.coarray_tables.specs.Owns.{own_at, own_of, owns_of, is_of_team, noted, noted_in, freed};
 
 use crate::few::Few;
@@ -62,6 +63,13 @@ impl Coarrays {
             Some(shape) => Some(shape.team),
             None => None,
         }
+    }
+
+    /// The same, 0 where it isn't allocated here.
+    pub fn made_team(&self, coarray: u32) -> u64
+        ensures { result ≡ made_team (own_at self.now.coarrays coarray) }
+    {
+        self.team_of(coarray).unwrap_or(0)
     }
 
     /// Whether it was allocated in this team.

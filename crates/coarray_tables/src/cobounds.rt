@@ -27,7 +27,7 @@ pub(crate) fn are_cobounds(cobounds: &[i64]) -> bool
 }
 
 /// Whether a number is one of kind 4.
-fn is_of_kind_4(number: &i64) -> bool
+pub(crate) fn is_of_kind_4(number: &i64) -> bool
     ensures { result ≡ fits_kind kinds.I4 number.now }
 {
     -2_147_483_648 <= *number && *number <= 2_147_483_647
@@ -89,7 +89,11 @@ fn digit_of(lower: &i64, subscript: &i64, width: u128) -> Option<u64>
         return None;
     }
     let digit = subscript.abs_diff(*lower);
-    if u128::from(digit) < width { Some(digit) } else { None }
+    if u128::from(digit) < width {
+        Some(digit)
+    } else {
+        None
+    }
 }
 
 /// A place among images with a digit more, or the largest number of 64 bits where it is larger.

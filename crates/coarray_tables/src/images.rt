@@ -19,10 +19,15 @@ use array_places::place::{cells_in, natural};
 
 /// The numbers of run faults.
 const BOUNDS: u32 = 3;
+
 const COBOUNDS: u32 = 5;
+
 const NOT_ALLOCATED: u32 = 6;
+
 const NOT_ESTABLISHED: u32 = 7;
+
 const CELLS: u32 = 9;
+
 const SHAPE: u32 = 12;
 
 /// The most cells of one access.
@@ -95,8 +100,8 @@ impl Coarrays {
     }
 
     /// The image that cosubscripts of a coarray name among the members of a team, for an access to the section at a place: its number in the run, 0 where the section
-    /// has no cells and they name none. Or the run fault that is found first: NotEstablished (the coarray isn't allocated here), CoBounds, NotEstablished (it was allocated in no
-    /// team in which it is then established, by `team_of`), Cells (more than 4,096).
+    /// has no cells and they name none. Or the run fault that is found first: NotEstablished (the coarray isn't allocated here), CoBounds, NotEstablished (by its `made_team` it isn't
+    /// established in the team), Cells (more than 4,096).
     pub fn owner(
         &self,
         coarray: u32,

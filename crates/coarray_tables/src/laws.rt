@@ -40,7 +40,7 @@ pub fn law_made_in_team()
 pub fn law_owner()
     ensures { (k rank corank : ℕ) (c : Core) → selector_effect (a.owner k rank corank) c
         ≡ taking_one c (λ t d. taking corank d (λ ss e. seeing 0 (place_size rank) e (λ ns. found_in
-            (owner_found (own_at e.coarrays k) (is_established e (made_team (own_at e.coarrays k)) (natural t)) (members e (natural t)) ss (place_in ns)) (λ i. giving (pos i) e)))) }
+        (owner_found (own_at e.coarrays k) (is_established e (made_team (own_at e.coarrays k)) (natural t)) (members e (natural t)) ss (place_in ns)) (λ i. giving (pos i) e)))) }
 {}
 
 /// ImageIndex gives what `image_index` finds.

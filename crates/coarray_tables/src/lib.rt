@@ -5,13 +5,14 @@
 //! a core, and nothing takes memory after the start but what asks hold.
 #![tactic(auto)]
 
+pub mod asks;
 pub mod coarrays;
 mod cobounds;
 mod few;
-pub mod laws;
+pub mod fits;
 pub mod images;
-pub mod asks;
+pub mod laws;
 pub mod plans;
 pub mod sections;
-mod start;
 mod shape;
+mod start;

@@ -62,7 +62,7 @@ fn cobound_numbers(lowers: &[i64], extents: &[i64]) -> Few
 }
 
 /// What is kept of a coarray that is there from the start.
-fn first_shape(coarray: &Coarray) -> Option<Shape>
+pub(crate) fn first_shape(coarray: &Coarray) -> Option<Shape>
     requires { IsFew coarray.now }
     ensures { option_map own_of result ≡ first_own coarray.now }
 {
