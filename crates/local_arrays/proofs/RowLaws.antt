@@ -1,18 +1,20 @@
 -- Laws of arrays in one row of cells.
-use Rattle.std.proofs.Common.{◌≡◌, ℕ, zero, suc, ◌+◌, ◌-◌, ◌<◌, ◌≤◌, ℤ, List, [], ◌∷◌, ◌++◌, take, drop, length, refl, ap, sym, ◌∙◌, arith, pos, replicate, append_assoc, slice_set, subst, Bool, true, false, cond}
-use Rattle.std.proofs.lemmas.List.{take-append-le, drop-append-le, length-take, length-drop, length-append, length-replicate, length-set, take-append-drop, leb-true}
+use Rattle.std.proofs.Common.{◌≡◌, ℕ, zero, suc, ◌+◌, ◌-◌, ◌<◌, ◌≤◌, ℤ, List, [], ◌∷◌, ◌++◌, take, drop, length, refl, ap, sym, ◌∙◌, arith, pos, replicate, append_assoc, slice_set, subst, Bool, true, false, cond, leb-true, le-leb, slice_index_or}
+use Rattle.std.proofs.lemmas.List.{take-append-le, drop-append-le, length-take, length-drop, length-append, length-replicate, length-set, take-append-drop, get_or-take, get_or-drop, replicate-append-replicate}
 use Rattle.std.proofs.lemmas.List.Sums.{sum_by-cons, sum_by_push}
+use Rattle.std.proofs.lemmas.Option.{slice_get-get_or, slice_get_past}
 use Rattle.std.proofs.Math.Seq.{take-append_seam, drop-append_seam}
 use Rattle.std.specs.Prelude.{slice_get, Option, Some, None, is_some, nat_le}
 use Rattle.caf_base.specs.Arithmetic.{natural}
+use Rattle.walk_theory.specs.Terms.{Found, found, at_fault}
 use Rattle.image_acts.specs.Core.{Local}
 use Rattle.image_acts.specs.Frames.{cells_in_arrays, local_size}
-use Rattle.image_acts.specs.Places.{Place, cells_of, offsets, elements_at, with_elements_at}
+use Rattle.image_acts.specs.Places.{Place, place_in, cells_of, offsets, elements_at, with_elements_at}
 use Rattle.image_acts.specs.Operate.Variables.{elements_there}
 use Rattle.local_arrays.specs.declared.bounds.Bounds.{Bounds}
 use Rattle.local_arrays.specs.declared.row.Info.{Info}
-use Rattle.local_arrays.specs.Arrays.{array_at, elements_of, overwritten, HasCells}
-use Rattle.local_arrays.specs.Rows.{Rowed, exchanged, locals_of, local_with, total_size, placed, IsWell, AreWell, Fit}
+use Rattle.local_arrays.specs.Arrays.{array_at, elements_of, values_of, loaded, overwritten, refilled, HasCells}
+use Rattle.local_arrays.specs.Rows.{Rowed, IsSpot, exchanged, locals_of, local_with, total_size, placed, IsWell, AreWell, Fit}
 
 pub locals_long : (cells : List ℤ) (is : List Info) → length (locals_of cells is) ≡ length is
 locals_long cells [] = refl
@@ -326,3 +328,224 @@ few_cells cells is k i p f e h =
     let w = within cells is k i f e in
     let s = f.small in
     omega arith
+
+-- an element
+same_cond : (b : Bool) → ◌≡◌ {A = Option (List ℤ)} (cond b None None) None
+same_cond true = refl
+same_cond false = refl
+
+past_end : (xs : List ℤ) (o : ℤ) → length xs ≤ natural o → values_of (elements_there (place_in (o ∷ [])) (record { bounds = []; elements = xs })) ≡ at_fault 12
+past_end xs o h = rw (slice_get_past xs (natural o) h, same_cond (nat_le 1 (length xs))) refl
+
+in_reach : (xs : List ℤ) (o : ℤ) → natural o < length xs → values_of (elements_there (place_in (o ∷ [])) (record { bounds = []; elements = xs })) ≡ found (slice_index_or xs (natural o) (pos 0) ∷ [])
+in_reach xs o h = rw (slice_get-get_or xs (natural o) (pos 0) h, le-leb 1 (length xs) (omega arith)) refl
+
+pub element_missing : (cells : List ℤ) (is : List Info) (k : ℕ) (i : Info) (o : ℤ) → Fit cells is → slice_get is k ≡ Some i → i.bounds ≡ None → loaded (array_at k (locals_of cells is)) (place_in (o ∷ [])) ≡ at_fault 6
+element_missing cells is k i o f e b = rw (found_at cells is k i f e, b) refl
+
+pub element_past : (cells : List ℤ) (is : List Info) (k : ℕ) (i : Info) (b : Bounds) (o : ℤ) → Fit cells is → slice_get is k ≡ Some i → i.bounds ≡ Some b → i.size ≤ natural o → loaded (array_at k (locals_of cells is)) (place_in (o ∷ [])) ≡ at_fault 12
+element_past cells is k i b o f e t h =
+    let l = part_long i.start i.size cells (within cells is k i f e) in
+    rw (found_at cells is k i f e, t) (past_end (take i.size (drop i.start cells)) o (omega arith))
+
+pub element_there : (cells : List ℤ) (is : List Info) (k : ℕ) (o : ℤ) (at : ℕ) → Fit cells is → IsSpot is k o at → loaded (array_at k (locals_of cells is)) (place_in (o ∷ [])) ≡ found (slice_index_or cells at (pos 0) ∷ [])
+element_there cells is k o at f s =
+    let i = s.info in
+    let l = part_long i.start i.size cells (within cells is k i f s.is_info) in
+    let a = s.inside in
+    rw (found_at cells is k i f s.is_info, s.is_there)
+    (in_reach (take i.size (drop i.start cells)) o (omega arith)
+     ∙ ap (λ v. found (v ∷ [])) (get_or-take i.size (drop i.start cells) (natural o) (pos 0) a ∙ get_or-drop i.start cells (natural o) (pos 0) ∙ ap (λ n. slice_index_or cells n (pos 0)) (sym s.is_at)))
+
+pub spot_within : (cells : List ℤ) (is : List Info) (k : ℕ) (o : ℤ) (at : ℕ) → Fit cells is → IsSpot is k o at → at < length cells
+spot_within cells is k o at f s =
+    let w = within cells is k s.info f s.is_info in
+    let a = s.inside in
+    let b = s.is_at in
+    omega arith
+
+pub spot_has : (cells : List ℤ) (is : List Info) (k : ℕ) (o : ℤ) (at : ℕ) → Fit cells is → IsSpot is k o at → HasCells (array_at k (locals_of cells is)) (place_in (o ∷ []))
+spot_has cells is k o at f s =
+    let i = s.info in
+    let xs = take i.size (drop i.start cells) in
+    let l = part_long i.start i.size cells (within cells is k i f s.is_info) in
+    let a = s.inside in
+    let h : natural o < length xs = omega arith in
+    let t : is_some (elements_there (place_in (o ∷ [])) (record { bounds = []; elements = xs })) ≡ true = rw (slice_get-get_or xs (natural o) (pos 0) h, le-leb 1 (length xs) (omega arith)) refl in
+    rw (found_at cells is k i f s.is_info, s.is_there) t
+
+pub spot_written : (cells cells' : List ℤ) (is : List Info) (k : ℕ) (o : ℤ) (at : ℕ) (v : ℤ) (s : IsSpot is k o at) → cells' ≡ slice_set cells at v
+    → cells' ≡ exchanged s.info.start s.info.size (with_elements_at (offsets (place_in (o ∷ []))) (v ∷ []) (take s.info.size (drop s.info.start cells))) cells
+spot_written cells cells' is k o at v s e = e ∙ ap (λ n. slice_set cells n v) s.is_at ∙ set_exchanged s.info.start s.info.size (natural o) v cells s.inside
+
+pub zeros_more : (xs ys : List ℤ) (i : ℕ) → xs ≡ ys ++ replicate i (pos 0) → xs ++ pos 0 ∷ [] ≡ ys ++ replicate (i + 1) (pos 0)
+zeros_more xs ys i e = ap (λ r. r ++ pos 0 ∷ []) e ∙ append_assoc ys (replicate i (pos 0)) (pos 0 ∷ []) ∙ ap (λ r. ys ++ r) (replicate-append-replicate i 1 (pos 0))
+
+-- a gap of zeros in the place of so many cells
+pub opened : (xs ys zs : List ℤ) (start n : ℕ) → start ≤ length xs → ys ≡ xs ++ replicate n (pos 0) → zs ≡ take start ys ++ (drop (length (drop start ys) - n) (drop start ys) ++ take (length (drop start ys) - n) (drop start ys)) → zs ≡ take start xs ++ (replicate n (pos 0) ++ drop start xs)
+opened xs ys zs start n h e f =
+    let z = replicate n (pos 0) in
+    let d : drop start ys ≡ drop start xs ++ z = ap (drop start) e ∙ drop-append-le start xs z h in
+    let t : take start ys ≡ take start xs = ap (take start) e ∙ take-append-le start xs z h in
+    let k : length (drop start xs ++ z) - n ≡ length (drop start xs) = (let a = length-append (drop start xs) z in let b = length-replicate n (pos 0) in omega arith) in
+    f ∙ ap (λ v. v ++ (drop (length (drop start ys) - n) (drop start ys) ++ take (length (drop start ys) - n) (drop start ys))) t
+    ∙ ap (λ w. take start xs ++ (drop (length w - n) w ++ take (length w - n) w)) d
+    ∙ ap (λ m. take start xs ++ (drop m (drop start xs ++ z) ++ take m (drop start xs ++ z))) k
+    ∙ ap (λ v. take start xs ++ (v ++ take (length (drop start xs)) (drop start xs ++ z))) (drop-append_seam (drop start xs) z)
+    ∙ ap (λ v. take start xs ++ (z ++ v)) (take-append_seam (drop start xs) z)
+
+pub gap_is : (xs ys zs : List ℤ) (start size n : ℕ) → start + size ≤ length xs → ys ≡ take start xs ++ drop (start + size) xs → zs ≡ take start ys ++ (replicate n (pos 0) ++ drop start ys) → zs ≡ exchanged start size (replicate n (pos 0)) xs
+gap_is xs ys zs start size n h e f =
+    let l : start ≡ length (take start xs) = (let a = length-take start xs in omega arith) in
+    f ∙ ap (λ v. take start v ++ (replicate n (pos 0) ++ drop start v)) e
+    ∙ ap (λ v. v ++ (replicate n (pos 0) ++ drop start (take start xs ++ drop (start + size) xs))) (front_is start (take start xs) (drop (start + size) xs) l)
+    ∙ ap (λ v. take start xs ++ (replicate n (pos 0) ++ v)) (back_is start (take start xs) (drop (start + size) xs) l)
+
+-- arrays behind one that is another are placed anew
+pub placed_turn : (is : List Info) (k : ℕ) (i : Info) (at : ℕ) → slice_get is k ≡ Some i
+    → take (k + 1) (slice_set is k (record i { start = at })) ++ placed (at + i.size) (drop (k + 1) (slice_set is k (record i { start = at }))) ≡ take k is ++ placed at (drop k is)
+placed_turn [] k i at e = absurd (cc)
+placed_turn (m ∷ is) zero i at e = (let a : m ≡ i = cc in ap (λ (x : Info). record x { start = at } ∷ placed (at + x.size) is) (sym a))
+placed_turn (m ∷ is) (suc k) i at e =
+    let z : suc k + 1 ≡ suc (k + 1) = omega arith in
+    let js = m ∷ slice_set is k (record i { start = at }) in
+    ap (λ n. take n js ++ placed (at + i.size) (drop n js)) z ∙ ap (λ xs. m ∷ xs) (placed_turn is k i at e)
+
+pub left_turn : (is : List Info) (k : ℕ) (i : Info) (j : Info) → slice_get is k ≡ Some i → i.size + total_size (drop (k + 1) (slice_set is k j)) ≡ total_size (drop k is)
+left_turn [] k i j e = absurd (cc)
+left_turn (m ∷ is) zero i j e = (let a : m ≡ i = cc in ap (λ (x : Info). x.size + total_size is) (sym a))
+left_turn (m ∷ is) (suc k) i j e =
+    let z : suc k + 1 ≡ suc (k + 1) = omega arith in
+    ap (λ n. i.size + total_size (drop n (m ∷ slice_set is k j))) z ∙ left_turn is k i j e
+
+pub placed_end : (is : List Info) (k at : ℕ) → length is ≤ k → take k is ++ placed at (drop k is) ≡ is
+placed_end [] zero at h = refl
+placed_end [] (suc k) at h = refl
+placed_end (i ∷ is) zero at h = absurd (omega arith)
+placed_end (i ∷ is) (suc k) at h = ap (λ xs. i ∷ xs) (placed_end is k at (omega arith))
+
+-- an array in the place of one, and those behind it placed anew
+placed_set : (s : ℕ) (is : List Info) (k : ℕ) (i j : Info) → is ≡ placed s is → slice_get is k ≡ Some i → j.start ≡ i.start
+    → take (k + 1) (slice_set is k j) ++ placed (j.start + j.size) (drop (k + 1) (slice_set is k j)) ≡ placed s (slice_set is k j)
+placed_set s [] k i j p e h = absurd (cc)
+placed_set s (m ∷ is) zero i j p e h =
+    let a : m ≡ i = cc in
+    let b : m ≡ record m { start = s } = cc in
+    let c = ap (λ (x : Info). x.start) a in
+    let d = ap (λ (x : Info). x.start) b in
+    let t : j.start ≡ s = omega arith in
+    ap (λ n. record j { start = n } ∷ placed (n + j.size) is) t
+placed_set s (m ∷ is) (suc k) i j p e h =
+    let b : m ≡ record m { start = s } = cc in
+    let q : is ≡ placed (s + m.size) is = cc in
+    let z : suc k + 1 ≡ suc (k + 1) = omega arith in
+    ap (λ n. take n (m ∷ slice_set is k j) ++ placed (j.start + j.size) (drop n (m ∷ slice_set is k j))) z
+    ∙ ap (λ xs. m ∷ xs) (placed_set (s + m.size) is k i j q e h)
+    ∙ ap (λ (x : Info). x ∷ placed (s + m.size) (slice_set is k j)) b
+
+placed_twice : (s : ℕ) (is : List Info) → placed s (placed s is) ≡ placed s is
+placed_twice s [] = refl
+placed_twice s (i ∷ is) = ap (λ xs. record i { start = s } ∷ xs) (placed_twice (s + i.size) is)
+
+placed_view : (s : ℕ) (cells : List ℤ) (is : List Info) → locals_of cells (placed s is) ≡ locals_of cells is
+placed_view s cells [] = refl
+placed_view s cells (i ∷ is) = ap (λ xs. local_with i.bounds (take i.size cells) ∷ xs) (placed_view (s + i.size) (drop i.size cells) is)
+
+placed_total : (s : ℕ) (is : List Info) → total_size (placed s is) ≡ total_size is
+placed_total s [] = refl
+placed_total s (i ∷ is) = ap (λ n. i.size + n) (placed_total (s + i.size) is)
+
+placed_well : (s : ℕ) (is : List Info) → AreWell is → AreWell (placed s is)
+placed_well s [] w = tt
+placed_well s (i ∷ is) w = (w.0, placed_well (s + i.size) is w.1)
+
+set_total : (is : List Info) (k : ℕ) (i j : Info) → slice_get is k ≡ Some i → total_size (slice_set is k j) + i.size ≡ total_size is + j.size
+set_total [] k i j e = absurd (cc)
+set_total (m ∷ is) zero i j e = (let a : m ≡ i = cc in let b = ap (λ (x : Info). x.size) a in omega arith)
+set_total (m ∷ is) (suc k) i j e = (let h = set_total is k i j e in omega arith)
+
+set_well : (is : List Info) (k : ℕ) (j : Info) → AreWell is → IsWell j.bounds j.size → AreWell (slice_set is k j)
+set_well [] k j w v = tt
+set_well (m ∷ is) zero j w v = (v, w.1)
+set_well (m ∷ is) (suc k) j w v = (w.0, set_well is k j w.1 v)
+
+pub drop_total : (is : List Info) (k : ℕ) → total_size (drop k is) ≤ total_size is
+drop_total is zero = omega arith
+drop_total [] (suc k) = omega arith
+drop_total (i ∷ is) (suc k) = (let h = drop_total is k in omega arith)
+
+pub reset_placed : (is js : List Info) (k : ℕ) (i j : Info) → is ≡ placed 0 is → slice_get is k ≡ Some i → j.start ≡ i.start
+    → js ≡ take (k + 1) (slice_set is k j) ++ placed (j.start + j.size) (drop (k + 1) (slice_set is k j)) → js ≡ placed 0 (slice_set is k j)
+reset_placed is js k i j p e h w = w ∙ placed_set 0 is k i j p e h
+
+pub reset_fit : (cells cells' : List ℤ) (is js : List Info) (k : ℕ) (i j : Info) → Fit cells is → slice_get is k ≡ Some i → IsWell j.bounds j.size
+    → cells' ≡ exchanged i.start i.size (replicate j.size (pos 0)) cells → js ≡ placed 0 (slice_set is k j) → length cells' < 4294967296 → Fit cells' js
+reset_fit cells cells' is js k i j f e v c w s =
+    let x = exchanged_long i.start i.size (replicate j.size (pos 0)) cells (within cells is k i f e) in
+    let z = length-replicate j.size (pos 0) in
+    let y = ap length c in
+    let t = set_total is k i j e in
+    let u = ap total_size w ∙ placed_total 0 (slice_set is k j) in
+    let g = f.full in
+    record {
+      placed = w ∙ sym (placed_twice 0 (slice_set is k j)) ∙ ap (placed 0) (sym w);
+      full = omega arith;
+      well = subst AreWell (sym w) (placed_well 0 (slice_set is k j) (set_well is k j f.well v));
+      small = s;
+    }
+
+pub reset_view : (cells cells' : List ℤ) (is js : List Info) (k : ℕ) (i j : Info) → Fit cells is → slice_get is k ≡ Some i
+    → cells' ≡ exchanged i.start i.size (replicate j.size (pos 0)) cells → js ≡ placed 0 (slice_set is k j) → locals_of cells' js ≡ slice_set (locals_of cells is) k (local_with j.bounds (replicate j.size (pos 0)))
+reset_view cells cells' is js k i j f e c w =
+    let s = front_at cells is k i f e in
+    let ys = replicate j.size (pos 0) in
+    ap (λ xs. locals_of cells' xs) w ∙ placed_view 0 cells' (slice_set is k j)
+    ∙ ap (λ cs. locals_of cs (slice_set is k j)) (c ∙ ap (λ n. exchanged n i.size ys cells) s)
+    ∙ spliced cells is k i j ys e f.full (sym (length-replicate j.size (pos 0)))
+
+-- how many cells there are with another array
+pub set_cells : (xs : List (Option Local)) (k : ℕ) (x v : Option Local) → slice_get xs k ≡ Some x → cells_in_arrays (slice_set xs k v) + local_size x ≡ cells_in_arrays xs + local_size v
+set_cells [] k x v e = absurd (cc)
+set_cells (y ∷ xs) zero x v e =
+    let a : y ≡ x = cc in
+    let b = ap local_size a in
+    let s = sum_by-cons local_size v xs in
+    let t = sum_by-cons local_size y xs in
+    omega arith
+set_cells (y ∷ xs) (suc k) x v e =
+    let h = set_cells xs k x v e in
+    let s = sum_by-cons local_size y (slice_set xs k v) in
+    let t = sum_by-cons local_size y xs in
+    omega arith
+
+pub reset_room : (cells : List ℤ) (is : List Info) (k : ℕ) (i : Info) (b : Option Bounds) (n m : ℕ) → Fit cells is → slice_get is k ≡ Some i → IsWell b n
+    → cells_in_arrays (slice_set (locals_of cells is) k (local_with b (replicate n (pos 0)))) ≤ m → length cells + n ≤ m + i.size
+reset_room cells is k i b n m f e w h =
+    let v = local_with b (replicate n (pos 0)) in
+    let x = local_with i.bounds (take i.size (drop (total_size (take k is)) cells)) in
+    let s = set_cells (locals_of cells is) k x v (local_at cells is k i e) in
+    let a = cells_all cells is f.well f.full in
+    let t = size_is b n (replicate n (pos 0)) w (sym (length-replicate n (pos 0))) in
+    let u = front_at cells is k i f e in
+    let r = part_long (total_size (take k is)) i.size cells (let q = within cells is k i f e in omega arith) in
+    let y = size_is i.bounds i.size (take i.size (drop (total_size (take k is)) cells)) (well_at is k i f.well e) (sym r) in
+    omega arith
+
+-- other elements, as many
+refill_is : (b : Option Bounds) (ws xs : List ℤ) → local_with b ws ≡ refilled ws (local_with b xs)
+refill_is None ws xs = refl
+refill_is (Some b) ws xs = refl
+
+pub same_size : (cells : List ℤ) (is : List Info) (k : ℕ) (i : Info) → Fit cells is → slice_get is k ≡ Some i → local_size (array_at k (locals_of cells is)) ≡ i.size
+same_size cells is k i f e = ap local_size (found_at cells is k i f e) ∙ size_is i.bounds i.size (take i.size (drop i.start cells)) (well_at is k i f.well e) (sym (part_long i.start i.size cells (within cells is k i f e)))
+
+pub refill_view : (cells cells' : List ℤ) (is : List Info) (k : ℕ) (i : Info) (ws : List ℤ) → Fit cells is → slice_get is k ≡ Some i → length ws ≡ i.size
+    → cells' ≡ exchanged i.start (length ws) ws cells → locals_of cells' is ≡ slice_set (locals_of cells is) k (refilled ws (array_at k (locals_of cells is)))
+refill_view cells cells' is k i ws f e l c =
+    ap (λ cs. locals_of cs is) (c ∙ ap (λ n. exchanged i.start n ws cells) l)
+    ∙ written_view cells is k i ws f e l
+    ∙ ap (λ x. slice_set (locals_of cells is) k x) (refill_is i.bounds ws (take i.size (drop i.start cells)) ∙ ap (λ x. refilled ws x) (sym (found_at cells is k i f e)))
+
+pub refill_fit : (cells cells' : List ℤ) (is : List Info) (k : ℕ) (i : Info) (ws : List ℤ) → Fit cells is → slice_get is k ≡ Some i → length ws ≡ i.size
+    → cells' ≡ exchanged i.start (length ws) ws cells → Fit cells' is
+refill_fit cells cells' is k i ws f e l c = subst (λ (cs : List ℤ). Fit cs is) (sym (c ∙ ap (λ n. exchanged i.start n ws cells) l)) (written_fit cells is k i ws f e l)

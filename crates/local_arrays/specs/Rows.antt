@@ -1,5 +1,6 @@
 -- Arrays in one row of cells, each behind the one before it.
-use Rattle.std.specs.Prelude.{ℕ, ◌+◌, ◌≡◌, ◌<◌, ◌≤◌, nat_lt, ℤ, List, [], ◌∷◌, ◌++◌, take, drop, length, Option, Some, None}
+use Rattle.std.specs.Prelude.{ℕ, ◌+◌, ◌≡◌, ◌<◌, ◌≤◌, nat_lt, ℤ, List, [], ◌∷◌, ◌++◌, take, drop, length, slice_get, Option, Some, None}
+use Rattle.caf_base.specs.Arithmetic.{natural}
 use Rattle.image_acts.specs.Core.{Local}
 use Rattle.image_acts.specs.Frames.{pairs_in}
 use Rattle.image_acts.specs.Places.{spread_of}
@@ -53,3 +54,12 @@ pub record Fit (cells : List ℤ) (infos : List Info) : Type 0 where
 -- the cells with others from a start on, in the place of so many
 abbrev pub exchanged : ℕ → ℕ → List ℤ → List ℤ → List ℤ
 exchanged start size ys cells = take start cells ++ (ys ++ drop (start + size) cells)
+
+-- the cell of an element of an array
+pub record IsSpot (infos : List Info) (k : ℕ) (offset : ℤ) (at : ℕ) : Type 0 where
+  pub info : Info
+  pub is_info : slice_get infos k ≡ Some info
+  pub there : Bounds
+  pub is_there : info.bounds ≡ Some there
+  pub is_at : at ≡ info.start + natural offset
+  pub inside : natural offset < info.size

@@ -1,16 +1,23 @@
 //! Arrays in one row of cells, kept dense.
 
-ghost use Rattle.std.specs.Prelude.{◌≡◌, ◌<◌, ◌≤◌, ◌+◌, ◌^◌, ◌∷◌, ◌++◌, [], ⊤, pos, take, drop, length, vec_capacity, slice_get, slice_set, replicate, is_some, Some, None, IfOk, IfSome, IfNone};
+ghost use Rattle.std.specs.Prelude.{◌≡◌, ◌<◌, ◌≤◌, ◌+◌, ◌^◌, ◌∷◌, ◌++◌, [], ⊤, pos, take, drop, length, vec_capacity, slice_get, slice_set, replicate, is_some, Some, None, IfOk, IfErr, OnOk, OnErr, IfSome, IfNone};
+ghost use Rattle.caf_base.specs.Arithmetic.{natural};
+ghost use Rattle.walk_theory.specs.Terms.{found, at_fault};
 ghost use Rattle.image_acts.specs.Core.{Local};
 ghost use Rattle.image_acts.specs.Frames.{cells_in_arrays, local_size};
 ghost use Rattle.image_acts.specs.Places.{place_in, offsets, cells_of, with_elements_at};
-ghost use Rattle.local_arrays.specs.Arrays.{array_at, elements_of, overwritten, refilled, HasCells};
-ghost use Rattle.local_arrays.specs.Rows.{Rowed, Fit, exchanged, locals_of, pairs_of, local_with, placed, total_size, IsWell};
+ghost use Rattle.local_arrays.specs.Arrays.{array_at, elements_of, loaded, overwritten, refilled, HasCells};
+ghost use Rattle.local_arrays.specs.Rows.{Rowed, Fit, IsSpot, exchanged, locals_of, pairs_of, local_with, placed, total_size, IsWell};
 
 use crate::bounds::Bounds;
 use array_places::elements::{fill, put};
 use std::alloc::{AllocError, Global};
 use std::marker::Model;
+
+/// The numbers of the run faults NotAllocated and Shape.
+const NOT_ALLOCATED: u32 = 6;
+
+const SHAPE: u32 = 12;
 
 /// An array: its bounds, where it is there; where its cells begin, and how many it has.
 #[derive(Clone, Copy)]
@@ -98,6 +105,32 @@ impl Row {
         self.infos.truncate(n);
     }
 
+    /// An element of an array, or the run fault NotAllocated or Shape.
+    #[inline(always)]
+    #[tactic(auto, using(crate::proofs::RowLaws::locals_long))]
+    pub fn element(&self, k: usize, offset: &i64) -> Result<i64, u32>
+        requires { k < length self.now.arrays }
+        ensures ok { IfOk result (λ v. loaded (array_at k self.now.arrays) (place_in (offset.now ∷ [])) ≡ found (v ∷ [])) }
+        ensures err { IfErr result (λ n. loaded (array_at k self.now.arrays) (place_in (offset.now ∷ [])) ≡ at_fault n) }
+    {
+        element_in(&self.cells, &self.infos, k, offset)
+    }
+
+    /// Gives an element of an array a value; else the run fault NotAllocated or Shape, and nothing is changed.
+    #[inline(always)]
+    #[tactic(auto, using(crate::proofs::RowLaws::locals_long))]
+    pub fn store(&mut self, k: usize, offset: &i64, value: &i64) -> Result<(), u32>
+        requires { k < length self.old.arrays }
+        ensures there { OnOk result (HasCells (array_at k self.old.arrays) (place_in (offset.now ∷ []))) }
+        ensures ok { OnOk result (self.new ≡ record { arrays = slice_set self.old.arrays k (overwritten (place_in (offset.now ∷ [])) (value.now ∷ []) (array_at k self.old.arrays)); most = self.old.most; size = self.old.size }) }
+        ensures err { IfErr result (λ n. loaded (array_at k self.old.arrays) (place_in (offset.now ∷ [])) ≡ at_fault n) }
+        ensures kept { OnErr result (self.new ≡ self.old) }
+    {
+        let at = spot(&self.cells, &self.infos, k, offset)?;
+        write(&mut self.cells, at, value);
+        Ok(())
+    }
+
     /// Gives each cell of a place of an array one value.
     #[tactic(auto, using(crate::proofs::RowLaws::locals_long))]
     pub fn fill(&mut self, k: usize, place: &[i64], value: &i64)
@@ -119,6 +152,36 @@ impl Row {
         let info = info_at(&self.infos, k);
         put_part(&mut self.cells, info.start, info.size, place, values);
     }
+
+    /// Puts an array of so many zeros with these bounds, or none, in the place of one. It takes no memory, as nothing here does.
+    #[tactic(auto, using(crate::proofs::RowLaws::locals_long))]
+    pub fn reset(&mut self, k: usize, bounds: Option<Bounds>, n: usize)
+        requires number { k < length self.old.arrays }
+        requires well { IsWell bounds n }
+        requires room { cells_in_arrays (slice_set self.old.arrays k (local_with bounds (replicate n (pos 0)))) ≤ self.old.size }
+        ensures { self.new ≡ record { arrays = slice_set self.old.arrays k (local_with bounds (replicate n (pos 0))); most = self.old.most; size = self.old.size } }
+    {
+        let info = info_at(&self.infos, k);
+        let start = info.start;
+        gap(&mut self.cells, start, info.size, n);
+        set_info(&mut self.infos, k, Info {
+            bounds,
+            start,
+            size: n,
+        });
+        place_behind(&mut self.infos, k + 1, start + n);
+    }
+
+    /// Gives an array as many other elements.
+    #[tactic(auto, using(crate::proofs::RowLaws::locals_long))]
+    pub fn refill(&mut self, k: usize, values: &[i64])
+        requires number { k < length self.old.arrays }
+        requires as_many { local_size (array_at k self.old.arrays) ≡ length values.now }
+        ensures { self.new ≡ record { arrays = slice_set self.old.arrays k (refilled values.now (array_at k self.old.arrays)); most = self.old.most; size = self.old.size } }
+    {
+        let info = info_at(&self.infos, k);
+        copy_part(&mut self.cells, info.start, values);
+    }
 }
 
 /// The array with this number.
@@ -137,6 +200,48 @@ fn part(cells: &[i64], start: usize, size: usize) -> &[i64]
     ensures { result.now ≡ take size (drop start cells.now) }
 {
     &cells[start..start + size]
+}
+
+/// The cell of an element of an array, or the run fault NotAllocated or Shape.
+#[inline(always)]
+#[tactic(auto, using(crate::proofs::RowLaws::within, crate::proofs::RowLaws::element_missing, crate::proofs::RowLaws::element_past))]
+fn spot(cells: &[i64], infos: &[Info], k: usize, offset: &i64) -> Result<usize, u32>
+    requires fit { Fit cells.now infos.now }
+    requires number { k < length infos.now }
+    ensures ok { IfOk result (λ at. IsSpot infos.now k offset.now at) }
+    ensures err { IfErr result (λ n. loaded (array_at k (locals_of cells.now infos.now)) (place_in (offset.now ∷ [])) ≡ at_fault n) }
+{
+    let _cells = cells;
+    let info = info_at(infos, k);
+    let Some(_) = info.bounds else {
+        return Err(NOT_ALLOCATED);
+    };
+    let at = natural(offset);
+    if at >= info.size {
+        return Err(SHAPE);
+    }
+    Ok(info.start + at)
+}
+
+/// A number, or 0 for one below 0.
+#[inline(always)]
+fn natural(v: &i64) -> usize
+    ensures { result ≡ natural v.now }
+{
+    if *v < 0 { 0 } else { *v as usize }
+}
+
+/// An element of an array, or the run fault NotAllocated or Shape.
+#[inline(always)]
+#[tactic(auto, using(crate::proofs::RowLaws::spot_within, crate::proofs::RowLaws::element_there))]
+fn element_in(cells: &[i64], infos: &[Info], k: usize, offset: &i64) -> Result<i64, u32>
+    requires fit { Fit cells.now infos.now }
+    requires number { k < length infos.now }
+    ensures ok { IfOk result (λ v. loaded (array_at k (locals_of cells.now infos.now)) (place_in (offset.now ∷ [])) ≡ found (v ∷ [])) }
+    ensures err { IfErr result (λ n. loaded (array_at k (locals_of cells.now infos.now)) (place_in (offset.now ∷ [])) ≡ at_fault n) }
+{
+    let at = spot(cells, infos, k, offset)?;
+    Ok(cells[at])
 }
 
 /// The elements of an array, where it is there.
@@ -185,10 +290,85 @@ fn copy_part(cells: &mut Vec<i64>, start: usize, values: &[i64])
 
 /// Writes one cell.
 #[inline(always)]
-fn write(cells: &mut Vec<i64>, at: usize, v: i64)
+fn write(cells: &mut Vec<i64>, at: usize, v: &i64)
     requires { at < length cells.old.items }
-    ensures items { cells.new.items ≡ slice_set cells.old.items at v }
+    ensures items { cells.new.items ≡ slice_set cells.old.items at v.now }
     ensures capacity { vec_capacity cells.new ≡ vec_capacity cells.old }
 {
-    cells[at] = v;
+    cells[at] = *v;
+}
+
+/// Takes so many cells away from this place on.
+fn close_gap(cells: &mut Vec<i64>, start: usize, size: usize)
+    requires { start + size ≤ length cells.old.items }
+    ensures items { cells.new.items ≡ take start cells.old.items ++ drop (start + size) cells.old.items }
+    ensures capacity { vec_capacity cells.new ≡ vec_capacity cells.old }
+{
+    let end = cells.len();
+    cells.copy_within(start + size..end, start);
+    cells.truncate(end - size);
+}
+
+/// Puts so many zeros behind, in room that is there.
+fn add_zeros(cells: &mut Vec<i64>, n: usize)
+    requires { length cells.old.items + n ≤ vec_capacity cells.old }
+    ensures items { cells.new.items ≡ cells.old.items ++ replicate n (pos 0) }
+    ensures capacity { vec_capacity cells.new ≡ vec_capacity cells.old }
+{
+    for i in 0..n {
+        let _ = i;
+        cells.push_reserved(0);
+    }
+}
+
+/// Puts so many zeros in from this place on.
+fn open_gap(cells: &mut Vec<i64>, start: usize, n: usize)
+    requires within { start ≤ length cells.old.items }
+    requires room { length cells.old.items + n ≤ vec_capacity cells.old }
+    ensures items { cells.new.items ≡ take start cells.old.items ++ (replicate n (pos 0) ++ drop start cells.old.items) }
+    ensures capacity { vec_capacity cells.new ≡ vec_capacity cells.old }
+{
+    add_zeros(cells, n);
+    cells[start..].rotate_right(n);
+}
+
+/// Puts so many zeros in the place of so many cells from a start on.
+#[tactic(auto, using(crate::proofs::RowLaws::gap_is))]
+fn gap(cells: &mut Vec<i64>, start: usize, size: usize, n: usize)
+    requires within { start + size ≤ length cells.old.items }
+    requires room { length cells.old.items + n ≤ vec_capacity cells.old + size }
+    ensures items { cells.new.items ≡ exchanged start size (replicate n (pos 0)) cells.old.items }
+    ensures capacity { vec_capacity cells.new ≡ vec_capacity cells.old }
+{
+    close_gap(cells, start, size);
+    open_gap(cells, start, n);
+}
+
+/// Puts another array into a row.
+fn set_info(infos: &mut Vec<Info>, k: usize, info: Info)
+    requires { k < length infos.old.items }
+    ensures items { infos.new.items ≡ slice_set infos.old.items k info }
+    ensures capacity { vec_capacity infos.new ≡ vec_capacity infos.old }
+{
+    infos[k] = info;
+}
+
+/// Lets the arrays from this one on stand one behind the other, the first one at a start.
+fn place_behind(infos: &mut Vec<Info>, from: usize, start: usize)
+    requires within { from ≤ length infos.old.items }
+    requires small { start + total_size (drop from infos.old.items) < 2 ^ 64 }
+    ensures items { infos.new.items ≡ take from infos.old.items ++ placed start (drop from infos.old.items) }
+    ensures capacity { vec_capacity infos.new ≡ vec_capacity infos.old }
+{
+    let mut at = start;
+    let n = infos.len();
+    for k in from..n {
+        let info = info_at(infos, k);
+        set_info(infos, k, Info {
+            bounds: info.bounds,
+            start: at,
+            size: info.size,
+        });
+        at += info.size;
+    }
 }
