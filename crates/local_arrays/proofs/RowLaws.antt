@@ -125,9 +125,9 @@ spliced cells (m ∷ is) (suc k) i j ys e t l =
     let d : total_size is ≡ length (drop m.size cells) = (let x = length-drop m.size cells in omega arith) in
     let w : (m.size + n) + i.size ≡ m.size + (n + i.size) = omega arith in
     let whole : take (m.size + n) cells ++ (ys ++ drop ((m.size + n) + i.size) cells) ≡ front ++ rest
-        = ap (λ x. x ++ (ys ++ drop ((m.size + n) + i.size) cells)) (take_parts m.size n cells)
-        ∙ append_assoc front (take n (drop m.size cells)) (ys ++ drop ((m.size + n) + i.size) cells)
-        ∙ ap (λ q. front ++ (take n (drop m.size cells) ++ (ys ++ q))) (ap (λ q. drop q cells) w ∙ sym (drop_twice m.size (n + i.size) cells)) in
+    = ap (λ x. x ++ (ys ++ drop ((m.size + n) + i.size) cells)) (take_parts m.size n cells)
+    ∙ append_assoc front (take n (drop m.size cells)) (ys ++ drop ((m.size + n) + i.size) cells)
+    ∙ ap (λ q. front ++ (take n (drop m.size cells) ++ (ys ++ q))) (ap (λ q. drop q cells) w ∙ sym (drop_twice m.size (n + i.size) cells)) in
     ap (λ cs. locals_of cs (m ∷ slice_set is k j)) whole
     ∙ ap (λ v. local_with m.bounds v ∷ locals_of (drop m.size (front ++ rest)) (slice_set is k j)) (front_is m.size front rest f)
     ∙ ap (λ v. local_with m.bounds front ∷ locals_of v (slice_set is k j)) (back_is m.size front rest f)
@@ -355,7 +355,7 @@ element_there cells is k o at f s =
     let a = s.inside in
     rw (found_at cells is k i f s.is_info, s.is_there)
     (in_reach (take i.size (drop i.start cells)) o (omega arith)
-     ∙ ap (λ v. found (v ∷ [])) (get_or-take i.size (drop i.start cells) (natural o) (pos 0) a ∙ get_or-drop i.start cells (natural o) (pos 0) ∙ ap (λ n. slice_index_or cells n (pos 0)) (sym s.is_at)))
+    ∙ ap (λ v. found (v ∷ [])) (get_or-take i.size (drop i.start cells) (natural o) (pos 0) a ∙ get_or-drop i.start cells (natural o) (pos 0) ∙ ap (λ n. slice_index_or cells n (pos 0)) (sym s.is_at)))
 
 pub spot_within : (cells : List ℤ) (is : List Info) (k : ℕ) (o : ℤ) (at : ℕ) → Fit cells is → IsSpot is k o at → at < length cells
 spot_within cells is k o at f s =
@@ -549,3 +549,14 @@ refill_view cells cells' is k i ws f e l c =
 pub refill_fit : (cells cells' : List ℤ) (is : List Info) (k : ℕ) (i : Info) (ws : List ℤ) → Fit cells is → slice_get is k ≡ Some i → length ws ≡ i.size
     → cells' ≡ exchanged i.start (length ws) ws cells → Fit cells' is
 refill_fit cells cells' is k i ws f e l c = subst (λ (cs : List ℤ). Fit cs is) (sym (c ∙ ap (λ n. exchanged i.start n ws cells) l)) (written_fit cells is k i ws f e l)
+
+pub placed_from : (is js ks : List Info) (k : ℕ) (j : Info) → js ≡ slice_set is k j → ks ≡ take (k + 1) js ++ placed (j.start + j.size) (drop (k + 1) js)
+    → ks ≡ take (k + 1) (slice_set is k j) ++ placed (j.start + j.size) (drop (k + 1) (slice_set is k j))
+placed_from is js ks k j e f = f ∙ ap (λ xs. take (k + 1) xs ++ placed (j.start + j.size) (drop (k + 1) xs)) e
+
+pub reset_small : (cells cells' : List ℤ) (start size n cap : ℕ) → start + size ≤ length cells → cells' ≡ exchanged start size (replicate n (pos 0)) cells → length cells + n ≤ cap + size → cap < 4294967296 → length cells' < 4294967296
+reset_small cells cells' start size n cap w c r s =
+    let x = exchanged_long start size (replicate n (pos 0)) cells w in
+    let z = length-replicate n (pos 0) in
+    let y = ap length c in
+    omega arith

@@ -36,10 +36,15 @@ abbrev pub placed : ℕ → List Info → List Info
 placed s [] = []
 placed s (i ∷ is) = record i { start = s } ∷ placed (s + i.size) is
 
--- bounds are three pairs at most, and it is noted whether 64 bits hold the places in them; what isn't there has no cells
+-- three pairs at most, of which it is noted whether 64 bits hold the places in them
+pub record AreBounds (b : Bounds) : Type 0 where
+  pub few : b.len ≤ 6
+  pub noted : b.has_places ≡ nat_lt (spread_of (pairs_of b)) 9223372036854775808
+
+-- what is there has such bounds, and what isn't has no cells
 abbrev pub IsWell : Option Bounds → ℕ → Type 0
 IsWell None n = n ≡ 0
-IsWell (Some b) n = (b.len ≤ 6) × (b.has_places ≡ nat_lt (spread_of (pairs_of b)) 9223372036854775808)
+IsWell (Some b) n = AreBounds b
 
 abbrev pub AreWell : List Info → Type 0
 AreWell [] = Unit {0}

@@ -164,11 +164,15 @@ impl Row {
         let info = info_at(&self.infos, k);
         let start = info.start;
         gap(&mut self.cells, start, info.size, n);
-        set_info(&mut self.infos, k, Info {
-            bounds,
-            start,
-            size: n,
-        });
+        set_info(
+            &mut self.infos,
+            k,
+            Info {
+                bounds,
+                start,
+                size: n,
+            },
+        );
         place_behind(&mut self.infos, k + 1, start + n);
     }
 
@@ -364,11 +368,15 @@ fn place_behind(infos: &mut Vec<Info>, from: usize, start: usize)
     let n = infos.len();
     for k in from..n {
         let info = info_at(infos, k);
-        set_info(infos, k, Info {
-            bounds: info.bounds,
-            start: at,
-            size: info.size,
-        });
+        set_info(
+            infos,
+            k,
+            Info {
+                bounds: info.bounds,
+                start: at,
+                size: info.size,
+            },
+        );
         at += info.size;
     }
 }

@@ -21,9 +21,10 @@ fill_part-requires-clause-few c =
 
 pub invariant_of-self : goal.invariant_of-self
 invariant_of-self c =
-    let e : slice_get c.self.inside.infos.items c.args.k ≡ Some c.info_at-info.result = ap (λ (xs : List Info). slice_get xs c.args.k) (sym c.deref.ensures.value) ∙ c.info_at-info.ensures in
-    (over_fit c.self.inside.cells.items c.fill_part.new.cells.items c.self.inside.infos.items c.args.k c.info_at-info.result (place_in c.args.place.now) (replicate (length (offsets (place_in c.args.place.now))) c.args.value.now) c.self.invariant.0 e c.fill_part.ensures.items,
-     subst (λ (n : ℕ). n < 4294967296) (sym c.fill_part.ensures.capacity) c.self.invariant.1)
+    let e : slice_get c.self.inside.infos.items c.args.k ≡ Some c.info_at-info.result = ap (λ (xs : List Info). slice_get xs c.args.k) (sym c.deref.ensures.value) ∙ c.info_at-info.ensures in (
+      over_fit c.self.inside.cells.items c.fill_part.new.cells.items c.self.inside.infos.items c.args.k c.info_at-info.result (place_in c.args.place.now) (replicate (length (offsets (place_in c.args.place.now))) c.args.value.now) c.self.invariant.0 e c.fill_part.ensures.items,
+      subst (λ (n : ℕ). n < 4294967296) (sym c.fill_part.ensures.capacity) c.self.invariant.1,
+    )
 
 pub returns : goal.returns
 returns c =

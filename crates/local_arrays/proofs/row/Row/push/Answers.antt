@@ -15,9 +15,11 @@ push_reserved-requires c =
 
 pub invariant_of-self : goal.invariant_of-self
 invariant_of-self c =
-    let v : vec_len c.self.inside.cells ≡ length c.self.inside.cells.items = search rules in
-    (pushed_fit c.self.inside.cells.items c.self.inside.infos.items c.push_reserved.new.self.items c.self.invariant.0
-     (c.push_reserved.ensures.items ∙ ap (λ n. c.self.inside.infos.items ++ none_at n ∷ []) (c.len-start.ensures ∙ v)), c.self.invariant.1)
+    let v : vec_len c.self.inside.cells ≡ length c.self.inside.cells.items = search rules in (
+      pushed_fit c.self.inside.cells.items c.self.inside.infos.items c.push_reserved.new.self.items c.self.invariant.0
+          (c.push_reserved.ensures.items ∙ ap (λ n. c.self.inside.infos.items ++ none_at n ∷ []) (c.len-start.ensures ∙ v)),
+      c.self.invariant.1,
+    )
 
 pub returns : goal.returns
 returns c =

@@ -14,10 +14,11 @@ write-requires c =
 
 pub invariant_of-self : goal.invariant_of-self
 invariant_of-self c =
-    let s = subst (λ (xs : List Info). IsSpot xs c.args.k c.args.offset.now c.in_ok-at.at) c.deref-2.ensures.value c.in_ok-at.ensures.ok in
-    (over_fit c.self.inside.cells.items c.write.new.cells.items c.self.inside.infos.items c.args.k s.info (place_in (c.args.offset.now ∷ [])) (c.args.value.now ∷ []) c.self.invariant.0 s.is_info
-     (spot_written c.self.inside.cells.items c.write.new.cells.items c.self.inside.infos.items c.args.k c.args.offset.now c.in_ok-at.at c.args.value.now s c.write.ensures.items),
-     subst (λ (n : ℕ). n < 4294967296) (sym c.write.ensures.capacity) c.self.invariant.1)
+    let s = subst (λ (xs : List Info). IsSpot xs c.args.k c.args.offset.now c.in_ok-at.at) c.deref-2.ensures.value c.in_ok-at.ensures.ok in (
+      over_fit c.self.inside.cells.items c.write.new.cells.items c.self.inside.infos.items c.args.k s.info (place_in (c.args.offset.now ∷ [])) (c.args.value.now ∷ []) c.self.invariant.0 s.is_info
+          (spot_written c.self.inside.cells.items c.write.new.cells.items c.self.inside.infos.items c.args.k c.args.offset.now c.in_ok-at.at c.args.value.now s c.write.ensures.items),
+      subst (λ (n : ℕ). n < 4294967296) (sym c.write.ensures.capacity) c.self.invariant.1,
+    )
 
 pub returns-clause-there : goal.returns-clause-there
 returns-clause-there c =

@@ -7,9 +7,10 @@ use Rattle.local_arrays.proofs.row.Row.truncate.Goals as goal
 
 pub invariant_of-self : goal.invariant_of-self
 invariant_of-self c =
-    let e : slice_get c.self.inside.infos.items c.args.n ≡ Some c.info_at-start.result = ap (λ (xs : List Info). slice_get xs c.args.n) (sym c.deref.ensures.value) ∙ c.info_at-start.ensures in
-    (truncated_fit c.self.inside.cells.items c.truncate.new.self.items c.self.inside.infos.items c.truncate-2.new.self.items c.args.n c.info_at-start.result c.self.invariant.0 e c.truncate.ensures.items c.truncate-2.ensures.items,
-     subst (λ (n : ℕ). n < 4294967296) (sym c.truncate.ensures.capacity) c.self.invariant.1)
+    let e : slice_get c.self.inside.infos.items c.args.n ≡ Some c.info_at-start.result = ap (λ (xs : List Info). slice_get xs c.args.n) (sym c.deref.ensures.value) ∙ c.info_at-start.ensures in (
+      truncated_fit c.self.inside.cells.items c.truncate.new.self.items c.self.inside.infos.items c.truncate-2.new.self.items c.args.n c.info_at-start.result c.self.invariant.0 e c.truncate.ensures.items c.truncate-2.ensures.items,
+      subst (λ (n : ℕ). n < 4294967296) (sym c.truncate.ensures.capacity) c.self.invariant.1,
+    )
 
 pub returns : goal.returns
 returns c =
