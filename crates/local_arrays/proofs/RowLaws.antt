@@ -14,7 +14,7 @@ use Rattle.image_acts.specs.Operate.Variables.{elements_there}
 use Rattle.local_arrays.specs.declared.bounds.Bounds.{Bounds}
 use Rattle.local_arrays.specs.declared.row.Info.{Info}
 use Rattle.local_arrays.specs.Arrays.{array_at, elements_of, values_of, loaded, overwritten, refilled, HasCells}
-use Rattle.local_arrays.specs.Rows.{Rowed, IsSpot, exchanged, locals_of, local_with, total_size, placed, IsWell, AreWell, Fit}
+use Rattle.local_arrays.specs.Rows.{Rowed, IsSpot, exchanged, locals_of, local_with, pairs_of, total_size, placed, AreBounds, IsWell, AreWell, Fit}
 
 pub locals_long : (cells : List ℤ) (is : List Info) → length (locals_of cells is) ≡ length is
 locals_long cells [] = refl
@@ -560,3 +560,13 @@ reset_small cells cells' start size n cap w c r s =
     let z = length-replicate n (pos 0) in
     let y = ap length c in
     omega arith
+
+-- the bounds of an array
+pub bounds_there : (is : List Info) (k : ℕ) (i : Info) (b : Bounds) → AreWell is → slice_get is k ≡ Some i → i.bounds ≡ Some b → AreBounds b
+bounds_there is k i b w e t = subst (λ (o : Option Bounds). IsWell o i.size) t (well_at is k i w e)
+
+pub missing_local : (cells : List ℤ) (is : List Info) (k : ℕ) (i : Info) → Fit cells is → slice_get is k ≡ Some i → i.bounds ≡ None → array_at k (locals_of cells is) ≡ None
+missing_local cells is k i f e t = found_at cells is k i f e ∙ ap (λ (b : Option Bounds). local_with b (take i.size (drop i.start cells))) t
+
+pub there_local : (cells : List ℤ) (is : List Info) (k : ℕ) (i : Info) (b : Bounds) → Fit cells is → slice_get is k ≡ Some i → i.bounds ≡ Some b → array_at k (locals_of cells is) ≡ Some (record { bounds = pairs_of b; elements = take i.size (drop i.start cells) })
+there_local cells is k i b f e t = found_at cells is k i f e ∙ ap (λ (o : Option Bounds). local_with o (take i.size (drop i.start cells))) t

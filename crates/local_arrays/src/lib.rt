@@ -3,5 +3,7 @@
 //! Its main contract: it is a list of frames, each with its arrays as `image_acts` has them, and no change of it takes memory.
 #![tactic(auto)]
 
+pub mod arrays;
 pub mod bounds;
 pub mod row;
+mod slot;

@@ -4,18 +4,20 @@ ghost use Rattle.std.specs.Prelude.{◌≡◌, ◌<◌, ◌≤◌, ◌+◌, ◌^
 ghost use Rattle.caf_base.specs.Arithmetic.{natural};
 ghost use Rattle.walk_theory.specs.Terms.{found, at_fault};
 ghost use Rattle.image_acts.specs.Core.{Local};
-ghost use Rattle.image_acts.specs.Frames.{cells_in_arrays, local_size};
-ghost use Rattle.image_acts.specs.Places.{place_in, offsets, cells_of, with_elements_at};
-ghost use Rattle.local_arrays.specs.Arrays.{array_at, elements_of, loaded, overwritten, refilled, HasCells};
+ghost use Rattle.image_acts.specs.Frames.{cells_in_arrays, local_size, pairs_in};
+ghost use Rattle.image_acts.specs.Places.{place_in, offsets, cells_of, with_elements_at, subscripts_in, digits};
+ghost use Rattle.array_places.specs.Sections.{numbers_of};
+ghost use Rattle.local_arrays.specs.Arrays.{array_at, bounds_in, place_found, elements_of, loaded, overwritten, refilled, HasCells};
 ghost use Rattle.local_arrays.specs.Rows.{Rowed, Fit, IsSpot, exchanged, locals_of, pairs_of, local_with, placed, total_size, IsWell};
 
 use crate::bounds::Bounds;
 use array_places::elements::{fill, put};
+use array_places::list::PlaceNumbers;
 use std::alloc::{AllocError, Global};
 use std::marker::Model;
 
 /// The numbers of the run faults NotAllocated and Shape.
-const NOT_ALLOCATED: u32 = 6;
+pub(crate) const NOT_ALLOCATED: u32 = 6;
 
 const SHAPE: u32 = 12;
 
@@ -103,6 +105,40 @@ impl Row {
         let start = info_at(&self.infos, n).start;
         self.cells.truncate(start);
         self.infos.truncate(n);
+    }
+
+    /// Whether an array is there.
+    pub fn is_there(&self, k: usize) -> bool
+        requires { k < length self.now.arrays }
+        ensures { result ≡ is_some (array_at k self.now.arrays) }
+    {
+        self.elements(k).is_some()
+    }
+
+    /// The bounds of an array, where it is there: a lower and an upper one for each dimension.
+    #[tactic(auto, using(crate::proofs::RowLaws::locals_long))]
+    pub fn bounds(&self, k: usize) -> Option<&[i64]>
+        requires { k < length self.now.arrays }
+        ensures some { IfSome result (λ ns. bounds_in (array_at k self.now.arrays) ≡ Some (pairs_in ns.now)) }
+        ensures none { IfNone result (array_at k self.now.arrays ≡ None) }
+    {
+        match &info_of(&self.infos, k).bounds {
+            None => None,
+            Some(bounds) => Some(bounds.as_slice()),
+        }
+    }
+
+    /// The numbers of the place of an element or a section of an array, by a form and the numbers of its subscripts; or the run fault that is found first.
+    #[tactic(auto, using(crate::proofs::RowLaws::locals_long))]
+    pub fn section(&self, k: usize, form: u32, numbers: &[i64]) -> Result<PlaceNumbers, u32>
+        requires { k < length self.now.arrays }
+        ensures found { IfOk result (λ p. numbers_of (place_found (array_at k self.now.arrays) (subscripts_in (digits form) numbers.now)) ≡ found p) }
+        ensures faults { IfErr result (λ n. numbers_of (place_found (array_at k self.now.arrays) (subscripts_in (digits form) numbers.now)) ≡ at_fault n) }
+    {
+        match &info_of(&self.infos, k).bounds {
+            None => Err(NOT_ALLOCATED),
+            Some(bounds) => bounds.place(form, numbers),
+        }
     }
 
     /// An element of an array, or the run fault NotAllocated or Shape.
@@ -195,6 +231,14 @@ fn info_at(infos: &[Info], k: usize) -> Info
     ensures { slice_get infos.now k ≡ Some result }
 {
     infos[k]
+}
+
+/// The same behind a reference.
+fn info_of(infos: &[Info], k: usize) -> &Info
+    requires { k < length infos.now }
+    ensures { slice_get infos.now k ≡ Some result.now }
+{
+    &infos[k]
 }
 
 /// So many cells from a start on.

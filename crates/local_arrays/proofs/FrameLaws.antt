@@ -1,0 +1,144 @@
+-- Laws of frames in a row of arrays.
+use Rattle.std.proofs.Common.{◌≡◌, ℕ, zero, suc, ◌+◌, ◌-◌, ◌<◌, ◌≤◌, List, [], ◌∷◌, ◌++◌, take, drop, length, refl, ap, sym, ◌∙◌, arith, replicate, append_assoc, slice_set, subst}
+use Rattle.std.proofs.lemmas.List.{drop-set-lt, take-set-le, drop-set-add, length-take, length-drop, length-append, length-replicate, length-set, reverse-append}
+use Rattle.std.proofs.lemmas.List.Sums.{sum_by-cons, sum_by-append}
+use Rattle.std.proofs.lemmas.Option.{slice_get_past, slice_get_within}
+use Rattle.std.proofs.Math.Seq.{take-set-lt, take-append_seam, drop-append_seam}
+use Rattle.std.specs.Prelude.{slice_get, Option, Some, None, reverse}
+use Rattle.image_acts.specs.Acts.{Scope, here, host}
+use Rattle.image_acts.specs.Core.{Local}
+use Rattle.image_acts.specs.Frames.{joined, cells_in_arrays, cells_in_frames, local_size}
+use Rattle.local_arrays.specs.Arrays.{array_at}
+use Rattle.local_arrays.specs.Frames.{Framed, count_of, front_of, main_of, with_front, with_main, arrays_of, with_arrays, array_of, with_array, frames_of, base_of, Nested, SlotIs, NoSlot}
+
+-- there is always a frame
+main_behind : {X : Type 0} (bs : List ℕ) (f : List X) (xs : List X) → main_of (f ∷ frames_of bs xs) ≡ main_of (frames_of bs xs)
+main_behind [] f xs = refl
+main_behind (b ∷ bs) f xs = refl
+
+with_main_behind : {X : Type 0} (bs : List ℕ) (f g : List X) (xs : List X) → with_main f (g ∷ frames_of bs xs) ≡ g ∷ with_main f (frames_of bs xs)
+with_main_behind [] f g xs = refl
+with_main_behind (b ∷ bs) f g xs = refl
+
+get_behind : {X : Type 0} (b x : ℕ) (xs : List X) → slice_get (drop b xs) x ≡ slice_get xs (b + x)
+get_behind zero x xs = (let e : 0 + x ≡ x = omega arith in ap (λ n. slice_get xs n) (sym e))
+get_behind (suc b) x [] = refl
+get_behind (suc b) x (y ∷ xs) = (let e : suc b + x ≡ suc (b + x) = omega arith in get_behind b x xs ∙ ap (λ n. slice_get (y ∷ xs) n) (sym e))
+
+get_front : {X : Type 0} (b x : ℕ) (xs : List X) → x < b → slice_get (take b xs) x ≡ slice_get xs x
+get_front zero x xs h = absurd (omega arith)
+get_front (suc b) x [] h = refl
+get_front (suc b) zero (y ∷ xs) h = refl
+get_front (suc b) (suc x) (y ∷ xs) h = get_front b x xs (omega arith)
+
+-- the arrays of the frame in front, and of the last one
+here_get : {X : Type 0} (bs : List ℕ) (xs : List X) (x : ℕ) → slice_get (front_of (frames_of bs xs)) x ≡ slice_get xs (base_of bs + x)
+here_get [] xs x = (let e : 0 + x ≡ x = omega arith in ap (λ n. slice_get xs n) (sym e))
+here_get (b ∷ bs) xs x = get_behind b x xs
+
+here_set : {X : Type 0} (bs : List ℕ) (xs : List X) (x : ℕ) (v : X) → frames_of bs (slice_set xs (base_of bs + x) v) ≡ with_front (slice_set (front_of (frames_of bs xs)) x v) (frames_of bs xs)
+here_set [] xs x v = (let e : 0 + x ≡ x = omega arith in ap (λ n. slice_set xs n v ∷ []) e)
+here_set (b ∷ bs) xs x v = rw (drop-set-add b xs x v, take-set-le b xs (b + x) v (omega arith)) refl
+
+nested_main : (bs : List ℕ) (n m : ℕ) → Nested bs n m → m ≤ n
+nested_main [] n m e = omega arith
+nested_main (b ∷ bs) n m e = (let h = nested_main bs b m e.1 in let w = e.0 in omega arith)
+
+host_get : {X : Type 0} (bs : List ℕ) (n m : ℕ) (xs : List X) (x : ℕ) → Nested bs n m → x < m → slice_get (main_of (frames_of bs xs)) x ≡ slice_get xs x
+host_get [] n m xs x e h = refl
+host_get (b ∷ bs) n m xs x e h =
+    let w = nested_main bs b m e.1 in
+    ap (λ f. slice_get f x) (main_behind bs (drop b xs) (take b xs)) ∙ host_get bs b m (take b xs) x e.1 h ∙ get_front b x xs (omega arith)
+
+host_set : {X : Type 0} (bs : List ℕ) (n m : ℕ) (xs : List X) (x : ℕ) (v : X) → Nested bs n m → x < m → frames_of bs (slice_set xs x v) ≡ with_main (slice_set (main_of (frames_of bs xs)) x v) (frames_of bs xs)
+host_set [] n m xs x v e h = refl
+host_set (b ∷ bs) n m xs x v e h =
+    let w = nested_main bs b m e.1 in
+    let l : x < b = omega arith in
+    ap (λ f. f ∷ frames_of bs (take b (slice_set xs x v))) (drop-set-lt b xs x v l)
+    ∙ ap (λ ys. drop b xs ∷ frames_of bs ys) (take-set-lt b xs x v l)
+    ∙ ap (λ fs. drop b xs ∷ fs) (host_set bs b m (take b xs) x v e.1 h)
+    ∙ sym (with_main_behind bs (slice_set (main_of (frames_of bs (take b xs))) x v) (drop b xs) (take b xs))
+    ∙ ap (λ f. with_main (slice_set f x v) (drop b xs ∷ frames_of bs (take b xs))) (sym (main_behind bs (drop b xs) (take b xs)))
+
+-- the array at a place of the row
+pub slot_get : (s : Scope) (x main k : ℕ) (bs : List ℕ) (xs : List (Option Local)) → Nested bs (length xs) main → SlotIs s x (base_of bs) main (length xs) k → array_of s x (frames_of bs xs) ≡ array_at k xs
+slot_get here x main k bs xs n e = ap joined (here_get bs xs x ∙ ap (λ i. slice_get xs i) (sym e.0))
+slot_get host x main k bs xs n e = ap joined (host_get bs (length xs) main xs x n e.1 ∙ ap (λ i. slice_get xs i) (sym e.0))
+
+pub slot_set : (s : Scope) (x main k : ℕ) (bs : List ℕ) (xs : List (Option Local)) (v : Option Local) → Nested bs (length xs) main → SlotIs s x (base_of bs) main (length xs) k
+    → frames_of bs (slice_set xs k v) ≡ with_array s x v (frames_of bs xs)
+slot_set here x main k bs xs v n e = ap (λ i. frames_of bs (slice_set xs i v)) e.0 ∙ here_set bs xs x v
+slot_set host x main k bs xs v n e = ap (λ i. frames_of bs (slice_set xs i v)) e.0 ∙ host_set bs (length xs) main xs x v n e.1
+
+pub slot_within : (s : Scope) (x main k : ℕ) (bs : List ℕ) (n : ℕ) → Nested bs n main → SlotIs s x (base_of bs) main n k → k < n
+slot_within here x main k bs n m e = e.1
+slot_within host x main k bs n m e = (let h = nested_main bs n main m in let a = e.0 in let b = e.1 in omega arith)
+
+-- where there is no such array
+front_long : {X : Type 0} (bs : List ℕ) (xs : List X) → length (front_of (frames_of bs xs)) ≡ length xs - base_of bs
+front_long [] xs = omega arith
+front_long (b ∷ bs) xs = length-drop b xs
+
+main_long : {X : Type 0} (bs : List ℕ) (n m : ℕ) (xs : List X) → n ≡ length xs → Nested bs n m → length (main_of (frames_of bs xs)) ≡ m
+main_long [] n m xs l e = sym l ∙ e
+main_long (b ∷ bs) n m xs l e = ap length (main_behind bs (drop b xs) (take b xs)) ∙ main_long bs b m (take b xs) (let a = length-take b xs in let w = e.0 in omega arith) e.1
+
+none_past : (xs : List (Option Local)) (x : ℕ) → length xs ≤ x → array_at x xs ≡ None
+none_past xs x h = ap joined (slice_get_past xs x h)
+
+set_past : {X : Type 0} (xs : List X) (x : ℕ) (v : X) → length xs ≤ x → slice_set xs x v ≡ xs
+set_past [] x v h = refl
+set_past (y ∷ xs) zero v h = absurd (omega arith)
+set_past (y ∷ xs) (suc x) v h = ap (λ ys. y ∷ ys) (set_past xs x v (omega arith))
+
+same_front : {X : Type 0} (fs : List (List X)) → with_front (front_of fs) fs ≡ fs
+same_front [] = refl
+same_front (f ∷ fs) = refl
+
+same_main : {X : Type 0} (fs : List (List X)) → with_main (main_of fs) fs ≡ fs
+same_main [] = refl
+same_main (f ∷ []) = refl
+same_main (f ∷ g ∷ fs) = ap (λ gs. f ∷ gs) (same_main (g ∷ fs))
+
+pub no_slot : (s : Scope) (x main : ℕ) (bs : List ℕ) (xs : List (Option Local)) → Nested bs (length xs) main → NoSlot s x (base_of bs) main (length xs) → array_of s x (frames_of bs xs) ≡ None
+no_slot here x main bs xs n h = none_past (front_of (frames_of bs xs)) x (let l = front_long bs xs in omega arith)
+no_slot host x main bs xs n h = none_past (main_of (frames_of bs xs)) x (let l = main_long bs (length xs) main xs refl n in omega arith)
+
+pub no_set : (s : Scope) (x main : ℕ) (bs : List ℕ) (xs : List (Option Local)) (v : Option Local) → Nested bs (length xs) main → NoSlot s x (base_of bs) main (length xs) → with_array s x v (frames_of bs xs) ≡ frames_of bs xs
+no_set here x main bs xs v n h = ap (λ f. with_front f (frames_of bs xs)) (set_past (front_of (frames_of bs xs)) x v (let l = front_long bs xs in omega arith)) ∙ same_front (frames_of bs xs)
+no_set host x main bs xs v n h = ap (λ f. with_main f (frames_of bs xs)) (set_past (main_of (frames_of bs xs)) x v (let l = main_long bs (length xs) main xs refl n in omega arith)) ∙ same_main (frames_of bs xs)
+
+-- how many cells, arrays and frames there are
+cells_parts : (b : ℕ) (xs : List (Option Local)) → cells_in_arrays (drop b xs) + cells_in_arrays (take b xs) ≡ cells_in_arrays xs
+cells_parts zero xs = omega arith
+cells_parts (suc b) [] = refl
+cells_parts (suc b) (x ∷ xs) =
+    let h = cells_parts b xs in
+    let s = sum_by-cons local_size x xs in
+    let t = sum_by-cons local_size x (take b xs) in
+    omega arith
+
+pub cells_same : (bs : List ℕ) (xs : List (Option Local)) → cells_in_frames (frames_of bs xs) ≡ cells_in_arrays xs
+cells_same [] xs = (let s = sum_by-cons cells_in_arrays xs [] in omega arith)
+cells_same (b ∷ bs) xs =
+    let s = sum_by-cons cells_in_arrays (drop b xs) (frames_of bs (take b xs)) in
+    let h = cells_same bs (take b xs) in
+    let p = cells_parts b xs in
+    omega arith
+
+pub count_same : {X : Type 0} (bs : List ℕ) (xs : List X) → count_of (frames_of bs xs) ≡ length xs
+count_same [] xs = omega arith
+count_same (b ∷ bs) xs =
+    let h = count_same bs (take b xs) in
+    let t = length-take b xs in
+    let d = length-drop b xs in
+    omega arith
+
+pub frames_long : {X : Type 0} (bs : List ℕ) (xs : List X) → length (frames_of bs xs) ≡ 1 + length bs
+frames_long [] xs = refl
+frames_long (b ∷ bs) xs = (let h = frames_long bs (take b xs) in omega arith)
+
+pub same_framed : (xs ys : List (List (Option Local))) (m n p q r s : ℕ) → xs ≡ ys → m ≡ n → p ≡ q → r ≡ s
+    → ◌≡◌ {A = Framed} (record { frames = xs; most = m; size = p; deepest = r }) (record { frames = ys; most = n; size = q; deepest = s })
+same_framed xs ys m n p q r s e f g h = rw (e, f, g, h) refl

@@ -1,0 +1,134 @@
+//! The arrays of all frames.
+
+ghost use Rattle.std.specs.Prelude.{◌≡◌, ◌<◌, ◌≤◌, ◌+◌, ◌∷◌, [], pos, drop, length, replicate, is_some, Some, None, IfOk, IfErr, OnOk, OnErr, IfSome, IfNone};
+ghost use Rattle.walk_theory.specs.Terms.{found, at_fault};
+ghost use Rattle.image_acts.specs.Core.{Local};
+ghost use Rattle.image_acts.specs.Frames.{cells_in_frames, local_size, pairs_in};
+ghost use Rattle.image_acts.specs.Places.{place_in, offsets, subscripts_in, digits};
+ghost use Rattle.array_places.specs.Sections.{numbers_of};
+ghost use Rattle.image_code.specs.Table.{scope_of};
+ghost use Rattle.local_arrays.specs.Arrays.{bounds_in, place_found, elements_of, loaded, overwritten, refilled, HasCells};
+ghost use Rattle.local_arrays.specs.Frames.{Framed, array_of, with_array, count_of};
+
+use crate::row::{NOT_ALLOCATED, Row};
+use crate::slot::slot;
+use array_places::list::PlaceNumbers;
+use image_code::step::Scope;
+use std::marker::Model;
+
+/// The arrays of all frames, in room that is made once. No call takes memory but the first.
+#[derive(Drop)]
+pub struct Arrays {
+    row: Row,
+    bases: Vec<usize>,
+    base: usize,
+    main: usize,
+}
+
+impl Model for Arrays {
+    ghost use Rattle.std.specs.Prelude.{◌≡◌, length, reverse, vec_capacity};
+    ghost use Rattle.local_arrays.specs.Frames.{Framed, frames_of, base_of, Nested};
+
+    ghost Value = { Framed };
+
+    ghost view = { λ a. record { frames = frames_of (reverse a.bases.items) a.row.arrays; most = a.row.most; size = a.row.size; deepest = vec_capacity a.bases } };
+
+    ghost invariant = { λ a. Nested (reverse a.bases.items) (length a.row.arrays) a.main × (a.base ≡ base_of (reverse a.bases.items)) };
+}
+
+impl Arrays {
+    /// An element of an array, or the run fault NotAllocated or Shape.
+    #[inline(always)]
+    pub fn element(&self, scope: Scope, x: u32, offset: &i64) -> Result<i64, u32>
+        ensures ok { IfOk result (λ v. loaded (array_of (scope_of scope) x self.now.frames) (place_in (offset.now ∷ [])) ≡ found (v ∷ [])) }
+        ensures err { IfErr result (λ n. loaded (array_of (scope_of scope) x self.now.frames) (place_in (offset.now ∷ [])) ≡ at_fault n) }
+    {
+        match slot(scope, x, self.base, self.main, self.row.len()) {
+            None => Err(NOT_ALLOCATED),
+            Some(k) => self.row.element(k, offset),
+        }
+    }
+
+    /// Gives an element of an array a value; else the run fault NotAllocated or Shape, and nothing is changed.
+    #[inline(always)]
+    pub fn store(&mut self, scope: Scope, x: u32, offset: &i64, value: &i64) -> Result<(), u32>
+        ensures there { OnOk result (HasCells (array_of (scope_of scope) x self.old.frames) (place_in (offset.now ∷ []))) }
+        ensures ok { OnOk result (self.new ≡ record self.old { frames = with_array (scope_of scope) x (overwritten (place_in (offset.now ∷ [])) (value.now ∷ []) (array_of (scope_of scope) x self.old.frames)) self.old.frames }) }
+        ensures err { IfErr result (λ n. loaded (array_of (scope_of scope) x self.old.frames) (place_in (offset.now ∷ [])) ≡ at_fault n) }
+        ensures kept { OnErr result (self.new ≡ self.old) }
+    {
+        match slot(scope, x, self.base, self.main, self.row.len()) {
+            None => Err(NOT_ALLOCATED),
+            Some(k) => self.row.store(k, offset, value),
+        }
+    }
+
+    /// The elements of an array, where it is there.
+    pub fn elements(&self, scope: Scope, x: u32) -> Option<&[i64]>
+        ensures some { IfSome result (λ xs. elements_of (array_of (scope_of scope) x self.now.frames) ≡ Some xs.now) }
+        ensures none { IfNone result (array_of (scope_of scope) x self.now.frames ≡ None) }
+    {
+        match slot(scope, x, self.base, self.main, self.row.len()) {
+            None => None,
+            Some(k) => self.row.elements(k),
+        }
+    }
+
+    /// The bounds of an array, where it is there: a lower and an upper one for each dimension.
+    pub fn bounds(&self, scope: Scope, x: u32) -> Option<&[i64]>
+        ensures some { IfSome result (λ ns. bounds_in (array_of (scope_of scope) x self.now.frames) ≡ Some (pairs_in ns.now)) }
+        ensures none { IfNone result (array_of (scope_of scope) x self.now.frames ≡ None) }
+    {
+        match slot(scope, x, self.base, self.main, self.row.len()) {
+            None => None,
+            Some(k) => self.row.bounds(k),
+        }
+    }
+
+    /// The numbers of the place of an element or a section of an array, by a form and the numbers of its subscripts; or the run fault that is found first.
+    pub fn section(
+        &self,
+        scope: Scope,
+        x: u32,
+        form: u32,
+        numbers: &[i64],
+    ) -> Result<PlaceNumbers, u32>
+        ensures found { IfOk result (λ p. numbers_of (place_found (array_of (scope_of scope) x self.now.frames) (subscripts_in (digits form) numbers.now)) ≡ found p) }
+        ensures faults { IfErr result (λ n. numbers_of (place_found (array_of (scope_of scope) x self.now.frames) (subscripts_in (digits form) numbers.now)) ≡ at_fault n) }
+    {
+        match slot(scope, x, self.base, self.main, self.row.len()) {
+            None => Err(NOT_ALLOCATED),
+            Some(k) => self.row.section(k, form, numbers),
+        }
+    }
+
+    /// Gives each cell of a place of an array one value.
+    pub fn fill(&mut self, scope: Scope, x: u32, place: &[i64], value: &i64)
+        requires { HasCells (array_of (scope_of scope) x self.old.frames) (place_in place.now) }
+        ensures { self.new ≡ record self.old { frames = with_array (scope_of scope) x (overwritten (place_in place.now) (replicate (length (offsets (place_in place.now))) value.now) (array_of (scope_of scope) x self.old.frames)) self.old.frames } }
+    {
+        if let Some(k) = slot(scope, x, self.base, self.main, self.row.len()) {
+            self.row.fill(k, place, value);
+        }
+    }
+
+    /// Gives the cells of a place of an array these values, in array element order, as far as there are both.
+    pub fn put(&mut self, scope: Scope, x: u32, place: &[i64], values: &[i64])
+        requires { HasCells (array_of (scope_of scope) x self.old.frames) (place_in place.now) }
+        ensures { self.new ≡ record self.old { frames = with_array (scope_of scope) x (overwritten (place_in place.now) values.now (array_of (scope_of scope) x self.old.frames)) self.old.frames } }
+    {
+        if let Some(k) = slot(scope, x, self.base, self.main, self.row.len()) {
+            self.row.put(k, place, values);
+        }
+    }
+
+    /// Gives an array as many other elements.
+    pub fn refill(&mut self, scope: Scope, x: u32, values: &[i64])
+        requires { local_size (array_of (scope_of scope) x self.old.frames) ≡ length values.now }
+        ensures { self.new ≡ record self.old { frames = with_array (scope_of scope) x (refilled values.now (array_of (scope_of scope) x self.old.frames)) self.old.frames } }
+    {
+        if let Some(k) = slot(scope, x, self.base, self.main, self.row.len()) {
+            self.row.refill(k, values);
+        }
+    }
+}
