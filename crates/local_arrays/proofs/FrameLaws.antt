@@ -4,11 +4,12 @@ use Rattle.std.proofs.lemmas.List.{drop-set-lt, take-set-le, drop-set-add, lengt
 use Rattle.std.proofs.lemmas.List.Sums.{sum_by-cons, sum_by-append}
 use Rattle.std.proofs.lemmas.Option.{slice_get_past, slice_get_within}
 use Rattle.std.proofs.Math.Seq.{take-set-lt, take-append_seam, drop-append_seam}
-use Rattle.std.specs.Prelude.{slice_get, Option, Some, None, reverse}
+use Rattle.std.specs.Prelude.{slice_get, Option, Some, None, reverse, Result, Ok, Err, OnOk}
 use Rattle.image_acts.specs.Acts.{Scope, here, host}
 use Rattle.image_acts.specs.Core.{Local}
 use Rattle.image_acts.specs.Frames.{joined, cells_in_arrays, cells_in_frames, local_size}
 use Rattle.local_arrays.specs.Arrays.{array_at}
+use Rattle.local_arrays.specs.Rows.{Rowed}
 use Rattle.local_arrays.specs.Frames.{Framed, count_of, front_of, main_of, with_front, with_main, arrays_of, with_arrays, array_of, with_array, frames_of, base_of, Nested, SlotIs, NoSlot}
 
 -- there is always a frame
@@ -142,3 +143,34 @@ frames_long (b ∷ bs) xs = (let h = frames_long bs (take b xs) in omega arith)
 pub same_framed : (xs ys : List (List (Option Local))) (m n p q r s : ℕ) → xs ≡ ys → m ≡ n → p ≡ q → r ≡ s
     → ◌≡◌ {A = Framed} (record { frames = xs; most = m; size = p; deepest = r }) (record { frames = ys; most = n; size = q; deepest = s })
 same_framed xs ys m n p q r s e f g h = rw (e, f, g, h) refl
+
+-- the same of frames that are kept: base is where the one in front begins, len how many arrays the row has
+pub kept_get : (s : Scope) (x main k base len : ℕ) (bs : List ℕ) (xs : List (Option Local)) (fs : List (List (Option Local))) → frames_of bs xs ≡ fs → Nested bs (length xs) main → base ≡ base_of bs → len ≡ length xs
+    → SlotIs s x base main len k → array_of s x fs ≡ array_at k xs
+kept_get s x main k base len bs xs fs f n b l h = ap (λ gs. array_of s x gs) (sym f) ∙ slot_get s x main k bs xs n (subst (λ i. SlotIs s x i main (length xs) k) b (subst (λ i. SlotIs s x base main i k) l h))
+
+pub kept_none : (s : Scope) (x main base len : ℕ) (bs : List ℕ) (xs : List (Option Local)) (fs : List (List (Option Local))) → frames_of bs xs ≡ fs → Nested bs (length xs) main → base ≡ base_of bs → len ≡ length xs
+    → NoSlot s x base main len → array_of s x fs ≡ None
+kept_none s x main base len bs xs fs f n b l h = ap (λ gs. array_of s x gs) (sym f) ∙ no_slot s x main bs xs n (subst (λ i. NoSlot s x i main (length xs)) b (subst (λ i. NoSlot s x base main i) l h))
+
+pub kept_within : (s : Scope) (x main k base len : ℕ) (bs : List ℕ) (n : ℕ) → Nested bs n main → base ≡ base_of bs → len ≡ n → SlotIs s x base main len k → k < n
+kept_within s x main k base len bs n e b l h = slot_within s x main k bs n e (subst (λ i. SlotIs s x i main n k) b (subst (λ i. SlotIs s x base main i k) l h))
+
+pub kept_same : (s : Scope) (x main base len : ℕ) (bs : List ℕ) (xs : List (Option Local)) (v : Option Local) (m : Framed) → frames_of bs xs ≡ m.frames → Nested bs (length xs) main → base ≡ base_of bs → len ≡ length xs
+    → NoSlot s x base main len → m ≡ record m { frames = with_array s x v m.frames }
+kept_same s x main base len bs xs v m f n b l h =
+    let e = no_set s x main bs xs v n (subst (λ i. NoSlot s x i main (length xs)) b (subst (λ i. NoSlot s x base main i) l h)) in
+    ap (λ gs. record m { frames = gs }) (sym (ap (λ gs. with_array s x v gs) (sym f) ∙ e ∙ f))
+
+pub kept_set : (s : Scope) (x main k base len d : ℕ) (bs : List ℕ) (row new : Rowed) (v w : Option Local) (m : Framed) → ◌≡◌ {A = Framed} (record { frames = frames_of bs row.arrays; most = row.most; size = row.size; deepest = d }) m
+    → Nested bs (length row.arrays) main → base ≡ base_of bs → len ≡ length row.arrays → SlotIs s x base main len k → new ≡ record { arrays = slice_set row.arrays k v; most = row.most; size = row.size } → v ≡ w
+    → ◌≡◌ {A = Framed} (record { frames = frames_of bs new.arrays; most = new.most; size = new.size; deepest = d }) (record m { frames = with_array s x w m.frames })
+kept_set s x main k base len d bs row new v w m f n b l h e u =
+    let g = slot_set s x main k bs row.arrays v n (subst (λ i. SlotIs s x i main (length row.arrays) k) b (subst (λ i. SlotIs s x base main i k) l h)) in
+    ap (λ (r : Rowed). record { frames = frames_of bs r.arrays; most = r.most; size = r.size; deepest = d }) e
+    ∙ ap (λ gs. record { frames = gs; most = row.most; size = row.size; deepest = d }) (g ∙ ap (λ o. with_array s x o (frames_of bs row.arrays)) u)
+    ∙ ap (λ (a : Framed). record a { frames = with_array s x w a.frames }) f
+
+pub on_ok : {X E P Q : Type 0} (r : Result X E) → (P → Q) → OnOk r P → OnOk r Q
+on_ok (Ok x) f p = f p
+on_ok (Err e) f p = p
