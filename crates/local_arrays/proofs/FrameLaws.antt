@@ -1,9 +1,9 @@
 -- Laws of frames in a row of arrays.
-use Rattle.std.proofs.Common.{◌≡◌, ℕ, zero, suc, ◌+◌, ◌-◌, ◌<◌, ◌≤◌, List, [], ◌∷◌, ◌++◌, take, drop, length, refl, ap, sym, ◌∙◌, arith, replicate, append_assoc, slice_set, subst}
+use Rattle.std.proofs.Common.{◌≡◌, ℕ, zero, suc, ◌+◌, ◌-◌, ◌<◌, ◌≤◌, List, [], ◌∷◌, ◌++◌, take, drop, length, refl, ap, sym, ◌∙◌, arith, replicate, append_assoc, slice_set, slice_index_or, subst}
 use Rattle.std.proofs.lemmas.List.{drop-set-lt, take-set-le, drop-set-add, length-take, length-drop, length-append, length-replicate, length-set, reverse-append}
 use Rattle.std.proofs.lemmas.List.Sums.{sum_by-cons, sum_by-append}
 use Rattle.std.proofs.lemmas.Option.{slice_get_past, slice_get_within}
-use Rattle.std.proofs.Math.Seq.{take-set-lt, take-append_seam, drop-append_seam}
+use Rattle.std.proofs.Math.Seq.{take-set-lt, take-append_seam, drop-append_seam, take-suc, take-length}
 use Rattle.std.specs.Prelude.{slice_get, Option, Some, None, reverse, Result, Ok, Err, OnOk}
 use Rattle.image_acts.specs.Acts.{Scope, here, host}
 use Rattle.image_acts.specs.Core.{Local}
@@ -174,3 +174,22 @@ kept_set s x main k base len d bs row new v w m f n b l h e u =
 pub on_ok : {X E P Q : Type 0} (r : Result X E) → (P → Q) → OnOk r P → OnOk r Q
 on_ok (Ok x) f p = f p
 on_ok (Err e) f p = p
+
+-- a frame begun, and one ended
+pub begun_view : (bs : List ℕ) (xs ys : List (Option Local)) → frames_of (length xs ∷ bs) (xs ++ ys) ≡ ys ∷ frames_of bs xs
+begun_view bs xs ys = rw (drop-append_seam xs ys, take-append_seam xs ys) refl
+
+pub begun_nested : (bs : List ℕ) (xs ys : List (Option Local)) (main : ℕ) → Nested bs (length xs) main → Nested (length xs ∷ bs) (length (xs ++ ys)) main
+begun_nested bs xs ys main n = ((let l = length-append xs ys in omega arith), n)
+
+pub pushed_bases : (bs cs : List ℕ) (b : ℕ) → cs ≡ bs ++ b ∷ [] → reverse cs ≡ b ∷ reverse bs
+pushed_bases bs cs b e = ap reverse e ∙ reverse-append bs (b ∷ [])
+
+pub ended_nested : (b : ℕ) (bs : List ℕ) (xs : List (Option Local)) (main : ℕ) → Nested (b ∷ bs) (length xs) main → Nested bs (length (take b xs)) main
+ended_nested b bs xs main n = subst (λ k. Nested bs k main) (let l = length-take b xs in let w = n.0 in omega arith) n.1
+
+pub last_is : (bs : List ℕ) (n : ℕ) → suc n ≡ length bs → slice_index_or bs n 0 ≡ base_of (reverse bs)
+last_is bs n e =
+    let w : take (suc n) bs ≡ take n bs ++ slice_index_or bs n 0 ∷ [] = take-suc bs n 0 (omega arith) in
+    let z : take (suc n) bs ≡ bs = ap (λ k. take k bs) e ∙ take-length bs in
+    ap base_of (sym (pushed_bases (take n bs) bs (slice_index_or bs n 0) (sym z ∙ w)))

@@ -1,5 +1,5 @@
 -- Laws of arrays in one row of cells.
-use Rattle.std.proofs.Common.{◌≡◌, ℕ, zero, suc, ◌+◌, ◌-◌, ◌<◌, ◌≤◌, ℤ, List, [], ◌∷◌, ◌++◌, take, drop, length, refl, ap, sym, ◌∙◌, arith, pos, replicate, append_assoc, slice_set, subst, Bool, true, false, cond, leb-true, le-leb, slice_index_or}
+use Rattle.std.proofs.Common.{◌≡◌, ℕ, zero, suc, ◌+◌, ◌-◌, ◌<◌, ◌≤◌, ℤ, List, [], ◌∷◌, ◌++◌, take, drop, length, refl, ap, sym, ◌∙◌, arith, pos, replicate, append_assoc, slice_set, subst, min, Bool, true, false, cond, leb-true, le-leb, slice_index_or}
 use Rattle.std.proofs.lemmas.List.{take-append-le, drop-append-le, length-take, length-drop, length-append, length-replicate, length-set, take-append-drop, get_or-take, get_or-drop, replicate-append-replicate}
 use Rattle.std.proofs.lemmas.List.Sums.{sum_by-cons, sum_by_push}
 use Rattle.std.proofs.lemmas.Option.{slice_get-get_or, slice_get_past}
@@ -570,3 +570,54 @@ missing_local cells is k i f e t = found_at cells is k i f e ∙ ap (λ (b : Opt
 
 pub there_local : (cells : List ℤ) (is : List Info) (k : ℕ) (i : Info) (b : Bounds) → Fit cells is → slice_get is k ≡ Some i → i.bounds ≡ Some b → array_at k (locals_of cells is) ≡ Some (record { bounds = pairs_of b; elements = take i.size (drop i.start cells) })
 there_local cells is k i b f e t = found_at cells is k i f e ∙ ap (λ (o : Option Bounds). local_with o (take i.size (drop i.start cells))) t
+
+-- how many cells there are with another array in the place of one
+set_cells_at : (xs : List (Option Local)) (k : ℕ) (v : Option Local) → k < length xs → cells_in_arrays (slice_set xs k v) + local_size (array_at k xs) ≡ cells_in_arrays xs + local_size v
+set_cells_at [] k v h = absurd (omega arith)
+set_cells_at (x ∷ xs) zero v h =
+    let s = sum_by-cons local_size v xs in
+    let t = sum_by-cons local_size x xs in
+    omega arith
+set_cells_at (x ∷ xs) (suc k) v h =
+    let r = set_cells_at xs k v (omega arith) in
+    let s = sum_by-cons local_size x (slice_set xs k v) in
+    let t = sum_by-cons local_size x xs in
+    omega arith
+
+one_of_cells : (xs : List (Option Local)) (k : ℕ) → k < length xs → local_size (array_at k xs) ≤ cells_in_arrays xs
+one_of_cells [] k h = absurd (omega arith)
+one_of_cells (x ∷ xs) zero h = (let t = sum_by-cons local_size x xs in omega arith)
+one_of_cells (x ∷ xs) (suc k) h =
+    let r = one_of_cells xs k (omega arith) in
+    let t = sum_by-cons local_size x xs in
+    omega arith
+
+pub fits_true : (xs : List (Option Local)) (k : ℕ) (v : Option Local) (n others room : ℕ) → k < length xs → others ≡ cells_in_arrays xs - local_size (array_at k xs) → min (local_size v) 340282366920938463463374607431768211455 ≡ n
+    → others ≤ room → n ≤ room - others → room < 18446744073709551616 → cells_in_arrays (slice_set xs k v) ≤ room
+fits_true xs k v n others room h o e a b w =
+    let s = set_cells_at xs k v h in
+    let t = one_of_cells xs k h in
+    omega arith
+
+pub fits_false : (xs : List (Option Local)) (k : ℕ) (v : Option Local) (n others room : ℕ) → k < length xs → others ≡ cells_in_arrays xs - local_size (array_at k xs) → min (local_size v) 340282366920938463463374607431768211455 ≡ n
+    → room < others + n → room < cells_in_arrays (slice_set xs k v)
+fits_false xs k v n others room h o e a =
+    let s = set_cells_at xs k v h in
+    let t = one_of_cells xs k h in
+    omega arith
+
+-- an array taken away
+pub removed_fit : (cells cells' : List ℤ) (is js : List Info) (k : ℕ) (i : Info) → Fit cells is → slice_get is k ≡ Some i → cells' ≡ take i.start cells ++ drop (i.start + i.size) cells
+    → js ≡ placed 0 (slice_set is k (none_at i.start)) → Fit cells' js
+removed_fit cells cells' is js k i f e c w =
+    let x = exchanged_long i.start i.size [] cells (within cells is k i f e) in
+    let y = ap length c in
+    let s = f.small in
+    reset_fit cells cells' is js k i (none_at i.start) f e refl c w (omega arith)
+
+pub removed_view : (cells cells' : List ℤ) (is js : List Info) (k : ℕ) (i : Info) → Fit cells is → slice_get is k ≡ Some i → cells' ≡ take i.start cells ++ drop (i.start + i.size) cells
+    → js ≡ placed 0 (slice_set is k (none_at i.start)) → locals_of cells' js ≡ slice_set (locals_of cells is) k None
+removed_view cells cells' is js k i f e c w = reset_view cells cells' is js k i (none_at i.start) f e c w
+
+pub pushed_more : (xs ys zs : List (Option Local)) (i : ℕ) → xs ≡ ys ++ replicate i None → zs ≡ xs ++ None ∷ [] → zs ≡ ys ++ replicate (i + 1) None
+pushed_more xs ys zs i e f = f ∙ ap (λ r. r ++ None ∷ []) e ∙ append_assoc ys (replicate i None) (None ∷ []) ∙ ap (λ r. ys ++ r) (replicate-append-replicate i 1 None)

@@ -1,6 +1,6 @@
 //! The arrays of all frames.
 
-ghost use Rattle.std.specs.Prelude.{◌≡◌, ◌<◌, ◌≤◌, ◌+◌, ◌∷◌, [], pos, drop, length, replicate, is_some, Some, None, IfOk, IfErr, OnOk, OnErr, IfSome, IfNone};
+ghost use Rattle.std.specs.Prelude.{◌≡◌, ◌<◌, ◌≤◌, ◌+◌, ◌^◌, ◌∷◌, [], pos, reverse, drop, length, replicate, is_some, Some, None, IfOk, IfErr, OnOk, OnErr, IfSome, IfNone};
 ghost use Rattle.walk_theory.specs.Terms.{found, at_fault};
 ghost use Rattle.image_acts.specs.Core.{Local};
 ghost use Rattle.image_acts.specs.Frames.{cells_in_frames, local_size, pairs_in};
@@ -8,11 +8,14 @@ ghost use Rattle.image_acts.specs.Places.{place_in, offsets, subscripts_in, digi
 ghost use Rattle.array_places.specs.Sections.{numbers_of};
 ghost use Rattle.image_code.specs.Table.{scope_of};
 ghost use Rattle.local_arrays.specs.Arrays.{bounds_in, place_found, elements_of, loaded, overwritten, refilled, HasCells};
-ghost use Rattle.local_arrays.specs.Frames.{Framed, array_of, with_array, count_of};
+ghost use Rattle.local_arrays.specs.Frames.{Framed, array_of, with_array, count_of, base_of};
+ghost use Rattle.image_acts.specs.Operate.Variables.{elements_there};
 
-use crate::row::{NOT_ALLOCATED, Row};
+use crate::row::{NOT_ALLOCATED, Row, SHAPE};
 use crate::slot::slot;
+use array_places::elements::are_there;
 use array_places::list::PlaceNumbers;
+use array_places::place::cells_in;
 use image_code::step::Scope;
 use std::marker::Model;
 
@@ -66,12 +69,59 @@ impl Arrays {
     /// The elements of an array, where it is there.
     pub fn elements(&self, scope: Scope, x: u32) -> Option<&[i64]>
         ensures some { IfSome result (λ xs. elements_of (array_of (scope_of scope) x self.now.frames) ≡ Some xs.now) }
+        ensures few { IfSome result (λ xs. length xs.now < 2 ^ 32) }
         ensures none { IfNone result (array_of (scope_of scope) x self.now.frames ≡ None) }
     {
         match slot(scope, x, self.base, self.main, self.row.len()) {
             None => None,
             Some(k) => self.row.elements(k),
         }
+    }
+
+    /// Whether an array is there.
+    pub fn is_there(&self, scope: Scope, x: u32) -> bool
+        ensures { result ≡ is_some (array_of (scope_of scope) x self.now.frames) }
+    {
+        self.elements(scope, x).is_some()
+    }
+
+    /// Tests whether an array is there with each cell of a place; else the run fault NotAllocated or Shape.
+    pub fn check(&self, scope: Scope, x: u32, place: &[i64]) -> Result<(), u32>
+        ensures ok { OnOk result (HasCells (array_of (scope_of scope) x self.now.frames) (place_in place.now)) }
+        ensures err { IfErr result (λ n. loaded (array_of (scope_of scope) x self.now.frames) (place_in place.now) ≡ at_fault n) }
+    {
+        match self.elements(scope, x) {
+            None => Err(NOT_ALLOCATED),
+            Some(elements) => {
+                if has_cells(elements, place) {
+                    Ok(())
+                } else {
+                    Err(SHAPE)
+                }
+            }
+        }
+    }
+
+    /// Begins a frame of so many arrays, which aren't there.
+    pub fn begin(&mut self, n: u32)
+        requires deep { length self.old.frames ≤ self.old.deepest }
+        requires room { count_of self.old.frames + n ≤ self.old.most }
+        ensures { self.new ≡ record self.old { frames = replicate n None ∷ self.old.frames } }
+    {
+        let base = self.row.len();
+        self.bases.push_reserved(base);
+        self.base = base;
+        self.row.push_all(n);
+    }
+
+    /// Ends the frame in front: its arrays go.
+    pub fn end(&mut self)
+        requires { 1 < length self.old.frames }
+        ensures { self.new ≡ record self.old { frames = drop 1 self.old.frames } }
+    {
+        let base = self.bases.take_last();
+        self.row.keep(base);
+        self.base = last_of(&self.bases);
     }
 
     /// The bounds of an array, where it is there: a lower and an upper one for each dimension.
@@ -131,4 +181,27 @@ impl Arrays {
             self.row.refill(k, values);
         }
     }
+}
+
+/// Whether elements have each cell of a place.
+fn has_cells(elements: &[i64], place: &[i64]) -> bool
+    requires { length elements.now < 2 ^ 32 }
+    ensures { result ≡ is_some (elements_there (place_in place.now) (record { bounds = []; elements = elements.now })) }
+{
+    if cells_in(place) > elements.len() as u64 {
+        return false;
+    }
+    are_there(elements, place)
+}
+
+/// The last of some places, or 0 where there are none.
+#[tactic(auto, using(crate::proofs::FrameLaws::last_is))]
+fn last_of(bases: &[usize]) -> usize
+    ensures { result ≡ base_of (reverse bases.now) }
+{
+    let n = bases.len();
+    if n == 0 {
+        return 0;
+    }
+    bases[n - 1]
 }

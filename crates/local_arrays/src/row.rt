@@ -1,6 +1,6 @@
 //! Arrays in one row of cells, kept dense.
 
-ghost use Rattle.std.specs.Prelude.{◌≡◌, ◌<◌, ◌≤◌, ◌+◌, ◌^◌, ◌∷◌, ◌++◌, [], ⊤, pos, take, drop, length, vec_capacity, slice_get, slice_set, replicate, is_some, Some, None, IfOk, IfErr, OnOk, OnErr, IfSome, IfNone};
+ghost use Rattle.std.specs.Prelude.{◌≡◌, ◌<◌, ◌≤◌, ◌+◌, ◌^◌, ◌∷◌, ◌++◌, [], ⊤, pos, take, drop, length, vec_capacity, slice_get, slice_set, replicate, is_some, Some, None, Option, ◌-◌, min, IsTrue, IsFalse, IfOk, IfErr, OnOk, OnErr, IfSome, IfNone};
 ghost use Rattle.caf_base.specs.Arithmetic.{natural};
 ghost use Rattle.walk_theory.specs.Terms.{found, at_fault};
 ghost use Rattle.image_acts.specs.Core.{Local};
@@ -19,7 +19,7 @@ use std::marker::Model;
 /// The numbers of the run faults NotAllocated and Shape.
 pub(crate) const NOT_ALLOCATED: u32 = 6;
 
-const SHAPE: u32 = 12;
+pub(crate) const SHAPE: u32 = 12;
 
 /// An array: its bounds, where it is there; where its cells begin, and how many it has.
 #[derive(Clone, Copy)]
@@ -78,6 +78,7 @@ impl Row {
     pub fn elements(&self, k: usize) -> Option<&[i64]>
         requires { k < length self.now.arrays }
         ensures some { IfSome result (λ xs. elements_of (array_at k self.now.arrays) ≡ Some xs.now) }
+        ensures few { IfSome result (λ xs. length xs.now < 2 ^ 32) }
         ensures none { IfNone result (array_at k self.now.arrays ≡ None) }
     {
         elements_in(&self.cells, &self.infos, k)
@@ -94,6 +95,77 @@ impl Row {
             start,
             size: 0,
         });
+    }
+
+    /// So many arrays more, which aren't there.
+    pub fn push_all(&mut self, n: u32)
+        requires { length self.old.arrays + n ≤ self.old.most }
+        ensures { self.new ≡ record { arrays = self.old.arrays ++ replicate n None; most = self.old.most; size = self.old.size } }
+    {
+        for i in 0..n {
+            let _ = i;
+            self.push();
+        }
+    }
+
+    /// Keeps the first so many arrays, or all where there are fewer.
+    pub fn keep(&mut self, n: usize)
+        ensures { self.new ≡ record { arrays = take n self.old.arrays; most = self.old.most; size = self.old.size } }
+    {
+        if n < self.len() {
+            self.truncate(n);
+        }
+    }
+
+    /// Takes an array away.
+    #[tactic(auto, using(crate::proofs::RowLaws::locals_long))]
+    pub fn remove(&mut self, k: usize)
+        requires { k < length self.old.arrays }
+        ensures { self.new ≡ record { arrays = slice_set self.old.arrays k None; most = self.old.most; size = self.old.size } }
+    {
+        let info = info_at(&self.infos, k);
+        let start = info.start;
+        close_gap(&mut self.cells, start, info.size);
+        set_info(
+            &mut self.infos,
+            k,
+            Info {
+                bounds: None,
+                start,
+                size: 0,
+            },
+        );
+        place_behind(&mut self.infos, k + 1, start);
+    }
+
+    /// How many cells there is room for.
+    fn room(&self) -> usize
+        ensures { result ≡ self.now.size }
+    {
+        self.cells.capacity()
+    }
+
+    /// How many cells an array has.
+    #[tactic(auto, using(crate::proofs::RowLaws::locals_long, crate::proofs::RowLaws::same_size))]
+    fn count(&self, k: usize) -> usize
+        requires { k < length self.now.arrays }
+        ensures { result ≡ local_size (array_at k self.now.arrays) }
+    {
+        info_at(&self.infos, k).size
+    }
+
+    /// Whether there is room for an array of so many cells in the place of one; of more than 128 bits hold there may be any number.
+    pub fn fits(&self, k: usize, n: u128) -> bool
+        requires { k < length self.now.arrays }
+        ensures fits { IsTrue result → (v : Option Local) → min (local_size v) (2 ^ 128 - 1) ≡ n → cells_in_arrays (slice_set self.now.arrays k v) ≤ self.now.size }
+        ensures not { IsFalse result → (v : Option Local) → min (local_size v) (2 ^ 128 - 1) ≡ n → self.now.size < cells_in_arrays (slice_set self.now.arrays k v) }
+    {
+        let others = self.total().saturating_sub(self.count(k));
+        let room = self.room();
+        if others > room {
+            return false;
+        }
+        n <= (room - others) as u128
     }
 
     /// Keeps the first so many arrays.
@@ -298,6 +370,7 @@ fn elements_in<'a>(cells: &'a [i64], infos: &[Info], k: usize) -> Option<&'a [i6
     requires fit { Fit cells.now infos.now }
     requires there { k < length infos.now }
     ensures some { IfSome result (λ xs. elements_of (array_at k (locals_of cells.now infos.now)) ≡ Some xs.now) }
+    ensures few { IfSome result (λ xs. length xs.now < 2 ^ 32) }
     ensures none { IfNone result (array_at k (locals_of cells.now infos.now) ≡ None) }
 {
     let info = info_at(infos, k);
