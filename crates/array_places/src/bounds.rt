@@ -37,7 +37,7 @@ pub(crate) fn in_kind(number: &i128) -> Result<i64, u32>
 }
 
 /// How many cells an array with these bounds has, or the largest number of 128 bits where there are more.
-fn cells_between(bounds: &[i64]) -> u128
+pub fn cells_between(bounds: &[i64]) -> u128
     ensures { result ≡ min (size_of (pairs_in bounds.now)) (2 ^ 128 - 1) }
 {
     let mut cells = 1u128;

@@ -3,11 +3,11 @@
 ghost use Rattle.std.specs.Prelude.{◌≡◌, ◌<◌, ◌≤◌, ◌+◌, ◌^◌, ◌∷◌, [], pos, reverse, drop, length, replicate, is_some, Some, None, IfOk, IfErr, OnOk, OnErr, IfSome, IfNone};
 ghost use Rattle.walk_theory.specs.Terms.{found, at_fault};
 ghost use Rattle.image_acts.specs.Core.{Local};
-ghost use Rattle.image_acts.specs.Frames.{cells_in_frames, local_size, pairs_in};
+ghost use Rattle.image_acts.specs.Frames.{cells_in_frames, local_size, pairs_in, zeros_in};
 ghost use Rattle.image_acts.specs.Places.{place_in, offsets, subscripts_in, digits};
 ghost use Rattle.array_places.specs.Sections.{numbers_of};
 ghost use Rattle.image_code.specs.Table.{scope_of};
-ghost use Rattle.local_arrays.specs.Arrays.{bounds_in, place_found, elements_of, loaded, overwritten, refilled, HasCells};
+ghost use Rattle.local_arrays.specs.Arrays.{bounds_in, from_one, place_found, elements_of, loaded, overwritten, refilled, HasCells};
 ghost use Rattle.local_arrays.specs.Frames.{Framed, array_of, with_array, count_of, base_of};
 ghost use Rattle.image_acts.specs.Operate.Variables.{elements_there};
 
@@ -169,6 +169,45 @@ impl Arrays {
     {
         if let Some(k) = slot(scope, x, self.base, self.main, self.row.len()) {
             self.row.put(k, place, values);
+        }
+    }
+
+    /// Gives an array these bounds and zeros (ALLOCATE, 9.7.1), where all arrays have room together; else the run fault Room, and nothing is changed.
+    pub fn lay(&mut self, scope: Scope, x: u32, numbers: &[i64]) -> Result<(), u32>
+        requires { length numbers.now ≤ 6 }
+        ensures ok { OnOk result (self.new ≡ record self.old { frames = with_array (scope_of scope) x (Some (zeros_in (pairs_in numbers.now))) self.old.frames }) }
+        ensures room { OnOk result (cells_in_frames (with_array (scope_of scope) x (Some (zeros_in (pairs_in numbers.now))) self.old.frames) ≤ self.old.size) }
+        ensures err { IfErr result (λ n. n ≡ 11) }
+        ensures full { OnErr result (self.old.size < cells_in_frames (with_array (scope_of scope) x (Some (zeros_in (pairs_in numbers.now))) self.old.frames)) }
+        ensures kept { OnErr result (self.new ≡ self.old) }
+    {
+        match slot(scope, x, self.base, self.main, self.row.len()) {
+            None => self.row.has_room(),
+            Some(k) => self.row.lay(k, numbers),
+        }
+    }
+
+    /// Gives an array these elements, as one of rank one with the lower bound 1, where all arrays have room together; else the run fault Room, and nothing is
+    /// changed.
+    pub fn renew(&mut self, scope: Scope, x: u32, values: &[i64]) -> Result<(), u32>
+        ensures ok { OnOk result (self.new ≡ record self.old { frames = with_array (scope_of scope) x (Some (from_one values.now)) self.old.frames }) }
+        ensures room { OnOk result (cells_in_frames (with_array (scope_of scope) x (Some (from_one values.now)) self.old.frames) ≤ self.old.size) }
+        ensures err { IfErr result (λ n. n ≡ 11) }
+        ensures full { OnErr result (self.old.size < cells_in_frames (with_array (scope_of scope) x (Some (from_one values.now)) self.old.frames)) }
+        ensures kept { OnErr result (self.new ≡ self.old) }
+    {
+        match slot(scope, x, self.base, self.main, self.row.len()) {
+            None => self.row.has_room(),
+            Some(k) => self.row.renew(k, values),
+        }
+    }
+
+    /// Takes an array away (DEALLOCATE, 9.7.3).
+    pub fn take_away(&mut self, scope: Scope, x: u32)
+        ensures { self.new ≡ record self.old { frames = with_array (scope_of scope) x None self.old.frames } }
+    {
+        if let Some(k) = slot(scope, x, self.base, self.main, self.row.len()) {
+            self.row.remove(k);
         }
     }
 

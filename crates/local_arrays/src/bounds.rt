@@ -12,7 +12,7 @@ use array_places::list::PlaceNumbers;
 use array_places::section::{has_places, place_of};
 
 /// The number of the run fault Room.
-const ROOM: u32 = 11;
+pub(crate) const ROOM: u32 = 11;
 
 /// Lower and upper bounds of at most three dimensions, and whether 64 bits hold the places in them.
 #[derive(Clone, Copy)]

@@ -4,13 +4,14 @@ ghost use Rattle.std.specs.Prelude.{◌≡◌, ◌<◌, ◌≤◌, ◌+◌, ◌^
 ghost use Rattle.caf_base.specs.Arithmetic.{natural};
 ghost use Rattle.walk_theory.specs.Terms.{found, at_fault};
 ghost use Rattle.image_acts.specs.Core.{Local};
-ghost use Rattle.image_acts.specs.Frames.{cells_in_arrays, local_size, pairs_in};
+ghost use Rattle.image_acts.specs.Frames.{cells_in_arrays, local_size, pairs_in, zeros_in};
 ghost use Rattle.image_acts.specs.Places.{place_in, offsets, cells_of, with_elements_at, subscripts_in, digits};
 ghost use Rattle.array_places.specs.Sections.{numbers_of};
-ghost use Rattle.local_arrays.specs.Arrays.{array_at, bounds_in, place_found, elements_of, loaded, overwritten, refilled, HasCells};
+ghost use Rattle.local_arrays.specs.Arrays.{array_at, from_one, bounds_in, place_found, elements_of, loaded, overwritten, refilled, HasCells};
 ghost use Rattle.local_arrays.specs.Rows.{Rowed, Fit, IsSpot, exchanged, locals_of, pairs_of, local_with, placed, total_size, IsWell};
 
-use crate::bounds::Bounds;
+use crate::bounds::{Bounds, ROOM, bounds_of};
+use array_places::bounds::cells_between;
 use array_places::elements::{fill, put};
 use array_places::list::PlaceNumbers;
 use std::alloc::{AllocError, Global};
@@ -143,6 +144,19 @@ impl Row {
         ensures { result ≡ self.now.size }
     {
         self.cells.capacity()
+    }
+
+    /// Whether all have room as they are; else the run fault Room.
+    pub fn has_room(&self) -> Result<(), u32>
+        ensures ok { OnOk result (cells_in_arrays self.now.arrays ≤ self.now.size) }
+        ensures err { IfErr result (λ n. n ≡ 11) }
+        ensures full { OnErr result (self.now.size < cells_in_arrays self.now.arrays) }
+    {
+        if self.total() <= self.room() {
+            Ok(())
+        } else {
+            Err(ROOM)
+        }
     }
 
     /// How many cells an array has.
@@ -282,6 +296,43 @@ impl Row {
             },
         );
         place_behind(&mut self.infos, k + 1, start + n);
+    }
+
+    /// Puts an array of zeros with these bounds in the place of one, where all have room; else the run fault Room, and nothing is changed.
+    pub fn lay(&mut self, k: usize, numbers: &[i64]) -> Result<(), u32>
+        requires number { k < length self.old.arrays }
+        requires few { length numbers.now ≤ 6 }
+        ensures ok { OnOk result (self.new ≡ record { arrays = slice_set self.old.arrays k (Some (zeros_in (pairs_in numbers.now))); most = self.old.most; size = self.old.size }) }
+        ensures room { OnOk result (cells_in_arrays (slice_set self.old.arrays k (Some (zeros_in (pairs_in numbers.now)))) ≤ self.old.size) }
+        ensures err { IfErr result (λ n. n ≡ 11) }
+        ensures full { OnErr result (self.old.size < cells_in_arrays (slice_set self.old.arrays k (Some (zeros_in (pairs_in numbers.now))))) }
+        ensures kept { OnErr result (self.new ≡ self.old) }
+    {
+        let n = cells_between(numbers);
+        if !self.fits(k, n) {
+            return Err(ROOM);
+        }
+        self.reset(k, Some(bounds_of(numbers)), n as usize);
+        Ok(())
+    }
+
+    /// Puts an array of rank one with these elements and the lower bound 1 in the place of one, where all have room; else the run fault Room, and nothing is
+    /// changed.
+    pub fn renew(&mut self, k: usize, values: &[i64]) -> Result<(), u32>
+        requires { k < length self.old.arrays }
+        ensures ok { OnOk result (self.new ≡ record { arrays = slice_set self.old.arrays k (Some (from_one values.now)); most = self.old.most; size = self.old.size }) }
+        ensures room { OnOk result (cells_in_arrays (slice_set self.old.arrays k (Some (from_one values.now))) ≤ self.old.size) }
+        ensures err { IfErr result (λ n. n ≡ 11) }
+        ensures full { OnErr result (self.old.size < cells_in_arrays (slice_set self.old.arrays k (Some (from_one values.now)))) }
+        ensures kept { OnErr result (self.new ≡ self.old) }
+    {
+        let n = values.len();
+        if !self.fits(k, n as u128) {
+            return Err(ROOM);
+        }
+        self.reset(k, Some(bounds_of(&[1, n as i64])), n);
+        self.refill(k, values);
+        Ok(())
     }
 
     /// Gives an array as many other elements.
