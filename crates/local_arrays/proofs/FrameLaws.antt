@@ -4,7 +4,7 @@ use Rattle.std.proofs.lemmas.List.{drop-set-lt, take-set-le, drop-set-add, lengt
 use Rattle.std.proofs.lemmas.List.Sums.{sum_by-cons, sum_by-append}
 use Rattle.std.proofs.lemmas.Option.{slice_get_past, slice_get_within}
 use Rattle.std.proofs.Math.Seq.{take-set-lt, take-append_seam, drop-append_seam, take-suc, take-length}
-use Rattle.std.specs.Prelude.{slice_get, Option, Some, None, reverse, Result, Ok, Err, OnOk}
+use Rattle.std.specs.Prelude.{slice_get, Option, Some, None, reverse, Result, Ok, Err, OnOk, OnErr}
 use Rattle.image_acts.specs.Acts.{Scope, here, host}
 use Rattle.image_acts.specs.Core.{Local}
 use Rattle.image_acts.specs.Frames.{joined, cells_in_arrays, cells_in_frames, local_size}
@@ -193,3 +193,34 @@ last_is bs n e =
     let w : take (suc n) bs ≡ take n bs ++ slice_index_or bs n 0 ∷ [] = take-suc bs n 0 (omega arith) in
     let z : take (suc n) bs ≡ bs = ap (λ k. take k bs) e ∙ take-length bs in
     ap base_of (sym (pushed_bases (take n bs) bs (slice_index_or bs n 0) (sym z ∙ w)))
+
+pub on_err : {X E P Q : Type 0} (r : Result X E) → (P → Q) → OnErr r P → OnErr r Q
+on_err (Ok x) f p = p
+on_err (Err e) f p = f p
+
+-- how many cells all arrays have with another one in the place of one
+cells_none : (s : Scope) (x main base len : ℕ) (bs : List ℕ) (xs : List (Option Local)) (v : Option Local) (fs : List (List (Option Local))) → frames_of bs xs ≡ fs → Nested bs (length xs) main → base ≡ base_of bs → len ≡ length xs
+    → NoSlot s x base main len → cells_in_arrays xs ≡ cells_in_frames (with_array s x v fs)
+cells_none s x main base len bs xs v fs f n b l h =
+    sym (ap (λ gs. cells_in_frames (with_array s x v gs)) (sym f) ∙ ap cells_in_frames (no_set s x main bs xs v n (subst (λ i. NoSlot s x i main (length xs)) b (subst (λ i. NoSlot s x base main i) l h))) ∙ cells_same bs xs)
+
+cells_some : (s : Scope) (x main k base len : ℕ) (bs : List ℕ) (xs : List (Option Local)) (v : Option Local) (fs : List (List (Option Local))) → frames_of bs xs ≡ fs → Nested bs (length xs) main → base ≡ base_of bs → len ≡ length xs
+    → SlotIs s x base main len k → cells_in_arrays (slice_set xs k v) ≡ cells_in_frames (with_array s x v fs)
+cells_some s x main k base len bs xs v fs f n b l h =
+    sym (ap (λ gs. cells_in_frames (with_array s x v gs)) (sym f) ∙ ap cells_in_frames (sym (slot_set s x main k bs xs v n (subst (λ i. SlotIs s x i main (length xs) k) b (subst (λ i. SlotIs s x base main i k) l h)))) ∙ cells_same bs (slice_set xs k v))
+
+pub none_fits : (s : Scope) (x main base len a m : ℕ) (bs : List ℕ) (xs : List (Option Local)) (v : Option Local) (fs : List (List (Option Local))) → frames_of bs xs ≡ fs → Nested bs (length xs) main → base ≡ base_of bs → len ≡ length xs
+    → NoSlot s x base main len → a ≡ m → cells_in_arrays xs ≤ a → cells_in_frames (with_array s x v fs) ≤ m
+none_fits s x main base len a m bs xs v fs f n b l h e w = (let c = cells_none s x main base len bs xs v fs f n b l h in omega arith)
+
+pub none_full : (s : Scope) (x main base len a m : ℕ) (bs : List ℕ) (xs : List (Option Local)) (v : Option Local) (fs : List (List (Option Local))) → frames_of bs xs ≡ fs → Nested bs (length xs) main → base ≡ base_of bs → len ≡ length xs
+    → NoSlot s x base main len → a ≡ m → a < cells_in_arrays xs → m < cells_in_frames (with_array s x v fs)
+none_full s x main base len a m bs xs v fs f n b l h e w = (let c = cells_none s x main base len bs xs v fs f n b l h in omega arith)
+
+pub some_fits : (s : Scope) (x main k base len a m : ℕ) (bs : List ℕ) (xs : List (Option Local)) (v : Option Local) (fs : List (List (Option Local))) → frames_of bs xs ≡ fs → Nested bs (length xs) main → base ≡ base_of bs → len ≡ length xs
+    → SlotIs s x base main len k → a ≡ m → cells_in_arrays (slice_set xs k v) ≤ a → cells_in_frames (with_array s x v fs) ≤ m
+some_fits s x main k base len a m bs xs v fs f n b l h e w = (let c = cells_some s x main k base len bs xs v fs f n b l h in omega arith)
+
+pub some_full : (s : Scope) (x main k base len a m : ℕ) (bs : List ℕ) (xs : List (Option Local)) (v : Option Local) (fs : List (List (Option Local))) → frames_of bs xs ≡ fs → Nested bs (length xs) main → base ≡ base_of bs → len ≡ length xs
+    → SlotIs s x base main len k → a ≡ m → a < cells_in_arrays (slice_set xs k v) → m < cells_in_frames (with_array s x v fs)
+some_full s x main k base len a m bs xs v fs f n b l h e w = (let c = cells_some s x main k base len bs xs v fs f n b l h in omega arith)

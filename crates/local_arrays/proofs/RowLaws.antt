@@ -8,12 +8,13 @@ use Rattle.std.specs.Prelude.{slice_get, Option, Some, None, is_some, nat_le}
 use Rattle.caf_base.specs.Arithmetic.{natural}
 use Rattle.walk_theory.specs.Terms.{Found, found, at_fault}
 use Rattle.image_acts.specs.Core.{Local}
-use Rattle.image_acts.specs.Frames.{cells_in_arrays, local_size}
+use Rattle.coarray_types.specs.Places.{size_of}
+use Rattle.image_acts.specs.Frames.{joined, cells_in_arrays, local_size, zeros_in}
 use Rattle.image_acts.specs.Places.{Place, place_in, cells_of, offsets, elements_at, with_elements_at}
 use Rattle.image_acts.specs.Operate.Variables.{elements_there}
 use Rattle.local_arrays.specs.declared.bounds.Bounds.{Bounds}
 use Rattle.local_arrays.specs.declared.row.Info.{Info}
-use Rattle.local_arrays.specs.Arrays.{array_at, elements_of, values_of, loaded, overwritten, refilled, HasCells}
+use Rattle.local_arrays.specs.Arrays.{array_at, from_one, elements_of, values_of, loaded, overwritten, refilled, HasCells}
 use Rattle.local_arrays.specs.Rows.{Rowed, IsSpot, exchanged, locals_of, local_with, pairs_of, total_size, placed, AreBounds, IsWell, AreWell, Fit}
 
 pub locals_long : (cells : List ℤ) (is : List Info) → length (locals_of cells is) ≡ length is
@@ -621,3 +622,32 @@ removed_view cells cells' is js k i f e c w = reset_view cells cells' is js k i 
 
 pub pushed_more : (xs ys zs : List (Option Local)) (i : ℕ) → xs ≡ ys ++ replicate i None → zs ≡ xs ++ None ∷ [] → zs ≡ ys ++ replicate (i + 1) None
 pushed_more xs ys zs i e f = f ∙ ap (λ r. r ++ None ∷ []) e ∙ append_assoc ys (replicate i None) (None ∷ []) ∙ ap (λ r. ys ++ r) (replicate-append-replicate i 1 None)
+
+-- an array laid out
+pub laid_is : (b : Bounds) (ps : List (ℤ × ℤ)) (n : ℕ) → pairs_of b ≡ ps → n ≡ min (size_of ps) 340282366920938463463374607431768211455 → n < 4294967296 → local_with (Some b) (replicate n (pos 0)) ≡ Some (zeros_in ps)
+laid_is b ps n p e h =
+    let s : n ≡ size_of ps = omega arith in
+    ap (λ qs. Some (record { bounds = qs; elements = replicate n (pos 0) })) p ∙ ap (λ m. Some (record { bounds = ps; elements = replicate m (pos 0) })) s
+
+pub laid_row : (r : Rowed) (new : Rowed) (k : ℕ) (v w : Option Local) → new ≡ record { arrays = slice_set r.arrays k v; most = r.most; size = r.size } → v ≡ w → new ≡ record { arrays = slice_set r.arrays k w; most = r.most; size = r.size }
+laid_row r new k v w e f = e ∙ ap (λ o. record { arrays = slice_set r.arrays k o; most = r.most; size = r.size }) f
+
+set_get : (xs : List (Option Local)) (k : ℕ) (v : Option Local) → k < length xs → array_at k (slice_set xs k v) ≡ v
+set_get [] k v h = absurd (omega arith)
+set_get (x ∷ xs) zero v h = refl
+set_get (x ∷ xs) (suc k) v h = set_get xs k v (omega arith)
+
+set_twice : (xs : List (Option Local)) (k : ℕ) (v w : Option Local) → slice_set (slice_set xs k v) k w ≡ slice_set xs k w
+set_twice [] k v w = refl
+set_twice (x ∷ xs) zero v w = refl
+set_twice (x ∷ xs) (suc k) v w = ap (λ ys. x ∷ ys) (set_twice xs k v w)
+
+pub renewed_row : (r one two : Rowed) (k : ℕ) (b : Bounds) (zs vs : List ℤ) → k < length r.arrays → one ≡ record { arrays = slice_set r.arrays k (local_with (Some b) zs); most = r.most; size = r.size }
+    → two ≡ record { arrays = slice_set one.arrays k (refilled vs (array_at k one.arrays)); most = one.most; size = one.size } → pairs_of b ≡ (pos 1, pos (length vs)) ∷ []
+    → two ≡ record { arrays = slice_set r.arrays k (Some (from_one vs)); most = r.most; size = r.size }
+renewed_row r one two k b zs vs h e f p =
+    let v = local_with (Some b) zs in
+    f ∙ ap (λ (x : Rowed). record { arrays = slice_set x.arrays k (refilled vs (array_at k x.arrays)); most = x.most; size = x.size }) e
+    ∙ ap (λ o. record { arrays = slice_set (slice_set r.arrays k v) k (refilled vs o); most = r.most; size = r.size }) (set_get r.arrays k v h)
+    ∙ ap (λ xs. record { arrays = xs; most = r.most; size = r.size }) (set_twice r.arrays k v (refilled vs v))
+    ∙ ap (λ qs. record { arrays = slice_set r.arrays k (Some (record { bounds = qs; elements = vs })); most = r.most; size = r.size }) p

@@ -141,7 +141,8 @@ impl Row {
 
     /// How many cells there is room for.
     fn room(&self) -> usize
-        ensures { result ≡ self.now.size }
+        ensures is { result ≡ self.now.size }
+        ensures small { result < 2 ^ 32 }
     {
         self.cells.capacity()
     }
@@ -171,6 +172,7 @@ impl Row {
     /// Whether there is room for an array of so many cells in the place of one; of more than 128 bits hold there may be any number.
     pub fn fits(&self, k: usize, n: u128) -> bool
         requires { k < length self.now.arrays }
+        ensures few { IsTrue result → n < 2 ^ 32 }
         ensures fits { IsTrue result → (v : Option Local) → min (local_size v) (2 ^ 128 - 1) ≡ n → cells_in_arrays (slice_set self.now.arrays k v) ≤ self.now.size }
         ensures not { IsFalse result → (v : Option Local) → min (local_size v) (2 ^ 128 - 1) ≡ n → self.now.size < cells_in_arrays (slice_set self.now.arrays k v) }
     {
