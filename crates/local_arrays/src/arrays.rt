@@ -1,22 +1,26 @@
 //! The arrays of all frames.
 
-ghost use Rattle.std.specs.Prelude.{◌≡◌, ◌<◌, ◌≤◌, ◌+◌, ◌^◌, ◌∷◌, [], pos, reverse, drop, length, replicate, is_some, Some, None, IfOk, IfErr, OnOk, OnErr, IfSome, IfNone};
+ghost use Rattle.std.specs.Prelude.{◌≡◌, ◌<◌, ◌≤◌, ◌+◌, ◌^◌, ◌∷◌, [], map, reverse, drop, length, replicate, is_some, Some, None, IfOk, IfErr, OnOk, OnErr, IfSome, IfNone};
 ghost use Rattle.walk_theory.specs.Terms.{found, at_fault};
 ghost use Rattle.image_acts.specs.Core.{Local};
-ghost use Rattle.image_acts.specs.Frames.{cells_in_frames, local_size, pairs_in, zeros_in};
+ghost use Rattle.image_acts.specs.Frames.{cells_in_frames, local_size, pairs_in, zeros_in, room_for_arrays};
 ghost use Rattle.image_acts.specs.Places.{place_in, offsets, subscripts_in, digits};
 ghost use Rattle.array_places.specs.Sections.{numbers_of};
 ghost use Rattle.image_code.specs.Table.{scope_of};
 ghost use Rattle.local_arrays.specs.Arrays.{bounds_in, from_one, place_found, elements_of, loaded, overwritten, refilled, HasCells};
-ghost use Rattle.local_arrays.specs.Frames.{Framed, array_of, with_array, count_of, base_of};
+ghost use Rattle.local_arrays.specs.Frames.{Framed, first_array, array_of, with_array, count_of, base_of};
 ghost use Rattle.image_acts.specs.Operate.Variables.{elements_there};
 
+use crate::first::room_for;
 use crate::row::{NOT_ALLOCATED, Row, SHAPE};
 use crate::slot::slot;
 use array_places::elements::are_there;
 use array_places::list::PlaceNumbers;
 use array_places::place::cells_in;
+use caf_base::refusal::NoMemory;
 use image_code::step::Scope;
+use image_code::tables::FirstArray;
+use std::alloc::Global;
 use std::marker::Model;
 
 /// The arrays of all frames, in room that is made once. No call takes memory but the first.
@@ -40,6 +44,25 @@ impl Model for Arrays {
 }
 
 impl Arrays {
+    /// The main program's arrays at the start, with room for so many frames beside, which have so many arrays together, and for 65,536 cells more.
+    pub fn new(
+        alloc: Global,
+        first: &[Option<FirstArray>],
+        frames: usize,
+        arrays: usize,
+    ) -> Result<Arrays, NoMemory>
+        ensures { IfOk result (λ a. a ≡ record { frames = map first_array first.now ∷ []; most = length first.now + arrays; size = room_for_arrays (map first_array first.now); deepest = frames }) }
+    {
+        let row = first_row(alloc, first, arrays)?;
+        let bases = Vec::with_capacity(alloc, frames)?;
+        Ok(Arrays {
+            row,
+            bases,
+            base: 0,
+            main: first.len(),
+        })
+    }
+
     /// An element of an array, or the run fault NotAllocated or Shape.
     #[inline(always)]
     pub fn element(&self, scope: Scope, x: u32, offset: &i64) -> Result<i64, u32>
@@ -243,4 +266,21 @@ fn last_of(bases: &[usize]) -> usize
         return 0;
     }
     bases[n - 1]
+}
+
+/// The main program's arrays at the start, with room for so many others and for 65,536 cells more.
+fn first_row(
+    alloc: Global,
+    first: &[Option<FirstArray>],
+    arrays: usize,
+) -> Result<Row, NoMemory>
+    ensures { IfOk result (λ r. r ≡ record { arrays = map first_array first.now; most = length first.now + arrays; size = room_for_arrays (map first_array first.now) }) }
+{
+    let size = room_for(first)?;
+    let Some(most) = first.len().checked_add(arrays) else {
+        return Err(NoMemory);
+    };
+    let mut row = Row::new(alloc, most, size)?;
+    row.add_all(first)?;
+    Ok(row)
 }

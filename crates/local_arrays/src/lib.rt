@@ -5,5 +5,6 @@
 
 pub mod arrays;
 pub mod bounds;
+mod first;
 pub mod row;
 mod slot;
