@@ -14,7 +14,7 @@ use Rattle.image_acts.specs.Places.{Place, place_in, cells_of, offsets, elements
 use Rattle.image_acts.specs.Operate.Variables.{elements_there}
 use Rattle.local_arrays.specs.declared.bounds.Bounds.{Bounds}
 use Rattle.local_arrays.specs.declared.row.Info.{Info}
-use Rattle.local_arrays.specs.Arrays.{array_at, from_one, elements_of, values_of, loaded, overwritten, refilled, HasCells}
+use Rattle.local_arrays.specs.Arrays.{array_at, elements_of, values_of, loaded, overwritten, refilled, HasCells}
 use Rattle.local_arrays.specs.Rows.{Rowed, IsSpot, exchanged, locals_of, local_with, pairs_of, total_size, placed, AreBounds, IsWell, AreWell, Fit}
 
 pub locals_long : (cells : List ℤ) (is : List Info) → length (locals_of cells is) ≡ length is
@@ -642,12 +642,12 @@ set_twice [] k v w = refl
 set_twice (x ∷ xs) zero v w = refl
 set_twice (x ∷ xs) (suc k) v w = ap (λ ys. x ∷ ys) (set_twice xs k v w)
 
-pub renewed_row : (r one two : Rowed) (k : ℕ) (b : Bounds) (zs vs : List ℤ) → k < length r.arrays → one ≡ record { arrays = slice_set r.arrays k (local_with (Some b) zs); most = r.most; size = r.size }
-    → two ≡ record { arrays = slice_set one.arrays k (refilled vs (array_at k one.arrays)); most = one.most; size = one.size } → pairs_of b ≡ (pos 1, pos (length vs)) ∷ []
-    → two ≡ record { arrays = slice_set r.arrays k (Some (from_one vs)); most = r.most; size = r.size }
-renewed_row r one two k b zs vs h e f p =
+pub renewed_row : (r one two : Rowed) (k : ℕ) (b : Bounds) (zs vs : List ℤ) (qs : List (ℤ × ℤ)) → k < length r.arrays → one ≡ record { arrays = slice_set r.arrays k (local_with (Some b) zs); most = r.most; size = r.size }
+    → two ≡ record { arrays = slice_set one.arrays k (refilled vs (array_at k one.arrays)); most = one.most; size = one.size } → pairs_of b ≡ qs
+    → two ≡ record { arrays = slice_set r.arrays k (Some (record { bounds = qs; elements = vs })); most = r.most; size = r.size }
+renewed_row r one two k b zs vs qs h e f p =
     let v = local_with (Some b) zs in
     f ∙ ap (λ (x : Rowed). record { arrays = slice_set x.arrays k (refilled vs (array_at k x.arrays)); most = x.most; size = x.size }) e
     ∙ ap (λ o. record { arrays = slice_set (slice_set r.arrays k v) k (refilled vs o); most = r.most; size = r.size }) (set_get r.arrays k v h)
     ∙ ap (λ xs. record { arrays = xs; most = r.most; size = r.size }) (set_twice r.arrays k v (refilled vs v))
-    ∙ ap (λ qs. record { arrays = slice_set r.arrays k (Some (record { bounds = qs; elements = vs })); most = r.most; size = r.size }) p
+    ∙ ap (λ ps. record { arrays = slice_set r.arrays k (Some (record { bounds = ps; elements = vs })); most = r.most; size = r.size }) p

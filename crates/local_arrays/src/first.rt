@@ -1,6 +1,6 @@
 //! The arrays that the main program has from the start.
 
-ghost use Rattle.std.specs.Prelude.{◌≡◌, ◌<◌, ◌≤◌, ◌+◌, ◌∷◌, ◌++◌, [], map, length, slice_set, sum_by, Some, IfOk, OnOk};
+ghost use Rattle.std.specs.Prelude.{◌≡◌, ◌<◌, ◌≤◌, ◌+◌, ◌∷◌, ◌++◌, [], map, length, slice_set, sum_by, Some, IfOk, OnOk, IfSome, IfNone};
 ghost use Rattle.image_acts.specs.Frames.{room_for_arrays, local_size};
 ghost use Rattle.local_arrays.specs.Frames.{first_array, first_size, local_of};
 ghost use Rattle.local_arrays.specs.Rows.{pairs_of, AreBounds};
@@ -18,13 +18,27 @@ fn bounds_of_pairs(pairs: &[(i64, i64)]) -> Result<Bounds, NoMemory>
     ensures pairs { IfOk result (λ b. pairs_of b ≡ pairs.now) }
     ensures bounds { IfOk result (λ b. AreBounds b) }
 {
-    match pairs {
-        [] => Ok(bounds_of(&[])),
-        [a] => Ok(bounds_of(&[a.0, a.1])),
-        [a, b] => Ok(bounds_of(&[a.0, a.1, b.0, b.1])),
-        [a, b, c] => Ok(bounds_of(&[a.0, a.1, b.0, b.1, c.0, c.1])),
-        _ => Err(NoMemory),
+    let Some((a, more)) = first_of(pairs) else {
+        return Ok(bounds_of(&[]));
+    };
+    let Some((b, rest)) = first_of(more) else {
+        return Ok(bounds_of(&[a.0, a.1]));
+    };
+    let Some((c, past)) = first_of(rest) else {
+        return Ok(bounds_of(&[a.0, a.1, b.0, b.1]));
+    };
+    match first_of(past) {
+        None => Ok(bounds_of(&[a.0, a.1, b.0, b.1, c.0, c.1])),
+        Some(_) => Err(NoMemory),
     }
+}
+
+/// The first pair, and those behind it.
+fn first_of(pairs: &[(i64, i64)]) -> Option<(&(i64, i64), &[(i64, i64)])>
+    ensures some { IfSome result (λ r. pairs.now ≡ r.0.now ∷ r.1.now) }
+    ensures none { IfNone result (pairs.now ≡ []) }
+{
+    pairs.split_first()
 }
 
 /// How many elements such an array has.
