@@ -23,7 +23,7 @@ impl Model for PlaceNumbers {
 
 impl PlaceNumbers {
     /// A place of one cell, the first.
-    pub(crate) fn new() -> PlaceNumbers
+    pub fn new() -> PlaceNumbers
         ensures { result ≡ pos 0 ∷ [] }
     {
         PlaceNumbers {
@@ -40,7 +40,7 @@ impl PlaceNumbers {
     }
 
     /// Puts a number behind.
-    pub(crate) fn push(&mut self, number: &i64)
+    pub fn push(&mut self, number: &i64)
         requires { length self.old < 7 }
         ensures { self.new ≡ self.old ++ number.now ∷ [] }
     {

@@ -7,14 +7,14 @@ ghost use Rattle.image_acts.specs.Places.{place_in, cells_of, extents_of, offset
 ghost use Rattle.array_places.specs.Offsets.{counts_of};
 
 /// A number, or 0 for one below 0.
-pub(crate) fn natural(v: &i64) -> u64
+pub fn natural(v: &i64) -> u64
     ensures { result ≡ natural v.now }
 {
     if *v < 0 { 0 } else { *v as u64 }
 }
 
 /// The first two numbers and those behind them, where there are two.
-pub(crate) fn first_pair(numbers: &[i64]) -> Option<(&i64, &i64, &[i64])>
+pub fn first_pair(numbers: &[i64]) -> Option<(&i64, &i64, &[i64])>
     ensures some { IfSome result (λ r. numbers.now ≡ r.0.now ∷ r.1.now ∷ r.2.now) }
     ensures none { IfNone result (length numbers.now < 2) }
 {

@@ -1,4 +1,5 @@
 pub mod Fetch
+pub mod Missing
 pub mod Steps
 pub mod Sizes
 pub mod Walking

@@ -77,7 +77,7 @@ impl Machine {
 
 impl Walker for Machine {
     ghost use Rattle.image_machine.specs.Engine.{Engine};
-    ghost use Rattle.image_machine.specs.Walk.{machine_step, left_of, Hears};
+    ghost use Rattle.image_machine.specs.Walk.{machine_step, left_of, BringsNone};
 
     ghost Config = { Engine };
 
@@ -85,7 +85,7 @@ impl Walker for Machine {
 
     ghost step = { machine_step };
 
-    ghost hears = { λ c reply. Hears (machine_step c) reply };
+    ghost hears = { λ c reply. BringsNone (machine_step c) reply };
 
     ghost asks_left = { left_of };
 

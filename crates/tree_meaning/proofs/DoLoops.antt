@@ -11,11 +11,11 @@ use Rattle.walk_theory.specs.Iterations.{IsCounted}
 use Rattle.caf_base.specs.Arithmetic.{truth, fits_kind, iterations, natural}
 use Rattle.image_acts.specs.Statuses.{most_iterations}
 use Rattle.image_acts.specs.Faults.{overflow, zero_step}
-use Rattle.image_acts.specs.Acts.{Act, Scope, here, host, variable, begin_iterations}
+use Rattle.image_acts.specs.Acts.{Act, Scope, here, host, variable, begin_iterations, next_iteration, more_iterations}
 use Rattle.image_acts.specs.Core.{Core, Frame, pushed}
 use Rattle.image_acts.specs.Frames.{cell_in, with_cell}
 use Rattle.image_acts.specs.Taking.{given, unless, telling, tested}
-use Rattle.image_acts.specs.Meaning.{image_language}
+use Rattle.image_acts.specs.Meaning.{image_language, settled}
 use Rattle.tree_meaning.specs.Sequences.{doing}
 use Rattle.tree_meaning.specs.DoLoops.{count_of_cell, iterations_left, do_loop}
 
@@ -24,11 +24,11 @@ tested_by : Option ℤ → Core → Core
 tested_by None c = c
 tested_by (Some v) c = pushed (truth (int_lt (pos 0) v)) c
 
-tests : (o : Option ℤ) (c : Core) (r : ℕ) → count_of_cell o ≡ Some r
-    → and_then (of_effect c (given o (λ v. telling (int_lt (pos 0) v) c))) (outcome image_language end_parts) ≡ leaves (tested_by o c)
+tests : (x : Act) (o : Option ℤ) (c : Core) (r : ℕ) → count_of_cell o ≡ Some r
+    → and_then (of_effect c (settled x (given o (λ v. telling (int_lt (pos 0) v) c)))) (outcome image_language end_parts) ≡ leaves (tested_by o c)
 unfolding tested_by
-tests None c r e = cc
-tests (Some v) c r e = refl
+tests x None c r e = cc
+tests x (Some v) c r e = refl
 
 last : (o : Option ℤ) (c : Core) → count_of_cell o ≡ Some 0 → tested (tested_by o c) ≡ fails c
 unfolding tested_by
@@ -73,13 +73,13 @@ less_one n = let e : suc n - 1 ≡ n = omega arith in ap (λ k. pos k) e
 one_less : (s : Scope) (c : Core) (x t : ℕ) (v : ℤ) (n : ℕ) → cell_in here t c ≡ Some (pos (suc n)) → iterations_left t (with_cell here t (pos (natural (pos (suc n)) - 1)) (with_cell s x v c)) ≡ Some n
 one_less s c x t v n e = let p = beside s c x t v (pos (suc n)) e in ap count_of_cell (stored (with_cell s x v c).frame.cells t (pos (natural (pos (suc n)) - 1)) p.0 p.1) ∙ ap (λ z. count_of_cell (Some z)) (less_one n)
 
-goes_there : (k : ℕ) (b : Bool) (c e d : Core) → and_then (of_effect c (unless k b (goes_to e))) (outcome image_language end_parts) ≡ leaves d → d ≡ e
-goes_there k true c e d h = cc
-goes_there k false c e d h = cc
+goes_there : (x : Act) (k : ℕ) (b : Bool) (c e d : Core) → and_then (of_effect c (settled x (unless k b (goes_to e)))) (outcome image_language end_parts) ≡ leaves d → d ≡ e
+goes_there x k true c e d h = cc
+goes_there x k false c e d h = cc
 
 -- the step to the next iteration, where it goes on
 takes : (s : Scope) (k : Kind) (x t : ℕ) (ox os ol : Option ℤ) (c d : Core) (r : ℕ) → ol ≡ cell_in here t c → count_of_cell ol ≡ Some (suc r)
-    → and_then (of_effect c (given ox (λ v. given os (λ step. given ol (λ left. unless overflow (fits_kind k (v +ℤ step)) (goes_to (with_cell here t (pos (natural left - 1)) (with_cell s x (v +ℤ step) c)))))))) (outcome image_language end_parts) ≡ leaves d
+    → and_then (of_effect c (settled (variable (next_iteration s x t k)) (given ox (λ v. given os (λ step. given ol (λ left. unless overflow (fits_kind k (v +ℤ step)) (goes_to (with_cell here t (pos (natural left - 1)) (with_cell s x (v +ℤ step) c))))))))) (outcome image_language end_parts) ≡ leaves d
     → iterations_left t d ≡ Some r
 takes s k x t None os ol c d r a e h = cc
 takes s k x t (Some v) None ol c d r a e h = cc
@@ -87,13 +87,13 @@ takes s k x t (Some v) (Some st) None c d r a e h = cc
 takes s k x t (Some v) (Some st) (Some (negsuc n)) c d r a e h = cc
 takes s k x t (Some v) (Some st) (Some (pos zero)) c d r a e h = cc
 takes s k x t (Some v) (Some st) (Some (pos (suc n))) c d r a e h =
-    ap (iterations_left t) (goes_there overflow (fits_kind k (v +ℤ st)) c _ d h) ∙ one_less s c x t (v +ℤ st) n (sym a) ∙ (cc)
+    ap (iterations_left t) (goes_there (variable (next_iteration s x t k)) overflow (fits_kind k (v +ℤ st)) c _ d h) ∙ one_less s c x t (v +ℤ st) n (sym a) ∙ (cc)
 
 -- the loop of a DO construct has the iteration count of its hidden cell
 pub do_is_counted : (l : ℕ) (s : Scope) (x t : ℕ) (k : Kind) (body : Steps Act) → IsCounted image_language (iterations_left t) (do_loop l s x t k body)
 do_is_counted l s x t k body = record {
   tested = λ c. tested_by (cell_in here t c) c;
-  tests = λ c r e. tests (cell_in here t c) c r e;
+  tests = λ c r e. tests (variable (more_iterations t)) (cell_in here t c) c r e;
   last = λ c e. last (cell_in here t c) c e;
   more = λ c r e. more (cell_in here t c) c r e;
   takes = λ c d r e h. takes s k x t (cell_in s x c) (cell_in here (t + 1) c) (cell_in here t c) c d r refl e h;
@@ -106,5 +106,5 @@ pub do_begins : (s : Scope) (x t : ℕ) (first last step u : ℤ) (c d : Core) �
 do_begins s x t first last step u c d hu h =
     let p = beside s c x t first u hu in
     let q = remains (with_cell s x first c).frame.cells (t + 1) t step p.0 p.1 in
-    ap (iterations_left t) (goes_there zero_step (not (int_eq step (pos 0))) (pushed step (pushed last (pushed first c))) _ d h)
+    ap (iterations_left t) (goes_there (variable (begin_iterations s x t)) zero_step (not (int_eq step (pos 0))) (pushed step (pushed last (pushed first c))) _ d h)
     ∙ ap count_of_cell (stored (with_cell here (t + 1) step (with_cell s x first c)).frame.cells t (pos (min (iterations first last step) most_iterations)) q.0 q.1)

@@ -16,11 +16,11 @@ use Rattle.checked_tree.specs.Expressions as t
 use Rattle.caf_base.specs.Arithmetic.{truth, is_true}
 use Rattle.image_acts.specs.Operate.Operators.{in_kind}
 use Rattle.image_acts.specs.Acts as a
-use Rattle.image_acts.specs.Acts.{Act, Scope, here, host, operator}
+use Rattle.image_acts.specs.Acts.{Act, Scope, here, host, operator, variable}
 use Rattle.image_acts.specs.Core.{Core, pushed}
 use Rattle.image_acts.specs.Frames.{cell_in, last_or}
 use Rattle.image_acts.specs.Taking.{given, found_in, giving}
-use Rattle.image_acts.specs.Meaning.{operate, forgotten, image_language}
+use Rattle.image_acts.specs.Meaning.{operate, settled, forgotten, image_language}
 use Rattle.tree_meaning.specs.Environment.{Environment, scope_of, kind_of}
 use Rattle.tree_meaning.specs.Sequences.{◌▸◌, doing}
 use Rattle.tree_meaning.specs.Expressions.{expression, form, arithmetic_act, relation_act, logic_act}
@@ -33,16 +33,16 @@ abbrev by : a.OperatorAct → Parts Act
 by o = doing (operator o ∷ [])
 
 -- what is found is put down
-found_leaves : (f : Found ℤ) (c d : Core) → forgotten d ≡ forgotten c → Leaves (of_found f) c (and_then (of_effect d (found_in f (λ z. giving z c))) (after end_parts))
-found_leaves (found v) c d h = refl
-found_leaves (at_fault k) c d h = (d, refl, h)
+found_leaves : (x : Act) (f : Found ℤ) (c d : Core) → forgotten d ≡ forgotten c → Leaves (of_found f) c (and_then (of_effect d (settled x (found_in f (λ z. giving z c)))) (after end_parts))
+found_leaves x (found v) c d h = refl
+found_leaves x (at_fault k) c d h = (d, refl, h)
 
 -- an operand and its operator
 one_leaves : (x : Valued) (f : ℤ → Found ℤ) (o : a.OperatorAct) (p : Parts Act) (c : Core) → ((v : ℤ) → operate (operator o) (pushed v c) ≡ found_in (f v) (λ z. giving z c))
     → Leaves x c (after p c) → Leaves (of_one x f) c (after (p ▸ by o) c)
 one_leaves (is v) f o p c acts h =
     subst (λ u. Leaves (of_found (f v)) c (and_then u (after (by o)))) (sym h)
-    (subst (λ w. Leaves (of_found (f v)) c (and_then (of_effect (pushed v c) w) (after end_parts))) (sym (acts v)) (found_leaves (f v) c (pushed v c) refl))
+    (subst (λ w. Leaves (of_found (f v)) c (and_then (of_effect (pushed v c) (settled (operator o) w)) (after end_parts))) (sym (acts v)) (found_leaves (operator o) (f v) c (pushed v c) refl))
 one_leaves (fault k) f o p c acts (d, e, g) = (d, ap (λ u. and_then u (after (by o))) e, g)
 one_leaves unsaid f o p c acts h = tt
 
@@ -51,7 +51,7 @@ right_leaves : (v : ℤ) (y : Valued) (f : ℤ → ℤ → Found ℤ) (o : a.Ope
     → Leaves y (pushed v c) (after q (pushed v c)) → Leaves (of_two (is v) y f) c (after (q ▸ by o) (pushed v c))
 right_leaves v (is w) f o q c acts h =
     subst (λ u. Leaves (of_found (f v w)) c (and_then u (after (by o)))) (sym h)
-    (subst (λ x. Leaves (of_found (f v w)) c (and_then (of_effect (pushed w (pushed v c)) x) (after end_parts))) (sym (acts w)) (found_leaves (f v w) c (pushed w (pushed v c)) refl))
+    (subst (λ x. Leaves (of_found (f v w)) c (and_then (of_effect (pushed w (pushed v c)) (settled (operator o) x)) (after end_parts))) (sym (acts w)) (found_leaves (operator o) (f v w) c (pushed w (pushed v c)) refl))
 right_leaves v (fault k) f o q c acts (d, e, g) = (d, ap (λ u. and_then u (after (by o))) e, g)
 right_leaves v unsaid f o q c acts h = tt
 
@@ -85,13 +85,13 @@ logic_acts logics.Eqv c v w = refl
 logic_acts logics.Neqv c v w = refl
 
 -- a scalar variable
-cell_leaves : (o : Option ℤ) (c : Core) → Leaves (of_cell o) c (and_then (of_effect c (given o (λ v. giving v c))) (after end_parts))
-cell_leaves None c = tt
-cell_leaves (Some v) c = refl
+cell_leaves : (x : Act) (o : Option ℤ) (c : Core) → Leaves (of_cell o) c (and_then (of_effect c (settled x (given o (λ v. giving v c)))) (after end_parts))
+cell_leaves x None c = tt
+cell_leaves x (Some v) c = refl
 
-scalar_leaves : (s : Scope) (x : ℕ) (c : Core) → Leaves (of_cell (variable_in s x (variables c))) c (and_then (of_effect c (given (cell_in s x c) (λ v. giving v c))) (after end_parts))
-scalar_leaves here x c = cell_leaves (slice_get c.frame.cells x) c
-scalar_leaves host x c = cell_leaves (slice_get (last_or c.frame c.callers).cells x) c
+scalar_leaves : (s : Scope) (x : ℕ) (c : Core) → Leaves (of_cell (variable_in s x (variables c))) c (and_then (of_effect c (settled (variable (a.cell s x)) (given (cell_in s x c) (λ v. giving v c)))) (after end_parts))
+scalar_leaves here x c = cell_leaves (variable (a.cell here x)) (slice_get c.frame.cells x) c
+scalar_leaves host x c = cell_leaves (variable (a.cell host x)) (slice_get (last_or c.frame c.callers).cells x) c
 
 mutual
   pub expression_leaves : (e : Environment) (x : t.Expression) (c : Core) → Leaves (value_of x (variables c)) c (after (expression e x) c)
