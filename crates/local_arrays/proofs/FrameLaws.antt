@@ -1,16 +1,16 @@
 -- Laws of frames in a row of arrays.
-use Rattle.std.proofs.Common.{◌≡◌, ℕ, zero, suc, ◌+◌, ◌-◌, ◌<◌, ◌≤◌, List, [], ◌∷◌, ◌++◌, take, drop, length, refl, ap, sym, ◌∙◌, arith, replicate, append_assoc, slice_set, slice_index_or, subst}
-use Rattle.std.proofs.lemmas.List.{drop-set-lt, take-set-le, drop-set-add, length-take, length-drop, length-append, length-replicate, length-set, reverse-append}
-use Rattle.std.proofs.lemmas.List.Sums.{sum_by-cons, sum_by-append}
-use Rattle.std.proofs.lemmas.Option.{slice_get_past, slice_get_within}
+use Rattle.std.proofs.Common.{◌≡◌, ℕ, zero, suc, ◌+◌, ◌-◌, ◌<◌, ◌≤◌, List, [], ◌∷◌, ◌++◌, take, drop, length, refl, ap, sym, ◌∙◌, arith, slice_set, slice_index_or, subst}
+use Rattle.std.proofs.lemmas.List.{drop-set-lt, take-set-le, drop-set-add, length-take, length-drop, length-append, reverse-append}
+use Rattle.std.proofs.lemmas.List.Sums.{sum_by-cons}
+use Rattle.std.proofs.lemmas.Option.{slice_get_past}
 use Rattle.std.proofs.Math.Seq.{take-set-lt, take-append_seam, drop-append_seam, take-suc, take-length}
-use Rattle.std.specs.Prelude.{slice_get, Option, Some, None, reverse, Result, Ok, Err, OnOk, OnErr}
+use Rattle.std.specs.Prelude.{slice_get, Option, None, reverse, Result, Ok, Err, OnOk, OnErr}
 use Rattle.image_acts.specs.Acts.{Scope, here, host}
 use Rattle.image_acts.specs.Core.{Local}
 use Rattle.image_acts.specs.Frames.{joined, cells_in_arrays, cells_in_frames, local_size}
 use Rattle.local_arrays.specs.Arrays.{array_at}
 use Rattle.local_arrays.specs.Rows.{Rowed}
-use Rattle.local_arrays.specs.Frames.{Framed, count_of, front_of, main_of, with_front, with_main, arrays_of, with_arrays, array_of, with_array, frames_of, base_of, Nested, SlotIs, NoSlot}
+use Rattle.local_arrays.specs.Frames.{Framed, count_of, front_of, main_of, with_front, with_main, array_of, with_array, frames_of, base_of, Nested, SlotIs, NoSlot}
 
 -- there is always a frame
 main_behind : {X : Type 0} (bs : List ℕ) (f : List X) (xs : List X) → main_of (f ∷ frames_of bs xs) ≡ main_of (frames_of bs xs)

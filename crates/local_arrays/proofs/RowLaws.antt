@@ -1,20 +1,20 @@
 -- Laws of arrays in one row of cells.
 use Rattle.std.proofs.Common.{◌≡◌, ℕ, zero, suc, ◌+◌, ◌-◌, ◌<◌, ◌≤◌, ℤ, List, [], ◌∷◌, ◌++◌, take, drop, length, refl, ap, sym, ◌∙◌, arith, pos, replicate, append_assoc, slice_set, subst, min, Bool, true, false, cond, leb-true, le-leb, slice_index_or}
 use Rattle.std.proofs.lemmas.List.{take-append-le, drop-append-le, length-take, length-drop, length-append, length-replicate, length-set, take-append-drop, get_or-take, get_or-drop, replicate-append-replicate}
-use Rattle.std.proofs.lemmas.List.Sums.{sum_by-cons, sum_by_push}
+use Rattle.std.proofs.lemmas.List.Sums.{sum_by-cons}
 use Rattle.std.proofs.lemmas.Option.{slice_get-get_or, slice_get_past}
 use Rattle.std.proofs.Math.Seq.{take-append_seam, drop-append_seam}
 use Rattle.std.specs.Prelude.{slice_get, Option, Some, None, is_some, nat_le}
 use Rattle.caf_base.specs.Arithmetic.{natural}
-use Rattle.walk_theory.specs.Terms.{Found, found, at_fault}
+use Rattle.walk_theory.specs.Terms.{found, at_fault}
 use Rattle.image_acts.specs.Core.{Local}
 use Rattle.coarray_types.specs.Places.{size_of}
-use Rattle.image_acts.specs.Frames.{joined, cells_in_arrays, local_size, zeros_in}
+use Rattle.image_acts.specs.Frames.{cells_in_arrays, local_size, zeros_in}
 use Rattle.image_acts.specs.Places.{Place, place_in, cells_of, offsets, elements_at, with_elements_at}
 use Rattle.image_acts.specs.Operate.Variables.{elements_there}
 use Rattle.local_arrays.specs.declared.bounds.Bounds.{Bounds}
 use Rattle.local_arrays.specs.declared.row.Info.{Info}
-use Rattle.local_arrays.specs.Arrays.{array_at, elements_of, values_of, loaded, overwritten, refilled, HasCells}
+use Rattle.local_arrays.specs.Arrays.{array_at, values_of, loaded, overwritten, refilled, HasCells}
 use Rattle.local_arrays.specs.Rows.{Rowed, IsSpot, exchanged, locals_of, local_with, pairs_of, total_size, placed, AreBounds, IsWell, AreWell, Fit}
 
 pub locals_long : (cells : List ℤ) (is : List Info) → length (locals_of cells is) ≡ length is

@@ -269,11 +269,7 @@ fn last_of(bases: &[usize]) -> usize
 }
 
 /// The main program's arrays at the start, with room for so many others and for 65,536 cells more.
-fn first_row(
-    alloc: Global,
-    first: &[Option<FirstArray>],
-    arrays: usize,
-) -> Result<Row, NoMemory>
+fn first_row(alloc: Global, first: &[Option<FirstArray>], arrays: usize) -> Result<Row, NoMemory>
     ensures { IfOk result (λ r. r ≡ record { arrays = map first_array first.now; most = length first.now + arrays; size = room_for_arrays (map first_array first.now) }) }
 {
     let size = room_for(first)?;

@@ -1,6 +1,6 @@
-use Rattle.std.proofs.Common.{◌≡◌, ◌∙◌, ap, arith, length, reverse, rules, vec_len, vec_capacity}
+use Rattle.std.proofs.Common.{◌≡◌, ap, arith, length, reverse, rules, vec_len}
 use Rattle.std.proofs.lemmas.List.{length-reverse}
-use Rattle.local_arrays.specs.Frames.{Framed, count_of, frames_of}
+use Rattle.local_arrays.specs.Frames.{Framed, count_of}
 use Rattle.local_arrays.proofs.FrameLaws.{frames_long, count_same}
 use Rattle.local_arrays.proofs.arrays.Arrays.begin.Goals as goal
 

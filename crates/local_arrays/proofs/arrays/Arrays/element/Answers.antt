@@ -1,15 +1,12 @@
-use Rattle.std.proofs.Common.{◌≡◌, ◌∙◌, ◌∷◌, [], ap, sym, subst, List, ℤ, length, reverse, replicate, vec_capacity}
-use Rattle.std.specs.Prelude.{Option, Some, None, IfOk, IfErr, IfSome, IfNone, OnOk, OnErr}
-use Rattle.walk_theory.specs.Terms.{Found, found, at_fault}
+use Rattle.std.proofs.Common.{◌≡◌, ◌∷◌, [], ap, sym, subst, length, reverse}
+use Rattle.std.specs.Prelude.{Option, IfOk, IfErr}
+use Rattle.walk_theory.specs.Terms.{found, at_fault}
 use Rattle.image_acts.specs.Core.{Local}
-use Rattle.image_acts.specs.Frames.{pairs_in, local_size}
-use Rattle.image_acts.specs.Places.{place_in, offsets, subscripts_in, digits}
-use Rattle.array_places.specs.Sections.{numbers_of}
+use Rattle.image_acts.specs.Places.{place_in}
 use Rattle.image_code.specs.Table.{scope_of}
-use Rattle.local_arrays.specs.Arrays.{array_at, bounds_in, place_found, elements_of, loaded, overwritten, refilled, HasCells}
-use Rattle.local_arrays.specs.Rows.{Rowed}
-use Rattle.local_arrays.specs.Frames.{Framed, array_of, with_array}
-use Rattle.local_arrays.proofs.FrameLaws.{kept_get, kept_none, kept_within, kept_same, kept_set, on_ok}
+use Rattle.local_arrays.specs.Arrays.{loaded}
+use Rattle.local_arrays.specs.Frames.{Framed}
+use Rattle.local_arrays.proofs.FrameLaws.{kept_get, kept_none, kept_within}
 use Rattle.local_arrays.proofs.arrays.Arrays.element.Goals as goal
 
 pub element-requires : goal.element-requires

@@ -1,10 +1,8 @@
-use Rattle.std.proofs.Common.{◌≡◌, ◌∙◌, ◌∷◌, [], ap, sym, subst, refl, List, ℤ, length, reverse, replicate, vec_capacity}
-use Rattle.std.specs.Prelude.{Option, Some, None, OnOk, OnErr}
-use Rattle.image_acts.specs.Core.{Local}
-use Rattle.image_acts.specs.Frames.{pairs_in, zeros_in}
+use Rattle.std.proofs.Common.{ap, refl, length, reverse, vec_capacity}
+use Rattle.std.specs.Prelude.{Some}
 use Rattle.image_code.specs.Table.{scope_of}
 use Rattle.local_arrays.specs.Arrays.{from_one}
-use Rattle.local_arrays.specs.Frames.{Framed, with_array}
+use Rattle.local_arrays.specs.Frames.{Framed}
 use Rattle.local_arrays.proofs.FrameLaws.{kept_within, kept_same, kept_set, on_ok, on_err, none_fits, none_full, some_fits, some_full}
 use Rattle.local_arrays.proofs.arrays.Arrays.renew.Goals as goal
 

@@ -1,6 +1,5 @@
-use Rattle.std.proofs.Common.{◌≡◌, ◌∙◌, ap, sym}
-use Rattle.std.specs.Prelude.{Option, Some}
-use Rattle.image_code.specs.declared.tables.FirstArray.{FirstArray}
+use Rattle.std.proofs.Common.{ap, sym}
+use Rattle.std.specs.Prelude.{Some}
 use Rattle.local_arrays.specs.Frames.{first_array, local_of}
 use Rattle.local_arrays.proofs.FirstLaws.{add_row}
 use Rattle.local_arrays.proofs.FrameLaws.{on_ok}

@@ -1,5 +1,4 @@
-use Rattle.std.proofs.Common.{◌≡◌, ◌∙◌, ◌-◌, ◌≤◌, ◌<◌, ◌+◌, arith, leb-true, leb-false, subst, ℕ, rules}
-use Rattle.std.specs.Prelude.{slice_set, slice_get}
+use Rattle.std.proofs.Common.{◌≡◌, ◌-◌, ◌<◌, arith, leb-true, leb-false}
 use Rattle.image_acts.specs.Frames.{cells_in_arrays, local_size}
 use Rattle.local_arrays.specs.Arrays.{array_at}
 use Rattle.local_arrays.proofs.RowLaws.{fits_true, fits_false}

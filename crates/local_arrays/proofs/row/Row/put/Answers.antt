@@ -1,10 +1,9 @@
-use Rattle.std.proofs.Common.{◌≡◌, ◌∙◌, ◌<◌, ap, sym, subst, refl, ℕ, List, length, replicate}
-use Rattle.std.specs.Prelude.{slice_get, slice_set, Option, Some}
-use Rattle.image_acts.specs.Core.{Local}
-use Rattle.image_acts.specs.Places.{place_in, offsets}
+use Rattle.std.proofs.Common.{◌≡◌, ◌∙◌, ◌<◌, ap, sym, subst, refl, ℕ, List}
+use Rattle.std.specs.Prelude.{slice_get, slice_set, Some}
+use Rattle.image_acts.specs.Places.{place_in}
 use Rattle.local_arrays.specs.declared.row.Info.{Info}
 use Rattle.local_arrays.specs.Arrays.{array_at, overwritten, HasCells}
-use Rattle.local_arrays.specs.Rows.{Rowed, locals_of}
+use Rattle.local_arrays.specs.Rows.{Rowed}
 use Rattle.local_arrays.proofs.RowLaws.{within, few_cells, over_fit, over_view, same_rowed}
 use Rattle.local_arrays.proofs.row.Row.put.Goals as goal
 

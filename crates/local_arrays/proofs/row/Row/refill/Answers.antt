@@ -1,4 +1,4 @@
-use Rattle.std.proofs.Common.{◌≡◌, ◌∙◌, ◌<◌, ◌≤◌, ◌+◌, ap, sym, arith, subst, refl, ℕ, List, length}
+use Rattle.std.proofs.Common.{◌≡◌, ◌∙◌, ◌<◌, ap, sym, arith, subst, refl, ℕ, List}
 use Rattle.std.specs.Prelude.{slice_get, slice_set, Some}
 use Rattle.image_acts.specs.Frames.{local_size}
 use Rattle.local_arrays.specs.declared.row.Info.{Info}

@@ -1,4 +1,4 @@
-use Rattle.std.proofs.Common.{◌≡◌, ◌∙◌, ◌<◌, ◌≤◌, ◌+◌, ◌++◌, ap, sym, arith, subst, refl, ℕ, List, length, take, drop}
+use Rattle.std.proofs.Common.{◌≡◌, ◌∙◌, ◌<◌, ◌+◌, ◌++◌, ap, sym, arith, subst, refl, ℕ, List, length, take, drop}
 use Rattle.std.specs.Prelude.{slice_get, slice_set, Some, None}
 use Rattle.std.proofs.lemmas.List.{length-set}
 use Rattle.local_arrays.specs.declared.row.Info.{Info}

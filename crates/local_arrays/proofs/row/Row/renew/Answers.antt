@@ -1,4 +1,4 @@
-use Rattle.std.proofs.Common.{◌≡◌, ◌∙◌, ◌<◌, ◌∷◌, [], ap, arith, pos, replicate, length, w64, to_z, ℤ}
+use Rattle.std.proofs.Common.{◌∙◌, ◌<◌, ◌∷◌, [], ap, arith, pos, replicate, length, w64, ℤ}
 use Rattle.std.proofs.lemmas.Int.{to_z_pos}
 use Rattle.local_arrays.proofs.RowLaws.{renewed_row}
 use Rattle.local_arrays.proofs.row.Row.renew.Goals as goal

@@ -1,11 +1,11 @@
-use Rattle.std.proofs.Common.{◌≡◌, ◌∙◌, ap, sym, subst, List, ℤ}
-use Rattle.std.specs.Prelude.{slice_get, Option, Some, None, IfOk, IfErr}
-use Rattle.walk_theory.specs.Terms.{Found, found, at_fault}
+use Rattle.std.proofs.Common.{◌≡◌, ◌∙◌, ap, sym, subst, List}
+use Rattle.std.specs.Prelude.{slice_get, Option, Some, IfOk, IfErr}
+use Rattle.walk_theory.specs.Terms.{found, at_fault}
 use Rattle.image_acts.specs.Core.{Local}
 use Rattle.image_acts.specs.Places.{subscripts_in, digits}
 use Rattle.array_places.specs.Sections.{numbers_of}
 use Rattle.local_arrays.specs.declared.row.Info.{Info}
-use Rattle.local_arrays.specs.Arrays.{array_at, bounds_in, place_found}
+use Rattle.local_arrays.specs.Arrays.{array_at, place_found}
 use Rattle.local_arrays.specs.Rows.{Rowed}
 use Rattle.local_arrays.proofs.RowLaws.{bounds_there, missing_local, there_local}
 use Rattle.local_arrays.proofs.row.Row.section.Goals as goal

@@ -1,7 +1,5 @@
-use Rattle.std.proofs.Common.{◌≡◌, ◌∙◌, ap, pos, replicate, List, ℤ}
+use Rattle.std.proofs.Common.{◌∙◌, ap, pos, replicate, List, ℤ}
 use Rattle.std.specs.Prelude.{Some, slice_set}
-use Rattle.image_acts.specs.Core.{Local}
-use Rattle.local_arrays.specs.Rows.{Rowed}
 use Rattle.local_arrays.proofs.RowLaws.{renewed_row}
 use Rattle.local_arrays.proofs.row.Row.set_first.Goals as goal
 

@@ -1,4 +1,4 @@
-use Rattle.std.proofs.Common.{◌≡◌, ◌∙◌, ◌<◌, ◌∷◌, [], ap, sym, subst, refl, ℕ, List}
+use Rattle.std.proofs.Common.{◌∙◌, ◌<◌, ◌∷◌, [], ap, sym, subst, refl, ℕ, List}
 use Rattle.std.specs.Prelude.{slice_set}
 use Rattle.image_acts.specs.Places.{place_in}
 use Rattle.local_arrays.specs.declared.row.Info.{Info}
