@@ -1,3 +1,4 @@
 pub mod RowLaws
 pub mod FrameLaws
 pub mod FirstLaws
+pub mod CoreLaws

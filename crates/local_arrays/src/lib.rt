@@ -6,5 +6,6 @@
 pub mod arrays;
 pub mod bounds;
 mod first;
+pub mod laws;
 pub mod row;
 mod slot;
