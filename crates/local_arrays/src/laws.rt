@@ -70,7 +70,7 @@ pub fn law_copy_in()
 pub fn law_make()
     ensures { (s : a.Scope) (x depth rank : ℕ) (c : Core) → allocation_effect (a.make s x depth rank) c
         ≡ seeing depth (bounds_size rank) c (λ vs. unless room (nat_le (c.local_cells + size_of (pairs_in vs)) most_cells) (unless room (nat_le rank 3)
-            (if_room (with_array_in s x (Some (zeros_in (pairs_in vs))) (record c { local_cells = c.local_cells + size_of (pairs_in vs) }))))) }
+        (if_room (with_array_in s x (Some (zeros_in (pairs_in vs))) (record c { local_cells = c.local_cells + size_of (pairs_in vs) }))))) }
 {}
 
 /// LayOut does what `lay` does.
@@ -83,8 +83,8 @@ pub fn law_lay_out()
 pub fn law_put_images()
     ensures { (s : a.Scope) (x : ℕ) (c : Core) → variable_effect (a.put_images s x) c
         ≡ taking_array c (λ y d. cond (has_length (length y.elements) (array_in s x d)) (goes_to (with_array_in s x (refilled y.elements (array_in s x d)) d))
-            (unless room (nat_le ((d.local_cells - local_size (array_in s x d)) + length y.elements) most_cells)
-            (if_room (record (with_array_in s x (Some (from_one y.elements)) d) { local_cells = (d.local_cells - local_size (array_in s x d)) + length y.elements })))) }
+        (unless room (nat_le ((d.local_cells - local_size (array_in s x d)) + length y.elements) most_cells)
+        (if_room (record (with_array_in s x (Some (from_one y.elements)) d) { local_cells = (d.local_cells - local_size (array_in s x d)) + length y.elements })))) }
 {}
 
 /// Where all arrays have room together with another one is what `lay` and `renew` test.
