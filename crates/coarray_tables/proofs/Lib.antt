@@ -1,0 +1,6 @@
+mod Counting
+mod Keeping
+mod Dims
+mod Allotments
+mod Beginning
+mod Agreeing

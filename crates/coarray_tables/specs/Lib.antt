@@ -1,1 +1,6 @@
 pub mod Owns
+pub mod Images
+pub mod Sections
+pub mod Asks
+pub mod Start
+pub mod Steps

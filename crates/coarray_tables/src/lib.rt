@@ -6,5 +6,12 @@
 #![tactic(auto)]
 
 pub mod coarrays;
+mod cobounds;
 mod few;
+pub mod laws;
+pub mod images;
+pub mod asks;
+pub mod plans;
+pub mod sections;
+mod start;
 mod shape;
