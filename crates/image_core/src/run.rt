@@ -1,6 +1,6 @@
 //! One image of a run: its machine, and the steps that it made.
 
-ghost use Rattle.std.specs.Prelude.{◌≡◌, ◌<◌, ◌≤◌, ◌+◌, ◌^◌, ◌↔◌, ℕ, List, [], ◌∷◌, ◌++◌, IfOk, OnOk, OnErr, MatchOption, vec_len, vec_capacity};
+ghost use Rattle.std.specs.Prelude.{◌≡◌, ◌<◌, ◌≤◌, ◌+◌, ◌^◌, ℕ, List, [], ◌∷◌, ◌++◌, IfOk, OnOk, OnErr, MatchOption, vec_len, vec_capacity};
 ghost use Rattle.core_runs.specs.Lists.{last_of};
 
 use crate::prepared::Prepared;
@@ -22,7 +22,7 @@ pub struct ImageRun<M> {
 }
 
 impl<M: Walker> ImageRun<M> {
-    ghost use Rattle.caf_events.specs.Walkers.{IsAtAsk, IsAtLine, IsOver, AsksNext, EndsAfter, Continues};
+    ghost use Rattle.caf_events.specs.Walkers.{IsAtAsk, IsAtLine, IsOver, AsksNext, Continues};
     ghost use Rattle.trace_theory.specs.Machines.{Rests};
     ghost use Rattle.image_core.specs.Prepared.{HasRoom};
 
@@ -78,7 +78,6 @@ impl<M: Walker> ImageRun<M> {
         ensures events { self.new.events.items ≡ self.old.events.items ++ event ∷ [] }
         ensures goes { Continues M.step (M.step (M.config self.old.machine)) event.reply (M.config self.new.machine) }
         ensures rests { Rests (M.step (M.config self.new.machine)) }
-        ensures ends { IsOver (M.step (M.config self.new.machine)) ↔ EndsAfter (M.step (M.config self.old.machine)) event.reply }
         ensures spends { M.asks_left (M.config self.new.machine) < M.asks_left (M.config self.old.machine) }
     {
         self.machine.give(&event);

@@ -1,11 +1,11 @@
 //! The two halves of one step of one image: what is due is set aside, and then made.
 
-ghost use Rattle.std.specs.Prelude.{◌≡◌, ◌<◌, ◌≤◌, ◌+◌, ◌^◌, ◌↔◌, ℕ, max, List, [], ◌∷◌, ◌++◌, IfOk, OnOk, OnErr, true, false, vec_len, vec_capacity};
+ghost use Rattle.std.specs.Prelude.{◌≡◌, ◌<◌, ◌≤◌, ◌+◌, ◌^◌, ℕ, max, List, [], ◌∷◌, ◌++◌, IfOk, OnOk, OnErr, true, false, vec_len, vec_capacity};
 ghost use Rattle.trace_theory.specs.Machines.{Rests};
 ghost use Rattle.caf_base.specs.declared.place.Place.TheVariants as places;
 ghost use Rattle.caf_events.specs.Asks.{place_of};
 ghost use Rattle.caf_events.specs.Histories.{last_stamp_of};
-ghost use Rattle.caf_events.specs.Walkers.{IsAtAsk, IsOver, AsksNext, IsAtLine, Continues, EndsAfter};
+ghost use Rattle.caf_events.specs.Walkers.{IsAtAsk, AsksNext, IsAtLine, Continues};
 ghost use Rattle.caf_events.specs.declared.ask.Ask.{Ask};
 ghost use Rattle.caf_events.specs.declared.reply.Reply.TheVariants as replies;
 ghost use Rattle.caf_events.specs.declared.event.Event.{Event};

@@ -5,13 +5,13 @@ use Rattle.std.proofs.lemmas.Bool.{cases_Bool}
 use Rattle.caf_events.specs.declared.ask.Ask.{Ask}
 use Rattle.caf_events.specs.declared.ask.Ask.TheVariants as asking
 use Rattle.caf_events.specs.declared.reply.Reply.{Reply}
-use Rattle.caf_events.specs.Events.{words_by}
 use Rattle.trace_theory.specs.Machines.{Move, goes, asks, over, Said, go, goes_on, Comes, Walk, WalkTo}
-use Rattle.image_lanes.specs.Lanes.{failing, at_limit, OnLane, is_due, is_full, is_failure, begins_to_fail, is_limited, goes_past, fails_on, program_next, lane_step}
+use Rattle.caf_events.specs.Events.{counts_words, words_by}
+use Rattle.image_lanes.specs.Lanes.{failing, at_end, OnLane, is_due, is_full, is_failure, begins_to_fail, comes_to_end, goes_past, fails_on, program_next, lane_step}
 use Rattle.core_runs.specs.Failures.{failure_steps, held_after}
 use Rattle.image_lanes.specs.Courses.{AreAt, after_step, lane_past, NoneDue, Fails, IsLimited, Course}
 use Rattle.trace_theory.proofs.Machines.{go_more}
-use Rattle.image_lanes.proofs.LaneLaws.{at_program}
+use Rattle.image_lanes.proofs.LaneLaws.{at_program, an_ask}
 
 module _ {C : Type 0} (step : C → Move C Ask Reply) where
   -- ---- a lane in a failure says the steps that are left
@@ -33,10 +33,10 @@ module _ {C : Type 0} (step : C → Move C Ask Reply) where
       let f = first_is w.1.0 l a as_ line e.ask e.line w.0 c w.1.1 in
       (f.0, f.1, failing_walk es (fails_on l as_ line) m as_ line refl (subst (λ k. Walk (lane_step step) (k e.reply) es m) f.2 w.2))
 
-  -- a lane at a limit says nothing
-  limited_walk : (es : List (Said Ask Reply)) (l m : OnLane C) → l.course ≡ at_limit → Walk (lane_step step) l es m → es ≡ []
-  limited_walk [] l m c w = refl
-  limited_walk (e ∷ es) l m c w = absurd (none w.1.0 w.1.1)
+  -- a lane that is over says nothing
+  ended_walk : (es : List (Said Ask Reply)) (l m : OnLane C) → l.course ≡ at_end → Walk (lane_step step) l es m → es ≡ []
+  ended_walk [] l m c w = refl
+  ended_walk (e ∷ es) l m c w = absurd (none w.1.0 w.1.1)
     where
       none : (n : ℕ) → go (lane_step step) n l ≡ asks e.ask e.line w.0 → ⊥
       none zero h = absurd (cc)
@@ -50,10 +50,7 @@ module _ {C : Type 0} (step : C → Move C Ask Reply) where
     asked : program_next (at_program l there) (step there) ≡ asks a line k
 
   asks_stays : (l : OnLane C) (a : Ask) (line : ℕ) (k : Reply → C) (f : OnLane C → Move (OnLane C) Ask Reply) → goes_on (program_next l (asks a line k)) f ≡ program_next l (asks a line k)
-  asks_stays l a line k f = elim (cases_Bool (is_due l)) [
-    | inl t ↦ rw t refl
-    | inr n ↦ rw n (elim (cases_Bool (is_failure a)) [ inl t ↦ rw t refl | inr g ↦ rw g (elim (cases_Bool (is_full l)) [ inl t ↦ rw t refl | inr i ↦ rw i refl ]) ])
-  ]
+  asks_stays l a line k f = (let e = an_ask step l a line k in rw e.3 refl)
 
   reach_by : (n : ℕ) (l : OnLane C) (c : C) (a : Ask) (line : ℕ) (k : Reply → OnLane C) (mv : Move C Ask Reply) → step c ≡ mv → goes_on (program_next (at_program l c) mv) (go (lane_step step) n) ≡ asks a line k
       → ((d : C) → go (lane_step step) n (at_program l d) ≡ asks a line k → Reached l d a line k) → Reached l c a line k
@@ -113,8 +110,8 @@ module _ {C : Type 0} (step : C → Move C Ask Reply) where
             failed k line i.0 i.1 i.2 w (inr (free, j, a, s, fails)) (line, j, a, s))
         | inr goes_on_ ↦ elim (cases_Bool (is_full l)) [
           | inl full ↦ (
-              let i = same_asks (asking.LimitWords l.words) e.ask line e.line (λ r. is_limited (at_program l d)) k (sym (rw (free, goes_on_, full) refl) ∙ h) in
-              let none = limited_walk es (is_limited (at_program l d)) m refl (subst (λ q. Walk (lane_step step) (q e.reply) es m) (sym i.2) w) in
+              let i = same_asks (asking.LimitWords l.words) e.ask line e.line (λ r. comes_to_end (at_program l d)) k (sym (rw (free, goes_on_, full) refl) ∙ h) in
+              let none = ended_walk es (comes_to_end (at_program l d)) m refl (subst (λ q. Walk (lane_step step) (q e.reply) es m) (sym i.2) w) in
               record {
                 walked = [];
                 rest = e ∷ es;
@@ -131,25 +128,42 @@ module _ {C : Type 0} (step : C → Move C Ask Reply) where
                   place = (j, a, s);
                 }));
               })
-          | inr room ↦ (
-              let i = same_asks a e.ask line e.line (λ r. goes_past (at_program l d) a r (j r)) k (sym (rw (free, goes_on_, room) refl) ∙ h) in
-              let after : OnLane C = record l { fails_in = l.fails_in - 1; words = l.words + words_by e.ask e.reply; held = held_after l.held e.ask e.reply } in
-              let here : Walk (lane_step step) (at_program after (j e.reply)) es m = subst (λ b. Walk (lane_step step) (goes_past (at_program l d) b e.reply (j e.reply)) es m) i.0 (subst (λ q. Walk (lane_step step) (q e.reply) es m) (sym i.2) w) in
-              let rest = next after (j e.reply) here in
-              let w2 = rest.walks in
-              record {
-                walked = e ∷ rest.walked;
-                rest = rest.rest;
-                to = rest.to;
-                all = ap (λ q. e ∷ q) rest.all;
-                walks = (w2.0, (j, comes_on p c d e.ask e.line j g (s ∙ ap (λ b. asks b line j) i.0 ∙ ap (λ n. asks e.ask n j) i.1), w2.1), w2.2, w2.3);
-                none_due = (free, subst (λ b. is_failure b ≡ false) i.0 goes_on_, room, none_same after (j e.reply) rest.walked rest.none_due);
-                ends = past_same after (j e.reply) rest.walked rest.to rest.rest rest.ends;
-              })
+          | inr room ↦ elim (cases_Bool (counts_words a)) [
+            | inl counts ↦ (
+                let i = same_asks a e.ask line e.line (λ r. goes_past (at_program l d) a r (j r)) k (sym (rw (free, goes_on_, room, counts) refl) ∙ h) in
+                let after : OnLane C = record l { fails_in = l.fails_in - 1; words = l.words + words_by e.ask e.reply; held = held_after l.held e.ask e.reply } in
+                let here : Walk (lane_step step) (at_program after (j e.reply)) es m = subst (λ b. Walk (lane_step step) (goes_past (at_program l d) b e.reply (j e.reply)) es m) i.0 (subst (λ q. Walk (lane_step step) (q e.reply) es m) (sym i.2) w) in
+                let rest = next after (j e.reply) here in
+                let w2 = rest.walks in
+                record {
+                  walked = e ∷ rest.walked;
+                  rest = rest.rest;
+                  to = rest.to;
+                  all = ap (λ q. e ∷ q) rest.all;
+                  walks = (w2.0, (j, comes_on p c d e.ask e.line j g (own_ask i.0 i.1), w2.1), w2.2, w2.3);
+                  none_due = (free, subst (λ b. is_failure b ≡ false) i.0 goes_on_, room, none_same after (j e.reply) rest.walked rest.none_due);
+                  ends = past_same after (j e.reply) rest.walked rest.to rest.rest rest.ends;
+                })
+            | inr silent ↦ (
+                let i = same_asks a e.ask line e.line (λ r. comes_to_end (at_program l d)) k (sym (rw (free, goes_on_, room, silent) refl) ∙ h) in
+                let none = ended_walk es (comes_to_end (at_program l d)) m refl (subst (λ q. Walk (lane_step step) (q e.reply) es m) (sym i.2) w) in
+                record {
+                  walked = e ∷ [];
+                  rest = [];
+                  to = j e.reply;
+                  all = ap (λ q. e ∷ q) none;
+                  walks = (j e.reply, (j, comes_on p c d e.ask e.line j g (own_ask i.0 i.1), refl), 0, refl);
+                  none_due = (free, subst (λ b. is_failure b ≡ false) i.0 goes_on_, room, tt);
+                  ends = inl refl;
+                })
+          ]
         ]
       ]
     ]
       where
+        own_ask : a ≡ e.ask → line ≡ e.line → step d ≡ asks e.ask e.line j
+        own_ask x y = s ∙ ap (λ b. asks b line j) x ∙ ap (λ n. asks e.ask n j) y
+
         no_program : (q : OnLane C) (x y : C) (ws : List (Said Ask Reply)) (to : C) → lane_past (at_program q x) ws to ≡ lane_past (at_program q y) ws to
         no_program q x y [] to = refl
         no_program q x y (w ∷ ws) to = no_program (record q { fails_in = q.fails_in - 1; words = q.words + words_by w.ask w.reply; held = held_after q.held w.ask w.reply }) x y ws to

@@ -10,7 +10,7 @@ use Rattle.caf_events.specs.Walkers.{AsksNext, IsOver}
 use Rattle.trace_theory.specs.Machines.{Move, goes, asks, over, go, goes_on, Rests}
 use Rattle.core_runs.specs.Failures.{LockPlace, same_place, lock_place, without, held_after, release_of, failure_steps}
 use Rattle.object_rules.specs.Locks.{has_status, acquires}
-use Rattle.image_lanes.specs.Lanes.{by_program, OnLane, is_due, is_full, is_failure, goes_past, lane_start, program_next, failure_next, lane_step, program_left, course_left, lane_left}
+use Rattle.image_lanes.specs.Lanes.{by_program, OnLane, is_due, is_full, is_failure, begins_to_fail, comes_to_end, goes_past, lane_start, program_next, failure_next, lane_step, program_left, course_left, lane_left}
 
 -- the lane with its program at c
 abbrev pub at_program : {C : Type 0} → OnLane C → C → OnLane C
@@ -31,15 +31,28 @@ module _ {C : Type 0} (step : C → Move C Ask Reply) where
   go_lane zero l x y h = ap (λ c. goes (at_program l c)) (same_goes x y h)
   go_lane (suc n) l x y h = go_by n l x y (step x) refl h (λ c e. go_lane n l c y e)
 
+  -- where its program is at an ask, it is at one
+  pub an_ask : (l : OnLane C) (a : Ask) (line : ℕ) (k : Reply → C) → (b : Ask) × (n : ℕ) × (j : Reply → OnLane C) × (program_next l (asks a line k) ≡ asks b n j)
+  an_ask l a line k = elim (cases_Bool (is_due l)) [
+    | inl t ↦ (asking.Fail, 0, (λ r. begins_to_fail l 0), rw t refl)
+    | inr f ↦ elim (cases_Bool (is_failure a)) [
+      | inl t ↦ (asking.Fail, line, (λ r. begins_to_fail l line), rw (f, t) refl)
+      | inr g ↦ elim (cases_Bool (is_full l)) [
+        | inl t ↦ (asking.LimitWords l.words, line, (λ r. comes_to_end l), rw (f, g, t) refl)
+        | inr i ↦ elim (cases_Bool (counts_words a)) [
+          | inl t ↦ (a, line, (λ r. goes_past l a r (k r)), rw (f, g, i, t) refl)
+          | inr s ↦ (a, line, (λ r. comes_to_end l), rw (f, g, i, s) refl)
+        ]
+      ]
+    ]
+  ]
+
   rests_at : (l : OnLane C) (m : Move C Ask Reply) → Rests m → Rests (program_next l m)
   rests_at l (goes c) h = absurd h
-  rests_at l (asks a line k) h = elim (cases_Bool (is_due l)) [
-    | inl t ↦ rw t tt
-    | inr f ↦ rw f (elim (cases_Bool (is_failure a)) [ inl t ↦ rw t tt | inr g ↦ rw g (elim (cases_Bool (is_full l)) [ inl t ↦ rw t tt | inr i ↦ rw i tt ]) ])
-  ]
+  rests_at l (asks a line k) h = (let e = an_ask l a line k in subst Rests (sym e.3) tt)
   rests_at l over h = tt
 
-  -- a lane by a program that is at rest is at rest, and so is one in a failure or at a limit
+  -- a lane by a program that is at rest is at rest, and so is one in a failure
   pub rests_lane : (l : OnLane C) → Rests (step l.program) → Rests (program_next l (step l.program))
   rests_lane l h = rests_at l (step l.program) h
 
@@ -49,26 +62,12 @@ module _ {C : Type 0} (step : C → Move C Ask Reply) where
 
   over_at : (l : OnLane C) (m : Move C Ask Reply) → IsOver (program_next l m) → IsOver m
   over_at l (goes c) h = absurd h
-  over_at l (asks a line k) h = absurd (never h)
-    where
-      never : IsOver (program_next l (asks a line k)) → ⊥
-      never = elim (cases_Bool (is_due l)) [
-        | inl t ↦ rw t (λ x. x)
-        | inr f ↦ rw f (elim (cases_Bool (is_failure a)) [ inl t ↦ rw t (λ x. x) | inr g ↦ rw g (elim (cases_Bool (is_full l)) [ inl t ↦ rw t (λ x. x) | inr i ↦ rw i (λ x. x) ]) ])
-      ]
+  over_at l (asks a line k) h = (let e = an_ask l a line k in absurd (subst IsOver e.3 h))
   over_at l over h = tt
 
-  -- it is over exactly where its program is
+  -- it is over only where its program is
   pub over_lane : (l : OnLane C) → IsOver (program_next l (step l.program)) → IsOver (step l.program)
   over_lane l h = over_at l (step l.program) h
-
-  over_back : (l : OnLane C) (m : Move C Ask Reply) → IsOver m → IsOver (program_next l m)
-  over_back l (goes c) h = absurd h
-  over_back l (asks a line k) h = absurd h
-  over_back l over h = tt
-
-  pub lane_over : (l : OnLane C) → IsOver (step l.program) → IsOver (program_next l (step l.program))
-  lane_over l h = over_back l (step l.program) h
 
 -- ---- how many asks are still to come
 filter_few : {A : Type 0} (p : A → Bool) (xs : List A) → length (filter p xs) ≤ length xs
@@ -124,30 +123,21 @@ module _ {C : Type 0} (step : C → Move C Ask Reply) (l : OnLane C) (by : l.cou
   few m (asks p q k) = omega arith
   few m over = omega arith
 
-  none : (m : OnLane C) (n : Move C Ask Reply) → IsOver n → program_left m n ≡ 0
-  none m (goes c) o = absurd o
-  none m (asks p q k) o = absurd o
-  none m over o = refl
-
   module _ (ask : Ask) (asked : AsksNext (program_next l (step l.program)) ask) where
     now : lane_left step l ≡ 2 * (l.limit - l.words) + length l.held + 4
     now = left_is ∙ busy (step l.program) ask asked
 
-    -- fewer are to come after the beginning of a failure, after a limit, and after a step of the program
-    pub fewer_past : (a : Ask) (r : Reply) (c : C) → is_full l ≡ false → (counts_words a ≡ false → IsOver (step c)) → lane_left step (goes_past l a r c) < lane_left step l
-    fewer_past a r c room ends =
+    -- fewer are to come behind a step of the program that records words
+    pub fewer_past : (a : Ask) (r : Reply) (c : C) → is_full l ≡ false → counts_words a ≡ true → lane_left step (goes_past l a r c) < lane_left step l
+    fewer_past a r c room counts =
         let m : OnLane C = goes_past l a r c in
         let e = now in
         let f : lane_left step m ≡ program_left m (step c) = ap (course_left step m) by in
-        elim (cases_Bool (counts_words a)) [
-          | inl t ↦ (
-              let w = some_words a r t in
-              let below : l.words < l.limit = leb-false l.limit l.words room in
-              let h = held_few l.held a r in
-              let g : program_left m (step c) ≤ 2 * (l.limit - (l.words + words_by a r)) + length (held_after l.held a r) + 4 = few m (step c) in
-              omega arith)
-          | inr u ↦ (let z : program_left m (step c) ≡ 0 = none m (step c) (ends u) in omega arith)
-        ]
+        let w = some_words a r counts in
+        let below : l.words < l.limit = leb-false l.limit l.words room in
+        let h = held_few l.held a r in
+        let g : program_left m (step c) ≤ 2 * (l.limit - (l.words + words_by a r)) + length (held_after l.held a r) + 4 = few m (step c) in
+        omega arith
 
 -- before its first step
 pub few_at_first : {C : Type 0} (step : C → Move C Ask Reply) (image fails_at limit : ℕ) (c : C) → lane_left step (lane_start image fails_at limit c) ≤ 2 * limit + 4

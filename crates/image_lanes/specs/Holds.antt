@@ -6,7 +6,7 @@ use Rattle.core_runs.specs.Failures.{LockPlace, release_of, failure_steps}
 use Rattle.caf_events.specs.Asks.{place_of}
 use Rattle.caf_events.specs.declared.walker.Next.{Next}
 use Rattle.caf_events.specs.declared.walker.Next.TheVariants as nexts
-use Rattle.image_lanes.specs.Lanes.{Course, by_program, failing, at_limit}
+use Rattle.image_lanes.specs.Lanes.{Course, by_program, failing, at_end}
 use Rattle.image_lanes.specs.declared.held.HeldLock.{HeldLock}
 use Rattle.image_lanes.specs.declared.course.Going.{Going}
 use Rattle.image_lanes.specs.declared.course.Going.TheVariants as goings
@@ -33,7 +33,7 @@ steps_from image held steps.Ended = []
 abbrev pub course_of : ℕ → List LockPlace → Going → Course
 course_of image held goings.ByProgram = by_program
 course_of image held (goings.Failing step line) = failing (steps_from image held step) line
-course_of image held goings.AtLimit = at_limit
+course_of image held goings.AtEnd = at_end
 
 -- what is asked for alone where the program goes on
 abbrev pub ByProgram : Going → Type 0 → Type 0

@@ -1,8 +1,8 @@
 -- Where a lane stands, of what it keeps.
-use Rattle.std.specs.Prelude.{◌<◌, ◌↔◌}
+use Rattle.std.specs.Prelude.{◌<◌}
 use Rattle.caf_events.specs.declared.ask.Ask.{Ask}
 use Rattle.caf_events.specs.declared.reply.Reply.{Reply}
-use Rattle.caf_events.specs.Walkers.{IsOver, Continues, EndsAfter}
+use Rattle.caf_events.specs.Walkers.{Continues}
 use Rattle.trace_theory.specs.Machines.{Move, Rests}
 use Rattle.caf_events.specs.declared.walker.Walker as walker
 use Rattle.image_lanes.specs.Lanes.{OnLane, lane_step, lane_left}
@@ -24,5 +24,4 @@ lane_of walks l = record {
 pub record Given {C : Type 0} (step : C → Move C Ask Reply) (l : OnLane C) (reply : Reply) (m : OnLane C) : Type 0 where
   pub goes : Continues (lane_step step) (lane_step step l) reply m
   pub rests : Rests (lane_step step m)
-  pub ends : IsOver (lane_step step m) ↔ EndsAfter (lane_step step l) reply
   pub spends : lane_left step m < lane_left step l

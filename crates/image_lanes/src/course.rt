@@ -18,12 +18,12 @@ pub(crate) enum Failing {
     Ended,
 }
 
-/// How an image goes on: by its program, with the steps of its failure at a line, or not at all behind its limit.
+/// How an image goes on: by its program, with the steps of its failure at a line, or not at all, behind a limit or a step without recorded words.
 #[derive(Clone, Copy)]
 pub(crate) enum Going {
     ByProgram,
     Failing { step: Failing, line: u32 },
-    AtLimit,
+    AtEnd,
 }
 
 impl Failing {

@@ -1,16 +1,17 @@
 //! The machine of a lane.
 
-ghost use Rattle.std.specs.Prelude.{◌≡◌, ◌<◌, ◌+◌, ◌^◌, ◌↔◌, ◌||◌, false};
+ghost use Rattle.std.specs.Prelude.{◌≡◌, ◌<◌, ◌^◌, ◌||◌, false, IfOk};
 ghost use Rattle.trace_theory.specs.Machines.{Rests};
-ghost use Rattle.caf_events.specs.Events.{recorded_words};
-ghost use Rattle.caf_events.specs.Walkers.{AsksNext, IsAtLine, Continues, IsOver, EndsAfter};
-ghost use Rattle.image_lanes.specs.Lanes.{is_failure, is_due, is_full, lane_start, lane_step, lane_hears, begins_to_fail, fails_on, is_limited, goes_past};
+ghost use Rattle.caf_events.specs.declared.ask.Ask.TheVariants as asking;
+ghost use Rattle.caf_events.specs.Walkers.{AsksNext, IsAtLine, Continues};
+ghost use Rattle.image_lanes.specs.Lanes.{is_failure, is_due, is_full, lane_start, lane_step, lane_hears, begins_to_fail, fails_on, comes_to_end, goes_past};
 ghost use Rattle.image_lanes.specs.LaneStates.{lane_of, Given};
 ghost use Rattle.image_lanes.specs.Holds.{steps_from, rest_of};
 ghost use Rattle.image_lanes.specs.declared.course.Going.TheVariants as goings;
 
 use crate::course::{Failing, Going};
 use crate::held::HeldLocks;
+use crate::words::{is_recorded, words_of};
 use caf_base::place::{ImageNo, Place};
 use caf_base::refusal::NoMemory;
 use caf_events::ask::Ask;
@@ -26,7 +27,7 @@ pub struct Lane<M> {
     fails_in: u32,
     limit: u32,
     machine: M,
-    words: u64,
+    words: u128,
     held: HeldLocks,
     going: Going,
 }
@@ -66,7 +67,17 @@ impl<M: Walker> Lane<M> {
         ensures is { result ≡ is_full (lane_of M.Walker self.now) }
         ensures few { result ≡ false → self.now.words < 2 ^ 32 }
     {
-        u64::from(self.limit) <= self.words
+        u128::from(self.limit) <= self.words
+    }
+
+    // The limit, with the count of recorded words. No memory has an event with as many words as leave 64 bits.
+    fn limit(&self) -> Result<Ask, NoMemory>
+        ensures { IfOk result (λ ask. ask ≡ asking.LimitWords self.now.words) }
+    {
+        match u64::try_from(self.words) {
+            Ok(number) => Ok(Ask::LimitWords { number }),
+            Err(_) => Err(NoMemory),
+        }
     }
 
     fn begin_to_fail(&mut self, line: u32)
@@ -78,13 +89,13 @@ impl<M: Walker> Lane<M> {
         };
     }
 
-    fn come_to_limit(&mut self)
-        ensures { lane_of M.Walker self.new ≡ is_limited (lane_of M.Walker self.old) }
+    fn come_to_end(&mut self)
+        ensures { lane_of M.Walker self.new ≡ comes_to_end (lane_of M.Walker self.old) }
     {
-        self.going = Going::AtLimit;
+        self.going = Going::AtEnd;
     }
 
-    // A step of the program.
+    // A step of the program behind which it goes on.
     fn go_past(&mut self, asked: &Ask, event: &Event)
         requires going { self.old.going ≡ goings.ByProgram }
         requires ask { asked.now ≡ event.now.ask }
@@ -93,16 +104,15 @@ impl<M: Walker> Lane<M> {
         requires hears { M.hears (M.config self.old.machine) event.now.reply }
         requires room { M.has_room self.old.machine }
         requires lock { 0 < self.old.held.room }
-        requires words { self.old.words + recorded_words event.now < 2 ^ 64 }
+        requires few { self.old.words < 2 ^ 32 }
         ensures past { lane_of M.Walker self.new ≡ goes_past (lane_of M.Walker self.old) event.now.ask event.now.reply (M.config self.new.machine) }
         ensures goes { Continues M.step (M.step (M.config self.old.machine)) event.now.reply (M.config self.new.machine) }
         ensures rests { Rests (M.step (M.config self.new.machine)) }
-        ensures ends { IsOver (M.step (M.config self.new.machine)) ↔ EndsAfter (M.step (M.config self.old.machine)) event.now.reply }
     {
         self.machine.give(event);
-        self.words += event.words();
         self.fails_in = self.fails_in.saturating_sub(1);
         let reply = event.reply(self.alloc);
+        self.words += words_of(asked, &reply);
         self.held.note(asked, &reply);
         drop(reply);
     }
@@ -128,9 +138,11 @@ impl<M: Walker> Lane<M> {
         if self.begins_failure(asked) {
             self.begin_to_fail(event.line());
         } else if self.is_full() {
-            self.come_to_limit();
-        } else {
+            self.come_to_end();
+        } else if is_recorded(asked) {
             self.go_past(asked, event);
+        } else {
+            self.come_to_end();
         }
     }
 
@@ -168,7 +180,7 @@ impl<M: Walker> Walker for Lane<M> {
                 next => next,
             },
             Going::Failing { step, .. } => step.next(self.image, &self.held),
-            Going::AtLimit => Next::Ended,
+            Going::AtEnd => Next::Ended,
         }
     }
 
@@ -179,7 +191,7 @@ impl<M: Walker> Walker for Lane<M> {
                 let ask = self.machine.ask()?;
                 if self.is_full() && !fails(&ask) {
                     drop(ask);
-                    Ok(Ask::LimitWords { number: self.words })
+                    self.limit()
                 } else {
                     Ok(ask)
                 }
@@ -188,7 +200,7 @@ impl<M: Walker> Walker for Lane<M> {
                 Some(ask) => Ok(ask),
                 None => unreachable!(),
             },
-            Going::AtLimit => unreachable!(),
+            Going::AtEnd => unreachable!(),
         }
     }
 
@@ -197,7 +209,7 @@ impl<M: Walker> Walker for Lane<M> {
             Going::ByProgram if self.is_due() => 0,
             Going::ByProgram => self.machine.line(),
             Going::Failing { line, .. } => line,
-            Going::AtLimit => unreachable!(),
+            Going::AtEnd => unreachable!(),
         }
     }
 
@@ -219,7 +231,7 @@ impl<M: Walker> Walker for Lane<M> {
                 drop(asked);
             }
             Going::Failing { step, line } => self.fail_on(step, line),
-            Going::AtLimit => {}
+            Going::AtEnd => {}
         }
     }
 }

@@ -9,3 +9,4 @@ mod course;
 mod held;
 pub mod lane;
 pub mod laws;
+mod words;

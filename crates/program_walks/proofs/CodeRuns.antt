@@ -22,7 +22,8 @@ use Rattle.core_runs.specs.Lawful.{full_rules}
 use Rattle.core_runs.proofs.Lawfuls.{answered_by}
 use Rattle.image_lanes.specs.Lanes.{lane_step, lane_start}
 use Rattle.program_walks.specs.Same.{SaysAs}
-use Rattle.program_walks.specs.Runs.{lanes_begin, program_rules, program_begins, code_rules, code_begins}
+use Rattle.image_lanes.specs.LaneRuns.{lanes_begin}
+use Rattle.program_walks.specs.Runs.{program_rules, program_begins, code_rules, code_begins}
 use Rattle.program_walks.proofs.BoardAnswers.{board_answers, memory_answers}
 use Rattle.program_walks.proofs.Fits.{program_fit, code_goes}
 use Rattle.program_walks.proofs.LaneOrder.{lane_fails}

@@ -1,4 +1,4 @@
--- A run of lanes over programs whose walks are in order, and that are never stuck, is fit.
+-- A run of lanes over programs whose walks are in order is fit.
 use Rattle.std.proofs.Common.{ℕ, List, []}
 use Rattle.checked_tree.specs.Statements as checked
 use Rattle.caf_events.specs.declared.ask.Ask.{Ask}
@@ -13,30 +13,37 @@ use Rattle.tree_meaning.specs.Forms.{bodies}
 use Rattle.tree_meaning.specs.Start.{first_core, start_of, walk_step}
 use Rattle.object_rules.specs.Cells.{Declared, MadeMemory}
 use Rattle.core_runs.specs.Moments.{Moment}
-use Rattle.core_runs.specs.Lanes.{IsMoment}
+use Rattle.core_runs.specs.Lanes.{IsMoment, HearsDue}
 use Rattle.image_lanes.specs.Lanes.{OnLane}
+use Rattle.image_lanes.specs.LaneRuns.{lane_rules, lanes_begin}
 use Rattle.core_runs.specs.Beginnings.{IsOneOf}
 use Rattle.core_runs.specs.CoreRuns.{IsFit}
 use Rattle.program_walks.specs.Dues.{GoesInOrder}
-use Rattle.program_walks.specs.Hearing.{EndsWell, GoesOnDue}
-use Rattle.program_walks.specs.Runs.{lane_rules, lanes_begin, program_rules, program_begins}
+use Rattle.program_walks.specs.Hearing.{TellsNoTeam, DueToPrograms}
+use Rattle.program_walks.specs.Runs.{program_rules, program_begins}
 use Rattle.program_walks.proofs.BoardAnswers.{board_answers, memory_answers}
 use Rattle.program_walks.proofs.Programs.{program_goes}
 use Rattle.program_walks.proofs.LaneOrder.{lane_fails}
 use Rattle.program_walks.proofs.LaneEnds.{lane_orderly}
-use Rattle.program_walks.proofs.Hearing.{hears_due}
+use Rattle.program_walks.proofs.Hearing.{hears_due, hears_no_team}
 
-pub lanes_fit : {C : Type 0} (step : C → Move C Ask Reply) (hears : C → Reply → Type 0) → ((c : C) (reply : Reply) → EndsWell step (step c) reply → hears c reply)
-    → (coarrays : List Declared) (n : ℕ) (first : ℕ → C) (fails_at : ℕ → ℕ) (words : ℕ) → ((i : ℕ) → IsOneOf n i → GoesInOrder step (first i))
-    → ((m : Moment (OnLane C) MadeMemory ℕ) → IsMoment (lane_rules step hears) (lanes_begin coarrays n first fails_at words) m → GoesOnDue step (lane_rules step hears) m)
-    → IsFit (lane_rules step hears) (lanes_begin coarrays n first fails_at words)
-lanes_fit step hears wells coarrays n first fails_at words order on = record {
-  memory_answers = λ made h i a served ready. memory_answers made h i a ready;
-  board_answers = λ made h i a served ready. board_answers made h i a ready;
-  orderly = λ i in_run. lane_orderly step i (fails_at i) words (first i) (order i in_run);
-  fails = λ i in_run es c answers w. lane_fails step (first i) (order i in_run) i (fails_at i) words es c answers w;
-  hears = λ m moment. hears_due step hears wells coarrays n first fails_at words order m moment (on m moment);
-}
+module _ {C : Type 0} (step : C → Move C Ask Reply) (hears : C → Reply → Type 0) (coarrays : List Declared) (n : ℕ) (first : ℕ → C) (fails_at : ℕ → ℕ) (words : ℕ) (order : (i : ℕ) → IsOneOf n i → GoesInOrder step (first i)) where
+  fit_where : ((m : Moment (OnLane C) MadeMemory ℕ) → IsMoment (lane_rules step hears) (lanes_begin coarrays n first fails_at words) m → HearsDue (lane_rules step hears) m) → IsFit (lane_rules step hears) (lanes_begin coarrays n first fails_at words)
+  fit_where due = record {
+    memory_answers = λ made h i a served ready. memory_answers made h i a ready;
+    board_answers = λ made h i a served ready. board_answers made h i a ready;
+    orderly = λ i in_run. lane_orderly step i (fails_at i) words (first i) (order i in_run);
+    fails = λ i in_run es c answers w. lane_fails step (first i) (order i in_run) i (fails_at i) words es c answers w;
+    hears = due;
+  }
+
+  pub lanes_fit : ((c : C) (reply : Reply) → hears c reply) → IsFit (lane_rules step hears) (lanes_begin coarrays n first fails_at words)
+  lanes_fit all = fit_where (λ m moment. hears_due step hears all m)
+
+  pub lanes_fit_without : ((c : C) (reply : Reply) → TellsNoTeam reply → hears c reply)
+      → ((m : Moment (OnLane C) MadeMemory ℕ) → IsMoment (lane_rules step hears) (lanes_begin coarrays n first fails_at words) m → DueToPrograms step TellsNoTeam (lane_rules step hears) m)
+      → IsFit (lane_rules step hears) (lanes_begin coarrays n first fails_at words)
+  lanes_fit_without hear due = fit_where (λ m moment. hears_no_team step hears hear m (due m moment))
 
 pub program_fit : (p : checked.Program) (limit : ℕ) (coarrays : List Declared) (n : ℕ) (fails_at : ℕ → ℕ) (words : ℕ) → IsFit (program_rules p limit) (program_begins p coarrays n fails_at words)
 program_fit p limit coarrays n fails_at words = record {

@@ -1,6 +1,7 @@
--- Each act but an arrival or a departure may come where nothing is owed, and leaves nothing owed.
-use Rattle.std.proofs.Common.{◌≡◌, ℕ, zero, suc, Bool, true, false, cond, List, [], ◌∷◌, refl}
-use Rattle.std.specs.Prelude.{ℤ, pos, ◌+◌, ◌-◌, ◌++◌, ◌&&◌, ◌||◌, ◌==◌, not, int_le, min, nat_le, length, reverse, take, drop, slice_get, is_some, Option, None, Some}
+-- Each act but an arrival or a departure may come where nothing is owed, and leaves nothing owed. Each but the beginning and the end of a frame leaves the number
+-- of callers as it is.
+use Rattle.std.proofs.Common.{◌≡◌, ℕ, zero, suc, Bool, true, false, cond, List, [], ◌∷◌, refl, sym, subst, ap}
+use Rattle.std.specs.Prelude.{ℤ, pos, ◌+◌, ◌-◌, ◌++◌, ◌&&◌, ◌||◌, ◌==◌, not, int_le, min, nat_le, length, nat_lt, reverse, take, drop, slice_get, is_some, Option, None, Some}
 use Rattle.std.specs.List.{list_all}
 use Rattle.std.specs.Ordering.{int_eq}
 use Rattle.caf_base.specs.declared.value.Kind.TheVariants as kinds
@@ -16,13 +17,13 @@ use Rattle.caf_events.specs.declared.ask.Ask.TheVariants as asks
 use Rattle.caf_events.specs.declared.reply.Reply.{Reply}
 use Rattle.walk_theory.specs.Language.{goes_to, faults, asking, ends_with, stuck}
 use Rattle.walk_theory.specs.Terms.{Found, found, at_fault}
-use Rattle.image_acts.specs.Statuses.{most_cells, most_iterations, most_access_cells, most_items}
-use Rattle.image_acts.specs.Faults.{room, shape_fault, not_allocated, no_team, zero_step, cobounds_fault, not_established, cells_fault, bounds_fault, overflow}
+use Rattle.image_acts.specs.Statuses.{most_frames, most_cells, most_iterations, most_access_cells, most_items}
+use Rattle.image_acts.specs.Faults.{room, depth_fault, shape_fault, not_allocated, no_team, zero_step, cobounds_fault, not_established, cells_fault, bounds_fault, overflow}
 use Rattle.image_acts.specs.Acts as a
 use Rattle.image_acts.specs.Acts.{Act, constant, stack, variable, operator, bounded, allocation, selector, team, call, print, ask}
 use Rattle.image_acts.specs.Core.{Core, Array, Local, Own, Team, Frame, Item, Printing, with_values, pushed, with_array}
-use Rattle.image_acts.specs.Places.{Place, place_in, place_size, extents_of, offsets, elements_at, digits, numbers_of_form, triplets, subscripts_in, place_within, no_place, place_numbers, cells_of}
-use Rattle.image_acts.specs.Frames.{pairs_in, array_in, with_array_in, with_cell}
+use Rattle.image_acts.specs.Places.{Place, place_in, place_size, extents_of, digits, numbers_of_form, triplets, subscripts_in, place_within, no_place, place_numbers, cells_of}
+use Rattle.image_acts.specs.Frames.{pairs_in, array_in, with_array_in, with_cell, with_frame, with_last}
 use Rattle.image_acts.specs.Owning.{own_in, with_own}
 use Rattle.image_acts.specs.Teams.{behind_first, members, index_of, is_established, member_at, cosubscripts_behind, index_in}
 use Rattle.image_acts.specs.Taking.{Acted, giving, put_down, given, found_in, unless, taken, taking_one, taking_two, taking, seeing, taking_array, seeing_array, using}
@@ -36,110 +37,133 @@ use Rattle.image_acts.specs.Operate.Teaming.{team_effect}
 use Rattle.image_acts.specs.Operate.Calling.{call_effect}
 use Rattle.image_acts.specs.Operate.Printing.{print_effect, printed, open_items, text_of}
 use Rattle.image_acts.specs.Operate.Asking.{ask_effect}
-use Rattle.image_acts.specs.Meaning.{operate}
-use Rattle.program_walks.specs.Dues.{owing, due_after, MayCome}
+use Rattle.image_acts.specs.Meaning.{operate, missed, settled, effect_of}
+use Rattle.program_walks.specs.Dues.{ended, owing, due_after, MayCome}
 use Rattle.program_walks.specs.Keeping.{IsClear, EffectKeeps}
 
--- it may come where nothing is owed, and leaves nothing owed
-pub record Fine (e : Acted) : Type 0 where
-  pub kept : EffectKeeps e IsClear (owing None)
+-- what it comes to may come where nothing is owed, and leaves nothing owed and so many callers
+abbrev pub Calm : ℕ → Acted → Type 0
+Calm n (goes_to d) = length d.callers ≡ n
+Calm n (faults k) = Unit {0}
+Calm n (asking a f) = MayCome (owing None) a × ((r : Reply) → due_after a r ≡ owing None) × ((r : Reply) → length (f r).callers ≡ n)
+Calm n (ends_with a) = MayCome (owing None) a × ((r : Reply) → due_after a r ≡ ended)
+Calm n stuck = Unit {0}
 
-goes : (d : Core) → Fine (goes_to d)
-goes d = record { kept = refl }
+record Fine (n : ℕ) (e : Acted) : Type 0 where
+  calm : Calm n e
 
-fault : (k : ℕ) → Fine (faults k)
-fault k = record { kept = refl }
+goes : (n : ℕ) (d : Core) → length d.callers ≡ n → Fine n (goes_to d)
+goes n d k = record { calm = k }
 
-no_operand : Fine stuck
-no_operand = record { kept = tt }
+fault : (n k : ℕ) → Fine n (faults k)
+fault n k = record { calm = tt }
 
-there : {X : Type 0} (o : Option X) (f : X → Acted) → ((x : X) → Fine (f x)) → Fine (given o f)
-there None f h = no_operand
-there (Some x) f h = h x
+no_operand : (n : ℕ) → Fine n stuck
+no_operand n = record { calm = tt }
 
-there_or : {X : Type 0} (k : ℕ) (o : Option X) (f : X → Acted) → ((x : X) → Fine (f x)) → Fine (elim o [ None ↦ faults k | Some x ↦ f x ])
-there_or k None f h = fault k
-there_or k (Some x) f h = h x
+there : {X : Type 0} (n : ℕ) (o : Option X) (f : X → Acted) → ((x : X) → Fine n (f x)) → Fine n (given o f)
+there n None f h = no_operand n
+there n (Some x) f h = h x
 
-first : {X : Type 0} (xs : List X) (f : X → List X → Acted) → ((x : X) (ys : List X) → Fine (f x ys)) → Fine (elim xs [ [] ↦ stuck | y ∷ ys ↦ f y ys ])
-first [] f h = no_operand
-first (x ∷ xs) f h = h x xs
+there_or : {X : Type 0} (n k : ℕ) (o : Option X) (f : X → Acted) → ((x : X) → Fine n (f x)) → Fine n (elim o [ None ↦ faults k | Some x ↦ f x ])
+there_or n k None f h = fault n k
+there_or n k (Some x) f h = h x
 
-find : {X : Type 0} (o : Found X) (f : X → Acted) → ((x : X) → Fine (f x)) → Fine (found_in o f)
-find (found x) f h = h x
-find (at_fault k) f h = fault k
+find : {X : Type 0} (n : ℕ) (o : Found X) (f : X → Acted) → ((x : X) → Fine n (f x)) → Fine n (found_in o f)
+find n (found x) f h = h x
+find n (at_fault k) f h = fault n k
 
-so : (k : ℕ) (b : Bool) (e : Acted) → Fine e → Fine (unless k b e)
-so k true e h = h
-so k false e h = fault k
+so : (n k : ℕ) (b : Bool) (e : Acted) → Fine n e → Fine n (unless k b e)
+so n k true e h = h
+so n k false e h = fault n k
 
-either_way : (b : Bool) (d e : Acted) → Fine d → Fine e → Fine (cond b d e)
-either_way true d e h k = h
-either_way false d e h k = k
+either_way : (n : ℕ) (b : Bool) (d e : Acted) → Fine n d → Fine n e → Fine n (cond b d e)
+either_way n true d e h k = h
+either_way n false d e h k = k
 
-top : (c : Core) (f : ℤ → Core → Acted) → ((v : ℤ) (d : Core) → Fine (f v d)) → Fine (taking_one c f)
-top c f h = by_values c.values
+top : (n : ℕ) (c : Core) (f : ℤ → Core → Acted) → ((v : ℤ) (vs : List ℤ) → Fine n (f v (with_values c vs))) → Fine n (taking_one c f)
+top n c f h = by_values c.values
   where
-    by_values : (vs : List ℤ) → Fine (elim vs [ [] ↦ stuck | w ∷ ws ↦ f w (with_values c ws) ])
-    by_values [] = no_operand
-    by_values (v ∷ vs) = h v (with_values c vs)
+    by_values : (vs : List ℤ) → Fine n (elim vs [ [] ↦ stuck | w ∷ ws ↦ f w (with_values c ws) ])
+    by_values [] = no_operand n
+    by_values (v ∷ vs) = h v vs
 
-top_two : (c : Core) (f : ℤ → ℤ → Core → Acted) → ((v w : ℤ) (d : Core) → Fine (f v w d)) → Fine (taking_two c f)
-top_two c f h = top c (λ w d. taking_one d (λ v e. f v w e)) (λ w d. top d (λ v e. f v w e) (λ v e. h v w e))
+top_two : (n : ℕ) (c : Core) (f : ℤ → ℤ → Core → Acted) → ((v w : ℤ) (vs : List ℤ) → Fine n (f v w (with_values c vs))) → Fine n (taking_two c f)
+top_two n c f h = top n c (λ w d. taking_one d (λ v e. f v w e)) (λ w ws. top n (with_values c ws) (λ v e. f v w e) (λ v vs. h v w vs))
 
-some_of : (n : ℕ) (c : Core) (f : List ℤ → Core → Acted) → ((vs : List ℤ) (d : Core) → Fine (f vs d)) → Fine (taking n c f)
-some_of n c f h = there (taken n c.values []) (λ p. f p.0 (with_values c p.1)) (λ p. h p.0 (with_values c p.1))
+some_of : (n m : ℕ) (c : Core) (f : List ℤ → Core → Acted) → ((vs ws : List ℤ) → Fine n (f vs (with_values c ws))) → Fine n (taking m c f)
+some_of n m c f h = there n (taken m c.values []) (λ p. f p.0 (with_values c p.1)) (λ p. h p.0 p.1)
 
-seen : (depth n : ℕ) (c : Core) (f : List ℤ → Acted) → ((vs : List ℤ) → Fine (f vs)) → Fine (seeing depth n c f)
-seen depth n c f h = there (taken n (drop depth c.values) []) (λ p. f p.0) (λ p. h p.0)
+seen : (n depth m : ℕ) (c : Core) (f : List ℤ → Acted) → ((vs : List ℤ) → Fine n (f vs)) → Fine n (seeing depth m c f)
+seen n depth m c f h = there n (taken m (drop depth c.values) []) (λ p. f p.0) (λ p. h p.0)
 
-top_array : (c : Core) (f : Array → Core → Acted) → ((x : Array) (d : Core) → Fine (f x d)) → Fine (taking_array c f)
-top_array c f h = by_arrays c.arrays
+top_array : (n : ℕ) (c : Core) (f : Array → Core → Acted) → ((x : Array) (xs : List Array) → Fine n (f x (record c { arrays = xs }))) → Fine n (taking_array c f)
+top_array n c f h = by_arrays c.arrays
   where
-    by_arrays : (xs : List Array) → Fine (elim xs [ [] ↦ stuck | y ∷ ys ↦ f y (record c { arrays = ys }) ])
-    by_arrays [] = no_operand
-    by_arrays (x ∷ xs) = h x (record c { arrays = xs })
+    by_arrays : (xs : List Array) → Fine n (elim xs [ [] ↦ stuck | y ∷ ys ↦ f y (record c { arrays = ys }) ])
+    by_arrays [] = no_operand n
+    by_arrays (x ∷ xs) = h x xs
 
-seen_array : (c : Core) (f : Array → Acted) → ((x : Array) → Fine (f x)) → Fine (seeing_array c f)
-seen_array c f h = by_arrays c.arrays
+seen_array : (n : ℕ) (c : Core) (f : Array → Acted) → ((x : Array) → Fine n (f x)) → Fine n (seeing_array c f)
+seen_array n c f h = by_arrays c.arrays
   where
-    by_arrays : (xs : List Array) → Fine (elim xs [ [] ↦ stuck | y ∷ ys ↦ f y ])
-    by_arrays [] = no_operand
+    by_arrays : (xs : List Array) → Fine n (elim xs [ [] ↦ stuck | y ∷ ys ↦ f y ])
+    by_arrays [] = no_operand n
     by_arrays (x ∷ xs) = h x
 
-room_for : (n : ℕ) (c : Core) (f : Core → Acted) → ((d : Core) → Fine (f d)) → Fine (using n c f)
-room_for n c f h = so room (nat_le (c.used + n) most_cells) (f (record c { used = c.used + n })) (h (record c { used = c.used + n }))
+room_for : (n m : ℕ) (c : Core) (f : Core → Acted) → Fine n (f (record c { used = c.used + m })) → Fine n (using m c f)
+room_for n m c f h = so n room (nat_le (c.used + m) most_cells) (f (record c { used = c.used + m })) h
 
-allocates : (o : Option Local) (f : Local → Acted) → ((x : Local) → Fine (f x)) → Fine (allocated o f)
-allocates None f h = fault not_allocated
-allocates (Some x) f h = h x
+allocates : (n : ℕ) (o : Option Local) (f : Local → Acted) → ((x : Local) → Fine n (f x)) → Fine n (allocated o f)
+allocates n None f h = fault n not_allocated
+allocates n (Some x) f h = h x
 
-owns : (o : Option Own) (f : Own → Acted) → ((x : Own) → Fine (f x)) → Fine (owned o f)
-owns None f h = fault not_allocated
-owns (Some x) f h = h x
+owns : (n : ℕ) (o : Option Own) (f : Own → Acted) → ((x : Own) → Fine n (f x)) → Fine n (owned o f)
+owns n None f h = fault n not_allocated
+owns n (Some x) f h = h x
 
-teams : (o : Option Team) (f : Team → Acted) → ((x : Team) → Fine (f x)) → Fine (teamed o f)
-teams None f h = fault no_team
-teams (Some x) f h = h x
+teams : (n : ℕ) (o : Option Team) (f : Team → Acted) → ((x : Team) → Fine n (f x)) → Fine n (teamed o f)
+teams n None f h = fault n no_team
+teams n (Some x) f h = h x
 
-valued : (rank : ℕ) (p : Place) (vs : List ℤ) (c : Core) → Fine (value_at rank p vs c)
-valued zero p [] c = no_operand
-valued zero p (v ∷ vs) c = goes (pushed v c)
-valued (suc rank) p vs c = so _ _ _ (goes _)
+valued : (n rank : ℕ) (p : Place) (vs : List ℤ) (c : Core) → length c.callers ≡ n → Fine n (value_at rank p vs c)
+valued n zero p [] c k = no_operand n
+valued n zero p (v ∷ vs) c k = goes n (pushed v c) k
+valued n (suc rank) p vs c k = so n room _ _ (goes n (with_array (record { extents = extents_of p; elements = vs }) c) k)
 
-ruleset fine = (goes, fault, no_operand, there, top, top_two, some_of, seen, top_array, seen_array, room_for, find, so, either_way, allocates, owns, teams, valued)
+-- a frame in the place of another one
+as_long : (f : Frame) (fs : List Frame) → length (with_last f fs) ≡ length fs
+as_long f [] = refl
+as_long f (g ∷ []) = refl
+as_long f (g ∷ h ∷ hs) = ap suc (as_long f (h ∷ hs))
 
-first_element : (vs : List ℤ) (c : Core) → Fine (elim vs [ [] ↦ stuck | w ∷ ws ↦ giving w c ])
-first_element [] c = no_operand
-first_element (v ∷ vs) c = goes (pushed v c)
+abbrev with_main : Frame → Core → List Frame → Core
+with_main f c [] = record c { frame = f }
+with_main f c (g ∷ gs) = record c { callers = with_last f c.callers }
 
-loaded : (o : Option Local) (rank : ℕ) (p : Place) (c : Core) → Fine (allocated o (λ l. elim (elements_there p l) [ None ↦ faults shape_fault | Some vs ↦ value_at rank p vs c ]))
-loaded o rank p c = allocates o (λ l. elim (elements_there p l) [ None ↦ faults shape_fault | Some vs ↦ value_at rank p vs c ])
-    (λ l. there_or shape_fault (elements_there p l) (λ vs. value_at rank p vs c) (λ vs. valued rank p vs c))
+main_framed : (f : Frame) (c : Core) (gs : List Frame) → length (with_main f c gs).callers ≡ length c.callers
+main_framed f c [] = refl
+main_framed f c (g ∷ gs) = as_long f c.callers
 
-put_there : (o : Option Local) (p : Place) (f : Local → Core) → Fine (allocated o (λ l. elim (elements_there p l) [ None ↦ faults shape_fault | Some vs ↦ goes_to (f l) ]))
-put_there o p f = allocates o (λ l. elim (elements_there p l) [ None ↦ faults shape_fault | Some vs ↦ goes_to (f l) ])
-    (λ l. there_or shape_fault (elements_there p l) (λ vs. goes_to (f l)) (λ vs. goes (f l)))
+framed : (s : a.Scope) (f : Frame) (c : Core) → length (with_frame s f c).callers ≡ length c.callers
+framed a.here f c = refl
+framed a.host f c = main_framed f c c.callers
+
+ruleset fine = (goes, framed, fault, no_operand, there, top, top_two, some_of, seen, top_array, seen_array, room_for, find, so, either_way, allocates, owns, teams, valued)
+
+first_element : (n : ℕ) (vs : List ℤ) (c : Core) → length c.callers ≡ n → Fine n (elim vs [ [] ↦ stuck | w ∷ ws ↦ giving w c ])
+first_element n [] c k = no_operand n
+first_element n (v ∷ vs) c k = goes n (pushed v c) k
+
+loaded : (n : ℕ) (o : Option Local) (rank : ℕ) (p : Place) (c : Core) → length c.callers ≡ n
+    → Fine n (allocated o (λ l. elim (elements_there p l) [ None ↦ faults shape_fault | Some vs ↦ value_at rank p vs c ]))
+loaded n o rank p c k = allocates n o (λ l. elim (elements_there p l) [ None ↦ faults shape_fault | Some vs ↦ value_at rank p vs c ])
+    (λ l. there_or n shape_fault (elements_there p l) (λ vs. value_at rank p vs c) (λ vs. valued n rank p vs c k))
+
+put_there : (n : ℕ) (o : Option Local) (p : Place) (f : Local → Core) → ((l : Local) → length (f l).callers ≡ n)
+    → Fine n (allocated o (λ l. elim (elements_there p l) [ None ↦ faults shape_fault | Some vs ↦ goes_to (f l) ]))
+put_there n o p f k = allocates n o (λ l. elim (elements_there p l) [ None ↦ faults shape_fault | Some vs ↦ goes_to (f l) ])
+    (λ l. there_or n shape_fault (elements_there p l) (λ vs. goes_to (f l)) (λ vs. goes n (f l) (k l)))
 
 abbrev resized : a.Scope → ℕ → Option Local → ℕ → List ℤ → Core → Acted
 resized s x old before vs c = unless room (nat_le ((c.local_cells - before) + length vs) most_cells)
@@ -149,7 +173,7 @@ abbrev images_into : a.Scope → ℕ → Option Local → List ℤ → Core → 
 images_into s x None vs c = resized s x None 0 vs c
 images_into s x (Some l) vs c = cond (length l.elements == length vs) (goes_to (with_array_in s x (Some (record l { elements = vs })) c)) (resized s x (Some l) (length l.elements) vs c)
 
-imaged : (s : a.Scope) (x : ℕ) (o : Option Local) (vs : List ℤ) (c : Core) → Fine (images_into s x o vs c)
+imaged : (s : a.Scope) (x : ℕ) (o : Option Local) (vs : List ℤ) (c : Core) → Fine (length c.callers) (images_into s x o vs c)
 imaged s x None vs c = search fine
 imaged s x (Some l) vs c = search fine
 
@@ -162,17 +186,17 @@ begun s x t (first ∷ last ∷ step ∷ []) c =
     unless zero_step (not (int_eq step (pos 0))) (goes_to (with_cell a.here t (pos (min (iterations first last step) most_iterations)) (with_cell a.here (t + 1) step (with_cell s x first c))))
 begun s x t vs c = stuck
 
-begins : (s : a.Scope) (x t : ℕ) (vs : List ℤ) (c : Core) → Fine (begun s x t vs c)
-begins s x t (first ∷ last ∷ step ∷ []) c = so _ _ _ (goes _)
-begins s x t vs c = no_operand
+begins : (s : a.Scope) (x t : ℕ) (vs : List ℤ) (c : Core) → Fine (length c.callers) (begun s x t vs c)
+begins s x t (first ∷ last ∷ step ∷ []) c = search fine
+begins s x t vs c = no_operand (length c.callers)
 
 abbrev co_placing : Option Own → List ℕ → List ℤ → Core → Acted
 co_placing None ds vs c = goes_to (with_values c (put_down (place_numbers (no_place (triplets ds))) c.values))
 co_placing (Some o) ds vs c = found_in (place_within o.bounds (subscripts_in ds vs)) (λ p. goes_to (with_values c (put_down (place_numbers p) c.values)))
 
-co_placed : (o : Option Own) (ds : List ℕ) (vs : List ℤ) (c : Core) → Fine (co_placing o ds vs c)
-co_placed None ds vs c = goes _
-co_placed (Some o) ds vs c = find (place_within o.bounds (subscripts_in ds vs)) (λ p. goes_to (with_values c (put_down (place_numbers p) c.values))) (λ p. goes _)
+co_placed : (o : Option Own) (ds : List ℕ) (vs : List ℤ) (c : Core) → Fine (length c.callers) (co_placing o ds vs c)
+co_placed None ds vs c = search fine
+co_placed (Some o) ds vs c = search fine
 
 abbrev are_cobounds : List ℤ → Bool
 are_cobounds [] = true
@@ -212,33 +236,29 @@ abbrev numbered_cosubscript : List ℤ → ℕ → Core → Acted
 numbered_cosubscript ss zero c = faults bounds_fault
 numbered_cosubscript ss (suc i) c = elim (slice_get ss i) [ None ↦ faults bounds_fault | Some v ↦ unless overflow (fits_kind kinds.I4 v) (giving v c) ]
 
-abbrev to_caller : Core → List Frame → Acted
-to_caller c [] = stuck
-to_caller c (f ∷ fs) = goes_to (record c { frame = f; callers = fs; local_cells = c.local_cells - c.frame.need; used = c.frame.base })
+plans : (well : Bool) (m n : ℕ) (vs : List ℤ) (c : Core) → Fine (length c.callers) (planned well m n vs c)
+plans well m n (x ∷ y ∷ z ∷ []) c = goes _ _ refl
+plans well m n vs c = no_operand (length c.callers)
 
-plans : (well : Bool) (m n : ℕ) (vs : List ℤ) (c : Core) → Fine (planned well m n vs c)
-plans well m n (x ∷ y ∷ z ∷ []) c = goes _
-plans well m n vs c = no_operand
+frees : (s : a.Scope) (x : ℕ) (o : Option Local) (c : Core) → Fine (length c.callers) (freed s x o c)
+frees s x None c = no_operand (length c.callers)
+frees s x (Some l) c = search fine
 
-frees : (s : a.Scope) (x : ℕ) (o : Option Local) (c : Core) → Fine (freed s x o c)
-frees s x None c = no_operand
-frees s x (Some l) c = goes _
+frees_own : (k : ℕ) (o : Option Own) (c : Core) → Fine (length c.callers) (own_freed k o c)
+frees_own k None c = no_operand (length c.callers)
+frees_own k (Some o) c = goes _ _ refl
 
-frees_own : (k : ℕ) (o : Option Own) (c : Core) → Fine (own_freed k o c)
-frees_own k None c = no_operand
-frees_own k (Some o) c = goes _
-
-owner_found : (c : Core) (t : ℕ) (o : Option Own) (ss : List ℤ) (p : Place) → Fine (owner_in c t o ss p)
-owner_found c t None ss p = fault not_established
+owner_found : (c : Core) (t : ℕ) (o : Option Own) (ss : List ℤ) (p : Place) → Fine (length c.callers) (owner_in c t o ss p)
+owner_found c t None ss p = fault (length c.callers) not_established
 owner_found c t (Some o) ss p = search fine
 
-cosubscript_found : (ss : List ℤ) (n : ℕ) (c : Core) → Fine (numbered_cosubscript ss n c)
-cosubscript_found ss zero c = fault bounds_fault
-cosubscript_found ss (suc i) c = there_or bounds_fault (slice_get ss i) (λ v. unless overflow (fits_kind kinds.I4 v) (giving v c)) (λ v. so _ _ _ (goes _))
+cosubscript_found : (ss : List ℤ) (n : ℕ) (c : Core) → Fine (length c.callers) (numbered_cosubscript ss n c)
+cosubscript_found ss zero c = fault (length c.callers) bounds_fault
+cosubscript_found ss (suc i) c = there_or (length c.callers) bounds_fault (slice_get ss i) (λ v. unless overflow (fits_kind kinds.I4 v) (giving v c)) (λ v. search fine)
 
-along_one : (bs : List (ℤ × ℤ)) (n : ℕ) (f : ℤ × ℤ → Acted) → ((b : ℤ × ℤ) → Fine (f b)) → Fine (numbered bs n f)
-along_one bs zero f h = fault bounds_fault
-along_one bs (suc i) f h = there_or bounds_fault (slice_get bs i) f h
+along_one : (m : ℕ) (bs : List (ℤ × ℤ)) (n : ℕ) (f : ℤ × ℤ → Acted) → ((b : ℤ × ℤ) → Fine m (f b)) → Fine m (numbered bs n f)
+along_one m bs zero f h = fault m bounds_fault
+along_one m bs (suc i) f h = there_or m bounds_fault (slice_get bs i) f h
 
 abbrev lower_of : ℤ × ℤ → ℤ
 lower_of b = cond (extent_of b == 0) (pos 1) b.0
@@ -247,31 +267,39 @@ abbrev upper_of : ℤ × ℤ → ℤ
 upper_of b = cond (extent_of b == 0) (pos 0) b.1
 
 along : (c : Core) (g : ℤ × ℤ → ℤ)
-    → Fine (taking_one c (λ dim d. taking_array d (λ x e. numbered (pairs_in x.elements) (natural dim) (λ b. unless overflow (fits_kind kinds.I4 (g b)) (giving (g b) e)))))
+    → Fine (length c.callers) (taking_one c (λ dim d. taking_array d (λ x e. numbered (pairs_in x.elements) (natural dim) (λ b. unless overflow (fits_kind kinds.I4 (g b)) (giving (g b) e)))))
 along c g =
-    top c (λ dim d. taking_array d (λ x e. numbered (pairs_in x.elements) (natural dim) (λ b. unless overflow (fits_kind kinds.I4 (g b)) (giving (g b) e))))
-    (λ dim d. top_array d (λ x e. numbered (pairs_in x.elements) (natural dim) (λ b. unless overflow (fits_kind kinds.I4 (g b)) (giving (g b) e)))
-    (λ x e. along_one (pairs_in x.elements) (natural dim) (λ b. unless overflow (fits_kind kinds.I4 (g b)) (giving (g b) e)) (λ b. search fine)))
+    top (length c.callers) c (λ dim d. taking_array d (λ x e. numbered (pairs_in x.elements) (natural dim) (λ b. unless overflow (fits_kind kinds.I4 (g b)) (giving (g b) e))))
+    (λ dim vs. top_array (length c.callers) (with_values c vs) (λ x e. numbered (pairs_in x.elements) (natural dim) (λ b. unless overflow (fits_kind kinds.I4 (g b)) (giving (g b) e)))
+    (λ x xs. (
+    let e = record c { values = vs; arrays = xs } in
+    along_one (length c.callers) (pairs_in x.elements) (natural dim) (λ b. unless overflow (fits_kind kinds.I4 (g b)) (giving (g b) e)) (λ b. search fine))))
 
-returns : (c : Core) (fs : List Frame) → Fine (to_caller c fs)
-returns c [] = no_operand
-returns c (f ∷ fs) = goes _
+prints : (n : ℕ) (xs : List Item) (ps : List Printing) (c : Core) → length c.callers ≡ n
+    → Fine n (elim ps [ [] ↦ stuck | q ∷ qs ↦ unless room (nat_le (open_items c.printing + length xs) most_items) (goes_to (record c { printing = record q { items = reverse xs ++ q.items } ∷ qs })) ])
+prints n xs [] c k = no_operand n
+prints n xs (q ∷ qs) c k = search fine
 
-prints : (xs : List Item) (ps : List Printing) (c : Core) → Fine (elim ps [ [] ↦ stuck | q ∷ qs ↦ unless room (nat_le (open_items c.printing + length xs) most_items) (goes_to (record c { printing = record q { items = reverse xs ++ q.items } ∷ qs })) ])
-prints xs [] c = no_operand
-prints xs (q ∷ qs) c = so _ _ _ (goes _)
+printed_fine : (n : ℕ) (xs : List Item) (c : Core) → length c.callers ≡ n → Fine n (printed xs c)
+printed_fine n xs c k = prints n xs c.printing c k
 
-printed_fine : (xs : List Item) (c : Core) → Fine (printed xs c)
-printed_fine xs c = prints xs c.printing c
+-- the team variable of FORM TEAM
+abbrev with_own_team : a.Scope → ℕ → Option Team → Core → Core
+with_own_team s x None c = c
+with_own_team s x (Some k) c = with_cell s x (pos k.team) c
 
-fine_stack : (x : a.StackAct) (c : Core) → Fine (stack_effect x c)
+team_noted : (s : a.Scope) (x : ℕ) (o : Option Team) (c : Core) → length (with_own_team s x o c).callers ≡ length c.callers
+team_noted s x None c = refl
+team_noted s x (Some k) c = framed s _ c
+
+fine_stack : (x : a.StackAct) (c : Core) → Fine (length c.callers) (stack_effect x c)
 fine_stack (a.drop n) c = search fine
 fine_stack (a.copy depth n) c = search fine
 fine_stack (a.bring depth n) c = search fine
 fine_stack a.empty_array c = search fine
 fine_stack a.append c = search fine
 fine_stack a.append_array c = search fine
-fine_stack a.only_element c = top_array c (λ x d. elim x.elements [ [] ↦ stuck | v ∷ vs ↦ giving v d ]) (λ x d. first_element x.elements d)
+fine_stack a.only_element c = top_array (length c.callers) c (λ x d. elim x.elements [ [] ↦ stuck | v ∷ vs ↦ giving v d ]) (λ x xs. first_element (length c.callers) x.elements (record c { arrays = xs }) refl)
 fine_stack a.drop_array c = search fine
 fine_stack a.take_cell c = search fine
 fine_stack a.take_cells c = search fine
@@ -279,18 +307,18 @@ fine_stack a.release c = search fine
 fine_stack a.accessed c = search fine
 fine_stack (a.nothing_read rank) c = search fine
 
-fine_variable : (x : a.VariableAct) (c : Core) → Fine (variable_effect x c)
+fine_variable : (x : a.VariableAct) (c : Core) → Fine (length c.callers) (variable_effect x c)
 fine_variable (a.cell s x) c = search fine
 fine_variable (a.store s x) c = search fine
 fine_variable (a.load s x rank) c = search (fine, loaded)
 fine_variable (a.put s x rank) c = search (fine, put_there)
 fine_variable (a.put_array s x rank) c = search (fine, put_there)
-fine_variable (a.put_images s x) c = top_array c (λ y d. images_into s x (array_in s x d) y.elements d) (λ y d. imaged s x (array_in s x d) y.elements d)
-fine_variable (a.begin_iterations s x t) c = some_of 3 c (λ vs d. begun s x t vs d) (λ vs d. begins s x t vs d)
-fine_variable (a.next_iteration s x t k) c = search fine
+fine_variable (a.put_images s x) c = top_array (length c.callers) c (λ y d. images_into s x (array_in s x d) y.elements d) (λ y ys. imaged s x (array_in s x (record c { arrays = ys })) y.elements (record c { arrays = ys }))
+fine_variable (a.begin_iterations s x t) c = some_of (length c.callers) 3 c (λ vs d. begun s x t vs d) (λ vs ws. begins s x t vs (with_values c ws))
+fine_variable (a.next_iteration s x t k) c = search fine depth 6
 fine_variable (a.more_iterations t) c = search fine
 
-fine_operator : (x : a.OperatorAct) (c : Core) → Fine (operator_effect x c)
+fine_operator : (x : a.OperatorAct) (c : Core) → Fine (length c.callers) (operator_effect x c)
 fine_operator (a.add k) c = search fine
 fine_operator (a.subtract k) c = search fine
 fine_operator (a.multiply k) c = search fine
@@ -314,9 +342,10 @@ fine_operator a.negation c = search fine
 fine_operator a.both c = search fine
 fine_operator a.any_of c = search fine
 
-fine_bounded : (x : a.BoundsAct) (c : Core) → Fine (bounds_effect x c)
+fine_bounded : (x : a.BoundsAct) (c : Core) → Fine (length c.callers) (bounds_effect x c)
 fine_bounded (a.section s x form) c = search fine
-fine_bounded (a.co_section k form) c = some_of (numbers_of_form (digits form)) c (λ vs d. co_placing (own_in d k) (digits form) vs d) (λ vs d. co_placed (own_in d k) (digits form) vs d)
+fine_bounded (a.co_section k form) c =
+    some_of (length c.callers) (numbers_of_form (digits form)) c (λ vs d. co_placing (own_in d k) (digits form) vs d) (λ vs ws. co_placed (own_in c k) (digits form) vs (with_values c ws))
 fine_bounded (a.same_shape depth rank) c = search fine
 fine_bounded (a.some_cells depth rank) c = search fine
 fine_bounded (a.bounds s x) c = search fine
@@ -335,28 +364,31 @@ fine_bounded a.every_index c = search fine
 fine_bounded a.are_indices c = search fine
 fine_bounded a.is_index c = search fine
 
-fine_allocation : (x : a.AllocationAct) (c : Core) → Fine (allocation_effect x c)
+fine_allocation : (x : a.AllocationAct) (c : Core) → Fine (length c.callers) (allocation_effect x c)
 fine_allocation a.begin_plan c = search fine
 fine_allocation (a.plan_coarray k depth rank corank) c =
-    seen (depth + 3) (bounds_size rank + cobounds_size corank) c (λ vs. taking 3 c (λ plan d. planned (not (is_some (own_in d k)) && (are_of_kind_4 vs && are_cobounds (drop (bounds_size rank) vs))) (size_of (pairs_in (take (bounds_size rank) vs))) 0 plan d))
-    (λ vs. some_of 3 c (λ plan d. planned (not (is_some (own_in d k)) && (are_of_kind_4 vs && are_cobounds (drop (bounds_size rank) vs))) (size_of (pairs_in (take (bounds_size rank) vs))) 0 plan d)
-    (λ plan d. plans (not (is_some (own_in d k)) && (are_of_kind_4 vs && are_cobounds (drop (bounds_size rank) vs))) (size_of (pairs_in (take (bounds_size rank) vs))) 0 plan d))
+    seen (length c.callers) (depth + 3) (bounds_size rank + cobounds_size corank) c (λ vs. taking 3 c (λ plan d. planned (not (is_some (own_in d k)) && (are_of_kind_4 vs && are_cobounds (drop (bounds_size rank) vs))) (size_of (pairs_in (take (bounds_size rank) vs))) 0 plan d))
+    (λ vs. some_of (length c.callers) 3 c (λ plan d. planned (not (is_some (own_in d k)) && (are_of_kind_4 vs && are_cobounds (drop (bounds_size rank) vs))) (size_of (pairs_in (take (bounds_size rank) vs))) 0 plan d)
+    (λ plan ws. plans (not (is_some (own_in c k)) && (are_of_kind_4 vs && are_cobounds (drop (bounds_size rank) vs))) (size_of (pairs_in (take (bounds_size rank) vs))) 0 plan (with_values c ws)))
 fine_allocation (a.plan_local s x depth rank) c =
-    seen (depth + 3) (bounds_size rank) c (λ vs. taking 3 c (λ plan d. planned (not (is_some (array_in s x d)) && are_of_kind_4 vs) 0 (size_of (pairs_in vs)) plan d))
-    (λ vs. some_of 3 c (λ plan d. planned (not (is_some (array_in s x d)) && are_of_kind_4 vs) 0 (size_of (pairs_in vs)) plan d) (λ plan d. plans (not (is_some (array_in s x d)) && are_of_kind_4 vs) 0 (size_of (pairs_in vs)) plan d))
-fine_allocation (a.note_made k depth rank corank) c = search fine
+    seen (length c.callers) (depth + 3) (bounds_size rank) c (λ vs. taking 3 c (λ plan d. planned (not (is_some (array_in s x d)) && are_of_kind_4 vs) 0 (size_of (pairs_in vs)) plan d))
+    (λ vs. some_of (length c.callers) 3 c (λ plan d. planned (not (is_some (array_in s x d)) && are_of_kind_4 vs) 0 (size_of (pairs_in vs)) plan d)
+    (λ plan ws. plans (not (is_some (array_in s x (with_values c ws))) && are_of_kind_4 vs) 0 (size_of (pairs_in vs)) plan (with_values c ws)))
+fine_allocation (a.note_made k depth rank corank) c = search fine depth 7
 fine_allocation a.end_plan c = search fine
-fine_allocation (a.make s x depth rank) c = search fine
+fine_allocation (a.make s x depth rank) c = search fine depth 7
 fine_allocation (a.free s x) c = frees s x (array_in s x c) c
 fine_allocation (a.note_freed k) c = frees_own k (own_in c k) c
-fine_allocation (a.lay_out x rank) c = search fine
+fine_allocation (a.lay_out x rank) c = search fine depth 7
 
-fine_selector : (x : a.SelectorAct) (c : Core) → Fine (selector_effect x c)
+fine_selector : (x : a.SelectorAct) (c : Core) → Fine (length c.callers) (selector_effect x c)
 fine_selector (a.own_image rank) c = search fine
 fine_selector (a.owner k rank corank) c =
-    top c (λ t d. taking corank d (λ ss e. seeing 0 (place_size rank) e (λ ns. owner_in e (natural t) (own_in e k) ss (place_in ns))))
-    (λ t d. some_of corank d (λ ss e. seeing 0 (place_size rank) e (λ ns. owner_in e (natural t) (own_in e k) ss (place_in ns)))
-    (λ ss e. seen 0 (place_size rank) e (λ ns. owner_in e (natural t) (own_in e k) ss (place_in ns)) (λ ns. owner_found e (natural t) (own_in e k) ss (place_in ns))))
+    top (length c.callers) c (λ t d. taking corank d (λ ss e. seeing 0 (place_size rank) e (λ ns. owner_in e (natural t) (own_in e k) ss (place_in ns))))
+    (λ t vs. some_of (length c.callers) corank (with_values c vs) (λ ss e. seeing 0 (place_size rank) e (λ ns. owner_in e (natural t) (own_in e k) ss (place_in ns)))
+    (λ ss ws. (
+    let e = with_values c ws in
+    seen (length c.callers) 0 (place_size rank) e (λ ns. owner_in e (natural t) (own_in e k) ss (place_in ns)) (λ ns. owner_found e (natural t) (own_in e k) ss (place_in ns)))))
 fine_selector a.this_team c = search fine
 fine_selector a.team_value c = search fine
 fine_selector a.sibling_team c = search fine
@@ -367,26 +399,28 @@ fine_selector a.image_count c = search fine
 fine_selector a.image_count_of_number c = search fine
 fine_selector (a.image_index k corank) c = search fine
 fine_selector (a.cosubscript k) c =
-    top c (λ t d. taking_one d (λ dim e. owned (own_in e k) (λ o. numbered_cosubscript (cosubscripts_behind o.lowers o.extents (index_in e.me (members e (natural t)) - 1)) (natural dim) e)))
-    (λ t d. top d (λ dim e. owned (own_in e k) (λ o. numbered_cosubscript (cosubscripts_behind o.lowers o.extents (index_in e.me (members e (natural t)) - 1)) (natural dim) e))
-    (λ dim e. owns (own_in e k) (λ o. numbered_cosubscript (cosubscripts_behind o.lowers o.extents (index_in e.me (members e (natural t)) - 1)) (natural dim) e)
-    (λ o. cosubscript_found (cosubscripts_behind o.lowers o.extents (index_in e.me (members e (natural t)) - 1)) (natural dim) e)))
+    top (length c.callers) c (λ t d. taking_one d (λ dim e. owned (own_in e k) (λ o. numbered_cosubscript (cosubscripts_behind o.lowers o.extents (index_in e.me (members e (natural t)) - 1)) (natural dim) e)))
+    (λ t vs. top (length c.callers) (with_values c vs) (λ dim e. owned (own_in e k) (λ o. numbered_cosubscript (cosubscripts_behind o.lowers o.extents (index_in e.me (members e (natural t)) - 1)) (natural dim) e))
+    (λ dim ws. (
+    let e = with_values c ws in
+    owns (length c.callers) (own_in e k) (λ o. numbered_cosubscript (cosubscripts_behind o.lowers o.extents (index_in e.me (members e (natural t)) - 1)) (natural dim) e)
+    (λ o. cosubscript_found (cosubscripts_behind o.lowers o.extents (index_in e.me (members e (natural t)) - 1)) (natural dim) e))))
 fine_selector a.is_root c = search fine
 
-fine_team : (x : a.TeamAct) (c : Core) → Fine (team_effect x c)
+fine_team : (x : a.TeamAct) (c : Core) → Fine (length c.callers) (team_effect x c)
 fine_team a.child_team c = search fine
 fine_team a.near_team c = search fine
 fine_team a.make_current c = search fine
 fine_team a.leave_team c = search fine
-fine_team (a.note_teams s x) c = search fine
+fine_team (a.note_teams s x) c = there (length c.callers) c.round _ (λ r. goes (length c.callers) _ (team_noted s x _ _))
 
-fine_call : (x : a.CallAct) (c : Core) → Fine (call_effect x c)
-fine_call (a.begin_frame cells arrays need) c = search fine
-fine_call (a.copy_in x) c = search fine
-fine_call (a.copy_out x) c = search fine
-fine_call a.end_frame c = returns c c.callers
+fine_copy_in : (x : ℕ) (c : Core) → Fine (length c.callers) (call_effect (a.copy_in x) c)
+fine_copy_in x c = search fine
 
-fine_print : (x : a.PrintAct) (c : Core) → Fine (print_effect x c)
+fine_copy_out : (x : ℕ) (c : Core) → Fine (length c.callers) (call_effect (a.copy_out x) c)
+fine_copy_out x c = search fine
+
+fine_print : (x : a.PrintAct) (c : Core) → Fine (length c.callers) (print_effect x c)
 fine_print a.begin_free c = search fine
 fine_print (a.begin_format text) c = search fine
 fine_print a.print_number c = search (fine, printed_fine)
@@ -395,11 +429,11 @@ fine_print (a.print_array k) c = search (fine, printed_fine)
 fine_print (a.print_literal text) c = search (fine, printed_fine)
 
 -- ---- asks
-said : (a : Ask) (f : Reply → Core) → MayCome (owing None) a → ((r : Reply) → due_after a r ≡ owing None) → Fine (asking a f)
-said a f m n = record { kept = (m, λ r x. n r) }
+said : (n : ℕ) (a : Ask) (f : Reply → Core) → MayCome (owing None) a → ((r : Reply) → due_after a r ≡ owing None) → ((r : Reply) → length (f r).callers ≡ n) → Fine n (asking a f)
+said n a f m due k = record { calm = (m, due, k) }
 
-last : (a : Ask) → MayCome (owing None) a → Fine (ends_with a)
-last a m = record { kept = m }
+last : (n : ℕ) (a : Ask) → MayCome (owing None) a → ((r : Reply) → due_after a r ≡ ended) → Fine n (ends_with a)
+last n a m due = record { calm = (m, due) }
 
 -- an ask that is neither an arrival nor a departure
 abbrev pub IsFreeAsk : a.AskAct → Type 0
@@ -420,63 +454,63 @@ abbrev saying : List Printing → Core → Acted
 saying [] c = stuck
 saying (p ∷ ps) c = found_in (text_of p) (λ text. asking (asks.Print text) (λ r. record c { printing = ps }))
 
-reads : (o : ImageNo) (s : Span) (f : Reply → Core) → Fine (asking (asks.Read o s) f)
-reads o s f = said (asks.Read o s) f (λ x. x, tt) (λ r. refl)
+reads : (n : ℕ) (o : ImageNo) (s : Span) (f : Reply → Core) → ((r : Reply) → length (f r).callers ≡ n) → Fine n (asking (asks.Read o s) f)
+reads n o s f k = said n (asks.Read o s) f (λ x. x, tt) (λ r. refl) k
 
-writes : (o : ImageNo) (s : Span) (vs : List Value) (f : Reply → Core) → Fine (asking (asks.Write o s vs) f)
-writes o s vs f = said (asks.Write o s vs) f (λ x. x, tt) (λ r. refl)
+writes : (n : ℕ) (o : ImageNo) (s : Span) (vs : List Value) (f : Reply → Core) → ((r : Reply) → length (f r).callers ≡ n) → Fine n (asking (asks.Write o s vs) f)
+writes n o s vs f k = said n (asks.Write o s vs) f (λ x. x, tt) (λ r. refl) k
 
-atomics : (o : ImageNo) (op : AtomicOp) (s : Span) (x y : Value) (f : Reply → Core) → Fine (asking (asks.Atomic o op s x y) f)
-atomics o op s x y f = said (asks.Atomic o op s x y) f (λ x. x, tt) (λ r. refl)
+atomics : (n : ℕ) (o : ImageNo) (op : AtomicOp) (s : Span) (x y : Value) (f : Reply → Core) → ((r : Reply) → length (f r).callers ≡ n) → Fine n (asking (asks.Atomic o op s x y) f)
+atomics n o op s x y f k = said n (asks.Atomic o op s x y) f (λ x. x, tt) (λ r. refl) k
 
-locks : (o : ImageNo) (s : Span) (f : Reply → Core) → Fine (asking (asks.Lock o s) f)
-locks o s f = said (asks.Lock o s) f (λ x. x, tt) (λ r. refl)
+locks : (n : ℕ) (o : ImageNo) (s : Span) (f : Reply → Core) → ((r : Reply) → length (f r).callers ≡ n) → Fine n (asking (asks.Lock o s) f)
+locks n o s f k = said n (asks.Lock o s) f (λ x. x, tt) (λ r. refl) k
 
-try_locks : (o : ImageNo) (s : Span) (f : Reply → Core) → Fine (asking (asks.TryLock o s) f)
-try_locks o s f = said (asks.TryLock o s) f (λ x. x, tt) (λ r. refl)
+try_locks : (n : ℕ) (o : ImageNo) (s : Span) (f : Reply → Core) → ((r : Reply) → length (f r).callers ≡ n) → Fine n (asking (asks.TryLock o s) f)
+try_locks n o s f k = said n (asks.TryLock o s) f (λ x. x, tt) (λ r. refl) k
 
-unlocks : (o : ImageNo) (s : Span) (f : Reply → Core) → Fine (asking (asks.Unlock o s) f)
-unlocks o s f = said (asks.Unlock o s) f (λ x. x, tt) (λ r. refl)
+unlocks : (n : ℕ) (o : ImageNo) (s : Span) (f : Reply → Core) → ((r : Reply) → length (f r).callers ≡ n) → Fine n (asking (asks.Unlock o s) f)
+unlocks n o s f k = said n (asks.Unlock o s) f (λ x. x, tt) (λ r. refl) k
 
-posts : (o : ImageNo) (s : Span) (f : Reply → Core) → Fine (asking (asks.Post o s) f)
-posts o s f = said (asks.Post o s) f (λ x. x, tt) (λ r. refl)
+posts : (n : ℕ) (o : ImageNo) (s : Span) (f : Reply → Core) → ((r : Reply) → length (f r).callers ≡ n) → Fine n (asking (asks.Post o s) f)
+posts n o s f k = said n (asks.Post o s) f (λ x. x, tt) (λ r. refl) k
 
-waits : (o : ImageNo) (s : Span) (n : ℕ) (f : Reply → Core) → Fine (asking (asks.Wait o s n) f)
-waits o s n f = said (asks.Wait o s n) f (λ x. x, tt) (λ r. refl)
+waits : (n : ℕ) (o : ImageNo) (s : Span) (m : ℕ) (f : Reply → Core) → ((r : Reply) → length (f r).callers ≡ n) → Fine n (asking (asks.Wait o s m) f)
+waits n o s m f k = said n (asks.Wait o s m) f (λ x. x, tt) (λ r. refl) k
 
-queries : (o : ImageNo) (s : Span) (f : Reply → Core) → Fine (asking (asks.Query o s) f)
-queries o s f = said (asks.Query o s) f (λ x. x, tt) (λ r. refl)
+queries : (n : ℕ) (o : ImageNo) (s : Span) (f : Reply → Core) → ((r : Reply) → length (f r).callers ≡ n) → Fine n (asking (asks.Query o s) f)
+queries n o s f k = said n (asks.Query o s) f (λ x. x, tt) (λ r. refl) k
 
-lists_failed : (t : TeamNo) (f : Reply → Core) → Fine (asking (asks.Failed t) f)
-lists_failed t f = said (asks.Failed t) f (λ x. x, tt) (λ r. refl)
+lists_failed : (n : ℕ) (t : TeamNo) (f : Reply → Core) → ((r : Reply) → length (f r).callers ≡ n) → Fine n (asking (asks.Failed t) f)
+lists_failed n t f k = said n (asks.Failed t) f (λ x. x, tt) (λ r. refl) k
 
-lists_stopped : (t : TeamNo) (f : Reply → Core) → Fine (asking (asks.Stopped t) f)
-lists_stopped t f = said (asks.Stopped t) f (λ x. x, tt) (λ r. refl)
+lists_stopped : (n : ℕ) (t : TeamNo) (f : Reply → Core) → ((r : Reply) → length (f r).callers ≡ n) → Fine n (asking (asks.Stopped t) f)
+lists_stopped n t f k = said n (asks.Stopped t) f (λ x. x, tt) (λ r. refl) k
 
-asks_status : (t : TeamNo) (i : ℕ) (f : Reply → Core) → Fine (asking (asks.Status t i) f)
-asks_status t i f = said (asks.Status t i) f (λ x. x, tt) (λ r. refl)
+asks_status : (n : ℕ) (t : TeamNo) (i : ℕ) (f : Reply → Core) → ((r : Reply) → length (f r).callers ≡ n) → Fine n (asking (asks.Status t i) f)
+asks_status n t i f k = said n (asks.Status t i) f (λ x. x, tt) (λ r. refl) k
 
-creates : (o : ImageNo) (k n : ℕ) (f : Reply → Core) → Fine (asking (asks.Create o k n) f)
-creates o k n f = said (asks.Create o k n) f (λ x. x, tt) (λ r. refl)
+creates : (n : ℕ) (o : ImageNo) (coarray m : ℕ) (f : Reply → Core) → ((r : Reply) → length (f r).callers ≡ n) → Fine n (asking (asks.Create o coarray m) f)
+creates n o coarray m f k = said n (asks.Create o coarray m) f (λ x. x, tt) (λ r. refl) k
 
-stops : (z : ℤ) → Fine (ends_with (asks.Stop z))
-stops z = last (asks.Stop z) (λ x. x, tt)
+stops : (n : ℕ) (z : ℤ) → Fine n (ends_with (asks.Stop z))
+stops n z = last n (asks.Stop z) (λ x. x, tt) (λ r. refl)
 
-error_stops : (z : ℤ) → Fine (ends_with (asks.ErrorStop z))
-error_stops z = last (asks.ErrorStop z) (λ x. x, tt)
+error_stops : (n : ℕ) (z : ℤ) → Fine n (ends_with (asks.ErrorStop z))
+error_stops n z = last n (asks.ErrorStop z) (λ x. x, tt) (λ r. refl)
 
-says : (ps : List Printing) (c : Core) → Fine (saying ps c)
-says [] c = no_operand
-says (p ∷ ps) c = find (text_of p) (λ text. asking (asks.Print text) (λ r. record c { printing = ps })) (λ text. said (asks.Print text) (λ r. record c { printing = ps }) (λ x. x, tt) (λ r. refl))
+says : (ps : List Printing) (c : Core) → Fine (length c.callers) (saying ps c)
+says [] c = no_operand (length c.callers)
+says (p ∷ ps) c = find (length c.callers) (text_of p) (λ text. asking (asks.Print text) (λ r. record c { printing = ps })) (λ text. said _ (asks.Print text) (λ r. record c { printing = ps }) (λ x. x, tt) (λ r. refl) (λ r. refl))
 
 ruleset fine_asks = (fine, reads, writes, atomics, locks, try_locks, unlocks, posts, waits, queries, lists_failed, lists_stopped, asks_status, creates, stops, error_stops)
 
-fine_ask : (x : a.AskAct) (c : Core) → IsFreeAsk x → Fine (ask_effect x c)
+fine_ask : (x : a.AskAct) (c : Core) → IsFreeAsk x → Fine (length c.callers) (ask_effect x c)
 fine_ask (a.read k rank) c h = search fine_asks
 fine_ask (a.write k rank kind) c h = search fine_asks
 fine_ask (a.write_array k rank kind) c h = search fine_asks
 fine_ask (a.create k depth rank) c h = search fine_asks
-fine_ask (a.delete k) c h = said _ _ (λ x. x, tt) (λ r. refl)
+fine_ask (a.delete k) c h = said _ _ _ (λ x. x, tt) (λ r. refl) (λ r. refl)
 fine_ask (a.atomic op k kind) c h = search fine_asks
 fine_ask (a.lock k) c h = search fine_asks
 fine_ask (a.try_lock k) c h = search fine_asks
@@ -484,17 +518,17 @@ fine_ask (a.unlock k) c h = search fine_asks
 fine_ask (a.post k) c h = search fine_asks
 fine_ask (a.wait k) c h = search fine_asks
 fine_ask (a.query k) c h = search fine_asks
-fine_ask (a.enter_critical n) c h = said _ _ (λ x. x, tt) (λ r. refl)
-fine_ask (a.exit_critical n) c h = said _ _ (λ x. x, tt) (λ r. refl)
+fine_ask (a.enter_critical n) c h = said _ _ _ (λ x. x, tt) (λ r. refl) (λ r. refl)
+fine_ask (a.exit_critical n) c h = said _ _ _ (λ x. x, tt) (λ r. refl) (λ r. refl)
 fine_ask a.failed c h = search fine_asks
 fine_ask a.stopped c h = search fine_asks
 fine_ask a.status c h = search fine_asks
 fine_ask a.say c h = says c.printing c
-fine_ask a.memory c h = said _ _ (λ x. x, tt) (λ r. refl)
-fine_ask a.fail c h = last asks.Fail (λ x. x, tt)
+fine_ask a.memory c h = said _ _ _ (λ x. x, tt) (λ r. refl) (λ r. refl)
+fine_ask a.fail c h = last _ asks.Fail (λ x. x, tt) (λ r. refl)
 fine_ask a.stop c h = search fine_asks
 fine_ask a.error_stop c h = search fine_asks
-fine_ask a.end_program c h = last (asks.Stop (pos 0)) (λ x. x, tt)
+fine_ask a.end_program c h = last _ (asks.Stop (pos 0)) (λ x. x, tt) (λ r. refl)
 fine_ask x c h = absurd h
 
 -- an act that is neither an arrival nor a departure
@@ -502,15 +536,56 @@ abbrev pub IsFree : Act → Type 0
 IsFree (ask x) = IsFreeAsk x
 IsFree x = Unit {0}
 
-pub fine_act : (x : Act) (c : Core) → IsFree x → Fine (operate x c)
-fine_act (constant v) c h = goes (pushed v c)
-fine_act (stack x) c h = fine_stack x c
-fine_act (variable x) c h = fine_variable x c
-fine_act (operator x) c h = fine_operator x c
-fine_act (bounded x) c h = fine_bounded x c
-fine_act (allocation x) c h = fine_allocation x c
-fine_act (selector x) c h = fine_selector x c
-fine_act (team x) c h = fine_team x c
-fine_act (call x) c h = fine_call x c
-fine_act (print x) c h = fine_print x c
-fine_act (ask x) c h = fine_ask x c h
+-- an act that neither begins a frame nor ends one
+abbrev pub IsSteady : Act → Type 0
+IsSteady (call (a.begin_frame cells arrays need)) = ⊥
+IsSteady (call a.end_frame) = ⊥
+IsSteady x = Unit {0}
+
+pub calm_act : (x : Act) (c : Core) → IsFree x → IsSteady x → Calm (length c.callers) (operate x c)
+calm_act (constant v) c h k = refl
+calm_act (stack x) c h k = (fine_stack x c).calm
+calm_act (variable x) c h k = (fine_variable x c).calm
+calm_act (operator x) c h k = (fine_operator x c).calm
+calm_act (bounded x) c h k = (fine_bounded x c).calm
+calm_act (allocation x) c h k = (fine_allocation x c).calm
+calm_act (selector x) c h k = (fine_selector x c).calm
+calm_act (team x) c h k = (fine_team x c).calm
+calm_act (call (a.begin_frame cells arrays need)) c h k = absurd k
+calm_act (call (a.copy_in x)) c h k = (fine_copy_in x c).calm
+calm_act (call (a.copy_out x)) c h k = (fine_copy_out x c).calm
+calm_act (call a.end_frame) c h k = absurd k
+calm_act (print x) c h k = (fine_print x c).calm
+calm_act (ask x) c h k = (fine_ask x c h).calm
+
+-- where an operand isn't there it comes to a run fault
+missing : (x : Act) → IsFree x → missed x ≡ faults bounds_fault
+missing (ask a.leave) h = absurd h
+missing (ask a.take) h = absurd h
+missing x h = refl
+
+keeps : (n : ℕ) (x : Act) (e : Acted) → missed x ≡ faults bounds_fault → Calm n e → EffectKeeps (settled x e) IsClear (owing None)
+keeps n x (goes_to d) m h = refl
+keeps n x (faults k) m h = refl
+keeps n x (asking q f) m h = (h.0, λ r y. h.1 r)
+keeps n x (ends_with q) m h = h
+keeps n x stuck m h = subst (λ e. EffectKeeps e IsClear (owing None)) (sym m) refl
+
+begins_frame : (b d : Bool) (e : Core) (x : Act) → EffectKeeps (settled x (unless depth_fault b (unless room d (goes_to e)))) IsClear (owing None)
+begins_frame true true e x = refl
+begins_frame true false e x = refl
+begins_frame false d e x = refl
+
+abbrev pub to_caller : Core → List Frame → Acted
+to_caller c [] = stuck
+to_caller c (f ∷ fs) = goes_to (record c { frame = f; callers = fs; local_cells = c.local_cells - c.frame.need; used = c.frame.base })
+
+ends_frame : (c : Core) (fs : List Frame) → EffectKeeps (settled (call a.end_frame) (to_caller c fs)) IsClear (owing None)
+ends_frame c [] = refl
+ends_frame c (f ∷ fs) = refl
+
+-- it may come where nothing is owed, and leaves nothing owed
+pub free_act : (x : Act) (c : Core) → IsFree x → EffectKeeps (effect_of x c) IsClear (owing None)
+free_act (call (a.begin_frame cells arrays need)) c h = begins_frame (nat_lt (length c.callers) most_frames) (nat_le (c.local_cells + need) most_cells) _ (call (a.begin_frame cells arrays need))
+free_act (call a.end_frame) c h = ends_frame c c.callers
+free_act x c h = keeps (length c.callers) x (operate x c) (missing x h) (calm_act x c h tt)

@@ -1,29 +1,24 @@
 -- A lane is over only behind a step that ended its image, where its program is over only behind such a step or behind FAIL IMAGE.
 use Rattle.std.proofs.Common.{◌≡◌, ℕ, zero, suc, ◌+◌, false, List, [], ◌∷◌, ◌++◌, inl, inr, refl, sym, ◌∙◌, subst, ap}
-use Rattle.std.specs.Prelude.{◌⊎◌, map}
+use Rattle.std.specs.Prelude.{◌⊎◌, map, None}
 use Rattle.std.proofs.lemmas.Bool.{cases_Bool, false≢true}
 use Rattle.caf_events.specs.declared.ask.Ask.{Ask}
 use Rattle.caf_events.specs.declared.ask.Ask.TheVariants as asking
 use Rattle.caf_events.specs.declared.reply.Reply.{Reply}
 use Rattle.caf_events.specs.Answers.{Answers}
-use Rattle.caf_events.specs.Events.{EndsImage}
+use Rattle.caf_events.specs.Events.{EndsImage, counts_words}
 use Rattle.caf_events.specs.Walkers.{IsOver}
 use Rattle.trace_theory.specs.Machines.{Move, goes, asks, over, Said, go, goes_on, Comes, Walk, WalkTo}
 use Rattle.trace_theory.specs.Simulations.{AllAnswer}
 use Rattle.trace_theory.proofs.Machines.{go_more}
 use Rattle.core_runs.specs.Failures.{LockPlace, release_of, failure_steps}
 use Rattle.core_runs.specs.Sequences.{HasEndedBy, IsOrderly}
-use Rattle.image_lanes.specs.Lanes.{by_program, failing, at_limit, OnLane, is_due, is_full, is_failure, begins_to_fail, is_limited, goes_past, fails_on, program_next, lane_step, lane_start}
-use Rattle.image_lanes.proofs.LaneLaws.{at_program, over_lane}
-use Rattle.program_walks.specs.Dues.{GoesInOrder}
+use Rattle.image_lanes.specs.Lanes.{failing, OnLane, is_due, is_full, is_failure, begins_to_fail, comes_to_end, goes_past, fails_on, program_next, lane_step, lane_start}
+use Rattle.image_lanes.proofs.LaneLaws.{at_program, an_ask, over_lane}
+use Rattle.program_walks.specs.Dues.{owing, GoesInOrder}
 use Rattle.program_walks.specs.Ordered.{EndsInOrder}
+use Rattle.program_walks.proofs.SilentSteps.{more_ended, one_ended, EndsSilent, silent_more, silent_ended}
 use Rattle.program_walks.proofs.LaneOrder.{lane_joins, lane_nothing_after, lane_no_stamp}
-
-pub more_ended : (e : Said Ask Reply) (es : List (Said Ask Reply)) → HasEndedBy es → HasEndedBy (e ∷ es)
-more_ended e es (before, last, same, ends) = (e ∷ before, last, ap (λ (xs : List (Said Ask Reply)). e ∷ xs) same, ends)
-
-one_ended : (e : Said Ask Reply) (es : List (Said Ask Reply)) → es ≡ [] → EndsImage e.ask e.reply → HasEndedBy (e ∷ es)
-one_ended e es none ends = ([], e, ap (λ (xs : List (Said Ask Reply)). e ∷ xs) none, ends)
 
 -- a list of asks whose last one is the image's end at the board
 abbrev EndsGone : List Ask → Type 0
@@ -93,16 +88,10 @@ module _ {C : Type 0} (step : C → Move C Ask Reply) where
 
   -- ---- by the program
   asks_stays : (l : OnLane C) (a : Ask) (line : ℕ) (k : Reply → C) (f : OnLane C → Move (OnLane C) Ask Reply) → goes_on (program_next l (asks a line k)) f ≡ program_next l (asks a line k)
-  asks_stays l a line k f = elim (cases_Bool (is_due l)) [
-    | inl t ↦ rw t refl
-    | inr n ↦ rw n (elim (cases_Bool (is_failure a)) [ inl t ↦ rw t refl | inr g ↦ rw g (elim (cases_Bool (is_full l)) [ inl t ↦ rw t refl | inr i ↦ rw i refl ]) ])
-  ]
+  asks_stays l a line k f = (let e = an_ask step l a line k in rw e.3 refl)
 
   asks_goes : (l c : OnLane C) (a : Ask) (line : ℕ) (k : Reply → C) → program_next l (asks a line k) ≡ goes c → ⊥
-  asks_goes l c a line k = elim (cases_Bool (is_due l)) [
-    | inl t ↦ rw t (λ h. absurd (cc))
-    | inr n ↦ rw n (elim (cases_Bool (is_failure a)) [ inl t ↦ rw t (λ h. absurd (cc)) | inr g ↦ rw g (elim (cases_Bool (is_full l)) [ inl t ↦ rw t (λ h. absurd (cc)) | inr i ↦ rw i (λ h. absurd (cc)) ]) ])
-  ]
+  asks_goes l c a line k h = (let e = an_ask step l a line k in let x : ◌≡◌ {A = Move (OnLane C) Ask Reply} (asks e.0 e.1 e.2) (goes c) = sym e.3 ∙ h in absurd (cc))
 
   -- where it goes without an ask its program goes
   goes_by : (n : ℕ) (l c : OnLane C) (x : C) (v : Move C Ask Reply) → step x ≡ v → goes_on (program_next (at_program l x) v) (go Ls n) ≡ goes c
@@ -140,16 +129,21 @@ module _ {C : Type 0} (step : C → Move C Ask Reply) where
   NoneFails [] = Unit {0}
   NoneFails (e ∷ es) = (is_failure e.ask ≡ false) × NoneFails es
 
-  -- the program is over behind these steps, or the last one ended the image
+  -- the program is over behind these steps, the last one ended the image, or they are the program's and the last one is without recorded words
   abbrev Ended : C → List (Said Ask Reply) → Type 0
-  Ended x es = ((to : C) × WalkTo step x es to × IsOver (step to) × NoneFails es) ⊎ HasEndedBy es
+  Ended x es = ((to : C) × WalkTo step x es to × IsOver (step to) × NoneFails es) ⊎ (HasEndedBy es ⊎ ((to : C) × Walk step x es to × EndsSilent es))
 
   comes_on : (x d : C) (a : Ask) (line : ℕ) (k : Reply → C) → Comes step x (goes d) → step d ≡ asks a line k → Comes step x (asks a line k)
   comes_on x d a line k (p, g) s = (p + 1, go_more C Ask Reply step p 1 x ∙ ap (λ m. goes_on m (go step 1)) g ∙ ap (λ m. goes_on m (go step 0)) s)
 
   program_more : (e : Said Ask Reply) (es : List (Said Ask Reply)) (x d : C) (j : Reply → C) → Comes step x (goes d) → step d ≡ asks e.ask e.line j → is_failure e.ask ≡ false → Ended (j e.reply) es → Ended x (e ∷ es)
   program_more e es x d j comes at f (inl (to, (m, w, n, h), o, none)) = inl (to, (m, (j, comes_on x d e.ask e.line j comes at, w), n, h), o, (f, none))
-  program_more e es x d j comes at f (inr ended) = inr (more_ended e es ended)
+  program_more e es x d j comes at f (inr (inl ended)) = inr (inl (more_ended e es ended))
+  program_more e es x d j comes at f (inr (inr (to, w, silent))) = inr (inr (to, (j, comes_on x d e.ask e.line j comes at, w), silent_more e es silent))
+
+  -- the program's last step
+  program_last : (e : Said Ask Reply) (es : List (Said Ask Reply)) (x d : C) (j : Reply → C) → Comes step x (goes d) → step d ≡ asks e.ask e.line j → es ≡ [] → is_failure e.ask ≡ false → counts_words e.ask ≡ false → Ended x (e ∷ es)
+  program_last e es x d j comes at none f silent = subst (λ rest. Ended x (e ∷ rest)) (sym none) (inr (inr (j e.reply, (j, comes_on x d e.ask e.line j comes at, refl), (f, silent))))
 
   lane_ends : (es : List (Said Ask Reply)) (l c : OnLane C) (x : C) → WalkTo Ls (at_program l x) es c → IsOver (Ls c) → Ended x es
   lane_ends [] l c x (m, w, n, h) o =
@@ -163,23 +157,32 @@ module _ {C : Type 0} (step : C → Move C Ask Reply) where
       by_ask d to a line j at next more = elim (cases_Bool (is_due l)) [
         | inl due ↦ (
             let s = same_asks asking.Fail e.ask 0 e.line (λ r. begins_to_fail (at_program l d) 0) k (sym (rw due refl) ∙ next) in
-            inr (more_ended e es (failing_ends (failure_steps l.image l.held) es (begins_to_fail (at_program l d) 0) c 0 refl (failure_gone l.image l.held) (m, subst (λ q. Walk Ls (q e.reply) es m) (sym s.2) w, n, h) o)))
+            inr (inl (more_ended e es (failing_ends (failure_steps l.image l.held) es (begins_to_fail (at_program l d) 0) c 0 refl (failure_gone l.image l.held) (m, subst (λ q. Walk Ls (q e.reply) es m) (sym s.2) w, n, h) o))))
         | inr free ↦ elim (cases_Bool (is_failure a)) [
           | inl fails ↦ (
               let s = same_asks asking.Fail e.ask line e.line (λ r. begins_to_fail (at_program l d) line) k (sym (rw (free, fails) refl) ∙ next) in
-              inr (more_ended e es (failing_ends (failure_steps l.image l.held) es (begins_to_fail (at_program l d) line) c line refl (failure_gone l.image l.held) (m, subst (λ q. Walk Ls (q e.reply) es m) (sym s.2) w, n, h) o)))
+              inr (inl (more_ended e es (failing_ends (failure_steps l.image l.held) es (begins_to_fail (at_program l d) line) c line refl (failure_gone l.image l.held) (m, subst (λ q. Walk Ls (q e.reply) es m) (sym s.2) w, n, h) o))))
           | inr other ↦ elim (cases_Bool (is_full l)) [
             | inl full ↦ (
-                let s = same_asks (asking.LimitWords l.words) e.ask line e.line (λ r. is_limited (at_program l d)) k (sym (rw (free, other, full) refl) ∙ next) in
-                inr (one_ended e es (over_says_nothing es (is_limited (at_program l d)) m refl (subst (λ q. Walk Ls (q e.reply) es m) (sym s.2) w)) (subst (λ b. EndsImage b e.reply) s.0 tt)))
-            | inr room ↦ (
-                let s = same_asks a e.ask line e.line (λ r. goes_past (at_program l d) a r (j r)) k (sym (rw (free, other, room) refl) ∙ next) in
-                let later = goes_past (at_program l d) a e.reply (j e.reply) in
-                program_more e es x d j to (at ∙ ap (λ b. asks b line j) s.0 ∙ ap (λ q. asks e.ask q j) s.1) (subst (λ b. is_failure b ≡ false) s.0 other)
-                (more later (j e.reply) (m, subst (λ q. Walk Ls (q e.reply) es m) (sym s.2) w, n, h)))
+                let s = same_asks (asking.LimitWords l.words) e.ask line e.line (λ r. comes_to_end (at_program l d)) k (sym (rw (free, other, full) refl) ∙ next) in
+                inr (inl (one_ended e es (over_says_nothing es (comes_to_end (at_program l d)) m refl (subst (λ q. Walk Ls (q e.reply) es m) (sym s.2) w)) (subst (λ b. EndsImage b e.reply) s.0 tt))))
+            | inr room ↦ elim (cases_Bool (counts_words a)) [
+              | inl counts ↦ (
+                  let s = same_asks a e.ask line e.line (λ r. goes_past (at_program l d) a r (j r)) k (sym (rw (free, other, room, counts) refl) ∙ next) in
+                  let later = goes_past (at_program l d) a e.reply (j e.reply) in
+                  program_more e es x d j to (own_ask s.0 s.1) (subst (λ b. is_failure b ≡ false) s.0 other)
+                  (more later (j e.reply) (m, subst (λ q. Walk Ls (q e.reply) es m) (sym s.2) w, n, h)))
+              | inr silent ↦ (
+                  let s = same_asks a e.ask line e.line (λ r. comes_to_end (at_program l d)) k (sym (rw (free, other, room, silent) refl) ∙ next) in
+                  let none = over_says_nothing es (comes_to_end (at_program l d)) m refl (subst (λ q. Walk Ls (q e.reply) es m) (sym s.2) w) in
+                  program_last e es x d j to (own_ask s.0 s.1) none (subst (λ b. is_failure b ≡ false) s.0 other) (subst (λ b. counts_words b ≡ false) s.0 silent))
+            ]
           ]
         ]
       ]
+        where
+          own_ask : a ≡ e.ask → line ≡ e.line → step d ≡ asks e.ask e.line j
+          own_ask p q = at ∙ ap (λ b. asks b line j) p ∙ ap (λ z. asks e.ask z j) q
 
       by_move : (v : Move C Ask Reply) (d : C) → step d ≡ v → Comes step x (goes d) → program_next (at_program l d) v ≡ asks e.ask e.line k → ((q : OnLane C) (y : C) → WalkTo Ls (at_program q y) es c → Ended y es) → Ended x (e ∷ es)
       by_move (goes y) d at to next more = absurd (cc)
@@ -190,13 +193,14 @@ module _ {C : Type 0} (step : C → Move C Ask Reply) where
   none_failed [] e h f = absurd (false≢true (sym h.0 ∙ ap is_failure f))
   none_failed (x ∷ before) e h f = none_failed before e h.1 f
 
-  pub lane_over : (image fails_at limit : ℕ) (first : C) → EndsInOrder step first → (es : List (Said Ask Reply)) (c : OnLane C) → AllAnswer Answers es → WalkTo Ls (lane_start image fails_at limit first) es c → IsOver (Ls c) → HasEndedBy es
-  lane_over image fails_at limit first ends es c answers w o = elim (lane_ends es (lane_start image fails_at limit first) c first w o) [
-    | inr ended ↦ ended
+  pub lane_over : (image fails_at limit : ℕ) (first : C) → GoesInOrder step first → EndsInOrder step first → (es : List (Said Ask Reply)) (c : OnLane C) → AllAnswer Answers es → WalkTo Ls (lane_start image fails_at limit first) es c → IsOver (Ls c) → HasEndedBy es
+  lane_over image fails_at limit first order ends es c answers w o = elim (lane_ends es (lane_start image fails_at limit first) c first w o) [
     | inl (to, walked, over_there, none) ↦ elim (ends es to answers walked over_there) [
       | inl ended ↦ ended
       | inr (before, e, same, f) ↦ absurd (none_failed before e (subst NoneFails same none) f)
     ]
+    | inr (inl ended) ↦ ended
+    | inr (inr (to, walked, silent)) ↦ silent_ended es (owing None) (order es to answers walked) silent
   ]
 
   pub lane_orderly : (image fails_at limit : ℕ) (first : C) → GoesInOrder step first → IsOrderly Ls (lane_start image fails_at limit first)
@@ -205,69 +209,3 @@ module _ {C : Type 0} (step : C → Move C Ask Reply) where
     nothing_after = λ es c answers w. lane_nothing_after step first g image fails_at limit es c answers w;
     no_stamp_limit = λ es c answers w. lane_no_stamp step first g image fails_at limit es c answers w;
   }
-
-  -- ---- a lane that goes by its program has walked as it did
-  stays_over : (n : ℕ) (l c : OnLane C) → Ls l ≡ over → go Ls n l ≡ goes c → l ≡ c
-  stays_over zero l c e h = same_config l c h
-  stays_over (suc n) l c e h = (let x : ◌≡◌ {A = Move (OnLane C) Ask Reply} over (goes c) = sym (ap (λ v. goes_on v (go Ls n)) e) ∙ h in absurd (cc))
-
-  not_by_program : (steps : List Ask) (line : ℕ) → failing steps line ≡ by_program → ⊥
-  not_by_program steps line h = absurd (cc)
-
-  failing_stays : (es : List (Said Ask Reply)) (steps : List Ask) (l c : OnLane C) (line : ℕ) → l.course ≡ failing steps line → WalkTo Ls l es c → c.course ≡ by_program → ⊥
-  failing_stays [] [] l c line e (m, w, n, h) by =
-      let here = stays_over n l c (rw e refl) (ap (go Ls n) (sym w) ∙ h) in
-      not_by_program [] line (sym e ∙ ap (λ (x : OnLane C). x.course) here ∙ by)
-  failing_stays [] (a ∷ as_) l c line e (m, w, n, h) by =
-      let here = stays_there n l c a line (λ r. fails_on l as_ line) (rw e refl) (ap (go Ls n) (sym w) ∙ h) in
-      not_by_program (a ∷ as_) line (sym e ∙ ap (λ (x : OnLane C). x.course) here ∙ by)
-  failing_stays (x ∷ es) [] l c line e (m, (k, (j, comes), w), n, h) by = no_asks j l x.ask x.line k (rw e refl) comes
-  failing_stays (x ∷ es) (a ∷ as_) l c line e (m, (k, (j, comes), w), n, h) by =
-      let s = asks_now j l a x.ask line x.line (λ r. fails_on l as_ line) k (rw e refl) comes in
-      failing_stays es as_ (fails_on l as_ line) c line refl (m, subst (λ q. Walk Ls (q x.reply) es m) (sym s.2) w, n, h) by
-
-  limited_stays : (es : List (Said Ask Reply)) (l c : OnLane C) → l.course ≡ at_limit → WalkTo Ls l es c → c.course ≡ by_program → ⊥
-  limited_stays [] l c e (m, w, n, h) by =
-      let here = stays_over n l c (rw e refl) (ap (go Ls n) (sym w) ∙ h) in
-      let x : at_limit ≡ by_program = sym e ∙ ap (λ (y : OnLane C). y.course) here ∙ by in
-      absurd (cc)
-  limited_stays (x ∷ es) l c e (m, (k, (j, comes), w), n, h) by = no_asks j l x.ask x.line k (rw e refl) comes
-
-  program_walks_more : (e : Said Ask Reply) (es : List (Said Ask Reply)) (x d y : C) (j : Reply → C) → Comes step x (goes d) → step d ≡ asks e.ask e.line j → WalkTo step (j e.reply) es y → WalkTo step x (e ∷ es) y
-  program_walks_more e es x d y j comes at (m, w, n, h) = (m, (j, comes_on x d e.ask e.line j comes at, w), n, h)
-
-  pub lane_program : (es : List (Said Ask Reply)) (l c : OnLane C) (x : C) → WalkTo Ls (at_program l x) es c → c.course ≡ by_program → WalkTo step x es c.program
-  lane_program [] l c x (m, w, n, h) by =
-      let r = lane_goes n l c x (ap (go Ls n) (sym w) ∙ h) in
-      (x, refl, r.1.0, r.1.1 ∙ ap (λ (q : OnLane C). goes q.program) (sym r.2))
-  lane_program (e ∷ es) l c x (m, (k, (i, comes), w), n, h) by =
-      let r = reach i l x e.ask e.line k comes in
-      by_move (step r.there) r.there refl r.comes r.asked (λ q y v. lane_program es q c y v by)
-    where
-      by_ask : (d : C) → Comes step x (goes d) → (a : Ask) (line : ℕ) (j : Reply → C) → step d ≡ asks a line j → program_next (at_program l d) (asks a line j) ≡ asks e.ask e.line k
-          → ((q : OnLane C) (y : C) → WalkTo Ls (at_program q y) es c → WalkTo step y es c.program) → WalkTo step x (e ∷ es) c.program
-      by_ask d to a line j at next more = elim (cases_Bool (is_due l)) [
-        | inl due ↦ (
-            let s = same_asks asking.Fail e.ask 0 e.line (λ r. begins_to_fail (at_program l d) 0) k (sym (rw due refl) ∙ next) in
-            absurd (failing_stays es (failure_steps l.image l.held) (begins_to_fail (at_program l d) 0) c 0 refl (m, subst (λ q. Walk Ls (q e.reply) es m) (sym s.2) w, n, h) by))
-        | inr free ↦ elim (cases_Bool (is_failure a)) [
-          | inl fails ↦ (
-              let s = same_asks asking.Fail e.ask line e.line (λ r. begins_to_fail (at_program l d) line) k (sym (rw (free, fails) refl) ∙ next) in
-              absurd (failing_stays es (failure_steps l.image l.held) (begins_to_fail (at_program l d) line) c line refl (m, subst (λ q. Walk Ls (q e.reply) es m) (sym s.2) w, n, h) by))
-          | inr other ↦ elim (cases_Bool (is_full l)) [
-            | inl full ↦ (
-                let s = same_asks (asking.LimitWords l.words) e.ask line e.line (λ r. is_limited (at_program l d)) k (sym (rw (free, other, full) refl) ∙ next) in
-                absurd (limited_stays es (is_limited (at_program l d)) c refl (m, subst (λ q. Walk Ls (q e.reply) es m) (sym s.2) w, n, h) by))
-            | inr room ↦ (
-                let s = same_asks a e.ask line e.line (λ r. goes_past (at_program l d) a r (j r)) k (sym (rw (free, other, room) refl) ∙ next) in
-                let later = goes_past (at_program l d) a e.reply (j e.reply) in
-                program_walks_more e es x d c.program j to (at ∙ ap (λ b. asks b line j) s.0 ∙ ap (λ q. asks e.ask q j) s.1) (more later (j e.reply) (m, subst (λ q. Walk Ls (q e.reply) es m) (sym s.2) w, n, h)))
-          ]
-        ]
-      ]
-
-      by_move : (v : Move C Ask Reply) (d : C) → step d ≡ v → Comes step x (goes d) → program_next (at_program l d) v ≡ asks e.ask e.line k
-          → ((q : OnLane C) (y : C) → WalkTo Ls (at_program q y) es c → WalkTo step y es c.program) → WalkTo step x (e ∷ es) c.program
-      by_move (goes y) d at to next more = absurd (cc)
-      by_move (asks a line j) d at to next more = by_ask d to a line j at next more
-      by_move over d at to next more = absurd (cc)

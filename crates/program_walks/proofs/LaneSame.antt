@@ -5,10 +5,11 @@ use Rattle.caf_events.specs.declared.ask.Ask.{Ask}
 use Rattle.caf_events.specs.declared.ask.Ask.TheVariants as asking
 use Rattle.caf_events.specs.declared.reply.Reply.{Reply}
 use Rattle.caf_events.specs.Answers.{Answers}
+use Rattle.caf_events.specs.Events.{counts_words}
 use Rattle.trace_theory.specs.Machines.{Move, goes, asks, over, Said, go, goes_on, Comes, Walk, Rests}
 use Rattle.trace_theory.specs.Simulations.{AllAnswer, SameRest}
 use Rattle.trace_theory.proofs.Machines.{one_next_ask, comes_later}
-use Rattle.image_lanes.specs.Lanes.{failing, OnLane, is_due, is_full, is_failure, begins_to_fail, is_limited, goes_past, fails_on, program_next, lane_step}
+use Rattle.image_lanes.specs.Lanes.{failing, OnLane, is_due, is_full, is_failure, begins_to_fail, comes_to_end, goes_past, fails_on, program_next, lane_step}
 use Rattle.image_lanes.proofs.LaneLaws.{at_program, go_lane}
 use Rattle.program_walks.specs.Same.{SaysAs}
 use Rattle.program_walks.proofs.LaneEnds.{same_asks, no_asks, over_says_nothing, asks_now, reach}
@@ -92,19 +93,28 @@ module _ {C D : Type 0} (source : C → Move C Ask Reply) (target : D → Move D
                   (rest.0, (λ r. begins_to_fail (at_program q f) line, comes_by q d f e.ask e.line (λ r. begins_to_fail (at_program q f) line) n.comes now, rest.1)))
               | inr other ↦ elim (cases_Bool (is_full l)) [
                 | inl full ↦ (
-                    let s = same_asks source (asking.LimitWords l.words) e.ask line e.line (λ r. is_limited (at_program l x)) k (sym (rw (free, other, full) refl) ∙ next) in
-                    let none = over_says_nothing source es (is_limited (at_program l x)) m refl (subst (λ z. Walk (lane_step source) (z e.reply) es m) (sym s.2) w) in
-                    let o = is_limited (at_program q f) in
+                    let s = same_asks source (asking.LimitWords l.words) e.ask line e.line (λ r. comes_to_end (at_program l x)) k (sym (rw (free, other, full) refl) ∙ next) in
+                    let none = over_says_nothing source es (comes_to_end (at_program l x)) m refl (subst (λ z. Walk (lane_step source) (z e.reply) es m) (sym s.2) w) in
+                    let o = comes_to_end (at_program q f) in
                     let now : program_next (at_program q f) (target f) ≡ asks e.ask e.line (λ r. o) =
                     ap (program_next (at_program q f)) n.asked ∙ rw (free, other, full) refl ∙ ap (λ b. asks b line (λ r. o)) s.0 ∙ ap (λ z. asks e.ask z (λ r. o)) s.1 in
                     (o, (λ r. o, comes_by q d f e.ask e.line (λ r. o) n.comes now, subst (λ xs. Walk (lane_step target) o xs o) (sym none) refl)))
-                | inr room ↦ (
-                    let s = same_asks source a e.ask line e.line (λ r. goes_past (at_program l x) a r (j r)) k (sym (rw (free, other, room) refl) ∙ next) in
-                    let later = goes_past (at_program l x) a e.reply (j e.reply) in
-                    let rest = more later (j e.reply) (n.then e.reply) (n.onward e.reply (subst (λ b. Answers b e.reply) (sym s.0) answer)) (subst (λ z. Walk (lane_step source) (z e.reply) es m) (sym s.2) w) in
-                    let now : program_next (at_program q f) (target f) ≡ asks e.ask e.line (λ r. goes_past (at_program q f) a r (n.then r)) =
-                    ap (program_next (at_program q f)) n.asked ∙ rw (free, other, room) refl ∙ ap (λ b. asks b line (λ r. goes_past (at_program q f) a r (n.then r))) s.0 ∙ ap (λ z. asks e.ask z (λ r. goes_past (at_program q f) a r (n.then r))) s.1 in
-                    (rest.0, (λ r. goes_past (at_program q f) a r (n.then r), comes_by q d f e.ask e.line (λ r. goes_past (at_program q f) a r (n.then r)) n.comes now, rest.1)))
+                | inr room ↦ elim (cases_Bool (counts_words a)) [
+                  | inl counts ↦ (
+                      let s = same_asks source a e.ask line e.line (λ r. goes_past (at_program l x) a r (j r)) k (sym (rw (free, other, room, counts) refl) ∙ next) in
+                      let later = goes_past (at_program l x) a e.reply (j e.reply) in
+                      let rest = more later (j e.reply) (n.then e.reply) (n.onward e.reply (subst (λ b. Answers b e.reply) (sym s.0) answer)) (subst (λ z. Walk (lane_step source) (z e.reply) es m) (sym s.2) w) in
+                      let now : program_next (at_program q f) (target f) ≡ asks e.ask e.line (λ r. goes_past (at_program q f) a r (n.then r)) =
+                      ap (program_next (at_program q f)) n.asked ∙ rw (free, other, room, counts) refl ∙ ap (λ b. asks b line (λ r. goes_past (at_program q f) a r (n.then r))) s.0 ∙ ap (λ z. asks e.ask z (λ r. goes_past (at_program q f) a r (n.then r))) s.1 in
+                      (rest.0, (λ r. goes_past (at_program q f) a r (n.then r), comes_by q d f e.ask e.line (λ r. goes_past (at_program q f) a r (n.then r)) n.comes now, rest.1)))
+                  | inr silent ↦ (
+                      let s = same_asks source a e.ask line e.line (λ r. comes_to_end (at_program l x)) k (sym (rw (free, other, room, silent) refl) ∙ next) in
+                      let none = over_says_nothing source es (comes_to_end (at_program l x)) m refl (subst (λ z. Walk (lane_step source) (z e.reply) es m) (sym s.2) w) in
+                      let o = comes_to_end (at_program q f) in
+                      let now : program_next (at_program q f) (target f) ≡ asks e.ask e.line (λ r. o) =
+                      ap (program_next (at_program q f)) n.asked ∙ rw (free, other, room, silent) refl ∙ ap (λ b. asks b line (λ r. o)) s.0 ∙ ap (λ z. asks e.ask z (λ r. o)) s.1 in
+                      (o, (λ r. o, comes_by q d f e.ask e.line (λ r. o) n.comes now, subst (λ xs. Walk (lane_step target) o xs o) (sym none) refl)))
+                ]
               ]
             ]
           ]

@@ -13,13 +13,9 @@ use Rattle.core_runs.specs.Failures.{is_failure_step}
 use Rattle.core_runs.specs.Sequences.{departure_after, IsStampLimit, JoinsBehind, Joins, NothingAfterEnd}
 use Rattle.image_lanes.specs.Lanes.{is_failure}
 use Rattle.image_lanes.specs.Courses.{NoLaterSteps}
+pub use Rattle.program_walks.specs.Dues.{due_behind}
 use Rattle.program_walks.specs.Dues.{Due, ended, owing, is_last, due_after, IsOfProgram, MayCome, InOrder, GoesInOrder}
 use Rattle.program_walks.specs.Ordered.{IsOrdered}
-
--- what is due behind a list
-abbrev pub due_behind : Due → List (Said Ask Reply) → Due
-due_behind d [] = d
-due_behind d (e ∷ es) = due_behind (due_after e.ask e.reply) es
 
 pub order_front : (xs ys : List (Said Ask Reply)) (d : Due) → InOrder d (xs ++ ys) → InOrder d xs
 order_front [] ys d h = tt
@@ -143,8 +139,3 @@ ordered step first g = record {
   no_later_steps = λ es c answers w. no_later es (owing None) (g es c answers w);
   no_stamp_limit = λ es c answers w. no_stamp es (owing None) (g es c answers w);
 }
-
--- behind a last step nothing is due
-pub due_at_last : (es : List (Said Ask Reply)) (e : Said Ask Reply) (d : Due) → is_last e.ask e.reply ≡ true → due_behind d (es ++ e ∷ []) ≡ ended
-due_at_last [] e d l = after_last e.ask e.reply l
-due_at_last (x ∷ es) e d l = due_at_last es e (due_after x.ask x.reply) l

@@ -55,6 +55,11 @@ abbrev pub InOrder : Due → List (Said Ask Reply) → Type 0
 InOrder due [] = Unit {0}
 InOrder due (e ∷ es) = MayCome due e.ask × InOrder (due_after e.ask e.reply) es
 
+-- what is due behind a list
+abbrev pub due_behind : Due → List (Said Ask Reply) → Due
+due_behind due [] = due
+due_behind due (e ∷ es) = due_behind (due_after e.ask e.reply) es
+
 -- so it is in every walk of a program from here on, whatever the replies are that answer its asks
 abbrev pub GoesInOrder : {C : Type 0} → (C → Move C Ask Reply) → C → Type 0
 GoesInOrder {C} step first = (es : List (Said Ask Reply)) (c : C) → AllAnswer Answers es → Walk step first es c → InOrder (owing None) es

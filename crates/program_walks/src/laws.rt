@@ -21,6 +21,7 @@ ghost use Rattle.core_runs.specs.Traces.{IsTraceOf};
 ghost use Rattle.core_runs.specs.Moments.{Moment};
 ghost use Rattle.core_runs.specs.Sequences.{IsOrderly, EndsByItself, Joins, NothingAfterEnd};
 ghost use Rattle.image_lanes.specs.Lanes.{OnLane, lane_step, lane_start};
+ghost use Rattle.image_lanes.specs.LaneRuns.{lane_rules, lanes_begin};
 ghost use Rattle.walk_theory.specs.Code.{Line, at_place, code_step};
 ghost use Rattle.walk_theory.specs.Programs.{HasWalksOf};
 ghost use Rattle.checked_tree.specs.Statements as checked;
@@ -33,9 +34,9 @@ ghost use Rattle.tree_meaning.specs.Start.{first_core, start_of, walk_step};
 ghost use Rattle.program_walks.specs.Dues.{GoesInOrder};
 ghost use Rattle.program_walks.specs.Keeping.{BodiesKeep};
 ghost use Rattle.program_walks.specs.Ordered.{IsOrdered, EndsInOrder};
-ghost use Rattle.program_walks.specs.Hearing.{EndsWell, GoesOnDue};
+ghost use Rattle.program_walks.specs.Hearing.{TellsNoTeam, DueToPrograms};
 ghost use Rattle.program_walks.specs.Same.{SaysAs};
-ghost use Rattle.program_walks.specs.Runs.{lane_rules, lanes_begin, program_rules, program_begins, code_rules, code_begins};
+ghost use Rattle.program_walks.specs.Runs.{program_rules, program_begins, code_rules, code_begins};
 
 use caf_events::walker::Walker;
 
@@ -48,6 +49,12 @@ pub fn law_bodies_keep()
 /// the step that ends the image or begins its failure, and the program asks for none of its lane's steps.
 pub fn law_program_goes_in_order()
     ensures { (p : checked.Program) (limit me images : ℕ) → GoesInOrder (walk_step p limit) (start_of p me images) }
+{}
+
+/// It is over only behind a step that ended its image, or behind FAIL IMAGE, whatever the replies are that answer its asks: it never ends by itself for want of
+/// an operand or of a frame.
+pub fn law_program_ends_in_order()
+    ensures { (p : checked.Program) (limit me images : ℕ) → EndsInOrder (walk_step p limit) (start_of p me images) }
 {}
 
 /// In the words of runs: such walks are ordered, and nothing follows FAIL IMAGE, which is the only step of a failure that a program makes.
@@ -63,10 +70,10 @@ pub fn law_lane_goes_in_order<M: Walker>()
         → Joins es × NothingAfterEnd es × FailsFrom image es [] }
 {}
 
-/// It is orderly; and it is over only behind a step that ended its image, where the program is so or behind FAIL IMAGE.
+/// It is orderly; and it is over only behind a step that ended its image, where the program is so or behind FAIL IMAGE, and is in order.
 pub fn law_lane_orderly<M: Walker>()
     ensures orderly { (image fails_at limit : ℕ) (first : M.Config) → GoesInOrder M.step first → IsOrderly (lane_step M.step) (lane_start image fails_at limit first) }
-    ensures ends { (image fails_at limit : ℕ) (first : M.Config) → EndsInOrder M.step first → EndsByItself (lane_step M.step) (lane_start image fails_at limit first) }
+    ensures ends { (image fails_at limit : ℕ) (first : M.Config) → GoesInOrder M.step first → EndsInOrder M.step first → EndsByItself (lane_step M.step) (lane_start image fails_at limit first) }
 {}
 
 /// The reply of the control board is one of the forms that answer the ask, and so is that of a memory.
@@ -75,20 +82,24 @@ pub fn law_objects_answer()
     ensures memory { (made : MadeMemory) (h : List Entry) (i : ℕ) (ask : Ask) → IsTrue (memory_ready made h i ask) → Answers ask (memory_reply made h i ask) }
 {}
 
-/// At a moment of a run of lanes over programs in order, each image hears the reply that is due, where its machine hears every reply after which it is over
-/// exactly where the ask and the reply end the image, and where its program isn't stuck behind that reply.
+/// At each moment of a run of lanes an image hears the reply that is due, where its machine hears every reply; or where it hears those that tell of no team, and
+/// no other is due to a program then.
 pub fn law_lane_hears_due<M: Walker>()
-    ensures { ((c : M.Config) (reply : Reply) → EndsWell M.step (M.step c) reply → M.hears c reply)
-        → (coarrays : List Declared) (n : ℕ) (first : ℕ → M.Config) (fails_at : ℕ → ℕ) (words : ℕ) → ((i : ℕ) → IsOneOf n i → GoesInOrder M.step (first i))
-        → (m : Moment (OnLane M.Config) MadeMemory ℕ) → IsMoment (lane_rules M.step M.hears) (lanes_begin coarrays n first fails_at words) m
-        → GoesOnDue M.step (lane_rules M.step M.hears) m → HearsDue (lane_rules M.step M.hears) m }
+    ensures all { ((c : M.Config) (reply : Reply) → M.hears c reply) → (m : Moment (OnLane M.Config) MadeMemory ℕ) → HearsDue (lane_rules M.step M.hears) m }
+    ensures no_team { ((c : M.Config) (reply : Reply) → TellsNoTeam reply → M.hears c reply)
+        → (m : Moment (OnLane M.Config) MadeMemory ℕ) → DueToPrograms M.step TellsNoTeam (lane_rules M.step M.hears) m → HearsDue (lane_rules M.step M.hears) m }
 {}
 
-/// A run of lanes over such programs is fit where they aren't stuck behind the replies that are due.
+/// A run of lanes over programs whose walks are in order is fit, where their machines hear every reply; or where they hear those that tell of no team, and at each
+/// moment of the run no other is due to a program.
 pub fn law_lanes_fit<M: Walker>()
-    ensures { ((c : M.Config) (reply : Reply) → EndsWell M.step (M.step c) reply → M.hears c reply)
-        → (coarrays : List Declared) (n : ℕ) (first : ℕ → M.Config) (fails_at : ℕ → ℕ) (words : ℕ) → ((i : ℕ) → IsOneOf n i → GoesInOrder M.step (first i))
-        → ((m : Moment (OnLane M.Config) MadeMemory ℕ) → IsMoment (lane_rules M.step M.hears) (lanes_begin coarrays n first fails_at words) m → GoesOnDue M.step (lane_rules M.step M.hears) m)
+    ensures all { (coarrays : List Declared) (n : ℕ) (first : ℕ → M.Config) (fails_at : ℕ → ℕ) (words : ℕ) → ((i : ℕ) → IsOneOf n i → GoesInOrder M.step (first i))
+        → ((c : M.Config) (reply : Reply) → M.hears c reply)
+        → IsFit (lane_rules M.step M.hears) (lanes_begin coarrays n first fails_at words) }
+    ensures no_team { (coarrays : List Declared) (n : ℕ) (first : ℕ → M.Config) (fails_at : ℕ → ℕ) (words : ℕ) → ((i : ℕ) → IsOneOf n i → GoesInOrder M.step (first i))
+        → ((c : M.Config) (reply : Reply) → TellsNoTeam reply → M.hears c reply)
+        → ((m : Moment (OnLane M.Config) MadeMemory ℕ) → IsMoment (lane_rules M.step M.hears) (lanes_begin coarrays n first fails_at words) m
+        → DueToPrograms M.step TellsNoTeam (lane_rules M.step M.hears) m)
         → IsFit (lane_rules M.step M.hears) (lanes_begin coarrays n first fails_at words) }
 {}
 
@@ -112,6 +123,21 @@ pub fn law_code_goes_in_order()
     ensures { (p : checked.Program) (limit me images : ℕ) (code : List (Line Act))
         → HasWalksOf image_language Answers (ask end_program) (bodies p) p.end_line limit (first_core p me images) code
         → GoesInOrder (code_step image_language code limit) (at_place 0 [] (first_core p me images) 0) }
+{}
+
+/// And it ends in order as the program does.
+pub fn law_code_ends_in_order()
+    ensures { (p : checked.Program) (limit me images : ℕ) (code : List (Line Act))
+        → HasWalksOf image_language Answers (ask end_program) (bodies p) p.end_line limit (first_core p me images) code
+        → EndsInOrder (code_step image_language code limit) (at_place 0 [] (first_core p me images) 0) }
+{}
+
+/// So an image that runs a checked program, or code that has its walks, is over only behind a step that ended it.
+pub fn law_images_end_by_themselves()
+    ensures program { (p : checked.Program) (limit image images fails_at words : ℕ) → EndsByItself (lane_step (walk_step p limit)) (lane_start image fails_at words (start_of p image images)) }
+    ensures code { (p : checked.Program) (limit image images fails_at words : ℕ) (code : List (Line Act))
+        → HasWalksOf image_language Answers (ask end_program) (bodies p) p.end_line limit (first_core p image images) code
+        → EndsByItself (lane_step (code_step image_language code limit)) (lane_start image fails_at words (at_place 0 [] (first_core p image images) 0)) }
 {}
 
 /// Lanes over programs that say the same say the same.

@@ -5,4 +5,4 @@ pub returns-clause-orderly : goal.returns-clause-orderly
 returns-clause-orderly g c = lane_orderly g.M.Walker.step
 
 pub returns-clause-ends : goal.returns-clause-ends
-returns-clause-ends g c image fails_at limit first ends = lane_over g.M.Walker.step image fails_at limit first ends
+returns-clause-ends g c image fails_at limit first order ends = lane_over g.M.Walker.step image fails_at limit first order ends
