@@ -1,0 +1,4 @@
+pub mod Means
+pub mod Parts
+pub mod Specifiers
+pub mod Arguments
