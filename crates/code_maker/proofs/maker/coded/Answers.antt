@@ -15,7 +15,8 @@ returns-clause-tables c =
     tables_are c.whole.result c.into_code.result c.keeping-draft.result c.push_program.new.draft (ask end_program) c.args.checked.now.end_line (bodies (view.program c.args.checked.now)) c.args.starts.places.items c.args.starts.end c.args.code.tables
     c.keeping-draft.ensures c.in_ok-push_program.ensures c.into_code.ensures.tables c.whole.ensures.whole
 
-pub requires-whole : goal.requires-whole
-requires-whole c =
-    code_drafted c.into_code.result c.keeping-draft.result c.push_program.new.draft (ask end_program) c.args.checked.now.end_line (bodies (view.program c.args.checked.now)) c.args.starts.places.items c.args.starts.end c.args.code.tables
-    c.keeping-draft.ensures c.requires.places c.requires.end c.in_ok-push_program.ensures c.into_code.ensures.code
+pub whole-requires : goal.whole-requires
+whole-requires c = record {
+  made = code_drafted c.into_code.result c.keeping-draft.result c.push_program.new.draft (ask end_program) c.args.checked.now.end_line (bodies (view.program c.args.checked.now)) c.args.starts.places.items c.args.starts.end c.args.code.tables
+      c.keeping-draft.ensures c.requires.places c.requires.end c.in_ok-push_program.ensures c.into_code.ensures.code;
+}
