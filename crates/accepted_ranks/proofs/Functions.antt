@@ -16,7 +16,7 @@ use Rattle.rule_definitions.specs.Judgements.{breaks, unless, is_nothing, Judgem
 use Rattle.rule_definitions.specs.Names
 use Rattle.rule_definitions.specs.Names.{Scope, FunctionName, symbol_of, is_integer}
 use Rattle.rule_definitions.specs.Parts.{Placed, plain, type_of, rank_of, integer, team, team_of, joint, unlike_breaks}
-use Rattle.rule_definitions.specs.Arguments.{Part, expression, triplet, Actual, breaks_in_all, Binding, value_for, given_to, maybe_given_to, order_of, bound}
+use Rattle.rule_definitions.specs.Arguments.{Part, expression, triplet, Actual, breaks_in_all, needed, needed_list, optional, Binding, value_for, given_to, maybe_given_to, order_of, bound}
 use Rattle.rule_definitions.specs.IntrinsicFunctions
 use Rattle.rule_definitions.specs.IntrinsicFunctions.{taken, an_integer, of_integer_type, an_array, an_integer_list, is_allocatable_symbol, allocatable_of, coarray_of, found, an_allocatable, a_coarray, of_type, default_integer, the_team, of_team, two_integers, joint_type, named_breaks, unnamed_integer, unnamed_integers, several_breaks, several_integers, kind_argument, is_of_coarray, this_image, is_first_integer, is_first_unnamed, num_images, with_dim, list_of_images, intrinsic_reference, are_unnamed}
 use Rattle.tree_meaning.specs.Expressions.{count_of}
@@ -78,8 +78,17 @@ module _ (ps : List Procedure) where
   some_scalars t.no_expressions h l = absurd (omega arith)
   some_scalars (t.more_expressions x es) h l = h
 
-  clear_part : (x : Part) (p : Pos) → (elim x [ expression e ↦ an_integer e | triplet j ↦ refused {T = t.Expression} 59 p ]).breaks ≡ []
-      → (elim x [ expression e ↦ (plain e).breaks | triplet j ↦ [] ] ≡ []) × (elim x [ expression e ↦ false | triplet j ↦ true ] ≡ false)
+  -- a part as an argument of MIN or MAX, what breaks in it by itself, and whether it is a triplet
+  abbrev part_judged : Part → Pos → Judgement t.Expression
+  part_judged x p = elim x [ expression e ↦ an_integer e | triplet j ↦ refused 59 p ]
+
+  abbrev part_breaks : Part → List Broken
+  part_breaks x = elim x [ expression e ↦ (plain e).breaks | triplet j ↦ [] ]
+
+  abbrev part_triplet : Part → Bool
+  part_triplet x = elim x [ expression e ↦ false | triplet j ↦ true ]
+
+  clear_part : (x : Part) (p : Pos) → (part_judged x p).breaks ≡ [] → (part_breaks x ≡ []) × (part_triplet x ≡ false)
   clear_part (expression e) p h = (left_nothing (plain e).breaks _ h, refl)
   clear_part (triplet j) p h = cons_nil _ [] h
 
@@ -98,13 +107,13 @@ module _ (ps : List Procedure) where
   unnamed_clear : (xs : List Actual) → (unnamed_integers xs).breaks ≡ [] → (breaks_in_all xs ≡ []) × (are_unnamed xs ≡ true)
   unnamed_clear [] h = (refl, refl)
   unnamed_clear (a ∷ rest) h =
-      let one = (elim a.part [ expression e ↦ an_integer e | triplet j ↦ refused {T = t.Expression} 59 a.at ]).breaks in
+      let one = (part_judged a.part a.at).breaks in
       let f = left_nothing (one ++ named_breaks a) (unnamed_integers rest).breaks h in
       let c = clear_part a.part a.at (left_nothing one (named_breaks a) f) in
-      let k = unkeyed (elim a.part [ expression e ↦ (plain e).breaks | triplet j ↦ [] ]) (is_there a.keyword) a.at c.0 (right_nothing one (named_breaks a) f) in
+      let k = unkeyed (part_breaks a.part) (is_there a.keyword) a.at c.0 (right_nothing one (named_breaks a) f) in
       let r = unnamed_clear rest (right_nothing (one ++ named_breaks a) (unnamed_integers rest).breaks h) in (
-        both_nothing (elim a.part [ expression e ↦ (plain e).breaks | triplet j ↦ [] ]) (breaks_in_all rest) c.0 r.0,
-        neither (is_there a.keyword) (elim a.part [ expression e ↦ false | triplet j ↦ true ]) (are_unnamed rest) k c.1 r.1,
+        both_nothing (part_breaks a.part) (breaks_in_all rest) c.0 r.0,
+        neither (is_there a.keyword) (part_triplet a.part) (are_unnamed rest) k c.1 r.1,
       )
     where
       both_nothing : (us vs : List Broken) → us ≡ [] → vs ≡ [] → us ++ vs ≡ []
@@ -145,13 +154,13 @@ module _ (ps : List Procedure) where
 
   this_image_means : (xs : List Actual) (p : Pos) → AllActuals ps xs → Means (this_image xs p) (ranks.IsRanked ps)
   this_image_means xs p h = cond_means (is_of_coarray xs)
-      (λ e. bound_means ps _ xs p (λ bs. made_of_three (λ n d m. default_integer (t.this_cosubscript n d m (order_of bs 1 2))) (given_to bs 0 a_coarray) (given_to bs 1 an_integer) (maybe_given_to bs 2 (team_of 51))) h
+      (λ e. bound_means ps (needed (codes "coarray") ∷ needed (codes "dim") ∷ optional (codes "team") ∷ []) xs p (λ bs. made_of_three (λ n d m. default_integer (t.this_cosubscript n d m (order_of bs 1 2))) (given_to bs 0 a_coarray) (given_to bs 1 an_integer) (maybe_given_to bs 2 (team_of 51))) h
       (λ bs g. three_means (λ n d m. default_integer (t.this_cosubscript n d m (order_of bs 1 2))) (any {j = given_to bs 0 a_coarray}) (given_means ps bs 1 an_integer g an_integer_means) (team_given bs 2 51 g) (λ n d m u v w. (refl, v, w))))
       (λ e. of_team_means (λ m. default_integer (t.this_image m)) xs p h (λ m u. (refl, u)))
 
   num_images_means : (xs : List Actual) (p : Pos) → AllActuals ps xs → Means (num_images xs p) (ranks.IsRanked ps)
   num_images_means xs p h = cond_means (is_first_integer xs)
-      (λ e. bound_means ps _ xs p (λ bs. made_of (λ n. default_integer (t.num_images_of_number n)) (given_to bs 0 an_integer)) h (λ bs g. made_means (λ n. default_integer (t.num_images_of_number n)) (given_means ps bs 0 an_integer g an_integer_means) (λ n u. (refl, u))))
+      (λ e. bound_means ps (needed (codes "team_number") ∷ []) xs p (λ bs. made_of (λ n. default_integer (t.num_images_of_number n)) (given_to bs 0 an_integer)) h (λ bs g. made_means (λ n. default_integer (t.num_images_of_number n)) (given_means ps bs 0 an_integer g an_integer_means) (λ n u. (refl, u))))
       (λ e. bound_means ps the_team xs p (λ bs. made_of (λ m. default_integer (t.num_images m)) (maybe_given_to bs 0 (team_of (cond (is_first_unnamed xs) 59 51)))) h
       (λ bs g. made_means (λ m. default_integer (t.num_images m)) (team_given bs 0 (cond (is_first_unnamed xs) 59 51) g) (λ m u. (refl, u))))
 
@@ -194,27 +203,27 @@ module _ (ps : List Procedure) where
     allocatable_means e h = then_means (λ x. found (allocatable_of s x) e.at x) (plain_means ps e h) (λ x k. found_named (allocatable_of s x) e.at x (allocatable_named x))
 
     pub intrinsic_means : (n : FunctionName) (xs : List Actual) (p : Pos) → AllActuals ps xs → Means (intrinsic_reference s n xs p) (ranks.IsRanked ps)
-    intrinsic_means Names.abs xs p h = bound_means ps _ xs p (λ bs. made_of (λ a. of_type (type_of a) (t.abs a)) (given_to bs 0 an_integer)) h (λ bs g. made_means (λ a. of_type (type_of a) (t.abs a)) (given_means ps bs 0 an_integer g an_integer_means) (λ x u. (refl, u)))
+    intrinsic_means Names.abs xs p h = bound_means ps (needed (codes "a") ∷ []) xs p (λ bs. made_of (λ a. of_type (type_of a) (t.abs a)) (given_to bs 0 an_integer)) h (λ bs g. made_means (λ a. of_type (type_of a) (t.abs a)) (given_means ps bs 0 an_integer g an_integer_means) (λ x u. (refl, u)))
     intrinsic_means Names.remainder xs p h = two_means (λ a q bs. of_type (joint (type_of a) (type_of q)) (t.remainder a q (order_of bs 0 1))) xs p (codes "a") (codes "p") h (λ x y bs u v. (refl, u, v))
     intrinsic_means Names.modulo xs p h = two_means (λ a q bs. of_type (joint (type_of a) (type_of q)) (t.modulo a q (order_of bs 0 1))) xs p (codes "a") (codes "p") h (λ x y bs u v. (refl, u, v))
     intrinsic_means Names.min xs p h = min_means xs p h
     intrinsic_means Names.max xs p h = max_means xs p h
-    intrinsic_means Names.huge xs p h = bound_means ps _ xs p (λ bs. made_of (λ x. of_type (type_of x) t.huge) (given_to bs 0 of_integer_type)) h (λ bs g. made_means (λ x. of_type (type_of x) t.huge) (any {j = given_to bs 0 of_integer_type}) (λ x u. refl))
-    intrinsic_means Names.int xs p h = bound_means ps _ xs p (λ bs. made_of_both (λ a k. of_type (Intrinsic k) (t.int a)) (given_to bs 0 an_integer) (kind_argument s bs 1)) h
+    intrinsic_means Names.huge xs p h = bound_means ps (needed (codes "x") ∷ []) xs p (λ bs. made_of (λ x. of_type (type_of x) t.huge) (given_to bs 0 of_integer_type)) h (λ bs g. made_means (λ x. of_type (type_of x) t.huge) (any {j = given_to bs 0 of_integer_type}) (λ x u. refl))
+    intrinsic_means Names.int xs p h = bound_means ps (needed (codes "a") ∷ optional (codes "kind") ∷ []) xs p (λ bs. made_of_both (λ a k. of_type (Intrinsic k) (t.int a)) (given_to bs 0 an_integer) (kind_argument s bs 1)) h
         (λ bs g. both_means (λ a k. of_type (Intrinsic k) (t.int a)) (given_means ps bs 0 an_integer g an_integer_means) (any {j = kind_argument s bs 1}) (λ x k u v. (refl, u)))
-    intrinsic_means Names.size xs p h = bound_means ps _ xs p (λ bs. made_of_both (λ a d. default_integer (t.size a d (order_of bs 0 1))) (given_to bs 0 (λ e. an_array e.at e.judged)) (maybe_given_to bs 1 an_integer)) h
+    intrinsic_means Names.size xs p h = bound_means ps (needed_list (codes "array") ∷ optional (codes "dim") ∷ []) xs p (λ bs. made_of_both (λ a d. default_integer (t.size a d (order_of bs 0 1))) (given_to bs 0 (λ e. an_array e.at e.judged)) (maybe_given_to bs 1 an_integer)) h
         (λ bs g. both_means (λ a d. default_integer (t.size a d (order_of bs 0 1))) (given_means ps bs 0 (λ e. an_array e.at e.judged) g (λ e k. array_means e.at e.judged k)) (maybe_means ps bs 1 an_integer g an_integer_means) (λ x d u v. (refl, u, v)))
     intrinsic_means Names.lbound xs p h = array_bound (λ a d bs. default_integer (t.lbound a d (order_of bs 0 1))) xs p h (λ x y bs u v. (refl, u, v))
     intrinsic_means Names.ubound xs p h = array_bound (λ a d bs. default_integer (t.ubound a d (order_of bs 0 1))) xs p h (λ x y bs u v. (refl, u, v))
-    intrinsic_means Names.allocated xs p h = bound_means ps _ xs p (λ bs. made_of (λ o. of_type (Intrinsic L4) (t.allocated o)) (given_to bs 0 (an_allocatable s))) h
+    intrinsic_means Names.allocated xs p h = bound_means ps (needed (codes "v") ∷ []) xs p (λ bs. made_of (λ o. of_type (Intrinsic L4) (t.allocated o)) (given_to bs 0 (an_allocatable s))) h
         (λ bs g. made_means (λ o. of_type (Intrinsic L4) (t.allocated o)) (given_means ps bs 0 (an_allocatable s) g allocatable_means) (λ o u. (refl, u)))
     intrinsic_means Names.this_image xs p h = this_image_means xs p h
     intrinsic_means Names.num_images xs p h = num_images_means xs p h
-    intrinsic_means Names.image_index xs p h = bound_means ps _ xs p (λ bs. made_of_three (λ n l m. default_integer (t.image_index n l m (order_of bs 1 2))) (given_to bs 0 a_coarray) (given_to bs 1 an_integer_list) (maybe_given_to bs 2 (team_of 51))) h
+    intrinsic_means Names.image_index xs p h = bound_means ps (needed (codes "coarray") ∷ needed (codes "sub") ∷ optional (codes "team") ∷ []) xs p (λ bs. made_of_three (λ n l m. default_integer (t.image_index n l m (order_of bs 1 2))) (given_to bs 0 a_coarray) (given_to bs 1 an_integer_list) (maybe_given_to bs 2 (team_of 51))) h
         (λ bs g. three_means (λ n l m. default_integer (t.image_index n l m (order_of bs 1 2))) (any {j = given_to bs 0 a_coarray}) (given_means ps bs 1 an_integer_list g list_means) (team_given bs 2 51 g) (λ n l m u v w. (refl, v, w)))
-    intrinsic_means Names.image_status xs p h = bound_means ps _ xs p (λ bs. made_of_both (λ i m. default_integer (t.image_status i m (order_of bs 0 1))) (given_to bs 0 an_integer) (maybe_given_to bs 1 (team_of 51))) h
+    intrinsic_means Names.image_status xs p h = bound_means ps (needed (codes "image") ∷ optional (codes "team") ∷ []) xs p (λ bs. made_of_both (λ i m. default_integer (t.image_status i m (order_of bs 0 1))) (given_to bs 0 an_integer) (maybe_given_to bs 1 (team_of 51))) h
         (λ bs g. both_means (λ i m. default_integer (t.image_status i m (order_of bs 0 1))) (given_means ps bs 0 an_integer g an_integer_means) (team_given bs 1 51 g) (λ i m u v. (refl, u, v)))
     intrinsic_means Names.failed_images xs p h = of_team_means (λ m. t.typed (t.intrinsic (t.failed_images m)) (Intrinsic I4) 1) xs p h (λ m u. (omega arith, u))
     intrinsic_means Names.stopped_images xs p h = of_team_means (λ m. t.typed (t.intrinsic (t.stopped_images m)) (Intrinsic I4) 1) xs p h (λ m u. (omega arith, u))
     intrinsic_means Names.team_number xs p h = of_team_means (λ m. default_integer (t.number_of_team m)) xs p h (λ m u. (refl, u))
-    intrinsic_means Names.get_team xs p h = bound_means ps _ xs p (λ bs. made_of (λ l. of_type Team (t.get_team l)) (maybe_given_to bs 0 an_integer)) h (λ bs g. made_means (λ l. of_type Team (t.get_team l)) (maybe_means ps bs 0 an_integer g an_integer_means) (λ l u. (refl, u)))
+    intrinsic_means Names.get_team xs p h = bound_means ps (optional (codes "level") ∷ []) xs p (λ bs. made_of (λ l. of_type Team (t.get_team l)) (maybe_given_to bs 0 an_integer)) h (λ bs g. made_means (λ l. of_type Team (t.get_team l)) (maybe_means ps bs 0 an_integer g an_integer_means) (λ l u. (refl, u)))
