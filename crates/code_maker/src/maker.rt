@@ -145,11 +145,7 @@ fn whole(draft: CodeDraft, checked: &Checked) -> Result<Code, Refusal<BadCode>>
 }
 
 /// The code of a draft that is empty but for its tables.
-fn coded(
-    code: CodeDraft,
-    starts: Starts,
-    checked: &Checked,
-) -> Result<Code, Refusal<BadCode>>
+fn coded(code: CodeDraft, starts: Starts, checked: &Checked) -> Result<Code, Refusal<BadCode>>
     requires empty { (code.steps ≡ []) × (code.lines ≡ []) }
     requires texts { code.tables.texts ≡ checked.now.literals.items }
     requires places { starts.places.items ≡ programs.starts_from 4 (bodies (view.program checked.now)) }
