@@ -1,8 +1,9 @@
 -- Laws of a stack's values.
 use Rattle.std.proofs.Common.{◌≡◌, ℕ, zero, suc, ◌+◌, ◌-◌, ◌<◌, ◌≤◌, ◌≢◌, ℤ, pos, List, [], ◌∷◌, ◌++◌, length, take, drop, w64, SFits, to_z, of_z, slice_set, slice_index_or, refl, ap, sym, ◌∙◌, arith}
-use Rattle.std.proofs.lemmas.List.{get_or-set_same, get_or-set_other, append_assoc, length-append, length-take, length-drop, take-append-drop}
+use Rattle.std.proofs.lemmas.List.{get_or-set_same, get_or-set_other, get_or-drop, append_assoc, length-append, length-take, length-drop, reverse-append, take-append-drop}
+use Rattle.std.proofs.Math.Seq.{take-suc}
 use Rattle.std.proofs.lemmas.Int.{to_z-of_z}
-use Rattle.std.specs.Prelude.{Some, None, slice_get}
+use Rattle.std.specs.Prelude.{Some, None, slice_get, reverse}
 use Rattle.image_stores.specs.Numbers.{Pile, below}
 use Rattle.std.proofs.lemmas.List.{length-set}
 
@@ -102,6 +103,25 @@ pub below_drop : (s : List ℤ) (n k : ℕ) → k ≤ n → below s (n - k) ≡ 
 below_drop s n zero h = let e : n - 0 ≡ n = omega arith in ap (below s) e ∙ none_dropped (below s n)
 below_drop s zero (suc k) h = absurd (omega arith)
 below_drop s (suc n) (suc k) h = let e : suc n - suc k ≡ n - k = omega arith in ap (below s) e ∙ below_drop s n k (omega arith)
+
+-- the numbers beneath some others are cells one behind the other
+run_below : (s : List ℤ) (n e : ℕ) → n ≤ e → e ≤ length s → reverse (take n (below s e)) ≡ take n (drop (e - n) s)
+run_below s zero e h w = refl
+run_below s (suc n) zero h w = absurd (omega arith)
+run_below s (suc n) (suc e) h w =
+    let at : suc e - suc n ≡ e - n = omega arith in
+    let sum : (e - n) + n ≡ e = omega arith in
+    let long : n < length (drop (e - n) s) = (let l = length-drop (e - n) s in omega arith) in
+    reverse-append (slice_index_or s e (pos 0) ∷ []) (take n (below s e))
+    ∙ ap (λ ys. ys ++ slice_index_or s e (pos 0) ∷ []) (run_below s n e (omega arith) (omega arith))
+    ∙ sym (ap (λ k. take (suc n) (drop k s)) at ∙ take-suc (drop (e - n) s) n (pos 0) long ∙ ap (λ x. take n (drop (e - n) s) ++ x ∷ []) (get_or-drop (e - n) s n (pos 0) ∙ ap (λ k. slice_index_or s k (pos 0)) sum))
+
+pub beneath_view : (s : List ℤ) (used d n : ℕ) (h : Pile) → h ≡ record { values = below s used; size = length s } → used ≤ length s → d + n ≤ used → take ((used - d) - ((used - d) - n)) (drop ((used - d) - n) s) ≡ reverse (take n (drop d h.values))
+beneath_view s used d n h e w f =
+    let k : (used - d) - ((used - d) - n) ≡ n = omega arith in
+    ap (λ j. take j (drop ((used - d) - n) s)) k
+    ∙ sym (run_below s n (used - d) (omega arith) (omega arith))
+    ∙ ap (λ vs. reverse (take n vs)) (below_drop s used d (omega arith) ∙ ap (drop d) (sym (ap (λ (x : Pile). x.values) e)))
 
 -- a number once more
 pub below_index : (s : List ℤ) (n k : ℕ) → k < n → slice_index_or s (n - 1 - k) (pos 0) ≡ slice_index_or (below s n) k (pos 0)

@@ -1,6 +1,6 @@
 //! A stack of numbers in room that is made once.
 
-ghost use Rattle.std.specs.Prelude.{◌≡◌, ◌+◌, ◌-◌, ◌^◌, ◌<◌, ◌≤◌, ◌∷◌, ◌++◌, [], pos, take, drop, slice_index_or, IfSome, IfNone, IsTrue, IsFalse, length, slice_get, slice_set, ℤ, List};
+ghost use Rattle.std.specs.Prelude.{◌≡◌, ◌+◌, ◌-◌, ◌^◌, ◌<◌, ◌≤◌, ◌∷◌, ◌++◌, [], pos, take, drop, reverse, slice_index_or, IfSome, IfNone, IsTrue, IsFalse, length, slice_get, slice_set, ℤ, List};
 ghost use Rattle.image_stores.specs.Numbers.{Pile, below};
 
 use crate::rows::{read, write};
@@ -187,6 +187,15 @@ impl Numbers {
     {
         let used = self.used;
         depth <= used && n <= used - depth
+    }
+
+    /// The `n` numbers beneath `depth` others, in the order in which they were put down.
+    pub fn beneath(&self, depth: usize, n: usize) -> &[i64]
+        requires { depth + n ≤ length self.now.values }
+        ensures { result.now ≡ reverse (take n (drop depth self.now.values)) }
+    {
+        let end = self.used - depth;
+        &self.cells[end - n..end]
     }
 
     /// Puts the number beneath so many others on top once more.

@@ -135,8 +135,8 @@ top_array x c f After m h = by_arrays c.arrays
     by_arrays [] = m
     by_arrays (y ∷ ys) = h y (record c { arrays = ys })
 
-takes_part : (op : GatherOp) (kind : Kind) (root : ℕ) (vs : List Value) (c : Core) (r : Reply) → Answers (asks.Gather (record { 0 = current_team c }) op root kind vs) r
-    → PartsKeep (doing (ask a.take ∷ [])) IsClear (due_after (asks.Gather (record { 0 = current_team c }) op root kind vs) r) (arrival_reply c r)
+takes_part : (op : GatherOp) (kind : Kind) (root : ℕ) (vs : List Value) (c : Core) (r : Reply) → Answers (asks.Gather (record { 0 = word (pos (current_team c)) }) op root kind vs) r
+    → PartsKeep (doing (ask a.take ∷ [])) IsClear (due_after (asks.Gather (record { 0 = word (pos (current_team c)) }) op root kind vs) r) (arrival_reply c r)
 takes_part op kind root vs c (replies.Round n) x = ((inl refl, tt), λ r y. refl)
 takes_part op kind root vs c (replies.Clash i l) x = refl
 takes_part op kind root vs c r x = absurd x
@@ -144,8 +144,8 @@ takes_part op kind root vs c r x = absurd x
 pub collective : (op : GatherOp) (kind : Kind) → KeepsOrder (doing (ask (a.gather op kind) ∷ ask a.take ∷ []))
 collective op kind c =
     let x = ask (a.gather op kind) in
-    top x c (λ root d. taking_array d (λ y e. asking (asks.Gather (record { 0 = current_team e }) op (word root) kind (map (value_of kind) y.elements)) (arrival_reply e))) (PartsKeep (doing (ask a.take ∷ [])) IsClear) refl
-    (λ root d. top_array x d (λ y e. asking (asks.Gather (record { 0 = current_team e }) op (word root) kind (map (value_of kind) y.elements)) (arrival_reply e)) (PartsKeep (doing (ask a.take ∷ [])) IsClear) refl
+    top x c (λ root d. taking_array d (λ y e. asking (asks.Gather (record { 0 = word (pos (current_team e)) }) op (word root) kind (map (value_of kind) y.elements)) (arrival_reply e))) (PartsKeep (doing (ask a.take ∷ [])) IsClear) refl
+    (λ root d. top_array x d (λ y e. asking (asks.Gather (record { 0 = word (pos (current_team e)) }) op (word root) kind (map (value_of kind) y.elements)) (arrival_reply e)) (PartsKeep (doing (ask a.take ∷ [])) IsClear) refl
     (λ y e. ((λ z. z, tt), λ r z. takes_part op kind (word root) (map (value_of kind) y.elements) e r z)))
 
 pub paired : KeepsOrder (doing (ask a.pair ∷ ask a.unpair ∷ []))

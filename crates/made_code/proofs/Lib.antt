@@ -1,0 +1,13 @@
+pub mod Turns
+pub mod Digits
+pub mod Forms
+pub mod Calls
+pub mod Expressions
+pub mod Assignments
+pub mod ImageControl
+pub mod Allocation
+pub mod Subroutines
+pub mod Blocks
+pub mod Lengths
+pub mod Fine
+pub mod Made

@@ -1,0 +1,298 @@
+-- The ranks that a checked program has (ISO/IEC 1539-1:2018): each operand, subscript, cosubscript and argument is of the rank that its place
+-- wants, each designator of the rank of its section, no array of a rank above 3; and an object stands where its form is one that the language has there.
+-- The compiler asks for no more: types and kinds don't matter to it.
+use Rattle.std.specs.Prelude.{ℕ, zero, suc, ◌+◌, ◌==◌, ◌≤◌, ◌≡◌, cond, List, [], ◌∷◌, Option, Some, None, slice_index_or}
+use Rattle.checked_tree.specs.declared.data.Object.{Object}
+use Rattle.checked_tree.specs.declared.data.Object.TheVariants as objects
+use Rattle.checked_tree.specs.declared.data.Variable.{Variable}
+use Rattle.checked_tree.specs.declared.program.Dummy.{Dummy}
+use Rattle.checked_tree.specs.Expressions as t
+use Rattle.checked_tree.specs.Statements as s
+use Rattle.tree_meaning.specs.Environment.{rank_in, empty_procedure}
+use Rattle.tree_meaning.specs.Expressions.{count_of}
+use Rattle.tree_meaning.specs.Pieces.{written_dummies}
+
+-- how many subscripts there are, and how many of them are triplets: the rank of the section (9.5.3.3)
+abbrev pub subscripts_in : t.Subscripts → ℕ
+subscripts_in t.no_subscripts = 0
+subscripts_in (t.more_subscripts x ss) = suc (subscripts_in ss)
+
+abbrev pub is_triplet : t.Subscript → ℕ
+is_triplet (t.element x) = 0
+is_triplet (t.triplet l u x) = 1
+
+abbrev pub triplets_in : t.Subscripts → ℕ
+triplets_in t.no_subscripts = 0
+triplets_in (t.more_subscripts x ss) = is_triplet x + triplets_in ss
+
+-- a whole object, or a part of one, is of this rank (9.5.2, 9.5.3)
+abbrev pub IsSection : t.Subscripts → ℕ → Type 0
+IsSection t.no_subscripts r = r ≤ 3
+IsSection (t.more_subscripts x ss) r = (subscripts_in (t.more_subscripts x ss) ≤ 3) × (triplets_in (t.more_subscripts x ss) ≡ r)
+
+-- a function has a result of this rank (15.6.2.2); a subroutine has none
+abbrev pub GivesRank : List Variable → Option ℕ → ℕ → Type 0
+GivesRank vs None r = ⊥
+GivesRank vs (Some x) r = rank_in vs x ≡ r
+
+abbrev pub GivesNothing : Option ℕ → Type 0
+GivesNothing None = Unit {0}
+GivesNothing (Some x) = ⊥
+
+-- no constant
+abbrev pub IsNamed : Object → Type 0
+IsNamed (objects.Local v) = Unit {0}
+IsNamed (objects.Coarray c) = Unit {0}
+IsNamed (objects.Constant n) = ⊥
+
+-- a scalar variable as a whole gets a scalar (10.2.1.2)
+abbrev pub ScalarToScalar : t.Subscripts → ℕ → ℕ → Type 0
+ScalarToScalar t.no_subscripts zero q = q ≡ 0
+ScalarToScalar t.no_subscripts (suc r) q = Unit {0}
+ScalarToScalar (t.more_subscripts x ss) r q = Unit {0}
+
+-- an argument is written once
+abbrev pub times : ℕ → List ℕ → ℕ
+times d [] = 0
+times d (b ∷ bs) = cond (b == d) 1 0 + times d bs
+
+abbrev pub IsOnce : List ℕ → ℕ → Type 0
+IsOnce ds d = times d ds ≡ 1
+
+module _ (procedures : List s.Procedure) where
+  abbrev pub procedure_at : ℕ → s.Procedure
+  procedure_at n = slice_index_or procedures n empty_procedure
+
+  abbrev mutual
+    -- an expression whose parts have the ranks that they must have
+    pub IsRanked : t.Expression → Type 0
+    IsRanked (t.typed f type r) = HasRank f r
+
+    pub IsOfRank : t.Expression → ℕ → Type 0
+    IsOfRank (t.typed f type q) r = (q ≡ r) × HasRank f q
+
+    pub IsArray : t.Expression → Type 0
+    IsArray (t.typed f type r) = (1 ≤ r) × HasRank f r
+
+    -- operands of operators are scalars (10.1.5), since elemental operations aren't in the language
+    pub HasRank : t.Form → ℕ → Type 0
+    HasRank (t.number z) r = r ≡ 0
+    HasRank (t.logical b) r = r ≡ 0
+    HasRank (t.designator d) r = IsPart d r
+    HasRank (t.call n es) r = GivesRank (procedure_at n).unit.variables (procedure_at n).answer r × ArePassed (procedure_at n).unit.variables (procedure_at n).dummies es
+    HasRank (t.intrinsic i) r = HasIntrinsicRank i r
+    HasRank (t.parenthesized x) r = IsOfRank x r
+    HasRank (t.array_constructor es) r = (1 ≤ r) × AreRanked es
+    HasRank (t.plus x) r = (r ≡ 0) × IsOfRank x 0
+    HasRank (t.minus x) r = (r ≡ 0) × IsOfRank x 0
+    HasRank (t.not x) r = (r ≡ 0) × IsOfRank x 0
+    HasRank (t.arithmetic o x y) r = (r ≡ 0) × IsOfRank x 0 × IsOfRank y 0
+    HasRank (t.relation o x y) r = (r ≡ 0) × IsOfRank x 0 × IsOfRank y 0
+    HasRank (t.logic o x y) r = (r ≡ 0) × IsOfRank x 0 × IsOfRank y 0
+
+    pub AreRanked : t.Expressions → Type 0
+    AreRanked t.no_expressions = Unit {0}
+    AreRanked (t.more_expressions x es) = IsRanked x × AreRanked es
+
+    pub AreScalars : t.Expressions → Type 0
+    AreScalars t.no_expressions = Unit {0}
+    AreScalars (t.more_expressions x es) = IsOfRank x 0 × AreScalars es
+
+    -- one or more
+    pub AreSomeScalars : t.Expressions → Type 0
+    AreSomeScalars t.no_expressions = ⊥
+    AreSomeScalars (t.more_expressions x es) = IsOfRank x 0 × AreScalars es
+
+    pub IsOptionalScalar : t.OptionalExpression → Type 0
+    IsOptionalScalar t.missing = Unit {0}
+    IsOptionalScalar (t.given x) = IsOfRank x 0
+
+    pub AreSubscripts : t.Subscripts → Type 0
+    AreSubscripts t.no_subscripts = Unit {0}
+    AreSubscripts (t.more_subscripts x ss) = IsSubscript x × AreSubscripts ss
+
+    pub IsSubscript : t.Subscript → Type 0
+    IsSubscript (t.element x) = IsOfRank x 0
+    IsSubscript (t.triplet l u x) = IsOptionalScalar l × IsOptionalScalar u × IsOptionalScalar x
+
+    pub IsPart : t.Designator → ℕ → Type 0
+    IsPart (t.part o ss sel) r = AreSubscripts ss × IsSection ss r × IsSelector sel
+
+    pub IsSelector : t.Selector → Type 0
+    IsSelector t.no_selector = Unit {0}
+    IsSelector (t.selector cs which stat) = AreScalars cs × IsTeam which × IsOptionalResult stat
+
+    pub IsTeam : t.SelectedTeam → Type 0
+    IsTeam t.current = Unit {0}
+    IsTeam (t.team x) = IsOfRank x 0
+    IsTeam (t.team_number x) = IsOfRank x 0
+
+    -- a variable that a statement sets: a scalar, or an element
+    pub IsResult : t.ResultVariable → Type 0
+    IsResult (t.result_variable v es k) = AreScalars es × (count_of es ≤ 3)
+
+    pub IsOptionalResult : t.OptionalResult → Type 0
+    IsOptionalResult t.no_result = Unit {0}
+    IsOptionalResult (t.result x) = IsResult x
+
+    -- each actual argument is of its dummy's rank (15.5.2.4)
+    pub ArePassed : List Variable → List Dummy → t.Arguments → Type 0
+    ArePassed vs ds t.no_arguments = Unit {0}
+    ArePassed vs [] (t.more_arguments x es) = Unit {0}
+    ArePassed vs (d ∷ ds) (t.more_arguments x es) = IsPassed x (rank_in vs d.variable) × ArePassed vs ds es
+
+    pub IsPassed : t.Argument → ℕ → Type 0
+    IsPassed (t.value x) r = IsOfRank x r
+    IsPassed (t.variable d) r = IsVariable d r
+
+    -- a local variable or a part of one
+    pub IsVariable : t.Designator → ℕ → Type 0
+    IsVariable (t.part (objects.Local v) ss sel) r = AreSubscripts ss × IsSection ss r
+    IsVariable (t.part (objects.Constant n) ss sel) r = ⊥
+    IsVariable (t.part (objects.Coarray c) ss sel) r = ⊥
+
+    -- the intrinsic functions (16.9)
+    pub HasIntrinsicRank : t.Intrinsic → ℕ → Type 0
+    HasIntrinsicRank (t.abs x) r = (r ≡ 0) × IsOfRank x 0
+    HasIntrinsicRank (t.remainder x y o) r = (r ≡ 0) × IsOfRank x 0 × IsOfRank y 0
+    HasIntrinsicRank (t.modulo x y o) r = (r ≡ 0) × IsOfRank x 0 × IsOfRank y 0
+    HasIntrinsicRank (t.min es) r = (r ≡ 0) × AreSomeScalars es
+    HasIntrinsicRank (t.max es) r = (r ≡ 0) × AreSomeScalars es
+    HasIntrinsicRank t.huge r = r ≡ 0
+    HasIntrinsicRank (t.int x) r = (r ≡ 0) × IsOfRank x 0
+    HasIntrinsicRank (t.size x d o) r = (r ≡ 0) × IsArray x × IsOptionalScalar d
+    HasIntrinsicRank (t.lbound x d o) r = (r ≡ 0) × IsArray x × IsOfRank d 0
+    HasIntrinsicRank (t.ubound x d o) r = (r ≡ 0) × IsArray x × IsOfRank d 0
+    HasIntrinsicRank (t.allocated x) r = (r ≡ 0) × IsNamed x
+    HasIntrinsicRank (t.this_image which) r = (r ≡ 0) × IsOptionalScalar which
+    HasIntrinsicRank (t.this_cosubscript c d which o) r = (r ≡ 0) × IsOfRank d 0 × IsOptionalScalar which
+    HasIntrinsicRank (t.num_images which) r = (r ≡ 0) × IsOptionalScalar which
+    HasIntrinsicRank (t.num_images_of_number n) r = (r ≡ 0) × IsOfRank n 0
+    HasIntrinsicRank (t.image_index c sub which o) r = (r ≡ 0) × IsArray sub × IsOptionalScalar which
+    HasIntrinsicRank (t.image_status i which o) r = (r ≡ 0) × IsOfRank i 0 × IsOptionalScalar which
+    HasIntrinsicRank (t.failed_images which) r = (1 ≤ r) × IsOptionalScalar which
+    HasIntrinsicRank (t.stopped_images which) r = (1 ≤ r) × IsOptionalScalar which
+    HasIntrinsicRank (t.number_of_team which) r = (r ≡ 0) × IsOptionalScalar which
+    HasIntrinsicRank (t.get_team level) r = (r ≡ 0) × IsOptionalScalar level
+
+  -- ---- statements
+  -- the variable and the value of an assignment (10.2.1)
+  abbrev pub IsAssigned : t.Designator → ℕ → t.Expression → Type 0
+  IsAssigned (t.part (objects.Local v) ss sel) r (t.typed f type q) = HasRank f q × AreSubscripts ss × IsSection ss r × ScalarToScalar ss r q
+  IsAssigned (t.part (objects.Coarray c) ss sel) r (t.typed f type q) = HasRank f q × IsPart (t.part (objects.Coarray c) ss sel) r
+  IsAssigned (t.part (objects.Constant n) ss sel) r x = ⊥
+
+  abbrev pub IsItem : s.Item → Type 0
+  IsItem (s.literal n) = Unit {0}
+  IsItem (s.value x) = IsRanked x
+
+  abbrev pub AreItems : List s.Item → Type 0
+  AreItems [] = Unit {0}
+  AreItems (x ∷ xs) = IsItem x × AreItems xs
+
+  -- a scalar coarray, or an element of one: a lock, an event, an atom
+  abbrev pub IsCell : t.Designator → Type 0
+  IsCell (t.part (objects.Coarray c) ss sel) = IsPart (t.part (objects.Coarray c) ss sel) 0
+  IsCell (t.part (objects.Local v) ss sel) = ⊥
+  IsCell (t.part (objects.Constant n) ss sel) = ⊥
+
+  -- this image's (11.6.8)
+  abbrev pub IsOwnCell : t.Designator → Type 0
+  IsOwnCell (t.part (objects.Coarray c) ss t.no_selector) = IsPart (t.part (objects.Coarray c) ss t.no_selector) 0
+  IsOwnCell (t.part (objects.Coarray c) ss (t.selector cs which stat)) = ⊥
+  IsOwnCell (t.part (objects.Local v) ss sel) = ⊥
+  IsOwnCell (t.part (objects.Constant n) ss sel) = ⊥
+
+  abbrev pub AreBounds : List s.AllocatedBounds → Type 0
+  AreBounds [] = Unit {0}
+  AreBounds (b ∷ bs) = IsOptionalScalar b.lower × IsOfRank b.upper 0 × AreBounds bs
+
+  abbrev pub IsAllocation : s.Allocation → Type 0
+  IsAllocation (s.allocate_local v type bs) = AreBounds bs
+  IsAllocation (s.allocate_coarray c bs cs l) = AreBounds bs × AreBounds cs × IsOptionalScalar l
+
+  abbrev pub AreAllocations : List s.Allocation → Type 0
+  AreAllocations [] = Unit {0}
+  AreAllocations (x ∷ xs) = IsAllocation x × AreAllocations xs
+
+  abbrev pub AreImages : s.ImageSet → Type 0
+  AreImages s.all_images = Unit {0}
+  AreImages (s.images x) = IsRanked x
+
+  -- the argument of a collective, which isn't coindexed (16.6)
+  abbrev pub IsCollected : t.Designator → ℕ → Type 0
+  IsCollected (t.part (objects.Local v) ss sel) r = AreSubscripts ss × IsSection ss r
+  IsCollected (t.part (objects.Coarray c) ss t.no_selector) r = AreSubscripts ss × IsSection ss r
+  IsCollected (t.part (objects.Coarray c) ss (t.selector cs which stat)) r = ⊥
+  IsCollected (t.part (objects.Constant n) ss sel) r = ⊥
+
+  abbrev pub IsOnceIfGiven : List ℕ → t.OptionalExpression → ℕ → Type 0
+  IsOnceIfGiven ds t.missing d = Unit {0}
+  IsOnceIfGiven ds (t.given x) d = IsOptionalScalar (t.given x) × IsOnce ds d
+
+  abbrev pub IsStat : List ℕ → t.OptionalResult → ℕ → Type 0
+  IsStat ds t.no_result d = Unit {0}
+  IsStat ds (t.result x) d = IsResult x × IsOnce ds d
+
+  abbrev pub IsSubroutine : s.IntrinsicSubroutine → List ℕ → Type 0
+  IsSubroutine (s.atomic_define d k x stat) ds = IsCell d × IsOnce ds 0 × IsOfRank x 0 × IsOnce ds 1 × IsStat ds stat 2
+  IsSubroutine (s.atomic_ref r d k stat) ds = IsResult r × IsOnce ds 0 × IsCell d × IsOnce ds 1 × IsStat ds stat 2
+  IsSubroutine (s.atomic_change c d x stat) ds = IsCell d × IsOnce ds 0 × IsOfRank x 0 × IsOnce ds 1 × IsStat ds stat 2
+  IsSubroutine (s.atomic_fetch c d x old stat) ds = IsCell d × IsOnce ds 0 × IsOfRank x 0 × IsOnce ds 1 × IsResult old × IsOnce ds 2 × IsStat ds stat 3
+  IsSubroutine (s.atomic_cas d k old x y stat) ds =
+      IsCell d × IsOnce ds 0 × IsResult old × IsOnce ds 1 × IsOfRank x 0 × IsOnce ds 2 × IsOfRank y 0 × IsOnce ds 3 × IsStat ds stat 4
+  IsSubroutine (s.event_query d count stat) ds = IsCell d × IsOnce ds 0 × IsResult count × IsOnce ds 1 × IsStat ds stat 2
+  IsSubroutine (s.combine c x root stat) ds = IsCollected x.variable x.rank × IsOnce ds 0 × IsOnceIfGiven ds root 1 × IsStat ds stat 2
+  IsSubroutine (s.broadcast x root stat) ds = IsCollected x.variable x.rank × IsOnce ds 0 × IsOfRank root 0 × IsOnce ds 1 × IsStat ds stat 2
+
+  abbrev mutual
+    pub IsStatement : s.StatementForm → Type 0
+    IsStatement (s.assign d type r x) = IsAssigned d r x
+    IsStatement (s.assign_images v k images which) = IsOptionalScalar which
+    IsStatement (s.call n es) = GivesNothing (procedure_at n).answer × ArePassed (procedure_at n).unit.variables (procedure_at n).dummies es
+    IsStatement (s.call_intrinsic i w) = IsSubroutine i (written_dummies w)
+    IsStatement (s.print f items) = AreItems items
+    IsStatement (s.exit n) = Unit {0}
+    IsStatement (s.cycle n) = Unit {0}
+    IsStatement s.return = Unit {0}
+    IsStatement (s.stop code) = IsOptionalScalar code
+    IsStatement (s.error_stop code) = IsOptionalScalar code
+    IsStatement s.fail_image = Unit {0}
+    IsStatement (s.allocate xs stat) = AreAllocations xs × IsOptionalResult stat
+    IsStatement (s.deallocate xs stat) = IsOptionalResult stat
+    IsStatement (s.sync_all stat) = IsOptionalResult stat
+    IsStatement (s.sync_memory stat) = IsOptionalResult stat
+    IsStatement (s.sync_images is stat) = AreImages is × IsOptionalResult stat
+    IsStatement (s.sync_team x stat) = IsOfRank x 0 × IsOptionalResult stat
+    IsStatement (s.form_team x v index stat order) = IsOfRank x 0 × IsOptionalScalar index × IsOptionalResult stat
+    IsStatement (s.lock d acquired stat order) = IsCell d × IsOptionalResult acquired × IsOptionalResult stat
+    IsStatement (s.unlock d stat) = IsCell d × IsOptionalResult stat
+    IsStatement (s.event_post d stat) = IsCell d × IsOptionalResult stat
+    IsStatement (s.event_wait d until stat order) = IsOwnCell d × IsOptionalScalar until × IsOptionalResult stat
+    IsStatement (s.if x body others none) = IsOfRank x 0 × AreStatements body × AreElseIfs others × AreStatements none
+    IsStatement (s.do_counted v k first last step n body) = IsOfRank first 0 × IsOfRank last 0 × IsOptionalScalar step × AreStatements body
+    IsStatement (s.do_while x body) = IsOfRank x 0 × AreStatements body
+    IsStatement (s.do_forever body) = AreStatements body
+    IsStatement (s.select x n cs none) = IsOfRank x 0 × AreCases cs × AreStatements none
+    IsStatement (s.critical n stat body m) = IsOptionalResult stat × AreStatements body
+    IsStatement (s.change_team x stat body end_stat m) = IsOfRank x 0 × IsOptionalResult stat × AreStatements body × IsOptionalResult end_stat
+
+    pub AreStatements : s.Statements → Type 0
+    AreStatements s.no_statements = Unit {0}
+    AreStatements (s.more_statements (s.on_line f l) ss) = IsStatement f × AreStatements ss
+
+    pub AreElseIfs : s.ElseIfs → Type 0
+    AreElseIfs s.no_else_ifs = Unit {0}
+    AreElseIfs (s.more_else_ifs x body l others) = IsOfRank x 0 × AreStatements body × AreElseIfs others
+
+    pub AreCases : s.Cases → Type 0
+    AreCases s.no_cases = Unit {0}
+    AreCases (s.more_cases rs body l others) = AreStatements body × AreCases others
+
+  abbrev pub AreProcedures : List s.Procedure → Type 0
+  AreProcedures [] = Unit {0}
+  AreProcedures (q ∷ qs) = AreStatements q.unit.statements × AreProcedures qs
+
+-- each statement of the program, and of each of its procedures
+abbrev pub IsRankedProgram : s.Program → Type 0
+IsRankedProgram p = AreStatements p.procedures p.main.statements × AreProcedures p.procedures p.procedures
