@@ -1,4 +1,5 @@
-# Prints the entries of docs/REFUSALS.md whose number or name is CAF_WORD, and ends with 1 where there is none. CAF_TABLES is that file.
+# Prints the entries of docs/REFUSALS.md whose number or name is CAF_WORD, or what there is in the place of that form of Fortran, and ends with 1 where there is
+# nothing. CAF_TABLES is that file.
 
 BEGIN {
     word = tolower(ENVIRON["CAF_WORD"])
@@ -8,6 +9,11 @@ BEGIN {
         if (tolower(key_at[entry]) != word && tolower(name[entry]) != word) continue
         if (found++) print ""
         explain(entry)
+    }
+    if (("left " word) in meaning) {
+        if (found++) print ""
+        print "there is no " toupper(word)
+        print "    " meaning["left " word]
     }
     exit found == 0
 }
@@ -25,6 +31,7 @@ function explain(entry,   kind) {
     print "    " meaning[entry]
     if (entry in output) print "    standard output: " output[entry]
     if (entry in standard) print "    " (standard[entry] ~ /^[0-9]/ ? "ISO/IEC 1539-1:2018, " : "") standard[entry]
+    if (kind == "status" && (key_at[entry] in advice)) print "    what to do: " advice[key_at[entry]]
     if (entry in example) show_example(example[entry], place[entry])
     if ((kind == "status" || kind == "refusal" || kind == "fault") && !(entry in is_told) && entry != "status 1") {
         print "    today's program doesn't tell it yet"

@@ -1,5 +1,6 @@
 # The tables of docs/REFUSALS.md, read by read_tables. An entry is a kind and a key: refusal 32, status 8, fault Overflow, code 6001, wait leave, limit stamp.
-# Its cells are in name, meaning, standard, example and place, by entry; is_told tells which of them today's program tells.
+# Its cells are in name, meaning, standard, example and place, by entry; is_told tells which of them today's program tells. What to do after a status is in
+# advice, by status, and what stands in the place of a form that isn't read is in meaning["left WORD"].
 
 function kind_of(section) {
     if (section == "Statuses") return "status"
@@ -8,6 +9,8 @@ function kind_of(section) {
     if (section == "Codes of a status") return "code"
     if (section == "What an image waits for") return "wait"
     if (section == "Limits") return "limit"
+    if (section == "What to do") return "advice"
+    if (section == "What of Fortran isn't read") return "left"
     return ""
 }
 
@@ -16,7 +19,7 @@ function plain(text) {
     return text
 }
 
-function keep_row(kind, cells, count,   entry) {
+function keep_row(kind, cells,   entry) {
     entry = kind " " cells[1]
     entries[++entry_count] = entry
     kind_at[entry] = kind
@@ -35,12 +38,17 @@ function keep_row(kind, cells, count,   entry) {
     }
 }
 
+function keep_left(list, text,   words, count, i) {
+    count = split(list, words, " ")
+    for (i = 1; i <= count; i++) meaning["left " words[i]] = plain(text)
+}
+
 function keep_told(kind, list,   words, count, i) {
     count = split(list, words, " ")
     for (i = 1; i <= count; i++) is_told[kind " " words[i]] = 1
 }
 
-function read_tables(path,   line, kind, in_rows, cells, count) {
+function read_tables(path,   line, kind, in_rows, cells) {
     while ((getline line < path) > 0) {
         if (line ~ /^## /) {
             kind = kind_of(substr(line, 4))
@@ -51,8 +59,10 @@ function read_tables(path,   line, kind, in_rows, cells, count) {
         if (line ~ /^- run faults: /) keep_told("fault", substr(line, 15))
         if (line ~ /^\|---/) in_rows = 1
         if (kind != "" && in_rows && line ~ /^\| /) {
-            count = split(substr(line, 3, length(line) - 4), cells, / [|] /)
-            keep_row(kind, cells, count)
+            split(substr(line, 3, length(line) - 4), cells, / [|] /)
+            if (kind == "advice") advice[cells[1]] = plain(cells[2])
+            else if (kind == "left") keep_left(cells[1], cells[2])
+            else keep_row(kind, cells)
         }
     }
     close(path)

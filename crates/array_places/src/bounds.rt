@@ -26,7 +26,7 @@ pub(crate) fn extent(lower: &i64, upper: &i64) -> u128
 }
 
 /// A number where it is one of kind 4; else the run fault Overflow.
-pub(crate) fn in_kind(number: &i128) -> Result<i64, u32>
+pub fn in_kind(number: &i128) -> Result<i64, u32>
     ensures { as_found result ≡ in_kind_4 number.now }
 {
     if -2_147_483_648 <= *number && *number <= 2_147_483_647 {

@@ -1,0 +1,7 @@
+mod Counting
+mod Keeping
+mod Dims
+mod Allotments
+mod Beginning
+mod Agreeing
+mod Fitting

@@ -5,6 +5,14 @@
 //! a core, and nothing takes memory after the start but what asks hold.
 #![tactic(auto)]
 
+pub mod asks;
 pub mod coarrays;
+mod cobounds;
 mod few;
+pub mod fits;
+pub mod images;
+pub mod laws;
+pub mod plans;
+pub mod sections;
 mod shape;
+mod start;

@@ -74,15 +74,17 @@ module _ (ready : List Entry → ℕ → Ask → Bool) (reply : List Entry → �
     served_answers (before ++ e ∷ []) es (served_more ready reply before e old new.0 new.1) new.2,
   )
 
-module _ {C M B : Type 0} (r : Rules C M B) (b : Beginning C M B) (t : List Entry) (fit : IsFit r b) (core : IsCoreRun r b t) where
+module _ {C M B : Type 0} (r : Rules C M B) (b : Beginning C M B) (t : List Entry)
+    (memory_answers : (made : M) (h : List Entry) (i : ℕ) (a : Ask) → Served (r.memory_ready made) (r.memory_reply made) [] h → IsTrue (r.memory_ready made h i a) → Answers a (r.memory_reply made h i a))
+    (board_answers : (made : B) (h : List Entry) (i : ℕ) (a : Ask) → Served (r.board_ready made) (r.board_reply made) [] h → IsTrue (r.board_ready made h i a) → Answers a (r.board_reply made h i a)) (core : IsCoreRun r b t) where
   -- each reply answers its ask
   answered_at : (k : ℕ) → Each (λ x. Answers x.event.ask x.event.reply) (of key_of k t)
   answered_at zero = each_keyed IsDoneAlone (λ x. Answers x.event.ask x.event.reply) key_of 0 (λ x e done. (
       let own = own_place (place_of x.event.ask) e in
       subst (Answers x.event.ask) (sym (done own)) (own_answers x.event.ask own))) t core.lawful.alone
-  answered_at (suc zero) = served_answers (r.board_ready b.board) (r.board_reply b.board) (fit.board_answers b.board) [] (at_board t) tt core.lawful.board
+  answered_at (suc zero) = served_answers (r.board_ready b.board) (r.board_reply b.board) (board_answers b.board) [] (at_board t) tt core.lawful.board
   answered_at (suc (suc j)) = elim (cases_lt j b.images) [
-    | inl l ↦ served_answers (r.memory_ready (b.memory (suc j))) (r.memory_reply (b.memory (suc j))) (fit.memory_answers (b.memory (suc j))) [] (of_memory (suc j) t) tt (core.lawful.memories (suc j) (omega arith, omega arith))
+    | inl l ↦ served_answers (r.memory_ready (b.memory (suc j))) (r.memory_reply (b.memory (suc j))) (memory_answers (b.memory (suc j))) [] (of_memory (suc j) t) tt (core.lawful.memories (suc j) (omega arith, omega arith))
     | inr g ↦ each_keyed (λ x. IsPlace b (place_of x.event.ask)) (λ x. Answers x.event.ask x.event.reply) key_of (suc (suc j))
         (λ x e place. (let there = memory_place b.images j (place_of x.event.ask) e place in let high = there.1 in absurd (omega arith))) t core.lawful.places
   ]
@@ -90,8 +92,12 @@ module _ {C M B : Type 0} (r : Rules C M B) (b : Beginning C M B) (t : List Entr
   answered : Each (λ x. Answers x.event.ask x.event.reply) t
   answered = each_of_each (λ x. Answers x.event.ask x.event.reply) key_of t answered_at
 
+  pub answered_if : (i : ℕ) → AllAnswer Answers (said_by i t)
+  answered_if i = all_said (of_image i t) (each_keyed (λ x. Answers x.event.ask x.event.reply) (λ x. Answers x.event.ask x.event.reply) image_of i (λ x e h. h) t answered)
+
+module _ {C M B : Type 0} (r : Rules C M B) (b : Beginning C M B) (t : List Entry) (fit : IsFit r b) (core : IsCoreRun r b t) where
   pub answered_by : (i : ℕ) → AllAnswer Answers (said_by i t)
-  answered_by i = all_said (of_image i t) (each_keyed (λ x. Answers x.event.ask x.event.reply) (λ x. Answers x.event.ask x.event.reply) image_of i (λ x e h. h) t answered)
+  answered_by i = answered_if r b t fit.memory_answers fit.board_answers core i
 
   -- an image that isn't of the run has no entry
   not_of_run : (i : ℕ) → (IsImage b i → ⊥) → said_by i t ≡ []

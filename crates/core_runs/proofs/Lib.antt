@@ -11,3 +11,5 @@ pub mod OrderTraces
 pub mod Fronts
 pub mod Unique
 pub mod Lawfuls
+pub mod SaysSame
+pub mod SameRuns

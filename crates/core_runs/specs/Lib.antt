@@ -10,3 +10,4 @@ pub mod Orders
 pub mod Sequences
 pub mod Traces
 pub mod Waits
+pub mod Same

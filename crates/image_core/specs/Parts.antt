@@ -1,5 +1,5 @@
 -- What the parts of a run mean.
-use Rattle.std.specs.Prelude.{ℕ, suc, ◌≡◌, ◌<◌, ◌≤◌, ◌+◌, ◌-◌, ◌^◌, true, false, List, [], ◌∷◌, map, length, slice_index_or, Some}
+use Rattle.std.specs.Prelude.{ℕ, suc, ◌≡◌, ◌<◌, ◌≤◌, ◌+◌, ◌-◌, ◌^◌, true, false, List, [], ◌∷◌, map, length, replicate, slice_index_or, Some}
 use Rattle.caf_base.specs.declared.place.Place.{Place}
 use Rattle.caf_base.specs.declared.place.Place.TheVariants.{Memory, Board, Own}
 use Rattle.caf_events.specs.declared.object.Object as object
@@ -38,6 +38,17 @@ moment walks memory control p = record {
   histories = map memory.history p.memories.items;
   board = control.made p.board;
   board_history = control.history p.board;
+}
+
+-- the moment before the first step, of where each image stands and of what each memory and the board were made with
+abbrev pub first_moment : {C M B : Type 0} → List C → List M → B → Moment C M B
+first_moment configs memories board = record {
+  configs = configs;
+  events = replicate (length configs) [];
+  memories = memories;
+  histories = replicate (length memories) [];
+  board = board;
+  board_history = [];
 }
 
 -- what holds of the item at each place of a list, counted from 0

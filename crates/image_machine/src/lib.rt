@@ -1,6 +1,6 @@
 //! The machine of an image: it runs flat code from ask to ask.
-//! It stands on `image_code` and `image_state`; a run stands on it. So far it runs code of plain steps: numbers, scalars, frames, calls, array values of rank one, PRINT, and
-//! the asks that carry no coarray's values (`ArePlain`).
+//! It stands on `image_code`, `image_state` and `image_asks`; a run stands on it. So far it runs code of plain steps: numbers, scalars, frames, calls, array values, PRINT, and the asks
+//! that carry no coarray's values (`ArePlain`). An operand that isn't there is the run fault Bounds.
 //! Its main contract is `impl Walker for Machine`: after each event that it is given, it stands where its code stands by the instruction table; it comes to its next ask
 //! or ends, and takes no memory but for the text of a PRINT and the images of SYNC IMAGES.
 #![tactic(auto)]

@@ -1,9 +1,8 @@
 -- Array values that are there, and that aren't.
 use Rattle.std.proofs.Common.{◌≡◌, ℕ, suc, ◌+◌, ◌<◌, ◌≤◌, ℤ, true, false, List, [], ◌∷◌, ◌++◌, length, drop, refl, ap, sym, ◌∙◌, subst, arith}
-use Rattle.std.specs.Prelude.{reverse, nat_le}
+use Rattle.std.specs.Prelude.{nat_le}
 use Rattle.std.specs.List.{list_all}
 use Rattle.std.proofs.lemmas.Bool.{le-leb, lt-leb}
-use Rattle.std.proofs.lemmas.List.{length-reverse, reverse-append}
 use Rattle.walk_theory.specs.Language.{goes_to, stuck}
 use Rattle.caf_base.specs.declared.value.Kind.{Kind}
 use Rattle.caf_base.specs.Arithmetic.{fits_kind}
@@ -14,53 +13,13 @@ use Rattle.image_acts.specs.Operate.Stack.{stack_effect, behind}
 use Rattle.image_acts.specs.Operate.Operators.{operator_effect}
 use Rattle.image_acts.specs.Faults.{room, overflow}
 use Rattle.image_acts.specs.Statuses.{most_elements}
-use Rattle.std.proofs.lemmas.List.Sums.{sum_by-cons}
 use Rattle.image_state.proofs.Taking.{one_taken, none_taken}
-use Rattle.image_stores.specs.Piles.{Pile, items_in, newest, heaped, merged}
-use Rattle.image_state.specs.Kept.{Kept, array_of, arrays_in}
-use Rattle.image_state.specs.Arrays.{with_arrays, elements_on_top, with_element, merged_arrays}
+use Rattle.array_values.specs.Values.{elements_on_top, with_element, merged_arrays}
+use Rattle.image_state.specs.Kept.{Kept}
+use Rattle.image_state.specs.Arrays.{with_arrays}
 use Rattle.image_state.specs.declared.state.Acting.{Acting}
 use Rattle.image_state.specs.declared.state.Acting.TheVariants as actings
 use Rattle.image_state.specs.Acting.{with_core, Acts}
-
--- array values in piles
-pub newest_elements : (ps : List (Pile (Unit {0}) ℤ)) → reverse (newest ps) ≡ elements_on_top (arrays_in ps)
-newest_elements [] = refl
-newest_elements (p ∷ ps) = refl
-
-pub arrays_long : (ps : List (Pile (Unit {0}) ℤ)) → length (arrays_in ps) ≡ length ps
-arrays_long [] = refl
-arrays_long (p ∷ ps) = ap suc (arrays_long ps)
-
-row_of : (xs : List ℤ) (n : ℕ) (ys : List ℤ) → xs ≡ ys → n ≡ length ys → row xs n ≡ row ys (length ys)
-row_of xs n ys e f = rw (e, f) refl
-
-pub arrays_merged : (ps : List (Pile (Unit {0}) ℤ)) → arrays_in (merged ps) ≡ merged_arrays (arrays_in ps)
-arrays_merged [] = refl
-arrays_merged (p ∷ []) = refl
-arrays_merged (p ∷ q ∷ ps) =
-    let e = reverse-append p.items q.items in
-    let n : length (p.items ++ q.items) ≡ length (reverse q.items ++ reverse p.items) = sym (length-reverse (p.items ++ q.items)) ∙ ap length e in
-    ap (λ (x : Array). x ∷ arrays_in ps) (row_of (reverse (p.items ++ q.items)) (length (p.items ++ q.items)) (reverse q.items ++ reverse p.items) e n)
-
-pub arrays_dropped : (ps : List (Pile (Unit {0}) ℤ)) → arrays_in (drop 1 ps) ≡ drop 1 (arrays_in ps)
-arrays_dropped [] = refl
-arrays_dropped (p ∷ ps) = refl
-
-pub elements_many : (ps : List (Pile (Unit {0}) ℤ)) → elements_in (arrays_in ps) ≡ items_in ps
-elements_many [] = refl
-elements_many (p ∷ ps) =
-    let e = sum_by-cons (λ (x : Array). length x.elements) (array_of p) (arrays_in ps) in
-    let l = length-reverse p.items in
-    let r = elements_many ps in
-    omega arith
-
-pub element_added : (v : ℤ) (ps : List (Pile (Unit {0}) ℤ)) → arrays_in (heaped v ps) ≡ with_element v (arrays_in ps)
-element_added v [] = refl
-element_added v (p ∷ ps) =
-    let e = reverse-append (v ∷ []) p.items in
-    let n : length (v ∷ p.items) ≡ length (reverse p.items ++ v ∷ []) = sym (length-reverse (v ∷ p.items)) ∙ ap length e in
-    ap (λ (x : Array). x ∷ arrays_in ps) (row_of (reverse (v ∷ p.items)) (length (v ∷ p.items)) (reverse p.items ++ v ∷ []) e n)
 
 module _ (m : Kept) where
   none_there : (f : Array → Core → Acted) (xs : List Array) → length xs < 1 → Acts m (elim xs [ [] ↦ stuck | y ∷ ys ↦ f y (with_arrays m.core ys) ]) m actings.Stuck

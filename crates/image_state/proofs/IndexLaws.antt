@@ -8,37 +8,12 @@ use Rattle.image_acts.specs.Acts as a
 use Rattle.image_acts.specs.Core.{Array, elements_in, row}
 use Rattle.image_acts.specs.Teams.{current_team, members, counted_from}
 use Rattle.image_acts.specs.Operate.Bounds.{bounds_effect}
-use Rattle.image_state.specs.Kept.{Kept, array_of}
-use Rattle.image_stores.specs.Piles.{pile}
-use Rattle.image_state.specs.Arrays.{with_arrays, row_of}
+use Rattle.array_values.specs.Values.{row_of}
+use Rattle.array_values.proofs.RowLaws.{counted_long}
+use Rattle.image_state.specs.Kept.{Kept}
+use Rattle.image_state.specs.Arrays.{with_arrays}
 use Rattle.image_state.specs.declared.state.Acting.TheVariants as actings
 use Rattle.image_state.specs.Acting.{with_core, Acts}
-
-counted_on : (s n : ℕ) → counted_from s (suc n) ≡ counted_from s n ++ pos (s + n) ∷ []
-counted_on s zero = (let e : s ≡ s + 0 = omega arith in ap (λ k. pos k ∷ []) e)
-counted_on s (suc n) = (let e : s + 1 + n ≡ s + suc n = omega arith in ap (λ xs. pos s ∷ xs) (counted_on (s + 1) n ∙ ap (λ k. counted_from (s + 1) n ++ pos k ∷ []) e))
-
-pub counted_long : (s n : ℕ) → length (counted_from s n) ≡ n
-counted_long s zero = refl
-counted_long s (suc n) = ap suc (counted_long (s + 1) n)
-
-turned_on : (xs : List ℤ) (v : ℤ) → reverse (xs ++ v ∷ []) ≡ v ∷ reverse xs
-turned_on xs v = reverse-append xs (v ∷ [])
-
-pub counted_more : (n : ℕ) → reverse (counted_from 1 (n + 1)) ≡ pos (n + 1) ∷ reverse (counted_from 1 n)
-counted_more n =
-    let e : n + 1 ≡ suc n = omega arith in
-    let f : 1 + n ≡ n + 1 = omega arith in
-    ap (λ k. reverse (counted_from 1 k)) e ∙ ap reverse (counted_on 1 n) ∙ turned_on (counted_from 1 n) (pos (1 + n)) ∙ ap (λ k. pos k ∷ reverse (counted_from 1 n)) f
-
-pub indices_more : (ns : List ℕ) (i d : ℕ) → i < length ns → reverse (map (λ n. pos n) (take (i + 1) ns)) ≡ pos (get_or ns i d) ∷ reverse (map (λ n. pos n) (take i ns))
-indices_more ns i d h =
-    let e : i + 1 ≡ suc i = omega arith in
-    ap (λ k. reverse (map (λ n. pos n) (take k ns))) e ∙ ap (λ xs. reverse (map (λ n. pos n) xs)) (take-suc ns i d h)
-    ∙ ap reverse (map_push (λ n. pos n) (take i ns) (get_or ns i d)) ∙ turned_on (map (λ n. pos n) (take i ns)) (pos (get_or ns i d))
-
-pub row_turned : (xs : List ℤ) → array_of (pile tt (reverse xs)) ≡ row_of xs
-row_turned xs = rw (reverse-reverse xs, length-reverse xs) refl
 
 take_map : (n : ℕ) (ns : List ℕ) → map (λ n. pos n) (take n ns) ≡ take n (map (λ n. pos n) ns)
 take_map zero ns = refl

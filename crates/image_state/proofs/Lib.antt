@@ -3,7 +3,8 @@ pub mod Taking
 pub mod LoopLaws
 pub mod StackLaws
 pub mod ArrayLaws
+pub mod BoundsLaws
 pub mod PrintLaws
 pub mod TeamLaws
-pub mod AskLaws
 pub mod IndexLaws
+pub mod PlainLaws

@@ -13,7 +13,7 @@ use Rattle.image_acts.specs.Teams.{current_team, members, members_of, team_in, i
 use Rattle.image_acts.specs.Operate.Selecting.{selector_effect}
 use Rattle.image_acts.specs.Operate.Bounds.{bounds_effect}
 use Rattle.image_state.specs.Kept.{Kept, images_from, initial_team}
-use Rattle.image_state.specs.Arrays.{elements_on_top}
+use Rattle.array_values.specs.Values.{elements_on_top}
 use Rattle.image_state.specs.declared.state.Acting.TheVariants as actings
 use Rattle.image_state.specs.Acting.{with_core, Acts}
 use Rattle.image_state.proofs.Taking.{one_taken}

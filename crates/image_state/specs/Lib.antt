@@ -2,5 +2,5 @@ pub mod Plain
 pub mod Kept
 pub mod Acting
 pub mod Arrays
+pub mod Places
 pub mod Texts
-pub mod Asking

@@ -8,15 +8,17 @@ ghost use Rattle.image_acts.specs.Core.{with_values, elements_in};
 ghost use Rattle.image_acts.specs.Operate.Stack.{stack_effect};
 ghost use Rattle.image_acts.specs.Operate.Operators.{operator_effect};
 ghost use Rattle.image_state.specs.Acting.{with_core, Acts};
-ghost use Rattle.image_state.specs.Arrays.{with_arrays, elements_on_top, with_element, merged_arrays};
+ghost use Rattle.array_values.specs.Values.{elements_on_top, with_element, merged_arrays};
+ghost use Rattle.image_state.specs.Arrays.{with_arrays};
 
 use crate::state::{Acting, ImageState, MOST_CELLS, MOST_ITEMS, ROOM};
+use array_values::extents::Extents;
 use caf_base::value::Kind;
 use number_operators::arithmetic::{OVERFLOW, is_of_kind};
 
 impl ImageState {
     /// Whether there are so many array values.
-    pub(crate) fn has_arrays(&self, n: usize) -> bool
+    pub fn has_arrays(&self, n: usize) -> bool
         ensures there { IsTrue result → n ≤ length self.now.core.arrays }
         ensures not { IsFalse result → length self.now.core.arrays < n }
     {
@@ -24,14 +26,14 @@ impl ImageState {
     }
 
     /// The elements of the top array, none where there is no array.
-    pub(crate) fn elements(&self) -> &[i64]
+    pub fn elements(&self) -> &[i64]
         ensures { result.now ≡ elements_on_top self.now.core.arrays }
     {
-        self.arrays.newest()
+        self.arrays.elements()
     }
 
     /// Drops the top array.
-    pub(crate) fn drop_top_array(&mut self)
+    pub fn drop_top_array(&mut self)
         requires { 0 < length self.old.core.arrays }
         ensures { self.new ≡ with_core self.old (with_arrays self.old.core (drop 1 self.old.core.arrays)) }
     {
@@ -50,12 +52,11 @@ impl ImageState {
         requires { length self.old.core.arrays < self.old.rooms.arrays }
         ensures { Acts self.old (stack_effect acts.empty_array self.old.core) self.new result }
     {
-        self.arrays.begin(());
+        self.arrays.begin(Extents::One(0));
         Acting::Done
     }
 
     /// Whether there is no room for a further element.
-    #[tactic(auto, using(crate::proofs::ArrayLaws::elements_many))]
     fn is_array_full(&self) -> bool
         ensures full { IsTrue result → 131072 ≤ elements_in self.now.core.arrays }
         ensures not { IsFalse result → elements_in self.now.core.arrays < 131072 }
@@ -64,7 +65,6 @@ impl ImageState {
     }
 
     /// Puts an element behind those of the top array.
-    #[tactic(auto, using(crate::proofs::ArrayLaws::arrays_long, crate::proofs::ArrayLaws::elements_many, crate::proofs::ArrayLaws::element_added))]
     fn add_element(&mut self, v: i64)
         requires there { 0 < length self.old.core.arrays }
         requires room { elements_in self.old.core.arrays < 131072 }

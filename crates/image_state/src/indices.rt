@@ -1,21 +1,19 @@
 //! Array values of image indices: of all images of the current team, and those in a reply.
 
-ghost use Rattle.std.specs.Prelude.{◌≡◌, ◌<◌, ◌≤◌, ◌+◌, ◌-◌, ◌∷◌, [], pos, length, map, min, reverse, take};
+ghost use Rattle.std.specs.Prelude.{◌≡◌, ◌<◌, ◌≤◌, ◌+◌, ◌-◌, ◌∷◌, pos, length, map, min, take};
 ghost use Rattle.image_acts.specs.Acts as acts;
-ghost use Rattle.image_acts.specs.Core.{elements_in, row};
+ghost use Rattle.image_acts.specs.Core.{elements_in};
 ghost use Rattle.image_acts.specs.Teams.{counted_from};
 ghost use Rattle.image_acts.specs.Operate.Bounds.{bounds_effect};
-ghost use Rattle.image_stores.specs.Piles.{pile, items_in};
 ghost use Rattle.image_state.specs.Acting.{with_core, Acts};
-ghost use Rattle.image_state.specs.Arrays.{with_arrays, row_of};
+ghost use Rattle.array_values.specs.Values.{row_of};
+ghost use Rattle.image_state.specs.Arrays.{with_arrays};
 
 use crate::state::{Acting, ImageState, MOST_ITEMS, ROOM};
-use image_stores::piles::Piles;
 
 impl ImageState {
     /// For how many elements there is room.
-    #[tactic(auto, using(crate::proofs::ArrayLaws::elements_many))]
-    fn spare(&self) -> usize
+    pub(crate) fn spare(&self) -> usize
         ensures { result + elements_in self.now.core.arrays ≡ 131072 }
     {
         MOST_ITEMS - self.arrays.total()
@@ -35,23 +33,22 @@ impl ImageState {
     }
 
     /// Begins an array value with the numbers from 1 to n.
-    #[tactic(auto, using(crate::proofs::ArrayLaws::arrays_long, crate::proofs::ArrayLaws::elements_many, crate::proofs::IndexLaws::row_turned))]
     fn begin_counted(&mut self, n: u32)
         requires place { length self.old.core.arrays < self.old.rooms.arrays }
         requires room { elements_in self.old.core.arrays + n ≤ 131072 }
         ensures { self.new ≡ with_core self.old (with_arrays self.old.core (row_of (counted_from 1 n) ∷ self.old.core.arrays)) }
     {
-        put_counted(&mut self.arrays, n);
+        self.arrays.begin_counted(n);
     }
 
     /// Begins an array value with these indices, as far as there is room.
-    #[tactic(auto, using(crate::proofs::ArrayLaws::arrays_long, crate::proofs::ArrayLaws::elements_many, crate::proofs::IndexLaws::row_turned, crate::proofs::IndexLaws::take_kept, crate::proofs::IndexLaws::take_within))]
-    pub(crate) fn begin_indices(&mut self, indices: &[u32])
+    #[tactic(auto, using(crate::proofs::IndexLaws::take_kept, crate::proofs::IndexLaws::take_within))]
+    pub fn begin_indices(&mut self, indices: &[u32])
         requires { length self.old.core.arrays < self.old.rooms.arrays }
         ensures { self.new ≡ with_core self.old (with_arrays self.old.core (row_of (take (131072 - elements_in self.old.core.arrays) (map (λ n. pos n) indices.now)) ∷ self.old.core.arrays)) }
     {
         let kept = lesser(indices.len(), self.spare());
-        put_all(&mut self.arrays, &indices[..kept]);
+        self.arrays.begin_row(&indices[..kept]);
     }
 }
 
@@ -60,30 +57,4 @@ fn lesser(n: usize, m: usize) -> usize
     ensures { result ≡ min n m }
 {
     if n < m { n } else { m }
-}
-
-/// Begins an array value with the numbers from 1 to n.
-#[tactic(auto, using(crate::proofs::IndexLaws::counted_more))]
-fn put_counted(arrays: &mut Piles<(), i64>, n: u32)
-    requires place { length arrays.old.piles < arrays.old.most }
-    requires room { items_in arrays.old.piles + n ≤ arrays.old.size }
-    ensures { arrays.new ≡ record { piles = pile tt (reverse (counted_from 1 n)) ∷ arrays.old.piles; most = arrays.old.most; size = arrays.old.size } }
-{
-    arrays.begin(());
-    for i in 0..n {
-        arrays.add(i64::from(i) + 1);
-    }
-}
-
-/// Begins an array value with these numbers.
-#[tactic(auto, using(crate::proofs::IndexLaws::indices_more))]
-fn put_all(arrays: &mut Piles<(), i64>, ns: &[u32])
-    requires place { length arrays.old.piles < arrays.old.most }
-    requires room { items_in arrays.old.piles + length ns.now ≤ arrays.old.size }
-    ensures { arrays.new ≡ record { piles = pile tt (reverse (map (λ n. pos n) ns.now)) ∷ arrays.old.piles; most = arrays.old.most; size = arrays.old.size } }
-{
-    arrays.begin(());
-    for i in 0..ns.len() {
-        arrays.add(i64::from(ns[i]));
-    }
 }

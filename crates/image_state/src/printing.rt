@@ -1,6 +1,6 @@
 //! Texts that were begun, and what is to be printed (ISO/IEC 1539-1:2018, 12.6.3).
 
-ghost use Rattle.std.specs.Prelude.{◌≡◌, ◌<◌, ◌≤◌, ◌+◌, ◌∷◌, [], drop, length, IsTrue, IsFalse, IfOk};
+ghost use Rattle.std.specs.Prelude.{◌≡◌, ◌<◌, ◌≤◌, ◌+◌, ◌∷◌, [], drop, length, map, IsTrue, IsFalse, IfOk};
 ghost use Rattle.std.specs.Option.{option_map};
 ghost use Rattle.image_acts.specs.Acts as acts;
 ghost use Rattle.image_acts.specs.Core.{with_values};
@@ -8,21 +8,26 @@ ghost use Rattle.image_acts.specs.Taking.{using};
 ghost use Rattle.walk_theory.specs.Terms.{found, at_fault};
 ghost use Rattle.image_acts.specs.Faults.{format_fault};
 ghost use Rattle.image_acts.specs.Operate.Printing.{open_items, printed, print_effect, text_of};
+ghost use Rattle.image_acts.specs.Operate.Printing.{item_of as item_of_kind};
+ghost use Rattle.image_stores.specs.Piles.{items_in};
+ghost use Rattle.array_values.specs.Values.{elements_on_top};
 ghost use Rattle.print_text.specs.Items.{text_at, item_of, IsFound};
 ghost use Rattle.image_state.specs.Acting.{with_core, Acts};
 ghost use Rattle.image_state.specs.Kept.{texts_of};
-ghost use Rattle.image_state.specs.Texts.{with_texts, with_item, innermost, begun, value_printed};
+ghost use Rattle.image_state.specs.Texts.{with_texts, with_item, with_items, innermost, begun, value_printed, element_item, heaped_all};
 
 use crate::state::{Acting, ImageState, MOST_CELLS, MOST_ITEMS, ROOM};
 use caf_base::listing::Text;
 use caf_base::refusal::NoMemory;
+use caf_base::value::Kind;
+use image_stores::piles::Piles;
 use print_text::item::Item;
 use print_text::{fault_of, text_of};
 
 impl ImageState {
     /// Whether a text was begun.
     #[tactic(auto, using(crate::proofs::PrintLaws::texts_long))]
-    pub(crate) fn has_text(&self) -> bool
+    pub fn has_text(&self) -> bool
         ensures there { IsTrue result → 0 < length self.now.core.printing }
         ensures not { IsFalse result → length self.now.core.printing ≡ 0 }
     {
@@ -59,7 +64,7 @@ impl ImageState {
 
     /// Drops the innermost text.
     #[tactic(auto, using(crate::proofs::PrintLaws::texts_long, crate::proofs::PrintLaws::text_ended))]
-    pub(crate) fn end_text(&mut self)
+    pub fn end_text(&mut self)
         requires { 0 < length self.old.core.printing }
         ensures { self.new ≡ with_core self.old (with_texts self.old.core (drop 1 self.old.core.printing)) }
     {
@@ -148,9 +153,46 @@ impl ImageState {
         self.add_item(item);
     }
 
+    /// Whether there is no room for the elements of the top array among the items.
+    #[tactic(auto, using(crate::proofs::PrintLaws::items_open))]
+    fn is_full_for_array(&self) -> bool
+        ensures full { IsTrue result → 131072 < open_items self.now.core.printing + length (elements_on_top self.now.core.arrays) }
+        ensures not { IsFalse result → open_items self.now.core.printing + length (elements_on_top self.now.core.arrays) ≤ 131072 }
+    {
+        self.elements().len() > MOST_ITEMS - self.prints.total()
+    }
+
+    /// Adds the elements of the top array to the innermost text.
+    #[tactic(auto, using(crate::proofs::PrintLaws::texts_long, crate::proofs::PrintLaws::items_open, crate::proofs::PrintLaws::items_added))]
+    fn add_elements(&mut self, kind: Kind)
+        requires there { 0 < length self.old.core.printing }
+        requires room { open_items self.old.core.printing + length (elements_on_top self.old.core.arrays) ≤ 131072 }
+        ensures { self.new ≡ with_core self.old (with_texts self.old.core (with_items (map (item_of_kind kind) (elements_on_top self.old.core.arrays)) self.old.core.printing)) }
+    {
+        put_items(&mut self.prints, kind, self.arrays.elements());
+    }
+
+    #[tactic(auto, using(crate::proofs::PrintLaws::array_not_there, crate::proofs::PrintLaws::array_without_text, crate::proofs::PrintLaws::array_too_much, crate::proofs::PrintLaws::array_printed))]
+    pub(crate) fn print_array(&mut self, kind: Kind) -> Acting
+        ensures { Acts self.old (print_effect (acts.print_array kind) self.old.core) self.new result }
+    {
+        if !self.has_arrays(1) {
+            return Acting::Stuck;
+        }
+        if !self.has_text() {
+            return Acting::Stuck;
+        }
+        if self.is_full_for_array() {
+            return Acting::Fault(ROOM);
+        }
+        self.add_elements(kind);
+        self.drop_top_array();
+        Acting::Done
+    }
+
     /// Whether the format of the innermost text has another edit descriptor than one of its items wants.
     #[tactic(auto, using(crate::proofs::PrintLaws::innermost_is))]
-    pub(crate) fn has_fault(&self) -> bool
+    pub fn has_fault(&self) -> bool
         requires { 0 < length self.now.core.printing }
         ensures faults { IsTrue result → text_of (innermost self.now.core.printing) ≡ at_fault format_fault }
         ensures prints { IsFalse result → IsFound (text_of (innermost self.now.core.printing)) }
@@ -167,7 +209,7 @@ impl ImageState {
 
     /// The innermost text.
     #[tactic(auto, using(crate::proofs::PrintLaws::innermost_is))]
-    pub(crate) fn text(&self) -> Result<Text, NoMemory>
+    pub fn text(&self) -> Result<Text, NoMemory>
         requires there { 0 < length self.now.core.printing }
         requires prints { IsFound (text_of (innermost self.now.core.printing)) }
         ensures { IfOk result (λ t. text_of (innermost self.now.core.printing) ≡ found t) }
@@ -181,5 +223,27 @@ impl ImageState {
                 self.prints.newest(),
             ),
         }
+    }
+}
+
+/// A number of this kind as an item.
+fn item_of(kind: Kind, v: i64) -> Item
+    ensures { result ≡ element_item kind v }
+{
+    match kind {
+        Kind::I4 | Kind::I8 => Item::Integer(v),
+        Kind::L4 => Item::Logical(v != 0),
+    }
+}
+
+/// Adds numbers of this kind to the newest text.
+#[tactic(auto, using(crate::proofs::PrintLaws::heaped_more, crate::proofs::PrintLaws::heaped_long, crate::proofs::PrintLaws::heaped_many))]
+fn put_items(prints: &mut Piles<Option<u32>, Item>, kind: Kind, values: &[i64])
+    requires some { 0 < length prints.old.piles }
+    requires room { items_in prints.old.piles + length values.now ≤ prints.old.size }
+    ensures { prints.new ≡ record { piles = heaped_all (map (element_item kind) values.now) prints.old.piles; most = prints.old.most; size = prints.old.size } }
+{
+    for i in 0..values.len() {
+        prints.add(item_of(kind, values[i]));
     }
 }

@@ -9,7 +9,7 @@ ghost use Rattle.image_acts.specs.Operate.Selecting.{selector_effect};
 ghost use Rattle.image_acts.specs.Operate.Bounds.{bounds_effect};
 ghost use Rattle.image_state.specs.Acting.{Acts};
 ghost use Rattle.image_state.specs.Kept.{images_from};
-ghost use Rattle.image_state.specs.Arrays.{elements_on_top};
+ghost use Rattle.array_values.specs.Values.{elements_on_top};
 
 use crate::state::{Acting, ImageState};
 use number_operators::operators::truth;

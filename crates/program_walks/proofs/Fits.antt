@@ -19,7 +19,7 @@ use Rattle.image_lanes.specs.LaneRuns.{lane_rules, lanes_begin}
 use Rattle.core_runs.specs.Beginnings.{IsOneOf}
 use Rattle.core_runs.specs.CoreRuns.{IsFit}
 use Rattle.program_walks.specs.Dues.{GoesInOrder}
-use Rattle.program_walks.specs.Hearing.{TellsNoTeam, DueToPrograms}
+use Rattle.program_walks.specs.Hearing.{TellsNoTeam, HearsEach, DueToPrograms}
 use Rattle.program_walks.specs.Runs.{program_rules, program_begins}
 use Rattle.program_walks.proofs.BoardAnswers.{board_answers, memory_answers}
 use Rattle.program_walks.proofs.Programs.{program_goes}
@@ -37,10 +37,10 @@ module _ {C : Type 0} (step : C → Move C Ask Reply) (hears : C → Reply → T
     hears = due;
   }
 
-  pub lanes_fit : ((c : C) (reply : Reply) → hears c reply) → IsFit (lane_rules step hears) (lanes_begin coarrays n first fails_at words)
+  pub lanes_fit : HearsEach step hears (λ reply. Unit {0}) → IsFit (lane_rules step hears) (lanes_begin coarrays n first fails_at words)
   lanes_fit all = fit_where (λ m moment. hears_due step hears all m)
 
-  pub lanes_fit_without : ((c : C) (reply : Reply) → TellsNoTeam reply → hears c reply)
+  pub lanes_fit_without : HearsEach step hears TellsNoTeam
       → ((m : Moment (OnLane C) MadeMemory ℕ) → IsMoment (lane_rules step hears) (lanes_begin coarrays n first fails_at words) m → DueToPrograms step TellsNoTeam (lane_rules step hears) m)
       → IsFit (lane_rules step hears) (lanes_begin coarrays n first fails_at words)
   lanes_fit_without hear due = fit_where (λ m moment. hears_no_team step hears hear m (due m moment))

@@ -11,16 +11,16 @@ use Rattle.core_runs.specs.Moments.{Moment, item_at, ready_there, reply_there}
 use Rattle.core_runs.specs.Lanes.{HearsDue}
 use Rattle.image_lanes.specs.Lanes.{Course, by_program, failing, at_end, OnLane, program_next, course_next, heard_by_program, heard_on}
 use Rattle.image_lanes.specs.LaneRuns.{lane_rules}
-use Rattle.program_walks.specs.Hearing.{TellsNoTeam, DueToPrograms}
+use Rattle.program_walks.specs.Hearing.{TellsNoTeam, HearsEach, DueToPrograms}
 
-module _ {C : Type 0} (step : C → Move C Ask Reply) (hears : C → Reply → Type 0) (Such : Reply → Type 0) (hear : (c : C) (reply : Reply) → Such reply → hears c reply) (m : Moment (OnLane C) MadeMemory ℕ) (due : DueToPrograms step Such (lane_rules step hears) m)
+module _ {C : Type 0} (step : C → Move C Ask Reply) (hears : C → Reply → Type 0) (Such : Reply → Type 0) (hear : HearsEach step hears Such) (m : Moment (OnLane C) MadeMemory ℕ) (due : DueToPrograms step Such (lane_rules step hears) m)
     (i : ℕ) (l : OnLane C) (at : item_at m.configs i ≡ Some l) where
   abbrev Due_reply : Ask → Reply
   Due_reply a = reply_there (lane_rules step hears) m i a (place_of a)
 
   by_move : (v : Move C Ask Reply) → step l.program ≡ v → l.course ≡ by_program → (a : Ask) → AsksNext (program_next l v) a → IsTrue (ready_there (lane_rules step hears) m i a (place_of a)) → heard_by_program hears l v (Due_reply a)
   by_move (goes c) s by a next ready = absurd next
-  by_move (asks b line k) s by a next ready = λ free failure room counts. hear l.program (Due_reply a) (due i l a at by (subst (λ v. AsksNext v a) (sym s) (rw (free, failure, room, counts) at next)) ready)
+  by_move (asks b line k) s by a next ready = λ free failure room counts. (let asked = subst (λ v. AsksNext v a) (sym s) (rw (free, failure, room, counts) at next) in hear l.program a (Due_reply a) asked (due i l a at by asked ready))
   by_move over s by a next ready = absurd next
 
   by_course : (course : Course) → l.course ≡ course → (a : Ask) → AsksNext (course_next step l course) a → IsTrue (ready_there (lane_rules step hears) m i a (place_of a)) → heard_on step hears l course (Due_reply a)
@@ -30,8 +30,8 @@ module _ {C : Type 0} (step : C → Move C Ask Reply) (hears : C → Reply → T
 
 module _ {C : Type 0} (step : C → Move C Ask Reply) (hears : C → Reply → Type 0) where
   -- a machine that hears every reply, and one that hears those which tell of no team
-  pub hears_due : ((c : C) (reply : Reply) → hears c reply) → (m : Moment (OnLane C) MadeMemory ℕ) → HearsDue (lane_rules step hears) m
-  hears_due all m i l a at next ready = by_course step hears (λ reply. Unit {0}) (λ c reply such. all c reply) m (λ j q b there by asked can. tt) i l at l.course refl a next ready
+  pub hears_due : HearsEach step hears (λ reply. Unit {0}) → (m : Moment (OnLane C) MadeMemory ℕ) → HearsDue (lane_rules step hears) m
+  hears_due all m i l a at next ready = by_course step hears (λ reply. Unit {0}) all m (λ j q b there by asked can. tt) i l at l.course refl a next ready
 
-  pub hears_no_team : ((c : C) (reply : Reply) → TellsNoTeam reply → hears c reply) → (m : Moment (OnLane C) MadeMemory ℕ) → DueToPrograms step TellsNoTeam (lane_rules step hears) m → HearsDue (lane_rules step hears) m
+  pub hears_no_team : HearsEach step hears TellsNoTeam → (m : Moment (OnLane C) MadeMemory ℕ) → DueToPrograms step TellsNoTeam (lane_rules step hears) m → HearsDue (lane_rules step hears) m
   hears_no_team hear m due i l a at next ready = by_course step hears TellsNoTeam hear m due i l at l.course refl a next ready

@@ -14,6 +14,10 @@ abbrev pub TellsNoTeam : Reply → Type 0
 TellsNoTeam (replies.Left status teams) = teams ≡ []
 TellsNoTeam reply = Unit {0}
 
+-- a machine hears every such reply, wherever it stands at an ask
+abbrev pub HearsEach : {C : Type 0} → (C → Move C Ask Reply) → (C → Reply → Type 0) → (Reply → Type 0) → Type 0
+HearsEach {C} step hears Such = (c : C) (a : Ask) (reply : Reply) → AsksNext (step c) a → Such reply → hears c reply
+
 -- at this moment each image that goes on by its program and stands at an ask which can come now has such a reply due
 abbrev pub DueToPrograms : {C M B : Type 0} → (C → Move C Ask Reply) → (Reply → Type 0) → Rules (OnLane C) M B → Moment (OnLane C) M B → Type 0
 DueToPrograms {C} step Such r m =

@@ -3,4 +3,3 @@ pub mod Keeping
 pub mod Ordered
 pub mod Hearing
 pub mod Runs
-pub mod Same

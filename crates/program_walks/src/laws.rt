@@ -17,7 +17,10 @@ ghost use Rattle.core_runs.specs.Lanes.{IsMoment, HearsDue};
 ghost use Rattle.core_runs.specs.CoreRuns.{IsFit, IsCoreRun};
 ghost use Rattle.core_runs.specs.Kept.{IsKept};
 ghost use Rattle.core_runs.specs.Lawful.{IsLawfulTrace};
+ghost use Rattle.core_runs.specs.Orders.{IsOrderTrace};
+ghost use Rattle.core_runs.specs.Same.{SaysAs};
 ghost use Rattle.core_runs.specs.Traces.{IsTraceOf};
+ghost use Rattle.core_runs.specs.Waits.{IsWaiting};
 ghost use Rattle.core_runs.specs.Moments.{Moment};
 ghost use Rattle.core_runs.specs.Sequences.{IsOrderly, EndsByItself, Joins, NothingAfterEnd};
 ghost use Rattle.image_lanes.specs.Lanes.{OnLane, lane_step, lane_start};
@@ -34,11 +37,11 @@ ghost use Rattle.tree_meaning.specs.Start.{first_core, start_of, walk_step};
 ghost use Rattle.program_walks.specs.Dues.{GoesInOrder};
 ghost use Rattle.program_walks.specs.Keeping.{BodiesKeep};
 ghost use Rattle.program_walks.specs.Ordered.{IsOrdered, EndsInOrder};
-ghost use Rattle.program_walks.specs.Hearing.{TellsNoTeam, DueToPrograms};
-ghost use Rattle.program_walks.specs.Same.{SaysAs};
+ghost use Rattle.program_walks.specs.Hearing.{TellsNoTeam, HearsEach, DueToPrograms};
 ghost use Rattle.program_walks.specs.Runs.{program_rules, program_begins, code_rules, code_begins};
 
 use caf_events::walker::Walker;
+use core_runs::order_laws::Choices;
 
 /// Each statement and construct of a program keeps the order of arrivals and departures, whatever has been computed and whatever the replies are.
 pub fn law_bodies_keep()
@@ -85,8 +88,8 @@ pub fn law_objects_answer()
 /// At each moment of a run of lanes an image hears the reply that is due, where its machine hears every reply; or where it hears those that tell of no team, and
 /// no other is due to a program then.
 pub fn law_lane_hears_due<M: Walker>()
-    ensures all { ((c : M.Config) (reply : Reply) → M.hears c reply) → (m : Moment (OnLane M.Config) MadeMemory ℕ) → HearsDue (lane_rules M.step M.hears) m }
-    ensures no_team { ((c : M.Config) (reply : Reply) → TellsNoTeam reply → M.hears c reply)
+    ensures all { HearsEach M.step M.hears (λ reply. Unit {0}) → (m : Moment (OnLane M.Config) MadeMemory ℕ) → HearsDue (lane_rules M.step M.hears) m }
+    ensures no_team { HearsEach M.step M.hears TellsNoTeam
         → (m : Moment (OnLane M.Config) MadeMemory ℕ) → DueToPrograms M.step TellsNoTeam (lane_rules M.step M.hears) m → HearsDue (lane_rules M.step M.hears) m }
 {}
 
@@ -94,10 +97,10 @@ pub fn law_lane_hears_due<M: Walker>()
 /// moment of the run no other is due to a program.
 pub fn law_lanes_fit<M: Walker>()
     ensures all { (coarrays : List Declared) (n : ℕ) (first : ℕ → M.Config) (fails_at : ℕ → ℕ) (words : ℕ) → ((i : ℕ) → IsOneOf n i → GoesInOrder M.step (first i))
-        → ((c : M.Config) (reply : Reply) → M.hears c reply)
+        → HearsEach M.step M.hears (λ reply. Unit {0})
         → IsFit (lane_rules M.step M.hears) (lanes_begin coarrays n first fails_at words) }
     ensures no_team { (coarrays : List Declared) (n : ℕ) (first : ℕ → M.Config) (fails_at : ℕ → ℕ) (words : ℕ) → ((i : ℕ) → IsOneOf n i → GoesInOrder M.step (first i))
-        → ((c : M.Config) (reply : Reply) → TellsNoTeam reply → M.hears c reply)
+        → HearsEach M.step M.hears TellsNoTeam
         → ((m : Moment (OnLane M.Config) MadeMemory ℕ) → IsMoment (lane_rules M.step M.hears) (lanes_begin coarrays n first fails_at words) m
         → DueToPrograms M.step TellsNoTeam (lane_rules M.step M.hears) m)
         → IsFit (lane_rules M.step M.hears) (lanes_begin coarrays n first fails_at words) }
@@ -140,11 +143,30 @@ pub fn law_images_end_by_themselves()
         → EndsByItself (lane_step (code_step image_language code limit)) (lane_start image fails_at words (at_place 0 [] (first_core p image images) 0)) }
 {}
 
-/// Lanes over programs that say the same say the same.
+/// Lanes over programs that say the same say the same, up to where they stop and on the way.
 pub fn law_lanes_say_the_same<M: Walker, N: Walker>()
-    ensures { (image fails_at limit : ℕ) (c : M.Config) (d : N.Config) → SaysAs M.step N.step c d
+    ensures says { (image fails_at limit : ℕ) (c : M.Config) (d : N.Config) → SaysAs M.step N.step c d
+        → SaysAs (lane_step M.step) (lane_step N.step) (lane_start image fails_at limit c) (lane_start image fails_at limit d) }
+    ensures walks { (image fails_at limit : ℕ) (c : M.Config) (d : N.Config) → SaysAs M.step N.step c d
         → (es : List (Said Ask Reply)) (m : OnLane M.Config) → AllAnswer Answers es → Walk (lane_step M.step) (lane_start image fails_at limit c) es m
         → (o : OnLane N.Config) × Walk (lane_step N.step) (lane_start image fails_at limit d) es o }
+{}
+
+/// So their runs are the same: the core runs, the ordered runs, and who waits after a core run.
+pub fn law_lanes_run_the_same<M: Walker, N: Walker, S: Choices>()
+    ensures core { (coarrays : List Declared) (n : ℕ) (first : ℕ → M.Config) (first' : ℕ → N.Config) (fails_at : ℕ → ℕ) (words : ℕ)
+        → ((i : ℕ) → IsOneOf n i → SaysAs M.step N.step (first i) (first' i)) → (t : List Entry)
+        → IsCoreRun (lane_rules M.step M.hears) (lanes_begin coarrays n first fails_at words) t
+        → IsCoreRun (lane_rules N.step N.hears) (lanes_begin coarrays n first' fails_at words) t }
+    ensures ordered { (coarrays : List Declared) (n : ℕ) (first : ℕ → M.Config) (first' : ℕ → N.Config) (fails_at : ℕ → ℕ) (words : ℕ)
+        → ((i : ℕ) → IsOneOf n i → SaysAs M.step N.step (first i) (first' i)) → (s : S.State) (t : List Entry)
+        → IsOrderTrace (lane_rules M.step M.hears) (lanes_begin coarrays n first fails_at words) S.chooser s t
+        → IsOrderTrace (lane_rules N.step N.hears) (lanes_begin coarrays n first' fails_at words) S.chooser s t }
+    ensures waits { (coarrays : List Declared) (n : ℕ) (first : ℕ → M.Config) (first' : ℕ → N.Config) (fails_at : ℕ → ℕ) (words : ℕ)
+        → ((i : ℕ) → IsOneOf n i → SaysAs M.step N.step (first i) (first' i)) → (t : List Entry)
+        → IsCoreRun (lane_rules M.step M.hears) (lanes_begin coarrays n first fails_at words) t
+        → (i line : ℕ) (ask : Ask) → IsWaiting (lane_rules M.step M.hears) (lanes_begin coarrays n first fails_at words) t i line ask
+        → IsWaiting (lane_rules N.step N.hears) (lanes_begin coarrays n first' fails_at words) t i line ask }
 {}
 
 /// The runs of a program's code are the runs of the program: a trace is a core run of lanes over the code exactly where it is one of lanes over the tree's walk.

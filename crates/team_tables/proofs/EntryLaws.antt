@@ -21,9 +21,6 @@ module _ (left older : List Entry) (e : Entry) (split : left ≡ older ++ e ∷ 
   pub known_split : (ms : List ℕ) → known_in ms left ≡ team_at ms e ∷ known_in ms older
   known_split ms = ap (known_in ms) split ∙ ap (map (team_at ms)) (reverse-append older (e ∷ []))
 
-  pub found_here : (ms : List ℕ) (t : ℕ) (o : Option Team) → team_in t (known_in ms left) ≡ o → nat_eq e.team t ≡ true → Some (team_at ms e) ≡ o
-  found_here ms t o h f = sym (ap (λ b. cond b (Some (team_at ms e)) (team_in t (known_in ms older))) f) ∙ sym (ap (team_in t) (known_split ms)) ∙ h
-
   pub found_older : (ms : List ℕ) (t : ℕ) (o : Option Team) → team_in t (known_in ms left) ≡ o → nat_eq e.team t ≡ false → team_in t (known_in ms older) ≡ o
   found_older ms t o h f = sym (ap (λ b. cond b (Some (team_at ms e)) (team_in t (known_in ms older))) f) ∙ sym (ap (team_in t) (known_split ms)) ∙ h
 

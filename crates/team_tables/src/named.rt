@@ -39,7 +39,7 @@ impl Teams {
         holds(&self.current, team)
     }
 
-    /// Whether the current team formed a team, and this image is in it.
+    /// Whether a team was formed by the current team, and this image is in it.
     pub fn is_child(&self, team: u64) -> bool
         ensures { result ≡ is_child self.now (team_in team self.now.known) }
     {
@@ -52,7 +52,7 @@ impl Teams {
         }
     }
 
-    /// Whether a team is such a one, or the current one or an ancestor of it.
+    /// Whether a team is a child of the current team with this image in it, or the current team or an ancestor of it.
     pub fn is_near(&self, team: u64) -> bool
         ensures { result ≡ is_near self.now team }
     {

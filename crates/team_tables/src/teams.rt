@@ -20,7 +20,8 @@ use std::marker::Model;
 /// The most current teams.
 const MOST_TEAMS: usize = 32_768;
 
-/// The teams that one image knows: the current ones, those that FORM TEAM made with the image's parent teams, and those of the last reply that aren't noted yet.
+/// The teams that one image knows: the current ones, the initial team and those that FORM TEAM made, and the teams of the last reply of `leave`, until they
+/// are noted.
 #[derive(Drop)]
 pub struct Teams {
     pub(crate) current: Vec<u64>,
@@ -124,7 +125,7 @@ impl Teams {
     /// Makes a team the current one. It takes no memory.
     pub fn make_current(&mut self, team: u64)
         requires small { team < 2 ^ 63 }
-        requires place { length self.old.current < 32768 }
+        requires place { length self.old.current < most_teams }
         ensures { self.new ≡ record self.old { current = team ∷ self.old.current } }
     {
         self.current.push_reserved(team);
@@ -137,7 +138,7 @@ impl Teams {
         let _ = self.current.pop();
     }
 
-    /// Makes room for the teams that the reply to a `leave` brings.
+    /// Makes room for the teams that the reply to a `leave` brings, and for noting them. After want of memory the teams are as before.
     pub fn reserve(&mut self) -> Result<(), NoMemory>
         ensures room { OnOk result (HasRoom self.new) }
         ensures same { self.new ≡ record self.old { room = self.new.room } }
@@ -148,7 +149,7 @@ impl Teams {
         Ok(())
     }
 
-    /// Takes over the teams that a round formed. It takes no memory.
+    /// Takes over the teams that a round formed, in place of those that weren't noted, as far as they fit. It takes no memory.
     pub fn hear_formed(&mut self, teams: &[FormedTeam])
         requires { HasRoom self.old }
         ensures { self.new ≡ record self.old { formed = fitting (2 * self.old.images) teams.now } }

@@ -1,0 +1,4 @@
+pub mod RowLaws
+pub mod FrameLaws
+pub mod FirstLaws
+pub mod CoreLaws

@@ -1,0 +1,28 @@
+use Rattle.std.proofs.Common.{◌≡◌, ap, sym, subst, length, reverse, vec_capacity}
+use Rattle.std.specs.Prelude.{Option}
+use Rattle.image_acts.specs.Core.{Local}
+use Rattle.image_acts.specs.Frames.{local_size}
+use Rattle.image_code.specs.Table.{scope_of}
+use Rattle.local_arrays.specs.Arrays.{array_at, refilled}
+use Rattle.local_arrays.specs.Frames.{Framed, array_of}
+use Rattle.local_arrays.proofs.FrameLaws.{kept_get, kept_within, kept_same, kept_set}
+use Rattle.local_arrays.proofs.arrays.Arrays.refill.Goals as goal
+
+pub refill-requires-clause-number : goal.refill-requires-clause-number
+refill-requires-clause-number c =
+    kept_within (scope_of c.args.scope) c.args.x c.self.inside.main c.in-Some.k c.self.inside.base c.len.result (reverse c.self.inside.bases.items) (length c.self.inside.row.arrays) c.self.invariant.0 c.self.invariant.1 c.len.ensures c.in-Some.ensures.some
+
+pub refill-requires-clause-as_many : goal.refill-requires-clause-as_many
+refill-requires-clause-as_many c =
+    let f = ap (λ (a : Framed). a.frames) c.self.view_is in
+    subst (λ (o : Option Local). local_size o ≡ length c.args.values.now) (kept_get (scope_of c.args.scope) c.args.x c.self.inside.main c.in-Some.k c.self.inside.base c.len.result (reverse c.self.inside.bases.items) c.self.inside.row.arrays c.args.self.now.frames f c.self.invariant.0 c.self.invariant.1 c.len.ensures c.in-Some.ensures.some) c.requires
+
+pub returns-in-Some : goal.returns-in-Some
+returns-in-Some c =
+    let f = ap (λ (a : Framed). a.frames) c.self.view_is in
+    kept_set (scope_of c.args.scope) c.args.x c.self.inside.main c.in-Some.k c.self.inside.base c.len.result (vec_capacity c.self.inside.bases) (reverse c.self.inside.bases.items) c.self.inside.row c.refill.new.self (refilled c.args.values.now (array_at c.in-Some.k c.self.inside.row.arrays)) (refilled c.args.values.now (array_of (scope_of c.args.scope) c.args.x c.args.self.now.frames)) c.args.self.now c.self.view_is c.self.invariant.0 c.self.invariant.1 c.len.ensures c.in-Some.ensures.some c.refill.ensures (ap (λ (o : Option Local). (refilled c.args.values.now o)) (sym (kept_get (scope_of c.args.scope) c.args.x c.self.inside.main c.in-Some.k c.self.inside.base c.len.result (reverse c.self.inside.bases.items) c.self.inside.row.arrays c.args.self.now.frames f c.self.invariant.0 c.self.invariant.1 c.len.ensures c.in-Some.ensures.some)))
+
+pub returns-in_default : goal.returns-in_default
+returns-in_default c =
+    let f = ap (λ (a : Framed). a.frames) c.self.view_is in
+    kept_same (scope_of c.args.scope) c.args.x c.self.inside.main c.self.inside.base c.len.result (reverse c.self.inside.bases.items) c.self.inside.row.arrays (refilled c.args.values.now (array_of (scope_of c.args.scope) c.args.x c.args.self.now.frames)) c.args.self.now f c.self.invariant.0 c.self.invariant.1 c.len.ensures c.in_default.ensures.none

@@ -1,0 +1,32 @@
+use Rattle.std.proofs.Common.{◌≡◌, ◌∙◌, ◌<◌, ap, sym, subst, refl, ℕ, List, length, replicate}
+use Rattle.std.specs.Prelude.{slice_get, slice_set, Some}
+use Rattle.image_acts.specs.Places.{place_in, offsets}
+use Rattle.local_arrays.specs.declared.row.Info.{Info}
+use Rattle.local_arrays.specs.Arrays.{array_at, overwritten, HasCells}
+use Rattle.local_arrays.specs.Rows.{Rowed}
+use Rattle.local_arrays.proofs.RowLaws.{within, few_cells, over_fit, over_view, same_rowed}
+use Rattle.local_arrays.proofs.row.Row.fill.Goals as goal
+
+pub fill_part-requires-clause-within : goal.fill_part-requires-clause-within
+fill_part-requires-clause-within c =
+    let e : slice_get c.self.inside.infos.items c.args.k ≡ Some c.info_at-info.result = ap (λ (xs : List Info). slice_get xs c.args.k) (sym c.deref.ensures.value) ∙ c.info_at-info.ensures in
+    within c.self.inside.cells.items c.self.inside.infos.items c.args.k c.info_at-info.result c.self.invariant.0 e
+
+pub fill_part-requires-clause-few : goal.fill_part-requires-clause-few
+fill_part-requires-clause-few c =
+    let e : slice_get c.self.inside.infos.items c.args.k ≡ Some c.info_at-info.result = ap (λ (xs : List Info). slice_get xs c.args.k) (sym c.deref.ensures.value) ∙ c.info_at-info.ensures in
+    few_cells c.self.inside.cells.items c.self.inside.infos.items c.args.k c.info_at-info.result (place_in c.args.place.now) c.self.invariant.0 e
+    (subst (λ (r : Rowed). HasCells (array_at c.args.k r.arrays) (place_in c.args.place.now)) (sym c.self.view_is) c.requires.there)
+
+pub invariant_of-self : goal.invariant_of-self
+invariant_of-self c =
+    let e : slice_get c.self.inside.infos.items c.args.k ≡ Some c.info_at-info.result = ap (λ (xs : List Info). slice_get xs c.args.k) (sym c.deref.ensures.value) ∙ c.info_at-info.ensures in (
+      over_fit c.self.inside.cells.items c.fill_part.new.cells.items c.self.inside.infos.items c.args.k c.info_at-info.result (place_in c.args.place.now) (replicate (length (offsets (place_in c.args.place.now))) c.args.value.now) c.self.invariant.0 e c.fill_part.ensures.items,
+      subst (λ (n : ℕ). n < 4294967296) (sym c.fill_part.ensures.capacity) c.self.invariant.1,
+    )
+
+pub returns : goal.returns
+returns c =
+    let e : slice_get c.self.inside.infos.items c.args.k ≡ Some c.info_at-info.result = ap (λ (xs : List Info). slice_get xs c.args.k) (sym c.deref.ensures.value) ∙ c.info_at-info.ensures in
+    same_rowed _ _ _ _ _ _ (over_view c.self.inside.cells.items c.fill_part.new.cells.items c.self.inside.infos.items c.args.k c.info_at-info.result (place_in c.args.place.now) (replicate (length (offsets (place_in c.args.place.now))) c.args.value.now) c.self.invariant.0 e c.fill_part.ensures.items) refl c.fill_part.ensures.capacity
+    ∙ ap (λ (r : Rowed). record { arrays = slice_set r.arrays c.args.k (overwritten (place_in c.args.place.now) (replicate (length (offsets (place_in c.args.place.now))) c.args.value.now) (array_at c.args.k r.arrays)); most = r.most; size = r.size }) c.self.view_is

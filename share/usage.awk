@@ -1,0 +1,71 @@
+# Why a word of a call of `caf` is wrong, by the forms and options that the help text tells. The words are ARGV[1] to ARGV[ARGC - 1].
+
+# Reads the lines of the forms, `    caf COMMAND ..`, and of the options, `    -OPTION VALUE..  what it is`.
+function read_help(path,   line, w) {
+    while ((getline line < path) > 0 && line !~ /^Standard output/) {
+        split(line, w, " ")
+        if (line ~ /^    caf [a-z]/) {
+            form_of[w[2]] = line
+            forms = forms line "\n"
+            commands = commands (commands == "" ? "" : " or ") w[2]
+        }
+        if (line ~ /^    -/) read_option(line, w)
+    }
+    close(path)
+}
+
+function read_option(line, w,   i) {
+    line_of_option[w[1]] = line
+    for (i = 2; w[i] ~ /^[A-Z][A-Z@]*$/; i++) value_of[w[1], i - 1] = w[i]
+    values[w[1]] = i - 2
+    if (line ~ /has to be there/) needed = needed (needed == "" ? "" : " and ") w[1] (values[w[1]] > 0 ? " " w[2] : "")
+}
+
+# The words before the wrong one: `is_given` has their options, `file` is the place of FILE, and `wanted` the value that `option`, the last one, still lacks.
+function read_words(count,   i, left) {
+    for (i = 2; i < count; i++) {
+        if (left > 0) left--
+        else if (ARGV[i] in values && form_of[ARGV[1]] ~ / OPTIONS /) {
+            option = ARGV[i]
+            is_given[option] = 1
+            left = values[option]
+        } else file = i
+    }
+    wanted = left > 0 ? value_of[option, values[option] - left + 1] : ""
+}
+
+# The option that has to be there and isn't.
+function lacking(   w) {
+    if (needed == "" || form_of[ARGV[1]] !~ / OPTIONS /) return ""
+    split(needed, w, " ")
+    return w[1] in is_given ? "" : needed
+}
+
+function reason(number,   word) {
+    word = ARGV[number]
+    if (number == 1) return "the command is " commands
+    if (wanted != "") return "it has to be the " wanted " of " option
+    if (number >= ARGC) return lacking() == "" ? "it has to be FILE" : lacking() " and FILE have to be there"
+    if (file > 0) return "nothing stands behind FILE, and the options stand before it"
+    if (word in is_given) return word " stands twice"
+    if (word ~ /^-/) return "there is no such option" (form_of[ARGV[1]] ~ / OPTIONS / ? "" : " of " ARGV[1])
+    if (word == "") return "FILE is empty"
+    if (lacking() != "") return lacking() " has to stand before FILE"
+    return ""
+}
+
+# The wrong word with its reason, the words of the call with a caret below it, the form of its command (all forms where it has none), and the line of its option.
+function tell_usage(number, help,   i, said, line, why) {
+    read_help(help)
+    read_words(number)
+    why = reason(number)
+    print "caf: word " number " is " (number >= ARGC ? "missing" : "wrong, " (ARGV[number] == "" ? "''" : ARGV[number])) (why == "" ? "" : ": " why)
+    said = "caf"
+    for (i = 1; i < ARGC && i < number; i++) said = said " " ARGV[i]
+    line = said
+    for (; i < ARGC; i++) line = line " " ARGV[i]
+    print_excerpt("    ", line, length(said) + 2)
+    printf "%s", (number > 1 ? form_of[ARGV[1]] "\n" : forms)
+    if (wanted != "") print line_of_option[option]
+    else if (lacking() != "") print line_of_option[substr(needed, 1, index(needed " ", " ") - 1)]
+}
