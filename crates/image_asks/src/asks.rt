@@ -8,11 +8,13 @@ ghost use Rattle.image_acts.specs.Core.{Core, with_values};
 ghost use Rattle.image_acts.specs.Operate.Printing.{text_of};
 ghost use Rattle.print_text.specs.Items.{IsFound};
 ghost use Rattle.image_state.specs.Acting.{with_core};
+ghost use Rattle.image_state.specs.Kept.{table_of};
+ghost use Rattle.team_tables.specs.Tables.{HasRoom};
 ghost use Rattle.image_state.specs.Texts.{innermost};
 ghost use Rattle.array_values.specs.Values.{elements_on_top};
 ghost use Rattle.image_code.specs.declared.step.AskStep.TheVariants as asked;
 ghost use Rattle.caf_events.specs.declared.reply.Reply.{Reply};
-ghost use Rattle.image_asks.specs.Asking.{IsPlainAsk, HasNoTeams, named_by, ComesTo, IsAsking, IsAsked, IsAskedAt, GoesOnWith, BringsNoTeams, ask_here};
+ghost use Rattle.image_asks.specs.Asking.{IsPlainAsk, named_by, teams_heard, ComesTo, IsAsking, IsAsked, IsAskedAt, GoesOnWith, ask_here};
 
 use caf_base::listing::{Listing, Text};
 use caf_base::place::{ImageNo, Place, TeamNo};
@@ -167,7 +169,7 @@ pub fn hear(image: &mut ImageState, ask: AskStep, reply: &Reply)
     requires asks { IsAsking (ask_here image.old ask) }
     requires room { length image.old.core.values < image.old.rooms.numbers }
     requires place { length image.old.core.arrays < image.old.rooms.arrays }
-    requires teams { BringsNoTeams ask reply.now }
+    requires teams { HasRoom (table_of image.old) }
     ensures { GoesOnWith image.old (ask_here image.old ask) reply.now image.new }
 {
     match ask {
@@ -272,19 +274,30 @@ fn join(image: &mut ImageState, reply: &Reply)
     }
 }
 
-/// Puts the status of a round in the place of its team.
-#[tactic(auto, using(crate::proofs::AskLaws::departed))]
+/// Puts the status of a round in the place of its team, and takes over the teams that it formed.
+#[tactic(auto, using(crate::proofs::AskLaws::departed, crate::proofs::AskLaws::still_there))]
 fn depart(image: &mut ImageState, reply: &Reply)
     requires asks { IsAsking (ask_here image.old asked.Leave) }
-    requires teams { HasNoTeams reply.now }
+    requires teams { HasRoom (table_of image.old) }
     ensures { GoesOnWith image.old (ask_here image.old asked.Leave) reply.now image.new }
 {
     match image.top() {
         None => unreachable!(),
         Some(_) => {
-            image.none_formed();
+            hear_teams(image, reply);
             image.put_for_one(status_of(reply));
         }
+    }
+}
+
+/// Takes over the teams that a round formed.
+fn hear_teams(image: &mut ImageState, reply: &Reply)
+    requires { HasRoom (table_of image.old) }
+    ensures { image.new ≡ with_core image.old (teams_heard image.old.core reply.now) }
+{
+    match reply {
+        Reply::Left { teams, .. } => image.hear_formed(teams.as_slice()),
+        _ => {}
     }
 }
 

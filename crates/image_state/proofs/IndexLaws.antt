@@ -39,14 +39,3 @@ take_kept n ns = elim (order (length ns) n) [
 
 pub take_within : (n m : ℕ) (ns : List ℕ) → length (take (min m n) ns) ≤ n
 take_within n m ns = (let l = length-take (min m n) ns in omega arith)
-
-module _ (m : Kept) (n : ℕ) where
-  pub every_full : n ≡ length (members m.core (current_team m.core)) → 131072 < elements_in m.core.arrays + n → Acts m (bounds_effect a.every_index m.core) m (actings.Fault 11)
-  every_full e h = (let f : 131072 < elements_in m.core.arrays + length (members m.core (current_team m.core)) = omega arith in rw (lt-leb (elements_in m.core.arrays + length (members m.core (current_team m.core))) 131072 f) (refl, refl))
-
-  pub every_told : (e : Kept) → n ≡ length (members m.core (current_team m.core)) → elements_in m.core.arrays + n ≤ 131072 → e ≡ with_core m (with_arrays m.core (row_of (counted_from 1 n) ∷ m.core.arrays)) → Acts m (bounds_effect a.every_index m.core) e actings.Done
-  every_told e f h g =
-      let k : ℕ = length (members m.core (current_team m.core)) in
-      let l : elements_in m.core.arrays + k ≤ 131072 = omega arith in
-      let r : row_of (counted_from 1 n) ≡ row (counted_from 1 k) k = ap (row (counted_from 1 n)) (counted_long 1 n) ∙ ap (λ j. row (counted_from 1 j) j) f in
-      rw (le-leb (elements_in m.core.arrays + k) 131072 l) (refl, g ∙ ap (λ (x : Array). with_core m (with_arrays m.core (x ∷ m.core.arrays))) r)
