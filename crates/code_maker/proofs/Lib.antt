@@ -4,3 +4,4 @@ pub mod OpenLoops
 pub mod Programs
 pub mod Sizes
 pub mod Texts
+pub mod Refused

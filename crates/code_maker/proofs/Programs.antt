@@ -140,13 +140,17 @@ procedures_tables : (l : ℕ) (bs : List (Steps Act)) (d : Drafted) → (procedu
 procedures_tables l [] d = refl
 procedures_tables l (b ∷ bs) d = procedures_tables l bs (procedure_written l b d) ∙ ap (λ (x : Drafted). x.tables) (steps_made [] b d (lines_in d.body) refl)
 
--- code that was finished, from a draft that was empty but for its tables
-pub code_is : {E : Type 0} (r : Result Whole E) (q : Program) (d e : Drafted) (last : Act) (l : ℕ) (bs : List (Steps Act)) (xs : List ℕ) (n : ℕ) (t : Tables)
+-- the code of a draft that was empty but for its tables, and code that was finished from it
+pub code_drafted : (q : Program) (d e : Drafted) (last : Act) (l : ℕ) (bs : List (Steps Act)) (xs : List ℕ) (n : ℕ) (t : Tables)
     → d ≡ record { starts = xs; end = n; tables = t; body = kept []; took = false } → xs ≡ starts_from 4 bs → n ≡ end_from 4 bs → e ≡ program_written last l bs d
-    → ((is : List (Line Act)) → e.body ≡ kept is → code_of q ≡ is) → IfOk r (λ w. w.program ≡ q) → IfOk r (λ w. code_of w.program ≡ program_code last l bs)
-code_is r q d e last l bs xs n t h i j k m o =
-    let b : e.body ≡ kept (program_code last l bs) = ap (λ (x : Drafted). x.body) k ∙ program_made last l bs d (ap (λ (x : Drafted). x.body) h) (ap (λ (x : Drafted). x.starts) h ∙ i) (ap (λ (x : Drafted). x.end) h ∙ j) in
-    IfOk-weaker r (λ w. w.program ≡ q) (λ w. code_of w.program ≡ program_code last l bs) (λ w f. ap code_of f ∙ m (program_code last l bs) b) o
+    → ((is : List (Line Act)) → e.body ≡ kept is → code_of q ≡ is) → code_of q ≡ program_code last l bs
+code_drafted q d e last l bs xs n t h i j k m =
+    m (program_code last l bs)
+    (ap (λ (x : Drafted). x.body) k ∙ program_made last l bs d (ap (λ (x : Drafted). x.body) h) (ap (λ (x : Drafted). x.starts) h ∙ i) (ap (λ (x : Drafted). x.end) h ∙ j))
+
+pub code_is : {E : Type 0} (r : Result Whole E) (q : Program) (last : Act) (l : ℕ) (bs : List (Steps Act)) → code_of q ≡ program_code last l bs → IfOk r (λ w. w.program ≡ q)
+    → IfOk r (λ w. code_of w.program ≡ program_code last l bs)
+code_is r q last l bs e o = IfOk-weaker r (λ w. w.program ≡ q) (λ w. code_of w.program ≡ program_code last l bs) (λ w f. ap code_of f ∙ e) o
 
 pub tables_are : {E : Type 0} (r : Result Whole E) (q : Program) (d e : Drafted) (last : Act) (l : ℕ) (bs : List (Steps Act)) (xs : List ℕ) (n : ℕ) (t : Tables)
     → d ≡ record { starts = xs; end = n; tables = t; body = kept []; took = false } → e ≡ program_written last l bs d → q.tables ≡ e.tables

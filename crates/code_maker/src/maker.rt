@@ -1,24 +1,25 @@
 //! The code of a whole checked program.
 
-ghost use Rattle.std.specs.Prelude.{◌≡◌, ◌+◌, ◌++◌, ◌∷◌, [], IfOk, OnOk, map};
+ghost use Rattle.std.specs.Prelude.{◌≡◌, ◌+◌, ◌++◌, ◌∷◌, [], IfErr, IfOk, OnOk, map};
 ghost use Rattle.walk_theory.specs.Made.{program_code, steps_size};
 ghost use Rattle.checked_tree.specs.StatementViews as view;
 ghost use Rattle.image_acts.specs.Acts.{ask, end_program};
-ghost use Rattle.image_code.specs.Code.{code_of};
+ghost use Rattle.image_code.specs.Code.{IfCause, code_of};
 ghost use Rattle.image_code.specs.Table.{scope_of};
 ghost use Rattle.tree_meaning.specs.Forms.{bodies, environment_of, procedure_bodies, steps};
 ghost use Rattle.program_tables.specs.Tables.{tables_of};
+ghost use Rattle.made_code.specs.Ranks.{IsRankedProgram};
 ghost use Rattle.code_maker.specs.Programs as programs;
 
 use crate::block::push_block;
 use crate::loops::{place, sum};
 use crate::size::block_size;
-use caf_base::refusal::NoMemory;
+use caf_base::refusal::{NoMemory, Refusal};
 use checked_tree::program::{Checked, Unit};
 use expr_code::draft::Draft;
 use expr_code::env::Env;
 use expr_code::shape::narrow;
-use image_code::code::{Code, CodeDraft};
+use image_code::code::{BadCode, Code, CodeDraft};
 use image_code::step::{AskStep, Scope, Step};
 use program_tables::table::begin_code;
 use std::alloc::Global;
@@ -134,36 +135,37 @@ fn procedure_starts(alloc: Global, checked: &Checked) -> Result<Starts, NoMemory
     Ok(Starts { places, end })
 }
 
-/// The code of a draft, if it isn't refused.
-fn whole(draft: CodeDraft) -> Result<Code, NoMemory>
-    ensures { IfOk result (λ code. code.program ≡ draft) }
+/// The code of a draft that holds the code of the program.
+fn whole(draft: CodeDraft, checked: &Checked) -> Result<Code, Refusal<BadCode>>
+    requires made { code_of draft ≡ program_code (ask end_program) checked.now.end_line (bodies (view.program checked.now)) }
+    ensures whole { IfOk result (λ code. code.program ≡ draft) }
+    ensures refused { IfErr result (λ refusal. IfCause refusal (λ bad. IsRankedProgram (view.program checked.now) → ⊥)) }
 {
-    match draft.finish() {
-        Ok(code) => Ok(code),
-        Err(_) => Err(NoMemory),
-    }
+    draft.finish()
 }
 
 /// The code of a draft that is empty but for its tables.
-fn coded(code: CodeDraft, starts: Starts, checked: &Checked) -> Result<Code, NoMemory>
+fn coded(code: CodeDraft, starts: Starts, checked: &Checked) -> Result<Code, Refusal<BadCode>>
     requires empty { (code.steps ≡ []) × (code.lines ≡ []) }
     requires texts { code.tables.texts ≡ checked.now.literals.items }
     requires places { starts.places.items ≡ programs.starts_from 4 (bodies (view.program checked.now)) }
     requires end { starts.end ≡ programs.end_from 4 (bodies (view.program checked.now)) }
     ensures code { IfOk result (λ c. code_of c.program ≡ program_code (ask end_program) checked.now.end_line (bodies (view.program checked.now))) }
     ensures tables { IfOk result (λ c. c.program.tables ≡ code.tables) }
+    ensures refused { IfErr result (λ refusal. IfCause refusal (λ bad. IsRankedProgram (view.program checked.now) → ⊥)) }
 {
     let Starts { places, end } = starts;
     let mut draft = Draft::keeping(code, places, end);
     push_program(&mut draft, checked)?;
-    whole(draft.into_code())
+    whole(draft.into_code(), checked)
 }
 
-/// The code of a checked program (`program_code` of walk_theory for the bodies of `tree_meaning`), with its tables. Code that would be refused is answered as
-/// want of memory.
-pub fn make(alloc: Global, checked: &Checked) -> Result<Code, NoMemory>
+/// The code of a checked program (`program_code` of walk_theory for the bodies of `tree_meaning`), with its tables; or the first bad instruction, which
+/// there is only where some expression, designator or argument hasn't the rank that its place wants (`IsRankedProgram`).
+pub fn make(alloc: Global, checked: &Checked) -> Result<Code, Refusal<BadCode>>
     ensures code { IfOk result (λ c. code_of c.program ≡ program_code (ask end_program) checked.now.end_line (bodies (view.program checked.now))) }
     ensures tables { IfOk result (λ c. c.program.tables ≡ tables_of (view.program checked.now)) }
+    ensures refused { IfErr result (λ refusal. IfCause refusal (λ bad. IsRankedProgram (view.program checked.now) → ⊥)) }
 {
     let starts = procedure_starts(alloc, checked)?;
     let code = begin_code(alloc, checked)?;

@@ -46,7 +46,7 @@ whole_new x bs cs o rs r =
     (ap (λ y. (y ++ r.breaks) ++ backwards x.repeated.items) bs ∙ ap (λ y. r.breaks ++ backwards y) rs ∙ append-nil r.breaks)
     (ap (λ y. joined_cases x.cases (with_otherwise y r.meaning)) o ∙ joined_none_so_far x.cases r.meaning cs)
 
-pub known_new : (e : Option t.Expression) (x : CaseList) → x.otherwise ≡ None → x.ranges.items ≡ [] → known e x ≡ no_cases_known e
+pub known_new : (e : Option t.Expression) (x : CaseList) → x.otherwise ≡ None → x.ranges ≡ [] → known e x ≡ no_cases_known e
 known_new e x o rs =
     ap (λ ys. record { selector = e; ranges = ys; has_default = is_there x.otherwise }) rs
     ∙ ap (λ p. record { selector = e; ranges = []; has_default = is_there p }) o
@@ -58,7 +58,7 @@ CasesSoFar x list n e rest all = record {
 }
 
 pub cases_begin : (x : Position) (list : CaseList) (n : Numbers) (e : Option t.Expression) (all : List CaseBlock)
-    → list.breaks.items ≡ [] → option_map list_of list.cases ≡ Some [] → list.otherwise ≡ None → list.ranges.items ≡ [] → list.repeated.items ≡ [] → n ≡ numbers x
+    → list.breaks.items ≡ [] → option_map list_of list.cases ≡ Some [] → list.otherwise ≡ None → list.ranges ≡ [] → list.repeated.items ≡ [] → n ≡ numbers x
     → CasesSoFar x list n e all all
 cases_begin x list n e all bs cs o rs again f = record {
   judged = whole_new list bs cs o again (judged_cases (numbered x n) (known e list) (case_blocks all))

@@ -56,4 +56,4 @@ whole x r = record { breaks = (x.breaks.items ++ r.breaks) ++ backwards x.repeat
 
 -- what the CASE statements that follow know
 abbrev pub known : Option t.Expression → CaseList → s.Cases
-known e x = record { selector = e; ranges = x.ranges.items; has_default = is_there x.otherwise }
+known e x = record { selector = e; ranges = x.ranges; has_default = is_there x.otherwise }

@@ -16,10 +16,10 @@ ghost use Rattle.rule_definitions.specs.Judgements.{both, is_nothing, made, then
 ghost use Rattle.rule_definitions.specs.Parts.{place_of, plain as plain_part};
 ghost use Rattle.rule_definitions.specs.Statements as rules;
 
-use crate::range::overlaps_one;
 use caf_base::place::Pos;
 use caf_base::refusal::NoMemory;
 use caf_base::value::Value;
+use case_ranges::ranges::CaseRanges;
 use checked_tree::data::DataType;
 use checked_tree::expr::TypedExpr;
 use checked_tree::statement::CaseRange as TypedRange;
@@ -389,19 +389,19 @@ fn judge_range(
     alloc: Global,
     scope: &Scope<'_>,
     selector: &Option<TypedExpr>,
-    before: &mut Vec<TypedRange>,
+    before: &mut CaseRanges,
     range: &CaseRange,
 ) -> Result<Judged<TypedRange>, NoMemory>
-    ensures breaks { IfOk result (λ j. j.breaks.items ≡ (rules.judged_range scope.now (option_map expression selector.now) before.old.items (range_written range.now)).breaks) }
-    ensures meaning { IfOk result (λ j. j.meaning ≡ (rules.judged_range scope.now (option_map expression selector.now) before.old.items (range_written range.now)).meaning) }
-    ensures before { OnOk result (before.new.items ≡ rules.with_range before.old.items (rules.case_range scope.now (option_map expression selector.now) (range_written range.now)).meaning) }
+    ensures breaks { IfOk result (λ j. j.breaks.items ≡ (rules.judged_range scope.now (option_map expression selector.now) before.old (range_written range.now)).breaks) }
+    ensures meaning { IfOk result (λ j. j.meaning ≡ (rules.judged_range scope.now (option_map expression selector.now) before.old (range_written range.now)).meaning) }
+    ensures before { OnOk result (before.new ≡ rules.with_range before.old (rules.case_range scope.now (option_map expression selector.now) (range_written range.now)).meaning) }
 {
     let PlacedRange { range, at } = judge_range_alone(alloc, scope, selector, range)?;
     let Some(found) = range.meaning else {
         return Ok(range);
     };
-    let is_new = !overlaps_one(before.as_slice(), found);
-    before.push(found)?;
+    let is_new = !before.overlaps_one(found);
+    before.add(found)?;
     ruled(range, is_new, 44, at)
 }
 
@@ -410,12 +410,12 @@ pub fn judge_ranges(
     alloc: Global,
     scope: &Scope<'_>,
     selector: &Option<TypedExpr>,
-    before: &mut Vec<TypedRange>,
+    before: &mut CaseRanges,
     ranges: &[CaseRange],
 ) -> Result<Judged<Vec<TypedRange>>, NoMemory>
-    ensures breaks { IfOk result (λ j. j.breaks.items ≡ (rules.judged_ranges scope.now (option_map expression selector.now) before.old.items (map range_written ranges.now)).breaks) }
-    ensures meaning { IfOk result (λ j. option_map list_of j.meaning ≡ (rules.judged_ranges scope.now (option_map expression selector.now) before.old.items (map range_written ranges.now)).meaning) }
-    ensures before { OnOk result (before.new.items ≡ rules.ranges_behind scope.now (option_map expression selector.now) before.old.items (map range_written ranges.now)) }
+    ensures breaks { IfOk result (λ j. j.breaks.items ≡ (rules.judged_ranges scope.now (option_map expression selector.now) before.old (map range_written ranges.now)).breaks) }
+    ensures meaning { IfOk result (λ j. option_map list_of j.meaning ≡ (rules.judged_ranges scope.now (option_map expression selector.now) before.old (map range_written ranges.now)).meaning) }
+    ensures before { OnOk result (before.new ≡ rules.ranges_behind scope.now (option_map expression selector.now) before.old (map range_written ranges.now)) }
 {
     let mut list = fine(alloc, Vec::new(alloc));
     for range in ranges {

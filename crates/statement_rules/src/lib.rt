@@ -10,6 +10,5 @@ pub mod control;
 pub mod numbering;
 pub mod pair;
 pub mod position;
-pub mod range;
 pub mod selection;
 pub mod statement;

@@ -12,6 +12,7 @@ ghost use Rattle.statement_rules.specs.Blocks.{backwards, block, joined_cases, k
 use crate::case::judge_ranges;
 use caf_base::place::Pos;
 use caf_base::refusal::NoMemory;
+use case_ranges::ranges::CaseRanges;
 use checked_tree::expr::TypedExpr;
 use checked_tree::statement::{Case, CaseRange as TypedRange, TypedStatement};
 use fortran_tree::statement::{CaseRange, CaseSelector};
@@ -36,7 +37,7 @@ pub struct CaseList {
     /// That of CASE DEFAULT, where there is one.
     pub otherwise: Option<Option<Vec<TypedStatement>>>,
     /// The ranges of all of them, as far as they are known.
-    pub ranges: Vec<TypedRange>,
+    pub ranges: CaseRanges,
     /// What is said of further CASE DEFAULTs.
     pub repeated: Vec<Broken>,
 }
@@ -137,14 +138,14 @@ impl CaseList {
         ensures breaks { result.breaks.items ≡ [] }
         ensures cases { option_map list_of result.cases ≡ Some [] }
         ensures otherwise { result.otherwise ≡ None }
-        ensures ranges { result.ranges.items ≡ [] }
+        ensures ranges { result.ranges ≡ [] }
         ensures repeated { result.repeated.items ≡ [] }
     {
         CaseList {
             breaks: Vec::new(alloc),
             cases: Some(Vec::new(alloc)),
             otherwise: None,
-            ranges: Vec::new(alloc),
+            ranges: CaseRanges::new(alloc),
             repeated: Vec::new(alloc),
         }
     }
@@ -177,8 +178,8 @@ impl CaseList {
         body: Judged<Vec<TypedStatement>>,
         at: Pos,
     ) -> Result<(), NoMemory>
-        ensures whole { OnOk result ((r : Judgement rules.Selected) → whole self.new r ≡ whole self.old (made_of_three (rules.with_case at.line) (rules.judged_ranges scope.now (option_map expression selector.now) self.old.ranges.items (map range_written ranges.now)) (judgement block body) r)) }
-        ensures ranges { OnOk result (self.new.ranges.items ≡ rules.ranges_behind scope.now (option_map expression selector.now) self.old.ranges.items (map range_written ranges.now)) }
+        ensures whole { OnOk result ((r : Judgement rules.Selected) → whole self.new r ≡ whole self.old (made_of_three (rules.with_case at.line) (rules.judged_ranges scope.now (option_map expression selector.now) self.old.ranges (map range_written ranges.now)) (judgement block body) r)) }
+        ensures ranges { OnOk result (self.new.ranges ≡ rules.ranges_behind scope.now (option_map expression selector.now) self.old.ranges (map range_written ranges.now)) }
         ensures otherwise { OnOk result (self.new.otherwise ≡ self.old.otherwise) }
     {
         let Judged {

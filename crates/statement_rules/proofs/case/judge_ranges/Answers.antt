@@ -12,8 +12,8 @@ pub loop-range-preserved : goal.loop-range-preserved
 loop-range-preserved c =
     let s = c.args.scope.now in
     let x = option_map expression c.args.selector.now in
-    let b = c.loop-range.before.items in
-    let n = c.judge_range.new.before.items in
+    let b = c.loop-range.before in
+    let n = c.judge_range.new.before in
     let i = c.loop-range.range-index in
     let r = c.range-item.result in
     let d = ap (map case_range) (item_drop c.args.ranges.now i r c.range-item.is c.loop-range-test.true) in

@@ -10,10 +10,10 @@ use Rattle.statement_rules.proofs.case.judge_ranges.Given as goal
 -- the ranges so far, and those of what is left, are those of all
 abbrev pub invariant-loop-range : goal.invariant-loop-range
 invariant-loop-range l = record {
-  breaks : l.list.breaks.items ++ (judged_ranges l.scope (option_map expression l.selector) l.before.items (map case_range (drop l.range-index l.ranges))).breaks
-      ≡ (judged_ranges l.scope (option_map expression l.selector) l.initial.before.items (map case_range l.ranges)).breaks;
-  meaning : both (λ xs ys. xs ++ ys) (option_map list_of l.list.meaning) (judged_ranges l.scope (option_map expression l.selector) l.before.items (map case_range (drop l.range-index l.ranges))).meaning
-      ≡ (judged_ranges l.scope (option_map expression l.selector) l.initial.before.items (map case_range l.ranges)).meaning;
-  before : ranges_behind l.scope (option_map expression l.selector) l.before.items (map case_range (drop l.range-index l.ranges))
-      ≡ ranges_behind l.scope (option_map expression l.selector) l.initial.before.items (map case_range l.ranges);
+  breaks : l.list.breaks.items ++ (judged_ranges l.scope (option_map expression l.selector) l.before (map case_range (drop l.range-index l.ranges))).breaks
+      ≡ (judged_ranges l.scope (option_map expression l.selector) l.initial.before (map case_range l.ranges)).breaks;
+  meaning : both (λ xs ys. xs ++ ys) (option_map list_of l.list.meaning) (judged_ranges l.scope (option_map expression l.selector) l.before (map case_range (drop l.range-index l.ranges))).meaning
+      ≡ (judged_ranges l.scope (option_map expression l.selector) l.initial.before (map case_range l.ranges)).meaning;
+  before : ranges_behind l.scope (option_map expression l.selector) l.before (map case_range (drop l.range-index l.ranges))
+      ≡ ranges_behind l.scope (option_map expression l.selector) l.initial.before (map case_range l.ranges);
 }

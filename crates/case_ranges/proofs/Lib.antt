@@ -1,0 +1,4 @@
+pub mod Closed
+pub mod Changes
+pub mod Kept
+pub mod Answered
