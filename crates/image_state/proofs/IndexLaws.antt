@@ -1,18 +1,7 @@
 -- Array values of image indices.
-use Rattle.std.proofs.Common.{◌≡◌, ℕ, zero, suc, ◌+◌, ◌<◌, ◌≤◌, pos, List, [], ◌∷◌, length, take, ◌⊎◌, inl, inr, refl, ap, sym, ◌∙◌, arith}
+use Rattle.std.proofs.Common.{◌≡◌, ℕ, zero, suc, ◌<◌, ◌≤◌, pos, List, [], ◌∷◌, length, take, ◌⊎◌, inl, inr, refl, ap, sym, ◌∙◌, arith}
 use Rattle.std.specs.Prelude.{map, min}
-use Rattle.std.proofs.lemmas.Bool.{le-leb, lt-leb}
 use Rattle.std.proofs.lemmas.List.{length-take}
-use Rattle.image_acts.specs.Acts as a
-use Rattle.image_acts.specs.Core.{Array, elements_in, row}
-use Rattle.image_acts.specs.Teams.{current_team, members, counted_from}
-use Rattle.image_acts.specs.Operate.Bounds.{bounds_effect}
-use Rattle.array_values.specs.Values.{row_of}
-use Rattle.array_values.proofs.RowLaws.{counted_long}
-use Rattle.image_state.specs.Kept.{Kept}
-use Rattle.image_state.specs.Arrays.{with_arrays}
-use Rattle.image_state.specs.declared.state.Acting.TheVariants as actings
-use Rattle.image_state.specs.Acting.{with_core, Acts}
 
 take_map : (n : ℕ) (ns : List ℕ) → map (λ n. pos n) (take n ns) ≡ take n (map (λ n. pos n) ns)
 take_map zero ns = refl

@@ -1,5 +1,5 @@
 -- The steps on the current team.
-use Rattle.std.proofs.Common.{◌≡◌, ℕ, ℤ, Bool, true, false, List, [], ◌∷◌, length, drop, ◌<◌, refl, ap, sym, ◌∙◌, subst}
+use Rattle.std.proofs.Common.{◌≡◌, ℕ, ℤ, pos, Bool, true, false, List, [], ◌∷◌, length, drop, ◌<◌, refl, ap, sym, ◌∙◌, subst}
 use Rattle.std.specs.Prelude.{Option, Some, None, nat_lt}
 use Rattle.std.proofs.lemmas.Bool.{ltb-true}
 use Rattle.caf_base.specs.Arithmetic.{natural}
@@ -7,6 +7,7 @@ use Rattle.walk_theory.specs.Language.{goes_to}
 use Rattle.image_acts.specs.Acts as a
 use Rattle.image_acts.specs.Core.{Core, with_values}
 use Rattle.image_acts.specs.Faults.{no_team, room}
+use Rattle.image_acts.specs.Frames.{with_cell}
 use Rattle.image_acts.specs.Statuses.{most_teams}
 use Rattle.image_acts.specs.Taking.{Acted, unless}
 use Rattle.image_acts.specs.Teams.{team_in}
@@ -62,3 +63,13 @@ module _ (m : Kept) (s : a.Scope) (x : ℕ) where
 
   pub teams_noted : (e : Kept) (r : ℕ) → m.core.round ≡ Some r → e ≡ with_core m (with_team_in s x (own_team r (table_of m)) (with_teams (with_noted r (table_of m)) m.core)) → Acts m (team_effect (a.note_teams s x) m.core) e actings.Done
   teams_noted e r h g = subst (λ y. Acts m y e actings.Done) (sym (notes (table_of m) m.core s x r h)) (refl, g)
+
+module _ (m : Kept) (s : a.Scope) (x r : ℕ) where
+  abbrev noted_core : Core
+  noted_core = with_teams (with_noted r (table_of m)) m.core
+
+  pub none_own : (e : Kept) → own_team r (table_of m) ≡ None → e ≡ with_core m noted_core → e ≡ with_core m (with_team_in s x (own_team r (table_of m)) noted_core)
+  none_own e h g = g ∙ ap (λ o. with_core m (with_team_in s x o noted_core)) (sym h)
+
+  pub own_put : (i e : Kept) (n : ℕ) → own_team r (table_of m) ≡ Some n → i ≡ with_core m noted_core → e ≡ with_core i (with_cell s x (pos n) i.core) → e ≡ with_core m (with_team_in s x (own_team r (table_of m)) noted_core)
+  own_put i e n h f g = g ∙ ap (λ (k : Kept). with_core k (with_cell s x (pos n) k.core)) f ∙ ap (λ o. with_core m (with_team_in s x o noted_core)) (sym h)

@@ -87,6 +87,7 @@ pub fn note_teams(image: &mut ImageState, scope: Scope, x: u32) -> Acting
 }
 
 /// Notes the teams that this round formed; a scalar gets the one that has this image.
+#[tactic(auto, using(crate::proofs::CurrentSteps::none_own, crate::proofs::CurrentSteps::own_put))]
 fn note(image: &mut ImageState, scope: Scope, x: u32, round: u64)
     ensures { image.new ≡ with_core image.old (with_team_in (scope_of scope) x (own_team round (table_of image.old)) (with_teams (with_noted round (table_of image.old)) image.old.core)) }
 {

@@ -1,6 +1,6 @@
 //! Image indices of the current team.
 
-ghost use Rattle.std.specs.Prelude.{◌≡◌, ◌<◌, ◌^◌, length};
+ghost use Rattle.std.specs.Prelude.{◌≡◌, ◌<◌, ◌^◌, pos, length};
 ghost use Rattle.std.specs.Ordering.{int_eq};
 ghost use Rattle.caf_base.specs.Arithmetic.{natural};
 ghost use Rattle.image_acts.specs.Acts as acts;
@@ -20,6 +20,14 @@ fn current_size(image: &ImageState) -> usize
     ensures few { result < 2 ^ 33 }
 {
     image.teams().current_size()
+}
+
+/// The same as a number of the stack.
+fn current_count(image: &ImageState) -> i64
+    ensures { result ≡ pos (length (members image.now.core (current_team image.now.core))) }
+{
+    let teams = image.teams();
+    teams.image_count(teams.current())
 }
 
 /// Does the step `EveryIndex`.
@@ -45,7 +53,7 @@ pub fn are_indices(image: &mut ImageState) -> Acting
     if !image.has_arrays(1) {
         return Acting::Stuck;
     }
-    let holds = are_indices_among(current_size(image) as i64, image.elements());
+    let holds = are_indices_among(current_count(image), image.elements());
     image.number(truth(holds))
 }
 
@@ -57,7 +65,7 @@ pub fn is_index(image: &mut ImageState) -> Acting
     match image.top() {
         None => Acting::Stuck,
         Some(v) => {
-            let holds = is_index_among(current_size(image) as i64, v);
+            let holds = is_index_among(current_count(image), v);
             image.put_for_one(truth(holds));
             Acting::Done
         }
