@@ -51,6 +51,7 @@ impl Model for Machine {
 impl Machine {
     /// Image `me` of so many at the first ask of its code, which may count so many statements. Its stack and its frames are made whole here. So far the code is plain and
     /// has no coarrays and no variables that are arrays.
+    #[tactic(auto, using(crate::proofs::Bare::bare_rests))]
     pub fn new(
         alloc: Global,
         code: Arc<Code>,
@@ -79,7 +80,7 @@ impl Machine {
 
 impl Walker for Machine {
     ghost use Rattle.image_state.specs.Kept.{table_of};
-    ghost use Rattle.team_tables.specs.Tables.{HasRoom};
+    ghost use Rattle.team_tables.specs.Tables as teams;
     ghost use Rattle.image_machine.specs.Engine.{Engine, bare, kept_of};
     ghost use Rattle.image_machine.specs.Walk.{machine_step, left_of};
 
@@ -93,7 +94,7 @@ impl Walker for Machine {
 
     ghost asks_left = { left_of };
 
-    ghost has_room = { λ m. HasRoom (table_of (kept_of m)) };
+    ghost has_room = { λ m. teams.HasRoom (table_of (kept_of m)) };
 
     #[tactic(auto, using(crate::proofs::Bare::bare_next))]
     fn next(&self) -> Next {
