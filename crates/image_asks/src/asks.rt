@@ -1,6 +1,8 @@
 //! Asks and their replies.
 
-ghost use Rattle.std.specs.Prelude.{◌≡◌, ◌<◌, [], drop, length, map, IsTrue, IsFalse, IfOk};
+ghost use Rattle.std.specs.Prelude.{◌≡◌, ◌<◌, ◌≤◌, [], ◌∷◌, drop, length, map, IsTrue, IsFalse, IfOk, IfSome, IfNone};
+ghost use Rattle.caf_base.specs.Arithmetic.{natural};
+ghost use Rattle.image_acts.specs.Teams.{is_index_of, members};
 ghost use Rattle.walk_theory.specs.Terms.{found, at_fault};
 ghost use Rattle.image_acts.specs.Words as words;
 ghost use Rattle.image_acts.specs.Replies as replies;
@@ -8,11 +10,13 @@ ghost use Rattle.image_acts.specs.Core.{Core, with_values};
 ghost use Rattle.image_acts.specs.Operate.Printing.{text_of};
 ghost use Rattle.print_text.specs.Items.{IsFound};
 ghost use Rattle.image_state.specs.Acting.{with_core};
+ghost use Rattle.image_state.specs.Kept.{table_of};
+ghost use Rattle.team_tables.specs.Tables.{HasRoom};
 ghost use Rattle.image_state.specs.Texts.{innermost};
 ghost use Rattle.array_values.specs.Values.{elements_on_top};
 ghost use Rattle.image_code.specs.declared.step.AskStep.TheVariants as asked;
 ghost use Rattle.caf_events.specs.declared.reply.Reply.{Reply};
-ghost use Rattle.image_asks.specs.Asking.{IsPlainAsk, HasNoTeams, named_by, ComesTo, IsAsking, IsAsked, IsAskedAt, GoesOnWith, BringsNoTeams, ask_here};
+ghost use Rattle.image_asks.specs.Asking.{IsPlainAsk, named_by, teams_heard, ComesTo, IsAsking, IsAsked, IsAskedAt, GoesOnWith, ask_here};
 
 use caf_base::listing::{Listing, Text};
 use caf_base::place::{ImageNo, Place, TeamNo};
@@ -24,9 +28,21 @@ use caf_events::round::Arriving;
 use image_code::step::AskStep;
 use image_state::state::ImageState;
 use std::alloc::Global;
+use team_tables::named::team_of;
 
 /// The number of the run fault Format.
 const FORMAT: u32 = 13;
+
+/// The number of the run fault CoBounds.
+const COBOUNDS: u32 = 5;
+
+/// What FORM TEAM arrives with: a team, a team number, and a new index, 0 for none.
+#[derive(Clone, Copy)]
+struct Forming {
+    team: i64,
+    number: i64,
+    index: i64,
+}
 
 /// What an ask step comes to: an ask; or it stops with this run fault, or because an operand isn't there.
 #[derive(Clone, Copy)]
@@ -49,11 +65,15 @@ pub fn come(image: &ImageState, ask: AskStep) -> Asking
         AskStep::Stop
         | AskStep::ErrorStop
         | AskStep::ArriveSync
+        | AskStep::ArriveChange
+        | AskStep::ArriveEnd
         | AskStep::Failed
         | AskStep::Stopped => match image.top() {
             None => Asking::Stuck,
             Some(_) => Asking::Asks,
         },
+        AskStep::ArriveForm => forms(image),
+        AskStep::Status => asks_status(image),
         AskStep::Leave => leaving(image),
         AskStep::Pair => pairs(image),
         AskStep::Say => says(image),
@@ -80,6 +100,8 @@ pub fn place_of(image: &ImageState, ask: AskStep) -> Place
         },
         AskStep::Stop
         | AskStep::ArriveSync
+        | AskStep::ArriveChange
+        | AskStep::ArriveEnd
         | AskStep::Leave
         | AskStep::Pair
         | AskStep::Unpair
@@ -88,6 +110,8 @@ pub fn place_of(image: &ImageState, ask: AskStep) -> Place
         | AskStep::EnterCritical(_)
         | AskStep::ExitCritical(_)
         | AskStep::EndProgram => Place::Board,
+        AskStep::ArriveForm => form_place(image),
+        AskStep::Status => status_place(image),
         AskStep::Say | AskStep::Memory | AskStep::Fail | AskStep::ErrorStop => Place::Own,
         _ => unreachable!(),
     }
@@ -136,6 +160,22 @@ pub fn ask_of(image: &ImageState, ask: AskStep) -> Result<Ask, NoMemory>
                 arriving: Arriving::Sync,
             }),
         },
+        AskStep::ArriveChange => match image.top() {
+            None => unreachable!(),
+            Some(team) => Ok(Ask::Arrive {
+                team: TeamNo(word(team)),
+                arriving: Arriving::Change,
+            }),
+        },
+        AskStep::ArriveEnd => match image.top() {
+            None => unreachable!(),
+            Some(team) => Ok(Ask::Arrive {
+                team: TeamNo(word(team)),
+                arriving: Arriving::End,
+            }),
+        },
+        AskStep::ArriveForm => Ok(formation(image)),
+        AskStep::Status => Ok(inquiry(image)),
         AskStep::Failed => match image.top() {
             None => unreachable!(),
             Some(team) => Ok(Ask::Failed {
@@ -167,7 +207,7 @@ pub fn hear(image: &mut ImageState, ask: AskStep, reply: &Reply)
     requires asks { IsAsking (ask_here image.old ask) }
     requires room { length image.old.core.values < image.old.rooms.numbers }
     requires place { length image.old.core.arrays < image.old.rooms.arrays }
-    requires teams { BringsNoTeams ask reply.now }
+    requires teams { HasRoom (table_of image.old) }
     ensures { GoesOnWith image.old (ask_here image.old ask) reply.now image.new }
 {
     match ask {
@@ -177,11 +217,118 @@ pub fn hear(image: &mut ImageState, ask: AskStep, reply: &Reply)
         },
         AskStep::Unpair | AskStep::EnterCritical(_) => image.push(status_of(reply)),
         AskStep::ArriveSync => join(image, reply),
+        AskStep::ArriveChange => join_change(image, reply),
+        AskStep::ArriveEnd => join_end(image, reply),
+        AskStep::ArriveForm => join_form(image, reply),
+        AskStep::Status => note_status(image, reply),
         AskStep::Leave => depart(image, reply),
         AskStep::Failed | AskStep::Stopped => note_indices(image, reply),
         AskStep::Pair => forget_indices(image),
         AskStep::Say => forget_text(image),
         _ => {}
+    }
+}
+
+/// The team of a FORM TEAM, its team number and its new index.
+#[tactic(auto, using(image_state::proofs::LoopLaws::three_are, image_state::proofs::LoopLaws::fewer_than_three))]
+fn form_numbers(image: &ImageState) -> Option<Forming>
+    ensures some { IfSome result (λ f. image.now.core.values ≡ f.index ∷ f.number ∷ f.team ∷ drop 3 image.now.core.values) }
+    ensures none { IfNone result (length image.now.core.values < 3) }
+{
+    let index = image.number_at(0)?;
+    let number = image.number_at(1)?;
+    let team = image.number_at(2)?;
+    Some(Forming {
+        team,
+        number,
+        index,
+    })
+}
+
+/// Whether there are a team, a team number and a new index.
+#[tactic(auto, using(crate::proofs::TeamAsks::form_asks, crate::proofs::TeamAsks::form_missing))]
+fn forms(image: &ImageState) -> Asking
+    ensures { ComesTo (ask_here image.now asked.ArriveForm) result }
+{
+    match form_numbers(image) {
+        None => Asking::Stuck,
+        Some(_) => Asking::Asks,
+    }
+}
+
+/// The place of FORM TEAM.
+#[tactic(auto, using(crate::proofs::TeamAsks::form_placed))]
+fn form_place(image: &ImageState) -> Place
+    requires { IsAsking (ask_here image.now asked.ArriveForm) }
+    ensures { IsAskedAt (ask_here image.now asked.ArriveForm) result }
+{
+    let _there = image.top();
+    Place::Board
+}
+
+/// FORM TEAM.
+#[tactic(auto, using(crate::proofs::TeamAsks::form_asked, crate::proofs::TeamAsks::form_there))]
+fn formation(image: &ImageState) -> Ask
+    requires { IsAsking (ask_here image.now asked.ArriveForm) }
+    ensures { IsAsked (ask_here image.now asked.ArriveForm) result }
+{
+    match form_numbers(image) {
+        None => unreachable!(),
+        Some(forming) => Ask::Arrive {
+            team: TeamNo(word(forming.team)),
+            arriving: Arriving::Form {
+                number: forming.number,
+                new_index: forming.index,
+            },
+        },
+    }
+}
+
+/// Whether there are an image index and a team, and the index is one in the team.
+#[tactic(auto, using(crate::proofs::TeamAsks::status_asks, crate::proofs::TeamAsks::status_faults, crate::proofs::TeamAsks::status_missing))]
+fn asks_status(image: &ImageState) -> Asking
+    ensures { ComesTo (ask_here image.now asked.Status) result }
+{
+    let Some((index, team)) = image.two() else {
+        return Asking::Stuck;
+    };
+    if is_in_team(image, index, team) {
+        Asking::Asks
+    } else {
+        Asking::Fault(COBOUNDS)
+    }
+}
+
+/// Whether a number is an image index in a team.
+fn is_in_team(image: &ImageState, index: i64, team: i64) -> bool
+    ensures { result ≡ is_index_of (length (members image.now.core (natural team))) index }
+{
+    let n = image.teams().image_count(team_of(team));
+    0 < index && index <= n
+}
+
+/// The place of IMAGE_STATUS.
+#[tactic(auto, using(crate::proofs::TeamAsks::status_placed))]
+fn status_place(image: &ImageState) -> Place
+    requires { IsAsking (ask_here image.now asked.Status) }
+    ensures { IsAskedAt (ask_here image.now asked.Status) result }
+{
+    let _there = image.top();
+    Place::Board
+}
+
+/// IMAGE_STATUS.
+#[tactic(auto, using(crate::proofs::TeamAsks::status_asked, crate::proofs::TeamAsks::status_there))]
+fn inquiry(image: &ImageState) -> Ask
+    requires { IsAsking (ask_here image.now asked.Status) }
+    ensures { IsAsked (ask_here image.now asked.Status) result }
+{
+    match image.two() {
+        None => unreachable!(),
+        Some((index, team)) => Ask::Status {
+            team: TeamNo(word(team)),
+            index: word(index),
+        },
     }
 }
 
@@ -272,19 +419,77 @@ fn join(image: &mut ImageState, reply: &Reply)
     }
 }
 
-/// Puts the status of a round in the place of its team.
-#[tactic(auto, using(crate::proofs::AskLaws::departed))]
+/// Drops so many numbers of an arrival and notes the round that it joined.
+#[tactic(auto, using(crate::proofs::TeamAsks::joined_behind))]
+fn arrive(image: &mut ImageState, n: usize, reply: &Reply)
+    requires { n ≤ length image.old.core.values }
+    ensures { image.new ≡ with_core image.old (replies.arrival_reply (with_values image.old.core (drop n image.old.core.values)) reply.now) }
+{
+    let round = round_in(reply);
+    image.drop_top(n);
+    image.note_round(round);
+}
+
+/// Goes on after the arrival of CHANGE TEAM.
+#[tactic(auto, using(crate::proofs::TeamAsks::change_joined, crate::proofs::TeamAsks::change_there))]
+fn join_change(image: &mut ImageState, reply: &Reply)
+    requires { IsAsking (ask_here image.old asked.ArriveChange) }
+    ensures { GoesOnWith image.old (ask_here image.old asked.ArriveChange) reply.now image.new }
+{
+    arrive(image, 1, reply);
+}
+
+/// Goes on after the arrival of END TEAM.
+#[tactic(auto, using(crate::proofs::TeamAsks::end_joined, crate::proofs::TeamAsks::end_there))]
+fn join_end(image: &mut ImageState, reply: &Reply)
+    requires { IsAsking (ask_here image.old asked.ArriveEnd) }
+    ensures { GoesOnWith image.old (ask_here image.old asked.ArriveEnd) reply.now image.new }
+{
+    arrive(image, 1, reply);
+}
+
+/// Goes on after the arrival of FORM TEAM.
+#[tactic(auto, using(crate::proofs::TeamAsks::form_joined, crate::proofs::TeamAsks::three_there))]
+fn join_form(image: &mut ImageState, reply: &Reply)
+    requires { IsAsking (ask_here image.old asked.ArriveForm) }
+    ensures { GoesOnWith image.old (ask_here image.old asked.ArriveForm) reply.now image.new }
+{
+    arrive(image, 3, reply);
+}
+
+/// Puts the status of an image in the place of its index and its team.
+#[tactic(auto, using(crate::proofs::TeamAsks::status_heard, crate::proofs::TeamAsks::two_there))]
+fn note_status(image: &mut ImageState, reply: &Reply)
+    requires { IsAsking (ask_here image.old asked.Status) }
+    ensures { GoesOnWith image.old (ask_here image.old asked.Status) reply.now image.new }
+{
+    image.put_for_two(status_of(reply));
+}
+
+/// Puts the status of a round in the place of its team, and takes over the teams that it formed.
+#[tactic(auto, using(crate::proofs::AskLaws::departed, crate::proofs::AskLaws::still_there))]
 fn depart(image: &mut ImageState, reply: &Reply)
     requires asks { IsAsking (ask_here image.old asked.Leave) }
-    requires teams { HasNoTeams reply.now }
+    requires teams { HasRoom (table_of image.old) }
     ensures { GoesOnWith image.old (ask_here image.old asked.Leave) reply.now image.new }
 {
     match image.top() {
         None => unreachable!(),
         Some(_) => {
-            image.none_formed();
+            hear_teams(image, reply);
             image.put_for_one(status_of(reply));
         }
+    }
+}
+
+/// Takes over the teams that a round formed.
+fn hear_teams(image: &mut ImageState, reply: &Reply)
+    requires { HasRoom (table_of image.old) }
+    ensures { image.new ≡ with_core image.old (teams_heard image.old.core reply.now) }
+{
+    match reply {
+        Reply::Left { teams, .. } => image.hear_formed(teams.as_slice()),
+        _ => {}
     }
 }
 

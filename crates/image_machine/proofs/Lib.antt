@@ -3,3 +3,4 @@ pub mod Missing
 pub mod Steps
 pub mod Sizes
 pub mod Walking
+pub mod Bare

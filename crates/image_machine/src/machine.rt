@@ -3,14 +3,16 @@
 ghost use Rattle.std.specs.Prelude.{◌≡◌, ◌≤◌, ◌<◌, ◌*◌, [], ℕ, Some, length, slice_get, IfOk};
 ghost use Rattle.std.specs.Arc.{arc_value};
 ghost use Rattle.trace_theory.specs.Machines.{go, goes, Rests};
-ghost use Rattle.caf_events.specs.Walkers.{IsAtAsk};
+ghost use Rattle.caf_events.specs.Walkers.{IsAtAsk, AsksNext, NextIs};
 ghost use Rattle.image_acts.specs.Faults as faults;
 ghost use Rattle.image_code.specs.declared.step.Step.{Step};
 ghost use Rattle.image_state.specs.Acting.{HasFrame};
 ghost use Rattle.image_state.specs.declared.state.Rooms.{Rooms};
-ghost use Rattle.image_machine.specs.Engine.{start_of};
+ghost use Rattle.image_machine.specs.Engine.{start_of, bare, kept_of};
 ghost use Rattle.image_machine.specs.Start.{HasNoArrays};
-ghost use Rattle.image_machine.specs.Walk.{ArePlain, HasRoom, IsWell, machine_step, Stood, Answered, BringsNone};
+ghost use Rattle.image_machine.specs.Walk.{ArePlain, HasRoom, IsWell, machine_step, Stood, Answered};
+ghost use Rattle.image_state.specs.Kept.{table_of};
+ghost use Rattle.team_tables.specs.Tables as teams;
 
 use crate::engine::{Engine, Went};
 use caf_base::place::{ImageNo, Place};
@@ -49,6 +51,7 @@ impl Model for Machine {
 impl Machine {
     /// Image `me` of so many at the first ask of its code, which may count so many statements. Its stack and its frames are made whole here. So far the code is plain and
     /// has no coarrays and no variables that are arrays.
+    #[tactic(auto, using(crate::proofs::Bare::bare_rests))]
     pub fn new(
         alloc: Global,
         code: Arc<Code>,
@@ -60,8 +63,8 @@ impl Machine {
         requires plain { ArePlain (arc_value code).program.steps }
         requires coarrays { (arc_value code).program.tables.coarrays ≡ [] }
         requires arrays { HasNoArrays (arc_value code).program.tables.main.arrays }
-        ensures start { IfOk result (λ m. (rooms : Rooms) × (steps : ℕ) × (go machine_step steps (start_of (arc_value code) limit rooms me.0 n) ≡ goes m)) }
-        ensures rests { IfOk result (λ m. Rests (machine_step m)) }
+        ensures start { IfOk result (λ m. (rooms : Rooms) × (steps : ℕ) × (go machine_step steps (start_of (arc_value code) limit rooms me.0 n) ≡ goes (bare m))) }
+        ensures rests { IfOk result (λ m. Rests (machine_step (bare m))) }
     {
         let rooms = rooms(&code)?;
         let image = ImageState::new(alloc, code, rooms, me, n)?;
@@ -76,54 +79,78 @@ impl Machine {
 }
 
 impl Walker for Machine {
-    ghost use Rattle.image_machine.specs.Engine.{Engine};
-    ghost use Rattle.image_machine.specs.Walk.{machine_step, left_of, BringsNone};
+    ghost use Rattle.image_state.specs.Kept.{table_of};
+    ghost use Rattle.team_tables.specs.Tables as teams;
+    ghost use Rattle.image_machine.specs.Engine.{Engine, bare, kept_of};
+    ghost use Rattle.image_machine.specs.Walk.{machine_step, left_of};
 
     ghost Config = { Engine };
 
-    ghost config = { λ m. m };
+    ghost config = { bare };
 
     ghost step = { machine_step };
 
-    ghost hears = { λ c reply. BringsNone (machine_step c) reply };
+    ghost hears = { λ c reply. Unit {0} };
 
     ghost asks_left = { left_of };
 
-    ghost has_room = { λ m. Unit {0} };
+    ghost has_room = { λ m. teams.HasRoom (table_of (kept_of m)) };
 
-    #[tactic(auto, using(crate::proofs::Walking::stood_plain, crate::proofs::Walking::stood_asks, crate::proofs::Walking::next_there))]
+    #[tactic(auto, using(crate::proofs::Bare::bare_next))]
     fn next(&self) -> Next {
-        match self.stand {
-            Went::Fault(_) | Went::Limit => Next::Ask(Place::Own),
-            Went::Asks(ask) => Next::Ask(self.engine.place_of(ask)),
-            Went::Over => Next::Ended,
-            Went::On => unreachable!(),
-        }
+        next_of(&self.engine, self.stand)
     }
 
-    #[tactic(auto, using(crate::proofs::Walking::stood_plain, crate::proofs::Walking::stood_asks, crate::proofs::Walking::asks_there))]
+    #[tactic(auto, using(crate::proofs::Bare::bare_ask, crate::proofs::Bare::bare_asks))]
     fn ask(&self) -> Result<Ask, NoMemory> {
-        match self.stand {
-            Went::Fault(n) => Ok(Ask::Fault { kind: fault_of(n) }),
-            Went::Limit => Ok(Ask::LimitStatements {
-                number: self.engine.next_count(),
-            }),
-            Went::Asks(ask) => self.engine.ask_of(ask),
-            Went::Over | Went::On => unreachable!(),
-        }
+        ask_of(&self.engine, self.stand)
     }
 
+    #[tactic(auto, using(crate::proofs::Bare::bare_ask, crate::proofs::Bare::bare_line))]
     fn line(&self) -> u32 {
         self.engine.line()
     }
 
+    #[tactic(auto, using(crate::proofs::Bare::bare_same, crate::proofs::Bare::well_room, crate::proofs::Bare::stood_room))]
     fn reserve(&mut self) -> Result<(), NoMemory> {
-        Ok(())
+        self.engine.reserve()
     }
 
+    #[tactic(auto, using(crate::proofs::Bare::bare_at, crate::proofs::Bare::bare_rests))]
     fn give(&mut self, event: &Event) {
         take(&mut self.engine, self.stand, event, self.alloc);
         self.stand = self.engine.run();
+    }
+}
+
+/// What an engine that stands there does next.
+#[tactic(auto, using(crate::proofs::Walking::stood_plain, crate::proofs::Walking::stood_asks, crate::proofs::Walking::next_there))]
+fn next_of(engine: &Engine, stand: Went) -> Next
+    requires { Stood engine.now stand }
+    ensures { NextIs (machine_step engine.now) result }
+{
+    match stand {
+        Went::Fault(_) | Went::Limit => Next::Ask(Place::Own),
+        Went::Asks(ask) => Next::Ask(engine.place_of(ask)),
+        Went::Over => Next::Ended,
+        Went::On => unreachable!(),
+    }
+}
+
+/// The ask at which an engine stands.
+#[tactic(auto, using(crate::proofs::Walking::stood_plain, crate::proofs::Walking::stood_asks, crate::proofs::Walking::asks_there))]
+fn ask_of(engine: &Engine, stand: Went) -> Result<Ask, NoMemory>
+    requires stood { Stood engine.now stand }
+    requires ask { IsAtAsk (machine_step engine.now) }
+    ensures { IfOk result (AsksNext (machine_step engine.now)) }
+{
+    match stand {
+        Went::Fault(n) => Ok(Ask::Fault { kind: fault_of(n) }),
+        Went::Limit => Ok(Ask::LimitStatements {
+            number: engine.next_count(),
+        }),
+        Went::Asks(ask) => engine.ask_of(ask),
+        Went::Over | Went::On => unreachable!(),
     }
 }
 
@@ -132,7 +159,7 @@ fn take(engine: &mut Engine, stand: Went, event: &Event, alloc: Global)
     requires well { IsWell engine.old }
     requires stood { Stood engine.old stand }
     requires ask { IsAtAsk (machine_step engine.old) }
-    requires teams { BringsNone (machine_step engine.old) event.now.reply }
+    requires teams { teams.HasRoom (table_of (kept_of engine.old)) }
     ensures { Answered (machine_step engine.old) event.now.reply engine.new }
 {
     let reply = event.reply(alloc);
@@ -141,12 +168,12 @@ fn take(engine: &mut Engine, stand: Went, event: &Event, alloc: Global)
 }
 
 /// Goes on after the reply, where the engine stands at an ask.
-#[tactic(auto, using(crate::proofs::Walking::ask_within, crate::proofs::Walking::ask_room, crate::proofs::Walking::ask_place, crate::proofs::Walking::stood_plain, crate::proofs::Walking::stood_asks, crate::proofs::Walking::teams_there, crate::proofs::Walking::answered_there))]
+#[tactic(auto, using(crate::proofs::Walking::ask_within, crate::proofs::Walking::ask_room, crate::proofs::Walking::ask_place, crate::proofs::Walking::stood_plain, crate::proofs::Walking::stood_asks, crate::proofs::Walking::answered_there))]
 fn hear(engine: &mut Engine, stand: Went, reply: &Reply)
     requires well { IsWell engine.old }
     requires stood { Stood engine.old stand }
     requires ask { IsAtAsk (machine_step engine.old) }
-    requires teams { BringsNone (machine_step engine.old) reply.now }
+    requires teams { teams.HasRoom (table_of (kept_of engine.old)) }
     ensures { Answered (machine_step engine.old) reply.now engine.new }
 {
     match stand {

@@ -5,5 +5,4 @@ pub mod StackLaws
 pub mod ArrayLaws
 pub mod BoundsLaws
 pub mod PrintLaws
-pub mod TeamLaws
 pub mod IndexLaws

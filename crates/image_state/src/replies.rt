@@ -1,11 +1,8 @@
 //! What the asks of an image and their replies do with its core.
 
-ghost use Rattle.std.specs.Prelude.{◌≡◌, ◌<◌, ◌∷◌, [], drop, length, IfSome, IfNone};
-ghost use Rattle.caf_base.specs.Arithmetic.{natural};
+ghost use Rattle.std.specs.Prelude.{◌≡◌, ◌<◌, ◌∷◌, drop, length, IfSome, IfNone};
 ghost use Rattle.image_acts.specs.Core.{with_values, pushed};
-ghost use Rattle.image_acts.specs.Teams.{current_team, members, member_at};
 ghost use Rattle.image_state.specs.Acting.{with_core};
-ghost use Rattle.image_state.specs.Kept.{images_from};
 
 use crate::state::ImageState;
 use std::alloc::Global;
@@ -60,33 +57,5 @@ impl ImageState {
         ensures { self.new ≡ with_core self.old (record self.old.core { round = round }) }
     {
         self.round = round;
-    }
-
-    /// The member of the current team with an index, 0 where there is none.
-    pub fn member(&self, index: i64) -> u32
-        ensures { result ≡ member_at (members self.now.core (current_team self.now.core)) (natural index) }
-    {
-        member_at(self.images, index)
-    }
-
-    /// No formed teams are kept so far.
-    pub fn none_formed(&self)
-        ensures { self.now.core.formed ≡ [] }
-    {
-        let _round = self.round;
-    }
-}
-
-/// The member of the initial team with an index, 0 where there is none.
-#[tactic(auto, using(crate::proofs::TeamLaws::member_within, crate::proofs::TeamLaws::member_past, crate::proofs::TeamLaws::member_none))]
-fn member_at(images: u32, index: i64) -> u32
-    ensures { result ≡ member_at (images_from 1 images) (natural index) }
-{
-    if index <= 0 {
-        0
-    } else if index <= i64::from(images) {
-        index as u32
-    } else {
-        0
     }
 }

@@ -8,6 +8,7 @@ ghost use Rattle.image_steps.specs.Plain.{IsPlainAct};
 use image_code::step::Step;
 use image_state::state::{Acting, ImageState};
 use number_operators::operators::{Binary, Unary};
+use team_steps::{current, indices, named};
 
 /// Does the act of a step; where it faults or an operand isn't there, nothing is changed.
 pub fn act(image: &mut ImageState, step: Step) -> Acting
@@ -68,12 +69,23 @@ pub fn act(image: &mut ImageState, step: Step) -> Acting
         Step::Extent => image.extent(),
         Step::LowerBound => image.lower_bound(),
         Step::UpperBound => image.upper_bound(),
-        Step::EveryIndex => image.every_index(),
-        Step::AreIndices => image.are_indices(),
-        Step::IsIndex => image.is_index(),
-        Step::ThisTeam => image.this_team(),
-        Step::OwnIndex => image.own_index(),
-        Step::ImageCount => image.image_count(),
+        Step::EveryIndex => indices::every_index(image),
+        Step::AreIndices => indices::are_indices(image),
+        Step::IsIndex => indices::is_index(image),
+        Step::ThisTeam => named::this_team(image),
+        Step::OwnIndex => named::own_index(image),
+        Step::ImageCount => named::image_count(image),
+        Step::TeamValue => named::team_value(image),
+        Step::SiblingTeam => named::sibling_team(image),
+        Step::GetTeam => named::get_team(image),
+        Step::TeamNumber => named::team_number(image),
+        Step::ImageCountOfNumber => named::image_count_of_number(image),
+        Step::IsRoot => named::is_root(image),
+        Step::ChildTeam => current::child_team(image),
+        Step::NearTeam => current::near_team(image),
+        Step::MakeCurrent => current::make_current(image),
+        Step::LeaveTeam => current::leave_team(image),
+        Step::NoteTeams(scope, x) => current::note_teams(image, scope, x),
         Step::BeginFree => image.begin_free(),
         Step::BeginFormat(text) => image.begin_format(text),
         Step::PrintNumber => image.print_number(),

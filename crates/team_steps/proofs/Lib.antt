@@ -1,0 +1,3 @@
+pub mod IndexSteps
+pub mod NamedSteps
+pub mod CurrentSteps
