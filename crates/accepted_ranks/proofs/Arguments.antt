@@ -1,7 +1,6 @@
 -- Arguments have the ranks of their dummies.
-use Rattle.std.proofs.Common.{◌≡◌, ◌∙◌, ℕ, suc, zero, ◌+◌, ◌≤◌, Bool, true, false, List, [], ◌∷◌, ◌++◌, length, refl, sym, ap, subst, arith}
-use Rattle.std.proofs.lemmas.Bool.{cases_Bool}
-use Rattle.std.specs.Prelude.{cond, not, nat_eq, nat_le, map, ◌&&◌, ◌||◌, Option, Some, None}
+use Rattle.std.proofs.Common.{◌≡◌, ◌∙◌, ℕ, ◌+◌, Bool, true, false, List, [], ◌∷◌, ◌++◌, length, refl, sym, ap, subst}
+use Rattle.std.specs.Prelude.{cond, not, nat_eq, map, ◌&&◌, ◌||◌, Option, Some, None}
 use Rattle.caf_base.specs.declared.place.Pos.{Pos}
 use Rattle.checked_tree.specs.Expressions as t
 use Rattle.checked_tree.specs.Statements.{Procedure}
@@ -9,17 +8,16 @@ use Rattle.checked_tree.specs.declared.data.DataType.{DataType}
 use Rattle.checked_tree.specs.declared.data.Variable.{Variable}
 use Rattle.checked_tree.specs.declared.data.Object.TheVariants as objects
 use Rattle.checked_tree.specs.declared.program.Dummy.{Dummy}
-use Rattle.rule_definitions.specs.declared.broken.Broken.{Broken}
-use Rattle.rule_definitions.specs.Judgements.{breaks, unless, is_nothing, Judgement, unknown, fine, refused, ruled, made_of, is_there}
+use Rattle.rule_definitions.specs.Judgements.{Judgement, unknown, fine, refused, made_of, is_there}
 use Rattle.rule_definitions.specs.Names.{Scope, Symbol, is_declared_role}
 use Rattle.rule_definitions.specs.Constants.{known_extents, known_extent}
-use Rattle.rule_definitions.specs.Parts.{Placed, plain, rank_of}
-use Rattle.rule_definitions.specs.Arguments.{Part, expression, triplet, Actual, breaks_in, breaks_in_all, is_triplet, matches_type, matches_shape, all_agree, takes_value, is_local_variable, matching_breaks, defined_breaks, argument_for, value_paired, paired_value, paired, keyword_breaks, surplus, paired_all, number_breaks, arguments, IntrinsicDummy, Binding, bindings, dummy_of, bound_to, bound_placed, value_for, given_to, maybe_given_to, are_bound, has_needed, bound}
+use Rattle.rule_definitions.specs.Parts.{Placed, rank_of}
+use Rattle.rule_definitions.specs.Arguments.{Part, expression, triplet, Actual, matches_type, matches_shape, all_agree, takes_value, is_local_variable, matching_breaks, defined_breaks, argument_for, value_paired, paired_value, keyword_breaks, surplus, paired_all, number_breaks, arguments, IntrinsicDummy, Binding, bindings, bound_to, bound_placed, value_for, given_to, maybe_given_to, are_bound, has_needed, bound}
 use Rattle.tree_meaning.specs.Environment.{rank_in}
 use Rattle.made_code.specs.Ranks as ranks
 use Rattle.accepted_ranks.specs.Scopes.{AreDummies}
-use Rattle.accepted_ranks.proofs.Means.{Means, cons_nil, left_nothing, right_nothing, unless_nothing, no, and_left, and_right, same_number, some_same, none_some, fine_means, no_meaning, unknown_means, refused_means, weaker, ruled_means, under_means, made_means, both_means, then_means, cond_means}
-use Rattle.accepted_ranks.proofs.Parts.{Good, Scalar, of_rank, plain_means}
+use Rattle.accepted_ranks.proofs.Means.{Means, left_nothing, right_nothing, unless_nothing, no, and_left, and_right, same_number, fine_means, no_meaning, unknown_means, refused_means, ruled_means, under_means, made_means, both_means, cond_means}
+use Rattle.accepted_ranks.proofs.Parts.{Good, Scalar, plain_means}
 
 not_true : (b : Bool) → not b ≡ true → b ≡ false
 not_true false e = refl
@@ -42,7 +40,7 @@ module _ (ps : List Procedure) where
   shape_rank : (s : Scope) (d : Symbol) (x : t.Expression) → is_declared_role d.role ≡ true → matches_shape s d x ≡ true → rank_of x ≡ length d.bounds
   shape_rank s d x e h =
       let u : (nat_eq (length d.bounds) (rank_of x) && all_agree (map known_extent d.bounds) (known_extents s x)) ≡ true =
-          or_right (not (is_declared_role d.role)) (nat_eq (length d.bounds) (rank_of x) && all_agree (map known_extent d.bounds) (known_extents s x)) (ap not e) h in
+      or_right (not (is_declared_role d.role)) (nat_eq (length d.bounds) (rank_of x) && all_agree (map known_extent d.bounds) (known_extents s x)) (ap not e) h in
       sym (same_number (length d.bounds) (rank_of x) (and_left (nat_eq (length d.bounds) (rank_of x)) (all_agree (map known_extent d.bounds) (known_extents s x)) u))
 
   local_passed : (v : t.Designator) (y : DataType) (q r : ℕ) → is_local_variable (t.typed (t.designator v) y q) ≡ true → q ≡ r → ranks.IsPart ps v q → ranks.IsVariable ps v r

@@ -1,6 +1,6 @@
 -- What a name with brackets and a selector stands for has its rank.
-use Rattle.std.proofs.Common.{◌≡◌, ◌∙◌, ◌≤◌, ℕ, suc, zero, ◌+◌, Bool, true, false, List, [], ◌∷◌, ◌++◌, length, refl, sym, ap, ap₂, subst, arith}
-use Rattle.std.specs.Prelude.{codes, cond, not, nat_eq, ◌&&◌, ◌||◌, Option, Some, None}
+use Rattle.std.proofs.Common.{◌≡◌, ◌≤◌, ℕ, suc, ◌+◌, Bool, true, false, List, [], ◌∷◌, ◌++◌, length, refl, ap, arith}
+use Rattle.std.specs.Prelude.{codes, cond, nat_eq, ◌||◌, Option, Some, None}
 use Rattle.caf_base.specs.declared.place.Pos.{Pos}
 use Rattle.caf_base.specs.declared.value.Kind.TheVariants.{I4}
 use Rattle.caf_base.specs.declared.value.Value.{Value}
@@ -10,8 +10,7 @@ use Rattle.checked_tree.specs.Statements.{Procedure}
 use Rattle.checked_tree.specs.declared.data.DataType.{DataType}
 use Rattle.checked_tree.specs.declared.data.DataType.TheVariants.{Intrinsic}
 use Rattle.checked_tree.specs.declared.data.Object.TheVariants as objects
-use Rattle.rule_definitions.specs.declared.broken.Broken.{Broken}
-use Rattle.rule_definitions.specs.Judgements.{breaks, unless, is_nothing, Judgement, fine, unknown, refused, made_of, made_of_both, is_there, item_at}
+use Rattle.rule_definitions.specs.Judgements.{is_nothing, Judgement, fine, unknown, made_of, item_at}
 use Rattle.rule_definitions.specs.Names
 use Rattle.rule_definitions.specs.Names.{Scope, Symbol, ConstantSymbol, ConstantValue, Interface, Meaning, denotes}
 use Rattle.rule_definitions.specs.Parts.{Placed, integer}
@@ -22,8 +21,8 @@ use Rattle.rule_definitions.specs.Expressions.{WrittenSelector, subscripts_of, r
 use Rattle.made_code.specs.Ranks as ranks
 use Rattle.made_code.specs.Ranks.{procedure_at}
 use Rattle.accepted_ranks.specs.Scopes.{AreRanks, IsInterfaceOf, HasResult}
-use Rattle.accepted_ranks.proofs.Means.{Means, cons_nil, left_nothing, right_nothing, unless_nothing, no, and_left, and_right, same_number, some_same, none_some, fine_means, no_meaning, unknown_means, refused_means, around_means, weaker, ruled_means, formed_means, under_means, made_means, both_means, three_means, then_means, cond_means}
-use Rattle.accepted_ranks.proofs.Parts.{Good, AllGood, Scalar, integer_means}
+use Rattle.accepted_ranks.proofs.Means.{Means, left_nothing, unless_nothing, same_number, fine_means, no_meaning, unknown_means, refused_means, around_means, ruled_means, formed_means, made_means, both_means, three_means, then_means, cond_means}
+use Rattle.accepted_ranks.proofs.Parts.{AllGood, integer_means}
 use Rattle.accepted_ranks.proofs.Specifiers.{AllWritten, stat_means, selected_means}
 use Rattle.accepted_ranks.proofs.Arguments.{PartGood, AllActuals, arguments_means}
 use Rattle.accepted_ranks.proofs.Functions.{intrinsic_means}

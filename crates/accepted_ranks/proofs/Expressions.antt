@@ -1,18 +1,15 @@
 -- Each expression of a scope with the program's ranks has its rank.
-use Rattle.std.proofs.Common.{◌≡◌, ℕ, List, [], ◌∷◌, refl}
+use Rattle.std.proofs.Common.{List, refl}
 use Rattle.fortran_tree.specs.Expressions as f
 use Rattle.checked_tree.specs.Expressions as t
 use Rattle.checked_tree.specs.Statements.{Procedure}
 use Rattle.rule_definitions.specs.Names.{Scope, denotes}
-use Rattle.rule_definitions.specs.Judgements.{Judgement}
-use Rattle.rule_definitions.specs.Parts.{Placed, truth, integer}
-use Rattle.rule_definitions.specs.Arguments.{Part, Actual}
-use Rattle.rule_definitions.specs.Specifiers.{Written}
-use Rattle.rule_definitions.specs.Expressions.{WrittenSelector, judged, judged_designator, judged_brackets, judged_bracket, judged_bound, judged_selector, judged_list, judged_specifiers, judged_arguments, placed}
+use Rattle.rule_definitions.specs.Parts.{truth}
+use Rattle.rule_definitions.specs.Expressions.{judged, judged_designator, judged_brackets, judged_bracket, judged_bound, judged_selector, judged_list, judged_specifiers, judged_arguments, placed}
 use Rattle.made_code.specs.Ranks as ranks
 use Rattle.accepted_ranks.specs.Scopes.{AreRanks}
 use Rattle.accepted_ranks.proofs.Means.{Means, fine_means, made_means, three_means}
-use Rattle.accepted_ranks.proofs.Parts.{Good, AllGood, Scalar, number_means, parenthesized_means, constructor_means, prefix_means, binary_means, integer_means}
+use Rattle.accepted_ranks.proofs.Parts.{AllGood, number_means, parenthesized_means, constructor_means, prefix_means, binary_means, integer_means}
 use Rattle.accepted_ranks.proofs.Specifiers.{AllWritten}
 use Rattle.accepted_ranks.proofs.Arguments.{PartGood, AllActuals}
 use Rattle.accepted_ranks.proofs.Designators.{selector_means, referenced_means, designated_means}

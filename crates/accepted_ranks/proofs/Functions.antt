@@ -1,9 +1,8 @@
 -- References to intrinsic functions have the ranks of their results, and their arguments theirs.
-use Rattle.std.proofs.Common.{◌≡◌, ◌∙◌, ℕ, suc, zero, ◌+◌, ◌≤◌, Bool, true, false, List, [], ◌∷◌, ◌++◌, length, refl, sym, ap, subst, arith}
+use Rattle.std.proofs.Common.{◌≡◌, ◌∙◌, ℕ, suc, zero, ◌≤◌, Bool, true, false, List, [], ◌∷◌, ◌++◌, length, refl, sym, ap, subst, arith}
 use Rattle.std.proofs.lemmas.Bool.{leb-true}
 use Rattle.std.specs.Prelude.{cond, codes, not, nat_eq, nat_le, ◌&&◌, ◌||◌, Option, Some, None}
 use Rattle.caf_base.specs.declared.place.Pos.{Pos}
-use Rattle.caf_base.specs.declared.value.Kind.{Kind}
 use Rattle.caf_base.specs.declared.value.Kind.TheVariants.{I4, L4}
 use Rattle.checked_tree.specs.Expressions as t
 use Rattle.checked_tree.specs.Statements.{Procedure}
@@ -12,17 +11,16 @@ use Rattle.checked_tree.specs.declared.data.DataType.TheVariants.{Intrinsic, Tea
 use Rattle.checked_tree.specs.declared.data.Object.{Object}
 use Rattle.checked_tree.specs.declared.data.Object.TheVariants as objects
 use Rattle.rule_definitions.specs.declared.broken.Broken.{Broken}
-use Rattle.rule_definitions.specs.Judgements.{breaks, unless, is_nothing, Judgement, unknown, fine, refused, ruled, under, made_of, made_of_both, made_of_three, then, is_there}
+use Rattle.rule_definitions.specs.Judgements.{unless, is_nothing, Judgement, refused, made_of, made_of_both, made_of_three, is_there}
 use Rattle.rule_definitions.specs.Names
 use Rattle.rule_definitions.specs.Names.{Scope, FunctionName, symbol_of, is_integer}
-use Rattle.rule_definitions.specs.Parts.{Placed, plain, type_of, rank_of, integer, team, team_of, joint, unlike_breaks}
-use Rattle.rule_definitions.specs.Arguments.{Part, expression, triplet, Actual, breaks_in_all, needed, needed_list, optional, Binding, value_for, given_to, maybe_given_to, order_of, bound}
-use Rattle.rule_definitions.specs.IntrinsicFunctions
-use Rattle.rule_definitions.specs.IntrinsicFunctions.{taken, an_integer, of_integer_type, an_array, an_integer_list, is_allocatable_symbol, allocatable_of, coarray_of, found, an_allocatable, a_coarray, of_type, default_integer, the_team, of_team, two_integers, joint_type, named_breaks, unnamed_integer, unnamed_integers, several_breaks, several_integers, kind_argument, is_of_coarray, this_image, is_first_integer, is_first_unnamed, num_images, with_dim, list_of_images, intrinsic_reference, are_unnamed}
+use Rattle.rule_definitions.specs.Parts.{Placed, plain, type_of, rank_of, team_of, joint}
+use Rattle.rule_definitions.specs.Arguments.{Part, expression, triplet, Actual, breaks_in_all, needed, needed_list, optional, Binding, given_to, maybe_given_to, order_of, bound}
+use Rattle.rule_definitions.specs.IntrinsicFunctions.{taken, an_integer, of_integer_type, an_array, an_integer_list, is_allocatable_symbol, allocatable_of, found, an_allocatable, a_coarray, of_type, default_integer, the_team, of_team, two_integers, joint_type, named_breaks, unnamed_integers, several_breaks, several_integers, kind_argument, is_of_coarray, this_image, is_first_integer, is_first_unnamed, num_images, with_dim, intrinsic_reference, are_unnamed}
 use Rattle.tree_meaning.specs.Expressions.{count_of}
 use Rattle.made_code.specs.Ranks as ranks
-use Rattle.accepted_ranks.proofs.Means.{Means, cons_nil, left_nothing, right_nothing, unless_nothing, no, and_left, and_right, same_number, some_same, none_some, fine_means, no_meaning, unknown_means, refused_means, weaker, ruled_means, under_means, made_means, both_means, three_means, then_means, cond_means}
-use Rattle.accepted_ranks.proofs.Parts.{Good, Scalar, of_rank, plain_means, integer_means, team_means}
+use Rattle.accepted_ranks.proofs.Means.{Means, cons_nil, left_nothing, right_nothing, unless_nothing, no, and_right, same_number, fine_means, no_meaning, refused_means, ruled_means, under_means, made_means, both_means, three_means, then_means, cond_means}
+use Rattle.accepted_ranks.proofs.Parts.{Good, Scalar, plain_means, integer_means, team_means}
 use Rattle.accepted_ranks.proofs.Arguments.{PartGood, AllActuals, AllBindings, given_means, maybe_means, bound_means}
 
 some_rank : (r : ℕ) → not (nat_eq r 0) ≡ true → 1 ≤ r

@@ -1,6 +1,6 @@
 -- Operands, scalars, literals and constructors have their ranks.
-use Rattle.std.proofs.Common.{◌≡◌, ◌∙◌, ◌≤◌, ℕ, suc, ◌+◌, Bool, true, false, List, [], ◌∷◌, ◌++◌, refl, sym, ap, subst, arith}
-use Rattle.std.specs.Prelude.{cond, nat_eq, not, ◌&&◌, ◌||◌, Option, Some, None, pos}
+use Rattle.std.proofs.Common.{◌≡◌, ◌≤◌, ℕ, Bool, true, false, List, [], ◌∷◌, ◌++◌, refl, arith}
+use Rattle.std.specs.Prelude.{cond, nat_eq, not, ◌&&◌, Option, Some, None, pos}
 use Rattle.caf_base.specs.declared.place.Pos.{Pos}
 use Rattle.caf_base.specs.declared.value.Kind.{Kind}
 use Rattle.fortran_tree.specs.declared.expr.NumberKind.{NumberKind}
@@ -15,12 +15,12 @@ use Rattle.checked_tree.specs.declared.data.DataType.TheVariants.{Intrinsic, Tea
 use Rattle.checked_tree.specs.declared.data.Object.TheVariants as objects
 use Rattle.rule_definitions.specs.declared.broken.Broken.{Broken}
 use Rattle.rule_definitions.specs.declared.taken.Taken.{Taken}
-use Rattle.rule_definitions.specs.Judgements.{breaks, unless, Judgement, fine, refused, unknown, ruled, under, made_of, made_of_both, then}
+use Rattle.rule_definitions.specs.Judgements.{breaks, unless}
 use Rattle.rule_definitions.specs.Names.{Scope, is_integer, is_team}
-use Rattle.rule_definitions.specs.Parts.{Placed, type_of, rank_of, is_listed, plain, is_taken, scalar_breaks, operand_breaks, operand, wanted, unlike_breaks, integer_breaks, integer, team_of, applied, binary, taken_by, prefixed, prefix, prefix_taken_by, in_brackets, parenthesized, kind_written, fits, literal, number, item_breaks, items, type_behind, first_type, constructor, elements_of, result_form, result_of, result_judged, result_variable}
+use Rattle.rule_definitions.specs.Parts.{Placed, type_of, rank_of, is_listed, plain, is_taken, scalar_breaks, operand_breaks, operand, wanted, unlike_breaks, integer_breaks, integer, team_of, applied, binary, taken_by, prefixed, prefix, prefix_taken_by, in_brackets, parenthesized, fits, literal, number, item_breaks, items, type_behind, first_type, constructor, elements_of, result_form, result_of, result_judged, result_variable}
 use Rattle.tree_meaning.specs.Expressions.{count_of}
 use Rattle.made_code.specs.Ranks as ranks
-use Rattle.accepted_ranks.proofs.Means.{Means, cons_nil, left_nothing, right_nothing, unless_nothing, no, and_left, and_right, same_number, some_same, none_some, fine_means, no_meaning, unknown_means, refused_means, weaker, ruled_means, under_means, made_means, both_means, then_means, cond_means}
+use Rattle.accepted_ranks.proofs.Means.{Means, cons_nil, right_nothing, unless_nothing, same_number, fine_means, refused_means, ruled_means, under_means, made_means, both_means, then_means, cond_means}
 
 module _ (ps : List Procedure) where
   abbrev pub Good : Placed → Type 0

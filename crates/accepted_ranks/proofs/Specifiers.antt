@@ -1,18 +1,18 @@
 -- What specifiers mean has its rank.
 use Rattle.std.proofs.Common.{◌≡◌, ◌∙◌, ℕ, Bool, true, false, List, [], ◌∷◌, refl, sym, subst}
-use Rattle.std.specs.Prelude.{bytes_eq, codes, cond, not, ◌&&◌, ◌||◌, Option, Some, None}
+use Rattle.std.specs.Prelude.{bytes_eq, codes, cond, Option, Some, None}
 use Rattle.std.specs.Bool.{Decides}
 use Rattle.std.proofs.lemmas.Slice.Eq.{bytes_eq-Decides}
 use Rattle.checked_tree.specs.Expressions as t
 use Rattle.checked_tree.specs.Statements.{Procedure}
 use Rattle.rule_definitions.specs.declared.broken.Broken.{Broken}
 use Rattle.rule_definitions.specs.declared.taken.Taken.TheVariants.{Integers as integers, Logicals as logicals}
-use Rattle.rule_definitions.specs.Judgements.{Judgement, fine, made_of}
+use Rattle.rule_definitions.specs.Judgements.{Judgement, made_of}
 use Rattle.rule_definitions.specs.Parts.{Placed, integer, team, result_variable}
 use Rattle.rule_definitions.specs.Specifiers.{Written, specifier_breaks, value_breaks, values_breaks, all_breaks, value_named, meant, stat_variable, acquired_variable, number_named, by_number, selected_team}
 use Rattle.made_code.specs.Ranks as ranks
 use Rattle.accepted_ranks.proofs.Means.{Means, left_nothing, right_nothing, none_some, some_same, fine_means, made_means}
-use Rattle.accepted_ranks.proofs.Parts.{Good, Scalar, integer_means, team_means, result_means}
+use Rattle.accepted_ranks.proofs.Parts.{Good, integer_means, team_means, result_means}
 
 -- what breaks in the value of a specifier with this name
 abbrev breaks_as : List ℕ → Placed → List Broken

@@ -1,5 +1,5 @@
 -- Counts of dimensions.
-use Rattle.std.proofs.Common.{◌≡◌, ℕ, ◌<◌, ◌≤◌, ℤ, List, [], ◌∷◌, length, refl, sym, ◌∙◌, arith}
+use Rattle.std.proofs.Common.{◌≡◌, ◌<◌, ◌≤◌, ℤ, List, [], ◌∷◌, length, refl, arith}
 use Rattle.image_acts.specs.Places.{place_in, extents_of}
 use Rattle.array_values.specs.Extents.{behind_start, dims_of}
 

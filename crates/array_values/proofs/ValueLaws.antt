@@ -1,9 +1,9 @@
 -- Array values in piles.
 use Rattle.std.proofs.Common.{◌≡◌, ℕ, suc, ◌+◌, ◌<◌, ◌≤◌, ℤ, pos, List, [], ◌∷◌, ◌++◌, length, drop, refl, ap, sym, ◌∙◌, arith}
-use Rattle.std.specs.Prelude.{Option, Some, None, map, reverse}
+use Rattle.std.specs.Prelude.{Some, None, reverse}
 use Rattle.std.proofs.lemmas.List.{length-reverse, reverse-append, reverse-reverse}
 use Rattle.std.proofs.lemmas.List.Sums.{sum_by-cons}
-use Rattle.image_acts.specs.Core.{Array, elements_in, row}
+use Rattle.image_acts.specs.Core.{Array, elements_in}
 use Rattle.image_acts.specs.Teams.{counted_from}
 use Rattle.image_stores.specs.Piles.{Pile, pile, items_in, newest, head_of, heaped, headed, merged}
 use Rattle.array_values.specs.declared.extents.Extents.{Extents}

@@ -3,7 +3,7 @@ use Rattle.std.specs.Prelude.{ℕ, ℤ, pos, List, [], ◌∷◌, map, length, r
 use Rattle.caf_base.specs.Arithmetic.{natural}
 use Rattle.image_acts.specs.Core.{Array, row}
 use Rattle.image_acts.specs.Operate.Stack.{behind}
-use Rattle.image_stores.specs.Piles.{Pile, pile, heaped}
+use Rattle.image_stores.specs.Piles.{Pile, heaped}
 use Rattle.array_values.specs.Extents.{listed}
 use Rattle.array_values.specs.declared.extents.Extents.{Extents}
 

@@ -5,7 +5,7 @@
 //! walk asks (`law_has_walks` there), and its tables are the program's. `push_block` puts the code of a block behind a draft: what `steps_written` says, which
 //! by `law_steps_written` is `steps_code` of walk_theory. A jump that goes on stands before what it passes: `block_size` says how long that is, by drafts that
 //! only count.
-//! Want of memory is also the answer where `finish` of image_code would refuse the code: that it never does is not proved here.
+//! `finish` of image_code refuses the code only where the program's ranks aren't right (`IsRankedProgram` of made_code), and `make` says so.
 #![tactic(auto)]
 
 pub mod block;

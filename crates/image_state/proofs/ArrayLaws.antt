@@ -1,5 +1,5 @@
 -- Array values that are there, and that aren't.
-use Rattle.std.proofs.Common.{◌≡◌, ℕ, suc, ◌+◌, ◌<◌, ◌≤◌, ℤ, true, false, List, [], ◌∷◌, ◌++◌, length, drop, refl, ap, sym, ◌∙◌, subst, arith}
+use Rattle.std.proofs.Common.{◌≡◌, ◌+◌, ◌<◌, ◌≤◌, ℤ, true, false, List, [], ◌∷◌, length, drop, refl, sym, subst, arith}
 use Rattle.std.specs.Prelude.{nat_le}
 use Rattle.std.specs.List.{list_all}
 use Rattle.std.proofs.lemmas.Bool.{le-leb, lt-leb}
@@ -7,7 +7,7 @@ use Rattle.walk_theory.specs.Language.{goes_to, stuck}
 use Rattle.caf_base.specs.declared.value.Kind.{Kind}
 use Rattle.caf_base.specs.Arithmetic.{fits_kind}
 use Rattle.image_acts.specs.Acts as a
-use Rattle.image_acts.specs.Core.{Core, Array, with_array, with_values, elements_in, row, pushed}
+use Rattle.image_acts.specs.Core.{Core, Array, with_array, with_values, elements_in, pushed}
 use Rattle.image_acts.specs.Taking.{Acted, taking_array, unless, giving}
 use Rattle.image_acts.specs.Operate.Stack.{stack_effect, behind}
 use Rattle.image_acts.specs.Operate.Operators.{operator_effect}

@@ -1,18 +1,17 @@
 -- Places on the stack, bounds of array values and of sections, and what is along a dimension.
-use Rattle.std.proofs.Common.{◌≡◌, ℕ, zero, suc, ◌+◌, ◌*◌, ◌-◌, ◌^◌, ◌<◌, ◌≤◌, ℤ, pos, ◌⊎◌, inl, inr, Bool, true, false, List, [], ◌∷◌, ◌++◌, length, take, drop, refl, ap, sym, ◌∙◌, subst, arith}
-use Rattle.std.specs.Prelude.{Option, Some, None, slice_get, reverse, min, not, ◌==◌, nat_le}
+use Rattle.std.proofs.Common.{◌≡◌, ℕ, zero, suc, ◌+◌, ◌*◌, ◌-◌, ◌^◌, ◌<◌, ◌≤◌, ℤ, pos, inl, inr, true, false, List, [], ◌∷◌, length, take, drop, refl, ap, sym, ◌∙◌, subst, arith}
+use Rattle.std.specs.Prelude.{Option, Some, None, slice_get, min, not, ◌==◌}
 use Rattle.std.proofs.lemmas.Bool.{le-leb, lt-leb, cases_Bool}
 use Rattle.std.proofs.lemmas.List.{length-reverse, length-take}
 use Rattle.std.proofs.lemmas.List.Sums.{sum_by-cons}
 use Rattle.caf_base.specs.declared.value.Kind.TheVariants as kinds
 use Rattle.caf_base.specs.Arithmetic.{fits_kind, natural, truth}
-use Rattle.coarray_types.specs.Places.{extent_of, size_of}
+use Rattle.coarray_types.specs.Places.{size_of}
 use Rattle.walk_theory.specs.Language.{goes_to, faults, stuck}
 use Rattle.walk_theory.specs.Terms.{Found, found, at_fault}
 use Rattle.image_acts.specs.Acts as a
-use Rattle.image_acts.specs.Core.{Core, Array, with_values, with_array, elements_in, row, pushed}
-use Rattle.image_acts.specs.Faults.{room, overflow, shape_fault}
-use Rattle.image_acts.specs.Statuses.{most_elements}
+use Rattle.image_acts.specs.Core.{Core, Array, with_values, with_array, elements_in, pushed}
+use Rattle.image_acts.specs.Faults.{shape_fault}
 use Rattle.image_acts.specs.Frames.{pairs_in, pairs_numbers}
 use Rattle.image_acts.specs.Places.{place_in, place_size, extents_of, cells_of}
 use Rattle.image_acts.specs.Taking.{Acted, found_in, unless, taking_one, taking_array, seeing_array, taking, giving, telling}

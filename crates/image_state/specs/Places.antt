@@ -1,6 +1,6 @@
 -- Places and dimensions on the stack of a core.
 use Rattle.std.specs.Prelude.{ℕ, ℤ, List, take, drop, reverse}
-use Rattle.image_acts.specs.Core.{Core, Array, with_values}
+use Rattle.image_acts.specs.Core.{Core, with_values}
 use Rattle.image_acts.specs.Places.{place_size}
 use Rattle.image_state.specs.Arrays.{with_arrays}
 
