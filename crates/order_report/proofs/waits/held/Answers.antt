@@ -27,3 +27,8 @@ loop-run-preserved g c =
           subst (AreHeld g.M.Walker.step configs (c.loop-run.run-index + 1)) (sym w.held-is)
           (held_over g.M.Walker.step configs c.loop-run.run-index c.loop-run.held c.loop-run.invariant stands at over))
     ]
+
+pub returns : goal.returns
+returns g c =
+    let end : c.loop-run.run-index ≡ length c.args.parts.now.images.items = omega arith in
+    subst (λ k. AreHeld g.M.Walker.step (map (λ r. g.M.Walker.config r.machine) c.args.parts.now.images.items) k c.loop-run.held) end c.loop-run.invariant
