@@ -31,7 +31,7 @@ module _ (w : Whole) (limit n : ℕ) (xs : List Engine) (h : EachAt (HasBegun w 
 
   rooms_in : (k : ℕ) (o : Option Engine) → slice_get xs k ≡ o → Rooms
   rooms_in k None e = no_rooms
-  rooms_in k (Some c) e = (begun_at k c e).rooms
+  rooms_in k (Some c) e = (begun_at k c e).starts.0
 
   -- the room of each image's machine
   pub rooms_of : ℕ → Rooms
@@ -41,8 +41,8 @@ module _ (w : Whole) (limit n : ℕ) (xs : List Engine) (h : EachAt (HasBegun w 
   come_in : (k : ℕ) (o : Option Engine) (e : slice_get xs k ≡ o) → MatchOption o (Unit {0}) (λ c. (j : ℕ) × (go machine_step j (start_of w limit (rooms_in k o e) (suc k) n) ≡ goes c))
   come_in k None e = tt
   come_in k (Some c) e =
-      let begun = begun_at k c e in
-      (begun.steps, begun.come)
+      let starts = (begun_at k c e).starts in
+      (starts.1, starts.2)
 
   come_from : HaveCome machine_step (λ i. start_of w limit (rooms_of i) i n) xs
   come_from = record {

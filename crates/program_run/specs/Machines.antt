@@ -32,7 +32,5 @@ HearsAll w limit coarrays n fails_at words =
 
 -- the machine of the image at this place of n has come from the start of its code to its first ask, or its end
 pub record HasBegun (w : Whole) (limit n k : ℕ) (e : Engine) : Type 0 where
-  pub rooms : Rooms
-  pub steps : ℕ
-  pub come : go machine_step steps (start_of w limit rooms (suc k) n) ≡ goes e
+  pub starts : (rooms : Rooms) × (steps : ℕ) × (go machine_step steps (start_of w limit rooms (suc k) n) ≡ goes e)
   pub rests : Rests (machine_step e)

@@ -13,19 +13,14 @@ use std::alloc::Global;
 use std::sync::Arc;
 
 // The machine of the image at a place.
-fn machine(
-    alloc: Global,
-    code: &Arc<Code>,
-    k: u32,
-    n: u32,
-    limit: u64,
-) -> Result<Machine, NoMemory>
+fn machine(alloc: Global, code: &Arc<Code>, k: u32, n: u32, limit: u64) -> Result<Machine, NoMemory>
     requires place { k < 2 ^ 31 }
     requires limit { limit ≤ 100000000 }
     requires code { IsRunnable (arc_value code.now) }
     ensures { IfOk result (HasBegun (arc_value code.now) limit n k) }
 {
-    Machine::new(alloc, code.clone()?, ImageNo(k + 1), n, limit)
+    let machine = Machine::new(alloc, code.clone()?, ImageNo(k + 1), n, limit)?;
+    Ok(machine)
 }
 
 /// The machines of the images from 1 to n, each at its first ask or its end.

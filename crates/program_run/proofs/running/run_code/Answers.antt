@@ -20,13 +20,14 @@ run_images-requires-clause-runs c =
     let coarrays = map declared_of c.args.coarrays.now in
     let xs = c.in_ok-machines.machines.items in
     let rooms = rooms_of w limit n xs c.in_ok-machines.ensures.begun in
-    let first = λ (i : ℕ). start_of w limit (rooms i) i n in
-    (first,
-    subst (λ k. RunsFrom machine_step hears coarrays k first (fails_at c.args.fails.now) c.args.words (map (λ x. x) xs)) (sym c.in_ok-machines.ensures.count)
-    (record {
-      come = have_come w limit n xs c.in_ok-machines.ensures.begun;
-      fit = machine_fit hears c.requires.program.0 w limit rooms coarrays n (fails_at c.args.fails.now) c.args.words c.requires.program.1 (c.requires.hears rooms);
-    }))
+    let first = λ (i : ℕ). start_of w limit (rooms i) i n in (
+      first,
+      subst (λ k. RunsFrom machine_step hears coarrays k first (fails_at c.args.fails.now) c.args.words (map (λ x. x) xs)) (sym c.in_ok-machines.ensures.count)
+          (record {
+            come = have_come w limit n xs c.in_ok-machines.ensures.begun;
+            fit = machine_fit hears c.requires.program.0 w limit rooms coarrays n (fails_at c.args.fails.now) c.args.words c.requires.program.1 (c.requires.hears rooms);
+          }),
+    )
 
 pub returns-clause-report : goal.returns-clause-report
 returns-clause-report c =
