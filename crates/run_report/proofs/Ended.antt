@@ -22,8 +22,9 @@ use Rattle.caf_report.specs.declared.report.Race.{Race}
 use Rattle.caf_report.specs.declared.report.Report.{Report}
 use Rattle.caf_report.specs.declared.report.Waiting.{Waiting}
 use Rattle.caf_report.specs.Ends.{EndsAt, IsFirstEnding, HasNoEnding, ending_by, ending_of, end_of_waits, status_of}
-use Rattle.run_report.specs.Runs.{WaitsAs, AreWaiting, IsRunEnd, IsReportOf, IsRunStatus}
-use Rattle.run_report.proofs.Runs.{no_ending, run_end_of}
+use Rattle.order_report.specs.Reports.{WaitsAs, AreWaiting, IsRunEnd}
+use Rattle.order_report.proofs.Runs.{no_ending, run_end_of}
+use Rattle.run_report.specs.Runs.{IsReportOf, IsRunStatus}
 
 fault_end : (k : ℕ) (a : Ask) → IsThinFault a → ending_by k a ≡ ends.RunFault k
 fault_end k (asks.Fault kind) h = refl

@@ -1,3 +1,2 @@
-pub mod Held
-pub mod Runs
+pub mod Orders
 pub mod Ended

@@ -1,73 +1,18 @@
 -- The report of a run of a thin program: its trace is a core run and that of the ordered run, its end is that of the trace, a race first, and up to the race each
 -- reference gives the last definition in segment order.
-use Rattle.std.specs.Prelude.{ℕ, zero, suc, ◌≡◌, ◌<◌, ◌≤◌, ◌⊎◌, List, [], ◌∷◌, length, map, Some}
+use Rattle.std.specs.Prelude.{ℕ, ◌≡◌, ◌⊎◌, List, map}
 use Rattle.caf_base.specs.declared.thin.ThinProgram.{ThinProgram}
-use Rattle.caf_events.specs.declared.ask.Ask.{Ask}
-use Rattle.caf_events.specs.declared.reply.Reply.{Reply}
-use Rattle.caf_events.specs.declared.event.Trace.{Trace}
-use Rattle.caf_events.specs.Walkers.{AsksNext, IsAtLine, IsOver}
-use Rattle.trace_theory.specs.Entries.{Each, Rises, last_or}
-use Rattle.trace_theory.specs.Machines.{Move}
-use Rattle.core_runs.specs.Beginnings.{Beginning, IsImage}
 use Rattle.core_runs.specs.CoreRuns.{IsCoreRun}
-use Rattle.core_runs.specs.Moments.{Rules, item_at}
 use Rattle.core_runs.specs.Lawful.{made_memory}
 use Rattle.core_runs.specs.Orders.{IsOrderTrace}
-use Rattle.core_runs.specs.Waits.{HasEndedIn, IsWaiting}
 use Rattle.thin_parts.specs.ThinRuns.{thin_rules, thin_beginning}
-use Rattle.image_core.specs.declared.choices.Choices.{Choices}
-use Rattle.image_core.specs.declared.choices.Choices.TheVariants.{Rotate, Seed}
 use Rattle.image_core.specs.Choosing.{choosing}
-use Rattle.order_theory.specs.Races.{Cell}
-use Rattle.order_axioms.specs.FirstRaces.{HasNoRace, IsFirstRace, Allowed}
-use Rattle.order_axioms.specs.Touching.{touches, accesses}
+use Rattle.order_axioms.specs.FirstRaces.{Allowed}
+use Rattle.order_axioms.specs.Touching.{accesses}
 use Rattle.order_axioms.specs.Views.{edges}
 use Rattle.thin_lawful.specs.ThinCoarrays.{thin_coarrays}
-use Rattle.caf_report.specs.declared.report.End.{End}
-use Rattle.caf_report.specs.declared.report.End.TheVariants as ends
-use Rattle.caf_report.specs.declared.report.Race.{Race}
 use Rattle.caf_report.specs.declared.report.Report.{Report}
-use Rattle.caf_report.specs.declared.report.Waiting.{Waiting}
-use Rattle.caf_report.specs.Ends.{IsFirstEnding, HasNoEnding, ending_at, end_of_waits}
-
--- the choices of the order of a SEED: the rotation for 0, else those of the generator from this state on
-abbrev pub choices_of : ℕ → Choices
-choices_of zero = Rotate 0
-choices_of (suc k) = Seed (suc k)
-
--- one of these is of the image with this number
-abbrev pub WaitsAs : ℕ → List Waiting → Type 0
-WaitsAs i [] = ⊥
-WaitsAs i (w ∷ ws) = (w.image.0 ≡ i) ⊎ WaitsAs i ws
-
--- the images that wait after a trace, in rising order: each has come to its ask, which isn't ready, and every other image has ended
-pub record AreWaiting {C M B : Type 0} (r : Rules C M B) (b : Beginning C M B) (t : Trace) (ws : List Waiting) : Type 0 where
-  pub rises : Rises (λ w. w.image.0) ws
-  pub each : Each (λ w. IsWaiting r b t.entries w.image.0 w.line w.ask) ws
-  pub all : (i : ℕ) → IsImage b i → HasEndedIn i t.entries ⊎ WaitsAs i ws
-
--- the end of a run with this trace: that of its first ending event; where there is none, Finished where every image has ended, else Stuck
-pub record IsRunEnd {C M B : Type 0} (r : Rules C M B) (b : Beginning C M B) (t : Trace) (end : End) : Type 0 where
-  pub ended : (k : ℕ) → IsFirstEnding t k → end ≡ ending_at t k
-  pub open_end : HasNoEnding t → (ws : List Waiting) × AreWaiting r b t ws × (end ≡ end_of_waits ws)
-
--- the cell of a race
-abbrev pub cell_of : Race → Cell
-cell_of x = record { owner = x.owner.0; coarray = x.coarray; offset = x.offset }
-
--- the first race of the trace of a run of n images (11.6.2), with the least cell that both of its entries touch
-abbrev pub IsRace : ℕ → Trace → Race → Type 0
-IsRace n t x = IsFirstRace (edges n) touches t.entries x.first x.second (cell_of x)
-
--- the end of a report: the first race where the trace has one, and where it has none that of the run
-abbrev pub IsReportEnd : {C M B : Type 0} → ℕ → Rules C M B → Beginning C M B → Trace → End → Type 0
-IsReportEnd n r b t (ends.Raced x) = IsRace n t x
-IsReportEnd n r b t end = HasNoRace (edges n) touches t.entries × IsRunEnd r b t end
-
--- how many entries stand before the second one of the race; all of them, where there is none
-abbrev pub before_race : Trace → End → ℕ
-before_race t (ends.Raced x) = x.second
-before_race t end = length t.entries
+use Rattle.order_report.specs.Reports.{choices_of, before_race, IsReportEnd}
 
 -- the names of the variables in declared order; the number of a coarray is its variable's place among them
 abbrev pub names_of : ThinProgram → List (List ℕ)
@@ -85,10 +30,3 @@ pub record IsReportOf (p : ThinProgram) (n seed : ℕ) (report : Report) : Type 
 -- a status with which a run ends: 0 where every image has stopped, 5 with a race, 8 with a run fault; in the present form no run ends otherwise
 abbrev pub IsRunStatus : ℕ → Type 0
 IsRunStatus s = (s ≡ 0) ⊎ (s ≡ 5) ⊎ (s ≡ 8)
-
--- those of the first n images that haven't ended, each with the ask and the line at which it stands
-pub record AreHeld {C : Type 0} (step : C → Move C Ask Reply) (configs : List C) (n : ℕ) (ws : List Waiting) : Type 0 where
-  pub rises : Rises (λ w. w.image.0) ws
-  pub low : last_or (λ w. w.image.0) 0 ws ≤ n
-  pub each : Each (λ w. (c : C) × (item_at configs w.image.0 ≡ Some c) × AsksNext (step c) w.ask × IsAtLine (step c) w.line) ws
-  pub all : (i : ℕ) → 0 < i → i ≤ n → ((c : C) × (item_at configs i ≡ Some c) × IsOver (step c)) ⊎ WaitsAs i ws

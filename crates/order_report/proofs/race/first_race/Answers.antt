@@ -2,7 +2,7 @@ use Rattle.std.proofs.Common.{subst}
 use Rattle.order_axioms.specs.FirstRaces.{HasNoRace}
 use Rattle.order_axioms.specs.Touching.{touches}
 use Rattle.order_axioms.specs.Views.{edges}
-use Rattle.run_report.proofs.race.first_race.Goals as goal
+use Rattle.order_report.proofs.race.first_race.Goals as goal
 
 pub returns-in-None-clause-race : goal.returns-in-None-clause-race
 returns-in-None-clause-race c =

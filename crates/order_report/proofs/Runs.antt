@@ -4,7 +4,6 @@ use Rattle.std.specs.Prelude.{Option, Some, None, Ok, map, slice_get, nat_eq, Ma
 use Rattle.std.specs.List.{filter, range_with_len}
 use Rattle.std.proofs.lemmas.Bool.{cases_Bool, cases_lt}
 use Rattle.caf_base.specs.declared.refusal.NoMemory.{NoMemory}
-use Rattle.caf_base.specs.declared.thin.ThinProgram.{ThinProgram}
 use Rattle.caf_events.specs.declared.event.Entry.{Entry}
 use Rattle.caf_events.specs.declared.event.Trace.{Trace}
 use Rattle.caf_events.specs.Events.{EndsRun}
@@ -17,7 +16,6 @@ use Rattle.core_runs.specs.Moments.{Rules, Moment, item_at, can_step}
 use Rattle.core_runs.specs.Beginnings.{Beginning, IsImage, IsFirst}
 use Rattle.core_runs.specs.CoreRuns.{of_image, IsCoreRun}
 use Rattle.core_runs.specs.Kept.{IsKept}
-use Rattle.core_runs.specs.Sequences.{EndsByItself}
 use Rattle.core_runs.specs.Lawful.{IsLawfulTrace, made_memory}
 use Rattle.core_runs.specs.Orders.{candidates, EndsAtLast, IsWhole, IsOrderTrace}
 use Rattle.core_runs.specs.Traces.{IsTraceOf}
@@ -28,18 +26,8 @@ use Rattle.core_runs.proofs.Waits.{waiting, stopped}
 use Rattle.image_core.specs.declared.choices.RunEnd.{RunEnd}
 use Rattle.image_core.specs.declared.choices.RunEnd.TheVariants.{Ending, AllOver, AllWait}
 use Rattle.image_core.specs.declared.choices.Choices.{Choices}
-use Rattle.image_core.specs.declared.run.ImageRun.{ImageRun}
-use Rattle.image_core.specs.declared.parts.PartsOf.{PartsOf}
 use Rattle.image_core.specs.Choosing.{choosing}
 use Rattle.image_core.specs.Orders.{EndIs, IsOrderRun}
-use Rattle.image_core.specs.Parts.{event_lists}
-use Rattle.image_core.specs.Starts.{thin_moment}
-use Rattle.image_core.proofs.Slices.{map_length}
-use Rattle.thin_parts.specs.ThinBoard.{BoardMeaning}
-use Rattle.thin_parts.specs.ThinMemory.{MemoryMeaning}
-use Rattle.thin_parts.specs.ThinRuns.{thin_rules, thin_beginning}
-use Rattle.thin_parts.specs.ThinWalk.{Config, thin_step}
-use Rattle.thin_parts.proofs.ThinWalks.{thin_ends}
 use Rattle.object_rules.specs.Cells.{Declared}
 use Rattle.order_theory.specs.Races.{NoRace}
 use Rattle.order_axioms.specs.FirstRaces.{HasNoRace, Allowed}
@@ -48,14 +36,13 @@ use Rattle.order_axioms.specs.Views.{edges}
 use Rattle.order_axioms.proofs.AllLaws.{reads_of}
 use Rattle.order_axioms.proofs.MemoryRule.{lawful_reads_last}
 use Rattle.order_axioms.proofs.Quiet.{lawful_quiet}
-use Rattle.thin_lawful.specs.ThinCoarrays.{thin_coarrays}
 use Rattle.caf_report.specs.declared.report.End.{End}
 use Rattle.caf_report.specs.declared.report.End.TheVariants as ends
 use Rattle.caf_report.specs.declared.report.Race.{Race}
 use Rattle.caf_report.specs.declared.report.Report.{Report}
 use Rattle.caf_report.specs.declared.report.Waiting.{Waiting}
 use Rattle.caf_report.specs.Ends.{EndsAt, HasNoEnding, IsEndOf, IsPlain}
-use Rattle.run_report.specs.Runs.{choices_of, names_of, before_race, AreHeld, AreWaiting, IsRace, IsRunEnd, IsReportEnd, IsReportOf}
+use Rattle.order_report.specs.Reports.{choices_of, before_race, AreHeld, AreWaiting, IsRace, IsRunEnd, IsReportEnd, IsOrderReport, EndByThemselves}
 
 -- an ordered run that was answered is whole
 pub whole_of : {C M B : Type 0} (r : Rules C M B) (m : Moment C M B) (xs : List Entry) (end : RunEnd) → EndIs r m xs end → IsWhole r xs m
@@ -95,7 +82,7 @@ ends_nowhere t xs same none (before, last, all, rest, ends) =
     (subst (Each (λ x. EndsRun x.event → ⊥)) (same (image_of last) ∙ ap (of_image (image_of last)) all ∙ of_inside image_of before [] last) (each_filter (λ x. EndsRun x.event → ⊥) (λ x. nat_eq (image_of x) (image_of last)) t.entries (no_ending t none)))
     ends
 
-module _ {C M B : Type 0} (r : Rules C M B) (b : Beginning C M B) (m : Moment C M B) (t : Trace) (h : IsKept r b m) (trace : IsTraceOf m.events t.entries) (enders : (i : ℕ) → EndsByItself r.step (b.first i)) (stuck : candidates r m ≡ []) where
+module _ {C M B : Type 0} (r : Rules C M B) (b : Beginning C M B) (m : Moment C M B) (t : Trace) (h : IsKept r b m) (trace : IsTraceOf m.events t.entries) (enders : EndByThemselves r b) (stuck : candidates r m ≡ []) where
   each_waits : (ws : List Waiting) → Each (λ w. (c : C) × (item_at m.configs w.image.0 ≡ Some c) × AsksNext (r.step c) w.ask × IsAtLine (r.step c) w.line) ws → Each (λ w. IsWaiting r b t.entries w.image.0 w.line w.ask) ws
   each_waits [] e = tt
   each_waits (w ∷ ws) ((c, at, ask, line), rest) =
@@ -107,13 +94,13 @@ module _ {C M B : Type 0} (r : Rules C M B) (b : Beginning C M B) (m : Moment C 
     rises = held.rises;
     each = each_waits ws held.each;
     all = λ i in_run. (let l = h.count in let k = in_run.1 in elim (held.all i in_run.0 (omega arith)) [
-      | inl (c, at, over) ↦ inl (stopped r b m t.entries h trace i c at (enders i) over)
+      | inl (c, at, over) ↦ inl (stopped r b m t.entries h trace i c at (enders i in_run) over)
       | inr there ↦ inr there
     ]);
   }
 
 -- the end of a report of a whole run with the images that haven't ended is that of the run
-pub run_end : {C M B : Type 0} (r : Rules C M B) (b : Beginning C M B) (m : Moment C M B) (t : Trace) (xs : List Entry) (ws : List Waiting) (end : End) → IsKept r b m → IsTraceOf m.events t.entries → ((i : ℕ) → EndsByItself r.step (b.first i)) → ((i : ℕ) → of_image i t.entries ≡ of_image i xs)
+pub run_end : {C M B : Type 0} (r : Rules C M B) (b : Beginning C M B) (m : Moment C M B) (t : Trace) (xs : List Entry) (ws : List Waiting) (end : End) → IsKept r b m → IsTraceOf m.events t.entries → EndByThemselves r b → ((i : ℕ) → of_image i t.entries ≡ of_image i xs)
     → IsWhole r xs m → AreHeld r.step m.configs (length m.configs) ws → IsEndOf t ws end → IsRunEnd r b t end
 run_end r b m t xs ws end kept trace enders same (inl at_last) held is = record { ended = is.ended; open_end = λ none. absurd (ends_nowhere t xs same none at_last) }
 run_end r b m t xs ws end kept trace enders same (inr (rest, stuck)) held is = record { ended = is.ended; open_end = λ none. (ws, held_wait r b m t kept trace enders stuck ws held, is.open_end none) }
@@ -154,31 +141,25 @@ run_end_of n r b t (ends.Clash k) plain is = is.1
 run_end_of n r b t (ends.Limit k) plain is = is.1
 run_end_of n r b t (ends.Stuck ws) plain is = is.1
 
--- the report of the parts to which an ordered run leads from the first ones
-pub report_of : (p : ThinProgram) (n seed : ℕ) (parts parts' : PartsOf Config MemoryMeaning BoardMeaning) (s s' : Choices) (end : RunEnd) (t : Trace) (ws : List Waiting) (race : Option Race) (report : Report)
-    → IsFirst thin_rules (thin_beginning p n) (thin_moment parts) → IsKept thin_rules (thin_beginning p n) (thin_moment parts)
-    → s ≡ choices_of seed → (run : IsOrderRun {E = NoMemory} thin_rules s (thin_moment parts) s' (thin_moment parts') (Ok end))
-    → IsKept thin_rules (thin_beginning p n) (thin_moment parts') → IsTraceOf (event_lists parts'.images.items) t.entries → IsCoreRun thin_rules (thin_beginning p n) t.entries
-    → AreHeld thin_step (map (λ r. r.machine) parts'.images.items) (length parts'.images.items) ws → IsLawfulTrace (thin_coarrays p) n t.entries
-    → MatchOption race (HasNoRace (edges n) touches t.entries) (IsRace n t)
-    → report.images ≡ n → report.trace ≡ t → report.names ≡ names_of p → IfSome race (λ x. report.end ≡ ends.Raced x) → IfNone race (IsPlain report.end) → IfNone race (IsEndOf t ws report.end) → IsReportOf p n seed report
-report_of p n seed parts parts' s s' end t ws race report first kept seeded run kept' trace core held lawful found images traced named raced plain ended =
-    let whole = whole_of thin_rules (thin_moment parts') run.steps end run.so in
-    let b = thin_beginning p n in
-    let ordered = order_trace thin_rules b choosing s (thin_moment parts) run.steps s' (thin_moment parts') t.entries first run.ordered whole trace in
-    let same = order_same thin_rules b choosing s (thin_moment parts) run.steps s' (thin_moment parts') t.entries first run.ordered trace in
-    let many = map_length (λ (r : ImageRun Config). r.machine) parts'.images.items in
-    let waits = subst (λ k. AreHeld thin_step (map (λ r. r.machine) parts'.images.items) k ws) (sym many) held in
-    let without : IfNone race (IsRunEnd thin_rules b t report.end) = none_then race (λ is. run_end thin_rules b (thin_moment parts') t run.steps ws report.end kept' trace (λ i. thin_ends p i n) same whole waits is) ended in
-    let is_end : IsReportEnd n thin_rules b t report.end = end_of n thin_rules b t race report.end found raced plain without in
+-- the report of the moment to which an ordered run leads from the first one
+pub report_of : {C M B : Type 0} (r : Rules C M B) (b : Beginning C M B) (coarrays : List Declared) (seed : ℕ) (m m' : Moment C M B) (s s' : Choices) (end : RunEnd) (t : Trace) (ws : List Waiting) (race : Option Race) (report : Report)
+    → IsFirst r b m → EndByThemselves r b → s ≡ choices_of seed → (run : IsOrderRun {E = NoMemory} r s m s' m' (Ok end))
+    → IsKept r b m' → IsTraceOf m'.events t.entries → IsCoreRun r b t.entries → AreHeld r.step m'.configs (length m'.configs) ws → IsLawfulTrace coarrays b.images t.entries
+    → MatchOption race (HasNoRace (edges b.images) touches t.entries) (IsRace b.images t)
+    → report.images ≡ b.images → report.trace ≡ t → IfSome race (λ x. report.end ≡ ends.Raced x) → IfNone race (IsPlain report.end) → IfNone race (IsEndOf t ws report.end) → IsOrderReport r b coarrays seed report
+report_of r b coarrays seed m m' s s' end t ws race report first enders seeded run kept trace core held lawful found images traced raced plain ended =
+    let whole = whole_of r m' run.steps end run.so in
+    let ordered = order_trace r b choosing s m run.steps s' m' t.entries first run.ordered whole trace in
+    let same = order_same r b choosing s m run.steps s' m' t.entries first run.ordered trace in
+    let without : IfNone race (IsRunEnd r b t report.end) = none_then race (λ is. run_end r b m' t run.steps ws report.end kept trace enders same whole held is) ended in
+    let is_end : IsReportEnd b.images r b t report.end = end_of b.images r b t race report.end found raced plain without in
     record {
       images = images;
-      core = subst (λ v. IsCoreRun thin_rules b v.entries) (sym traced) core;
-      ordered = subst (λ v. IsOrderTrace thin_rules b choosing (choices_of seed) v.entries) (sym traced) (subst (λ v. IsOrderTrace thin_rules b choosing v t.entries) seeded ordered);
-      end = subst (λ v. IsReportEnd n thin_rules b v report.end) (sym traced) is_end;
-      allowed = subst (λ v. Allowed (edges n) (accesses (made_memory (thin_coarrays p))) v.entries (before_race v report.end)) (sym traced)
-          (allowed (thin_coarrays p) n t.entries lawful (before_race t report.end) (clean n thin_rules b t report.end is_end));
-      names = named;
+      core = subst (λ v. IsCoreRun r b v.entries) (sym traced) core;
+      ordered = subst (λ v. IsOrderTrace r b choosing (choices_of seed) v.entries) (sym traced) (subst (λ v. IsOrderTrace r b choosing v t.entries) seeded ordered);
+      end = subst (λ v. IsReportEnd b.images r b v report.end) (sym traced) is_end;
+      allowed = subst (λ v. Allowed (edges b.images) (accesses (made_memory coarrays)) v.entries (before_race v report.end)) (sym traced)
+          (allowed coarrays b.images t.entries lawful (before_race t report.end) (clean b.images r b t report.end is_end));
     }
   where
     none_then : {X Y : Type 0} (o : Option Race) → (X → Y) → IfNone o X → IfNone o Y

@@ -10,7 +10,7 @@ use Rattle.trace_theory.specs.Machines.{Move}
 use Rattle.trace_theory.proofs.Snocs.{each_last, rises_more}
 use Rattle.core_runs.specs.Moments.{item_at}
 use Rattle.caf_report.specs.declared.report.Waiting.{Waiting}
-use Rattle.run_report.specs.Runs.{WaitsAs, AreHeld}
+use Rattle.order_report.specs.Reports.{WaitsAs, AreHeld}
 
 waits_before : (i : ℕ) (ws : List Waiting) (w : Waiting) → WaitsAs i ws → WaitsAs i (ws ++ w ∷ [])
 waits_before i [] w h = absurd h

@@ -1,0 +1,34 @@
+use Rattle.std.proofs.Common.{◌≡◌, length, map, sym, subst, arith}
+use Rattle.std.specs.Prelude.{MatchOption}
+use Rattle.core_runs.specs.Moments.{rules}
+use Rattle.image_core.specs.Parts.{moment}
+use Rattle.image_core.proofs.Slices.{map_length}
+use Rattle.order_axioms.specs.FirstRaces.{HasNoRace}
+use Rattle.order_axioms.specs.Touching.{touches}
+use Rattle.order_axioms.specs.Views.{edges}
+use Rattle.order_report.specs.Reports.{AreHeld, IsRace}
+use Rattle.order_report.proofs.Runs.{report_of}
+use Rattle.order_report.proofs.report.report_order.Goals as goal
+
+pub returns-clause-report : goal.returns-clause-report
+returns-clause-report g c b coarrays first kept enders lawful =
+    let r = rules g.M.Walker g.O.Object g.B.Object in
+    let before = c.args.parts.now in
+    let behind = c.run_order.new.self in
+    let t = c.in_ok-trace.trace in
+    let race = c.in_ok-race.race in
+    let ws = c.in_ok-held.held in
+    let kept_on = c.in_ok-run_order.ensures.kept b kept in
+    let core = c.in_ok-trace.ensures.core b kept_on in
+    let sized = c.len-n.ensures in
+    let counted = kept.count in
+    let told = c.with_race.ensures.images in
+    let many = map_length (λ x. g.M.Walker.config x.machine) before.images.items in
+    let same : c.len-n.result ≡ b.images = omega arith in
+    let images : c.with_race.result.images ≡ b.images = omega arith in
+    let still = map_length (λ x. g.M.Walker.config x.machine) behind.images.items in
+    let held = subst (λ k. AreHeld g.M.Walker.step (map (λ x. g.M.Walker.config x.machine) behind.images.items) k ws) (sym still) c.in_ok-held.ensures in
+    let found = subst (λ k. MatchOption race (HasNoRace (edges k) touches t.entries) (IsRace k t)) same c.in_ok-race.ensures.race in
+    report_of r b coarrays c.args.seed (moment g.M.Walker g.O.Object g.B.Object before) (moment g.M.Walker g.O.Object g.B.Object behind) c.choices_of_seed-choices.result c.run_order.new.choices c.in_ok-run_order.field-0 t ws race c.with_race.result
+    first enders c.choices_of_seed-choices.ensures c.in_ok-run_order.ensures.run kept_on c.in_ok-trace.ensures.trace core held (lawful t.entries core) found
+    images c.with_race.ensures.trace c.with_race.ensures.raced c.with_race.ensures.plain c.with_race.ensures.end

@@ -1,0 +1,54 @@
+-- The machines before the first step are those of the images by number, each with its room.
+use Rattle.std.proofs.Common.{◌≡◌, ℕ, zero, suc, ◌<◌, List, [], ◌∷◌, length, refl, sym, ap, subst, arith}
+use Rattle.std.specs.Prelude.{Option, Some, None, map, slice_get, slice_index_or, MatchOption}
+use Rattle.trace_theory.specs.Machines.{go, goes}
+use Rattle.core_runs.proofs.Numbered.{item_within}
+use Rattle.image_core.specs.Parts.{EachAt}
+use Rattle.lane_parts.specs.FirstLanes.{HaveCome}
+use Rattle.image_code.specs.Code.{Whole}
+use Rattle.image_state.specs.declared.state.Rooms.{Rooms}
+use Rattle.image_machine.specs.Engine.{Engine, start_of}
+use Rattle.image_machine.specs.Walk.{machine_step}
+use Rattle.program_run.specs.Machines.{HasBegun}
+
+get_item : {A : Type 0} (xs : List A) (k : ℕ) (x : A) → slice_get xs k ≡ Some x → x ≡ slice_index_or xs k x
+get_item [] k x e = absurd (cc)
+get_item (y ∷ ys) zero x e =
+    let same : y ≡ x = cc in
+    sym same
+get_item (y ∷ ys) (suc k) x e = get_item ys k x e
+
+map_same : {A : Type 0} (xs : List A) → map (λ x. x) xs ≡ xs
+map_same [] = refl
+map_same (x ∷ xs) = ap (λ ys. x ∷ ys) (map_same xs)
+
+no_rooms : Rooms
+no_rooms = record { numbers = 0; arrays = 0; texts = 0; scalars = 0 }
+
+module _ (w : Whole) (limit n : ℕ) (xs : List Engine) (h : EachAt (HasBegun w limit n) xs) where
+  begun_at : (k : ℕ) (c : Engine) → slice_get xs k ≡ Some c → HasBegun w limit n k c
+  begun_at k c at = h k c (item_within xs k c at) (get_item xs k c at)
+
+  rooms_in : (k : ℕ) (o : Option Engine) → slice_get xs k ≡ o → Rooms
+  rooms_in k None e = no_rooms
+  rooms_in k (Some c) e = (begun_at k c e).starts.0
+
+  -- the room of each image's machine
+  pub rooms_of : ℕ → Rooms
+  rooms_of zero = no_rooms
+  rooms_of (suc k) = rooms_in k (slice_get xs k) refl
+
+  come_in : (k : ℕ) (o : Option Engine) (e : slice_get xs k ≡ o) → MatchOption o (Unit {0}) (λ c. (j : ℕ) × (go machine_step j (start_of w limit (rooms_in k o e) (suc k) n) ≡ goes c))
+  come_in k None e = tt
+  come_in k (Some c) e =
+      let starts = (begun_at k c e).starts in
+      (starts.1, starts.2)
+
+  come_from : HaveCome machine_step (λ i. start_of w limit (rooms_of i) i n) xs
+  come_from = record {
+    starts = λ k c at. subst (λ o. MatchOption o (Unit {0}) (λ d. (j : ℕ) × (go machine_step j (start_of w limit (rooms_of (suc k)) (suc k) n) ≡ goes d))) at (come_in k (slice_get xs k) refl);
+    rests = λ k c at. (begun_at k c at).rests;
+  }
+
+  pub have_come : HaveCome machine_step (λ i. start_of w limit (rooms_of i) i n) (map (λ x. x) xs)
+  have_come = subst (λ ys. HaveCome machine_step (λ i. start_of w limit (rooms_of i) i n) ys) (sym (map_same xs)) come_from

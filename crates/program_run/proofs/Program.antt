@@ -1,0 +1,35 @@
+-- The report of a run of machines whose code has the walks of a program is that of a run of the program.
+use Rattle.std.proofs.Common.{ℕ, List}
+use Rattle.object_rules.specs.Cells.{Declared}
+use Rattle.checked_tree.specs.Statements as checked
+use Rattle.image_core.specs.Choosing.{choosing}
+use Rattle.image_core.specs.declared.choices.Choices.{Choices}
+use Rattle.image_lanes.specs.LaneRuns.{lane_rules}
+use Rattle.image_code.specs.Code.{Whole}
+use Rattle.image_state.specs.declared.state.Rooms.{Rooms}
+use Rattle.image_machine.specs.Engine.{start_of}
+use Rattle.image_machine.specs.Walk.{machine_step}
+use Rattle.caf_report.specs.declared.report.Report.{Report}
+use Rattle.order_report.specs.Reports.{choices_of}
+use Rattle.order_report.proofs.SameEnd.{report_end_too}
+use Rattle.full_report.specs.Reports.{ImagesEnd, IsImagesReport}
+use Rattle.program_walks.specs.Runs.{program_rules, program_begins}
+use Rattle.machine_runs.specs.Runs.{HasWalksOn, machines_begin}
+use Rattle.machine_runs.proofs.MachineRuns.{machine_ends, core_onward, order_onward, waits_onward}
+use Rattle.program_run.specs.Machines.{hears}
+use Rattle.program_run.specs.Reports.{IsProgramReport}
+
+module _ (p : checked.Program) (w : Whole) (limit : ℕ) (rooms : ℕ → Rooms) (coarrays : List Declared) (n : ℕ) (fails_at : ℕ → ℕ) (words : ℕ) (h : HasWalksOn p limit n w) where
+  pub machines_end : ImagesEnd machine_step hears coarrays n (λ i. start_of w limit (rooms i) i n) fails_at words
+  machines_end i in_run = machine_ends p w limit (rooms i) i n (h i in_run) (fails_at i) words
+
+  pub program_report : (seed : ℕ) (report : Report) → IsImagesReport machine_step hears coarrays n (λ i. start_of w limit (rooms i) i n) fails_at words seed report → IsProgramReport p limit coarrays n fails_at words seed report
+  program_report seed report is = record {
+    images = is.images;
+    core = core_onward hears p w limit rooms coarrays n fails_at words h report.trace.entries is.core;
+    ordered = order_onward hears p w limit rooms coarrays n fails_at words h Choices choosing (choices_of seed) report.trace.entries is.ordered;
+    end =
+        report_end_too (lane_rules machine_step hears) (program_rules p limit) (machines_begin w limit rooms coarrays n fails_at words) (program_begins p coarrays n fails_at words) report.trace (λ i in_run. in_run)
+        (λ i line ask waits. waits_onward hears p w limit rooms coarrays n fails_at words h report.trace.entries is.core i line ask waits) n report.end is.end;
+    allowed = is.allowed;
+  }

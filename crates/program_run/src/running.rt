@@ -1,0 +1,54 @@
+//! The run of a program's code, and its report.
+
+ghost use Rattle.std.specs.Prelude.{◌≡◌, ◌≤◌, true, map, IfOk};
+ghost use Rattle.std.specs.Arc.{arc_value};
+ghost use Rattle.std.specs.List.{list_all};
+ghost use Rattle.object_rules.specs.MemoryRules.{has_first_values};
+ghost use Rattle.coarray_memory.specs.Memories.{declared_of};
+ghost use Rattle.checked_tree.specs.Statements as checked;
+ghost use Rattle.caf_report.specs.Ends.{HasEnd};
+ghost use Rattle.lane_parts.specs.FirstLanes.{fails_at};
+ghost use Rattle.machine_runs.specs.Runs.{HasWalksOn};
+ghost use Rattle.program_run.specs.Machines.{IsRunnable, HearsAll};
+ghost use Rattle.program_run.specs.Reports.{IsProgramReport};
+
+use crate::machines::machines;
+use caf_base::listing::{Listing, Text};
+use caf_base::refusal::NoMemory;
+use caf_report::report::Report;
+use coarray_memory::coarray::Coarray;
+use full_report::running::run_images;
+use image_code::code::Code;
+use std::alloc::Global;
+use std::sync::Arc;
+
+/// The run of code on n images, in the order of a SEED, and its report with these names of the coarrays. Each memory has these coarrays. An image's next statement above
+/// `limit` is its limit; image i fails at its event of the number that `fails` has for it, counted from 1 (0 or no number: it doesn't); with `words` recorded words or
+/// more an image's next step is the limit. Conditions: there are at most 65,536 images and 100,000,000 statements, each static coarray of values has a first value of its
+/// kind for each of its cells, the code has the walks of a checked program, and the machine can run it (`IsRunnable`, `HearsAll`).
+pub fn run_code(
+    alloc: Global,
+    code: Arc<Code>,
+    n: u32,
+    limit: u64,
+    coarrays: &[Coarray],
+    fails: &[u32],
+    words: u32,
+    seed: u32,
+    names: Listing<Text>,
+) -> Result<Report, NoMemory>
+    requires images { n ≤ 65536 }
+    requires limit { limit ≤ 100000000 }
+    requires declared { list_all has_first_values (map declared_of coarrays.now) ≡ true }
+    requires program { (p : checked.Program) × HasWalksOn p limit n (arc_value code) }
+    requires runnable { IsRunnable (arc_value code) }
+    requires hears { HearsAll (arc_value code) limit (map declared_of coarrays.now) n (fails_at fails.now) words }
+    // It is that of the run of each program whose walks the code has.
+    ensures report { IfOk result (λ report. (p : checked.Program) → HasWalksOn p limit n (arc_value code)
+        → IsProgramReport p limit (map declared_of coarrays.now) n (fails_at fails.now) words seed report) }
+    ensures has_end { IfOk result HasEnd }
+    ensures names { IfOk result (λ report. report.names ≡ names) }
+{
+    let machines = machines(alloc, &code, n, limit)?;
+    run_images(alloc, machines, coarrays, fails, words, seed, names)
+}
