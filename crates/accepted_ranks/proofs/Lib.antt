@@ -5,3 +5,6 @@ pub mod Arguments
 pub mod Functions
 pub mod Designators
 pub mod Expressions
+pub mod Held
+pub mod Bindings
+pub mod Subroutines
