@@ -8,3 +8,5 @@ pub mod Expressions
 pub mod Held
 pub mod Bindings
 pub mod Subroutines
+pub mod Assignments
+pub mod Actions
