@@ -10,3 +10,4 @@ pub mod Bindings
 pub mod Subroutines
 pub mod Assignments
 pub mod Actions
+pub mod Statements
