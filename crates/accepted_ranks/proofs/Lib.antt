@@ -11,3 +11,6 @@ pub mod Subroutines
 pub mod Assignments
 pub mod Actions
 pub mod Statements
+pub mod Declared
+pub mod Opened
+pub mod Interfaces

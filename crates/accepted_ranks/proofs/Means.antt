@@ -110,7 +110,7 @@ under_means {j = j} f h k = record {
       k x (h.means (left_nothing j.breaks bs e) x m) (sym (ap (said_of f) m) ∙ r);
 }
 
-of_made : {A B : Type 0} (f : A → B) (o : Option A) (y : B) → made f o ≡ Some y → (x : A) × (o ≡ Some x) × (f x ≡ y)
+pub of_made : {A B : Type 0} (f : A → B) (o : Option A) (y : B) → made f o ≡ Some y → (x : A) × (o ≡ Some x) × (f x ≡ y)
 of_made f None y e = none_some y e
 of_made f (Some x) y e = (x, refl, some_same (f x) y e)
 
