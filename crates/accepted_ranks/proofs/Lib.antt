@@ -14,3 +14,4 @@ pub mod Statements
 pub mod Declared
 pub mod Opened
 pub mod Interfaces
+pub mod Programs
