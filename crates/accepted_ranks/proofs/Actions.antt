@@ -1,6 +1,6 @@
 -- Action statements have the ranks that they want.
-use Rattle.std.proofs.Common.{◌≡◌, ◌∙◌, ℕ, zero, suc, ◌+◌, Bool, true, false, List, [], ◌∷◌, ◌++◌, refl, sym, ap, subst, length}
-use Rattle.std.specs.Prelude.{codes, cond, not, map, nat_eq, ◌&&◌, ◌||◌, Option, Some, None}
+use Rattle.std.proofs.Common.{◌≡◌, ℕ, zero, suc, ◌+◌, Bool, List, [], ◌∷◌, ◌++◌, refl, sym, subst}
+use Rattle.std.specs.Prelude.{codes, not, map, Option, Some, None}
 use Rattle.caf_base.specs.declared.place.Pos.{Pos}
 use Rattle.fortran_tree.specs.Expressions as f
 use Rattle.fortran_tree.specs.Statements as fs
@@ -10,21 +10,20 @@ use Rattle.checked_tree.specs.Statements as ts
 use Rattle.checked_tree.specs.Statements.{Procedure}
 use Rattle.checked_tree.specs.declared.data.DataType.{DataType}
 use Rattle.checked_tree.specs.declared.data.DataType.TheVariants.{Intrinsic, Team, Event, Lock}
-use Rattle.checked_tree.specs.declared.data.Local.{Local}
 use Rattle.checked_tree.specs.declared.data.Object.{Object}
 use Rattle.checked_tree.specs.declared.data.Object.TheVariants as objects
 use Rattle.rule_definitions.specs.declared.taken.Taken.TheVariants.{Integers as integers, Logicals as logicals}
-use Rattle.rule_definitions.specs.Judgements.{unless, Judgement, fine, refused, unknown, ruled, made_of, made_of_both, formed, all_made, item_at}
+use Rattle.rule_definitions.specs.Judgements.{unless, Judgement, fine, refused, unknown, ruled, all_made, item_at}
 use Rattle.rule_definitions.specs.Names
 use Rattle.rule_definitions.specs.Names.{Scope, Symbol, Meaning, Interface, denotes}
-use Rattle.rule_definitions.specs.Parts.{Placed, place_of, plain, condition, bound_or_code, integer}
-use Rattle.rule_definitions.specs.Specifiers.{Written, all_breaks, stat_variable, order_written}
+use Rattle.rule_definitions.specs.Parts.{Placed, place_of, condition, bound_or_code, integer}
+use Rattle.rule_definitions.specs.Specifiers.{Written, all_breaks, order_written}
 use Rattle.rule_definitions.specs.Arguments.{Actual, breaks_in_all}
 use Rattle.rule_definitions.specs.Expressions.{judged_arguments, judged_specifiers, placed}
-use Rattle.rule_definitions.specs.Actions.{Around, Site, called_with, called, actuals_of, item_breaks, printed, printed_all, format_judged, literals_of_format, print_judged, depth_of, crosses, absent_place, leaving, has_boundary, control_breaks, controlled, maybe, allocated_bounds, bounds_or_none, AllocatedCobounds, no_cobounds, allocated_cobounds, local_allocation, allocation_of, variable_denoted, allocatable_breaks, AllocatedShape, shape_judged, shape_rules, allocation_judged, deallocated, any_coarray, controlled_if, stat_name, with_stat, written_if, image_set_breaks, image_set, team_variable, form_team, lock_of, found_lock, a_lock, placed_designator, lock_judged, wait_judged, alone, judged_action}
+use Rattle.rule_definitions.specs.Actions.{Around, Site, called_with, called, actuals_of, item_breaks, printed, printed_all, format_judged, literals_of_format, depth_of, crosses, absent_place, leaving, has_boundary, control_breaks, controlled, maybe, allocated_bounds, bounds_or_none, AllocatedCobounds, no_cobounds, allocated_cobounds, local_allocation, allocation_of, variable_denoted, allocatable_breaks, AllocatedShape, shape_judged, shape_rules, allocation_judged, deallocated, any_coarray, controlled_if, stat_name, with_stat, written_if, image_set_breaks, image_set, team_variable, form_team, lock_of, found_lock, a_lock, placed_designator, lock_judged, wait_judged, alone, judged_action}
 use Rattle.made_code.specs.Ranks as ranks
 use Rattle.made_code.specs.Ranks.{procedure_at}
-use Rattle.accepted_ranks.specs.Scopes.{AreRanks, IsInterfaceOf, HasResult}
+use Rattle.accepted_ranks.specs.Scopes.{AreRanks, HasResult}
 use Rattle.accepted_ranks.proofs.Means.{Means, fine_means, unknown_means, refused_means, around_means, ruled_means, formed_means, under_means, made_means, both_means, three_means, then_means, cond_means}
 use Rattle.accepted_ranks.proofs.Parts.{Good, Scalar, plain_means, wanted_means, integer_means, team_means}
 use Rattle.accepted_ranks.proofs.Specifiers.{AllWritten, stat_means, acquired_means, new_index_means, until_count_means}

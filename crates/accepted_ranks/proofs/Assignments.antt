@@ -1,6 +1,6 @@
 -- Assignments have the ranks of their sides.
-use Rattle.std.proofs.Common.{◌≡◌, ◌∙◌, ℕ, zero, suc, Bool, true, false, List, [], ◌++◌, refl, sym, ap, subst}
-use Rattle.std.specs.Prelude.{cond, not, nat_eq, ◌&&◌, ◌||◌, Option, Some, None}
+use Rattle.std.proofs.Common.{◌≡◌, ◌∙◌, ℕ, zero, suc, Bool, true, false, List, [], refl, sym, ap, subst}
+use Rattle.std.specs.Prelude.{cond, nat_eq, ◌&&◌, ◌||◌, Option, Some, None}
 use Rattle.caf_base.specs.declared.place.Pos.{Pos}
 use Rattle.caf_base.specs.declared.value.Kind.{Kind}
 use Rattle.fortran_tree.specs.Expressions as f
@@ -12,14 +12,14 @@ use Rattle.checked_tree.specs.declared.data.DataType.TheVariants.{Intrinsic, Tea
 use Rattle.checked_tree.specs.declared.data.Local.{Local}
 use Rattle.checked_tree.specs.declared.data.Object.TheVariants as objects
 use Rattle.rule_definitions.specs.declared.broken.Broken.{Broken}
-use Rattle.rule_definitions.specs.Judgements.{breaks, unless, is_nothing, Judgement, both, said_of, made_of_both}
+use Rattle.rule_definitions.specs.Judgements.{breaks, unless, is_nothing, Judgement, said_of, made_of_both}
 use Rattle.rule_definitions.specs.Names.{Scope, denotes, is_procedure}
 use Rattle.rule_definitions.specs.Parts.{Placed, is_listed, type_of, rank_of}
 use Rattle.rule_definitions.specs.Declarations.{is_like}
-use Rattle.rule_definitions.specs.Actions.{Site, is_selected, bracket_breaks, left_side, is_value_type, is_definable_object, is_definable, is_listed_value, definable_breaks, is_plain_array, kindred_breaks, assigned_breaks, list_breaks, images_assigned, listed_assignment, plain_assignment, form_judged, assigned, target_breaks, assignment}
+use Rattle.rule_definitions.specs.Actions.{Site, is_selected, bracket_breaks, left_side, is_definable, is_listed_value, definable_breaks, is_plain_array, kindred_breaks, assigned_breaks, list_breaks, images_assigned, listed_assignment, plain_assignment, form_judged, assigned, target_breaks, assignment}
 use Rattle.made_code.specs.Ranks as ranks
 use Rattle.accepted_ranks.specs.Scopes.{AreRanks}
-use Rattle.accepted_ranks.proofs.Means.{Means, cons_nil, left_nothing, right_nothing, unless_nothing, formed_nothing, no, and_left, same_number, some_same, of_both, fine_means, unknown_means, around_means, ruled_means, then_means, cond_means}
+use Rattle.accepted_ranks.proofs.Means.{Means, cons_nil, left_nothing, right_nothing, unless_nothing, formed_nothing, no, same_number, of_both, fine_means, unknown_means, around_means, ruled_means, then_means, cond_means}
 use Rattle.accepted_ranks.proofs.Parts.{Good}
 use Rattle.accepted_ranks.proofs.Expressions.{judged_designator_means}
 

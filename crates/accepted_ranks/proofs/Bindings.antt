@@ -1,11 +1,11 @@
 -- The argument of a dummy is one of those that are written, and it is written once.
-use Rattle.std.proofs.Common.{◌≡◌, ◌∙◌, ℕ, ◌+◌, Bool, true, false, List, [], ◌∷◌, ◌++◌, length, refl, sym, ap, subst, arith}
+use Rattle.std.proofs.Common.{◌≡◌, ◌∙◌, ℕ, ◌+◌, Bool, true, false, List, [], ◌∷◌, length, refl, sym, subst, arith}
 use Rattle.std.proofs.lemmas.Bool.{eq-eqb}
 use Rattle.std.proofs.Math.Seq.{take-append_seam}
-use Rattle.std.specs.Prelude.{cond, not, nat_eq, replicate, ◌-◌, ◌==◌, ◌&&◌, ◌||◌, Option, Some, None}
+use Rattle.std.specs.Prelude.{cond, not, nat_eq, replicate, ◌-◌, ◌&&◌, ◌||◌, Option, Some, None}
 use Rattle.rule_definitions.specs.Judgements.{Judgement, unknown, is_there}
 use Rattle.rule_definitions.specs.Parts.{Placed}
-use Rattle.rule_definitions.specs.Arguments.{Part, expression, triplet, Actual, is_triplet, IntrinsicDummy, Binding, dummy_of, bindings, is_number_in, with_number, is_bound, are_bound, bound_to, bound_placed, value_for, has_needed, given_to, bound}
+use Rattle.rule_definitions.specs.Arguments.{Part, expression, triplet, Actual, is_triplet, IntrinsicDummy, Binding, bindings, is_number_in, with_number, is_bound, are_bound, bound_to, bound_placed, value_for, has_needed, given_to, bound}
 use Rattle.caf_base.specs.declared.place.Pos.{Pos}
 use Rattle.rule_definitions.specs.IntrinsicSubroutines.{numbers_of, written_as}
 use Rattle.tree_meaning.specs.Pieces.{written_dummies}
@@ -79,8 +79,10 @@ swap m n = same (nat_eq m n) (nat_eq n m) (λ e. flip m n e) (λ e. flip n m e)
   where
     itself : (m : ℕ) → nat_eq m m ≡ true
     itself m = eq-eqb m m refl
+
     flip : (m n : ℕ) → nat_eq m n ≡ true → nat_eq n m ≡ true
     flip m n e = subst (λ k. nat_eq k m ≡ true) (same_number m n e) (itself m)
+
     same : (a b : Bool) → (a ≡ true → b ≡ true) → (b ≡ true → a ≡ true) → a ≡ b
     same true b f g = sym (f refl)
     same false true f g = g refl

@@ -1,7 +1,7 @@
 -- What declarations that break nothing declare has at most rank 3, keeps locks and events in coarrays, and is numbered in order in a procedure.
-use Rattle.std.proofs.Common.{◌≡◌, ◌∙◌, ℕ, suc, zero, ◌+◌, Bool, true, false, List, [], ◌∷◌, ◌++◌, length, refl, sym, ap, subst, arith}
+use Rattle.std.proofs.Common.{◌≡◌, ◌∙◌, ℕ, suc, ◌+◌, Bool, true, false, List, [], ◌∷◌, ◌++◌, length, refl, sym, ap, subst, arith}
 use Rattle.std.proofs.lemmas.List.{length-map}
-use Rattle.std.specs.Prelude.{cond, not, map, nat_eq, nat_le, ◌&&◌, ◌||◌, Option, Some, None}
+use Rattle.std.specs.Prelude.{cond, not, nat_eq, nat_le, ◌&&◌, ◌||◌, Option, Some, None}
 use Rattle.caf_base.specs.declared.place.Pos.{Pos}
 use Rattle.fortran_tree.specs.Expressions as f
 use Rattle.fortran_tree.specs.Statements as d
@@ -11,16 +11,16 @@ use Rattle.checked_tree.specs.declared.data.Local.{Local}
 use Rattle.checked_tree.specs.declared.data.Object.{Object}
 use Rattle.checked_tree.specs.declared.data.Object.TheVariants as objects
 use Rattle.rule_definitions.specs.declared.broken.Broken.{Broken}
-use Rattle.rule_definitions.specs.Judgements.{breaks, is_nothing, Judgement, is_there}
+use Rattle.rule_definitions.specs.Judgements.{breaks, is_nothing, is_there}
 use Rattle.rule_definitions.specs.Names
 use Rattle.rule_definitions.specs.Names.{Scope, Symbol, Named, named, Meaning, variables_of, is_declared_role, is_among}
-use Rattle.rule_definitions.specs.Declarations.{Unit', Attributes, no_attributes, attributes_of, corank_of, raw_breaks, raw_dimensions_breaks, raw_coshape_breaks, dimension_judged, dimensions_breaks, dimensions_known, coshape_breaks, rank_breaks, is_shaped, deferred_breaks, is_placed_type, special_type_breaks, procedure_variable_breaks, intent_breaks, parameter_breaks, is_special, initialized_breaks, is_answer, is_named_constant, initial_value, constant_expression, initial_judged, effective_dimensions, effective_coshape, role_of, count_coarrays, object_of, array_constant_of, Declared, with_name, variable_entity, constant_entity, raw_entity_breaks, whole_breaks, entity_breaks, is_declared, repeated_breaks, declared_entity, and_then, declared_entities, attribute_breaks, declared_with, declared, declared_all, type_judged}
+use Rattle.rule_definitions.specs.Declarations.{Unit', Attributes, no_attributes, attributes_of, corank_of, raw_breaks, raw_dimensions_breaks, raw_coshape_breaks, dimension_judged, dimensions_breaks, dimensions_known, coshape_breaks, rank_breaks, deferred_breaks, special_type_breaks, procedure_variable_breaks, intent_breaks, parameter_breaks, is_special, initialized_breaks, is_answer, is_named_constant, initial_value, constant_expression, initial_judged, effective_dimensions, effective_coshape, role_of, count_coarrays, object_of, Declared, with_name, variable_entity, constant_entity, raw_entity_breaks, whole_breaks, entity_breaks, is_declared, declared_entity, and_then, declared_entities, attribute_breaks, declared, declared_all, type_judged}
 use Rattle.rule_definitions.specs.Parts.{place_of}
 use Rattle.rule_definitions.specs.Units.{number_of}
 use Rattle.rule_laws.proofs.Filled.{all_meant, meant_both}
 use Rattle.rule_laws.proofs.DeclarationsSound.{dimensions_raw, coshape_raw}
 use Rattle.rule_laws.proofs.InitialsSound.{initial_raw}
-use Rattle.accepted_ranks.proofs.Means.{cons_nil, left_nothing, right_nothing, unless_nothing, formed_nothing, no, and_left, and_right, same_number}
+use Rattle.accepted_ranks.proofs.Means.{cons_nil, left_nothing, right_nothing, unless_nothing, formed_nothing, no, and_left}
 
 pub both_true : (a b : Bool) → a ≡ true → b ≡ true → (a && b) ≡ true
 both_true true b e g = g
@@ -211,16 +211,16 @@ one_meant m h = both_true (is_fit m) true h refl
 pub variable_more : (b : Bool) (xs : List Named) (n : List ℕ) (y : Symbol) → (all_meant is_fit xs ≡ true) × (b ≡ true → ArePlaced 0 (variables_of xs)) → is_fit (Names.variable y) ≡ true → (b ≡ true → number_of y ≡ length (variables_of xs))
     → (all_meant is_fit (xs ++ named n (Names.variable y) ∷ []) ≡ true) × (b ≡ true → ArePlaced 0 (variables_of (xs ++ named n (Names.variable y) ∷ [])))
 variable_more b xs n y h k g = (
-    meant_both is_fit xs (named n (Names.variable y) ∷ []) h.0 (one_meant (Names.variable y) k),
-    λ e. subst (ArePlaced 0) (sym (variables_behind xs n y)) (placed_more 0 (variables_of xs) y (h.1 e) (let w = g e in omega arith)),
-  )
+  meant_both is_fit xs (named n (Names.variable y) ∷ []) h.0 (one_meant (Names.variable y) k),
+  λ e. subst (ArePlaced 0) (sym (variables_behind xs n y)) (placed_more 0 (variables_of xs) y (h.1 e) (let w = g e in omega arith)),
+)
 
 constant_more : (b : Bool) (xs : List Named) (n : List ℕ) (y : Names.ConstantSymbol) → (all_meant is_fit xs ≡ true) × (b ≡ true → ArePlaced 0 (variables_of xs)) → is_fit (Names.constant y) ≡ true
     → (all_meant is_fit (xs ++ named n (Names.constant y) ∷ []) ≡ true) × (b ≡ true → ArePlaced 0 (variables_of (xs ++ named n (Names.constant y) ∷ [])))
 constant_more b xs n y h k = (
-    meant_both is_fit xs (named n (Names.constant y) ∷ []) h.0 (one_meant (Names.constant y) k),
-    λ e. subst (ArePlaced 0) (sym (constants_behind xs n y)) (h.1 e),
-  )
+  meant_both is_fit xs (named n (Names.constant y) ∷ []) h.0 (one_meant (Names.constant y) k),
+  λ e. subst (ArePlaced 0) (sym (constants_behind xs n y)) (h.1 e),
+)
 
 entity_grows : (s : Scope) (u : Unit') (a : Attributes) (y : Option DataType) (e : d.Entity) (b : Bool) → is_named_constant u a e.name.text ≡ b
     → Grows (Unit {0}) u.is_procedure s (record {

@@ -14,15 +14,14 @@ use Rattle.checked_tree.specs.Expressions as t
 use Rattle.checked_tree.specs.Statements.{Procedure}
 use Rattle.checked_tree.specs.declared.data.DataType.{DataType}
 use Rattle.checked_tree.specs.declared.data.DataType.TheVariants.{Intrinsic, Team}
-use Rattle.checked_tree.specs.declared.data.Object.{Object}
 use Rattle.checked_tree.specs.declared.data.Object.TheVariants as objects
-use Rattle.rule_definitions.specs.Judgements.{is_nothing, unless, formed, Judgement, fine, refused, unknown, made_of, made_of_both, made_of_three, item_at}
+use Rattle.rule_definitions.specs.Judgements.{is_nothing, unless, formed, Judgement, fine, unknown, made_of, made_of_both, made_of_three, item_at}
 use Rattle.rule_definitions.specs.Names
 use Rattle.rule_definitions.specs.Names.{Scope, Symbol, ConstantSymbol, ConstantValue, Interface, Meaning, FunctionName, denotes}
 use Rattle.rule_definitions.specs.Parts.{plain, truth, fits, items, kind_written, operand, taken_by, prefix_taken_by, type_of, team, joint, applied, prefixed, in_brackets, first_type, literal, team_of}
 use Rattle.rule_definitions.specs.Arguments.{arguments, given_to, maybe_given_to, needed, needed_list, optional, order_of, Actual, IntrinsicDummy, Binding, breaks_in_all, bindings, are_bound, has_needed, bound}
 use Rattle.rule_definitions.specs.IntrinsicFunctions.{an_integer, of_integer_type, an_array, an_allocatable, a_coarray, an_integer_list, the_team, of_team, two_integers, unnamed_integers, kind_argument, is_first_unnamed, with_dim, default_integer, of_type, joint_type, several_breaks, several_integers, is_of_coarray, this_image, is_first_integer, num_images, intrinsic_reference}
-use Rattle.rule_definitions.specs.Expressions.{subscripts_of, subscript_breaks, selection_breaks, judged_list, placed, WrittenSelector, typed_as, variable_part, scalar_value, constant_form, constant_part, unselected, unsubscripted, rank_behind, call_typed, function_called, referenced, function_named, subroutine_named, designated, judged, judged_brackets, judged_selector, judged_arguments}
+use Rattle.rule_definitions.specs.Expressions.{subscripts_of, subscript_breaks, selection_breaks, judged_list, placed, WrittenSelector, typed_as, variable_part, scalar_value, constant_form, constant_part, unselected, rank_behind, call_typed, function_called, referenced, function_named, designated, judged, judged_brackets, judged_selector, judged_arguments}
 use Rattle.accepted_ranks.specs.Scopes.{IsKept, IsKeptIfTyped, AreRanks}
 use Rattle.accepted_ranks.proofs.Means.{Means, fine_means, no_meaning, unknown_means, refused_means, around_means, ruled_means, formed_means, made_means, both_means, three_means, then_means, cond_means}
 

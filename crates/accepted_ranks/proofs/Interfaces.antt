@@ -5,20 +5,17 @@ use Rattle.fortran_tree.specs.Statements as fs
 use Rattle.fortran_tree.specs.declared.name.Name.{Name}
 use Rattle.checked_tree.specs.Statements as ts
 use Rattle.checked_tree.specs.Statements.{Procedure}
-use Rattle.checked_tree.specs.declared.data.DataType.{DataType}
 use Rattle.checked_tree.specs.declared.data.Dimensions.{Dimensions}
 use Rattle.checked_tree.specs.declared.data.Dimensions.TheVariants as shapes
 use Rattle.checked_tree.specs.declared.data.Variable.{Variable}
-use Rattle.checked_tree.specs.declared.program.Dummy.{Dummy}
 use Rattle.rule_definitions.specs.Judgements.{Judgement, fine, unknown, all_made, item_at}
 use Rattle.rule_definitions.specs.Names
 use Rattle.rule_definitions.specs.Names.{Symbol, Named, Meaning, Interface, KnownBounds, is_declared_role, variables_of}
 use Rattle.rule_definitions.specs.Constants.{all_bounds, with_first}
-use Rattle.rule_definitions.specs.Statements.{Counted, counted_statements, behind, end_breaks, judged_statements}
+use Rattle.rule_definitions.specs.Statements.{Counted, counted_statements, behind, judged_statements}
 use Rattle.rule_definitions.specs.Units.{Opened, symbol_named, symbols_named, interface_of, dimensions_of, type_known, variable_of, unit_judged, number_of, dummy_typed, procedure_form, completed, position_of, procedure_judged, procedures_judged}
 use Rattle.checked_tree.specs.declared.data.Constant.{Constant}
 use Rattle.tree_meaning.specs.Environment.{rank_in, rank_of}
-use Rattle.made_code.specs.Ranks as ranks
 use Rattle.made_code.specs.Ranks.{procedure_at}
 use Rattle.rule_laws.proofs.Filled.{all_meant}
 use Rattle.accepted_ranks.specs.Scopes.{AreDummies, HasResult, IsInterfaceOf}

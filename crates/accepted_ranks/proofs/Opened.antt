@@ -1,7 +1,6 @@
 -- The scope of a procedure whose heading and declarations break nothing has names that are as they must be.
-use Rattle.std.proofs.Common.{◌≡◌, ◌∙◌, ℕ, Bool, true, false, List, [], ◌∷◌, ◌++◌, length, refl, sym, ap, subst}
-use Rattle.std.specs.Prelude.{cond, not, map, nat_le, ◌&&◌, ◌||◌, Option, Some, None}
-use Rattle.fortran_tree.specs.Statements as fs
+use Rattle.std.proofs.Common.{◌≡◌, ◌∙◌, Bool, true, false, List, [], ◌∷◌, ◌++◌, length, refl, sym, ap, subst}
+use Rattle.std.specs.Prelude.{cond, map, nat_le, ◌&&◌, Option, Some, None}
 use Rattle.fortran_tree.specs.Units as u
 use Rattle.fortran_tree.specs.declared.name.Name.{Name}
 use Rattle.caf_base.specs.declared.place.Pos.{Pos}
@@ -9,14 +8,14 @@ use Rattle.checked_tree.specs.declared.data.DataType.{DataType}
 use Rattle.checked_tree.specs.declared.data.DataType.TheVariants.{Intrinsic, Team, Event, Lock}
 use Rattle.checked_tree.specs.declared.data.Object.{Object}
 use Rattle.checked_tree.specs.declared.data.Object.TheVariants as objects
-use Rattle.rule_definitions.specs.Judgements.{breaks, said_of, is_there}
+use Rattle.rule_definitions.specs.Judgements.{said_of, is_there}
 use Rattle.rule_definitions.specs.Names
 use Rattle.rule_definitions.specs.Names.{Scope, Named, Meaning, denoted_in, is_declared_role, variables_of}
-use Rattle.rule_definitions.specs.Declarations.{Unit', is_declared, special_type_breaks, Declared, declared_all, is_special}
-use Rattle.rule_definitions.specs.Units.{Headed, place_of_answer, dummy_breaks, own_name, answer_breaks, second_type_breaks, first_type, type_breaks, is_typed, heading_breaks, hosted_object, hosted_meaning, hosted, bare, typed_answer, unit_of, opened, with_dummy, with_dummies, with_untyped, with_answer, opened_procedure}
+use Rattle.rule_definitions.specs.Declarations.{Unit', is_declared, special_type_breaks, declared_all}
+use Rattle.rule_definitions.specs.Units.{Headed, place_of_answer, dummy_breaks, own_name, answer_breaks, second_type_breaks, first_type, type_breaks, is_typed, heading_breaks, hosted_object, hosted_meaning, hosted, bare, unit_of, opened, with_dummy, with_dummies, with_untyped, with_answer, opened_procedure}
 use Rattle.rule_laws.proofs.Filled.{all_meant}
 use Rattle.accepted_ranks.proofs.Means.{cons_nil, left_nothing, right_nothing, unless_nothing, no, and_left, and_right}
-use Rattle.accepted_ranks.proofs.Declared.{both_true, is_kept, is_variable, is_fit, ArePlaced, Fits, Grows, same_grows, cond_grows, then_grows, variable_more, declarations_grow}
+use Rattle.accepted_ranks.proofs.Declared.{both_true, is_kept, is_variable, is_fit, ArePlaced, Grows, same_grows, cond_grows, then_grows, variable_more, declarations_grow}
 
 -- ---- names of the host
 hosted_kept : (y : Option DataType) (o : Object) → is_kept y o ≡ true → is_kept y (hosted_object o) ≡ true

@@ -1,5 +1,5 @@
 -- The scopes of a program that breaks nothing have the ranks of its variables and procedures, and so the program has its ranks.
-use Rattle.std.proofs.Common.{◌≡◌, ◌∙◌, ◌≤◌, ℕ, zero, suc, ◌+◌, Bool, true, false, List, [], ◌∷◌, ◌++◌, length, refl, sym, ap, subst, arith}
+use Rattle.std.proofs.Common.{◌≡◌, ◌∙◌, ℕ, zero, suc, ◌+◌, Bool, true, false, List, [], ◌∷◌, ◌++◌, length, refl, sym, ap, subst, arith}
 use Rattle.std.proofs.lemmas.Bool.{leb-true}
 use Rattle.std.specs.Prelude.{cond, not, map, nat_le, ◌&&◌, Option, Some, None}
 use Rattle.fortran_tree.specs.Statements as fs
@@ -12,13 +12,12 @@ use Rattle.checked_tree.specs.declared.data.DataType.{DataType}
 use Rattle.checked_tree.specs.declared.data.DataType.TheVariants.{Intrinsic, Team, Event, Lock}
 use Rattle.checked_tree.specs.declared.data.Object.{Object}
 use Rattle.checked_tree.specs.declared.data.Object.TheVariants as objects
-use Rattle.rule_definitions.specs.declared.broken.Broken.{Broken}
 use Rattle.rule_definitions.specs.Judgements.{Judgement, all_made, or_else, is_there, item_at}
 use Rattle.rule_definitions.specs.Names
 use Rattle.rule_definitions.specs.Names.{Scope, Symbol, ConstantSymbol, Named, named, Meaning, Interface, denotes, denoted_in, denoted_outside, intrinsic_procedures, module_names, is_among, is_object, if_object, symbol_in, symbol_of, is_declared_role, variables_of}
 use Rattle.rule_definitions.specs.Declarations.{is_special, limit_breaks}
 use Rattle.rule_definitions.specs.Statements.{Counted, counted_statements, behind, end_breaks, judged_statements}
-use Rattle.rule_definitions.specs.Units.{is_module, uses_breaks, accessible_name, accessible_names, accessible_by, accessible_of, Headed, headed, meaning_of_heading, procedure_names, twice_breaks, Opened, opened_procedure, opened_procedures, constants_behind, symbol_named, interface_of, variable_of, unit_judged, procedure_form, completed, position_of, procedure_judged, procedures_judged, counted_all, procedures_of, main_unit, headings_of, first_scope, opened_breaks, name_of, hosted, program_form, program_with, program_opened, main_declared, interfaces_of, program_judged}
+use Rattle.rule_definitions.specs.Units.{is_module, uses_breaks, accessible_name, accessible_names, accessible_by, accessible_of, Headed, headed, meaning_of_heading, procedure_names, twice_breaks, Opened, opened_procedure, opened_procedures, constants_behind, symbol_named, interface_of, variable_of, unit_judged, procedure_form, completed, position_of, procedure_judged, procedures_judged, counted_all, procedures_of, main_unit, headings_of, first_scope, opened_breaks, name_of, program_form, program_with, program_opened, main_declared, interfaces_of, program_judged}
 use Rattle.made_code.specs.Ranks as ranks
 use Rattle.made_code.specs.Ranks.{procedure_at}
 use Rattle.rule_laws.proofs.Filled.{all_meant, meant_in, meant_both}
@@ -26,9 +25,9 @@ use Rattle.accepted_ranks.specs.Scopes.{AreRanks, IsKeptIfTyped, IsInterfaceOf}
 use Rattle.accepted_ranks.proofs.Means.{Means, none_some, some_same, no, of_both, left_nothing, right_nothing, and_left, and_right, fine_means, ruled_means, made_means, both_means}
 use Rattle.accepted_ranks.proofs.Actions.{any}
 use Rattle.accepted_ranks.proofs.Statements.{statements_means}
-use Rattle.accepted_ranks.proofs.Declared.{both_true, is_kept, is_variable, is_fit, ArePlaced, Fits, Grows, declarations_grow}
-use Rattle.accepted_ranks.proofs.Opened.{IsOpened, hosted_all, procedure_opened}
-use Rattle.accepted_ranks.proofs.Interfaces.{IsNamedRight, AllNamedRight, interfaces_right}
+use Rattle.accepted_ranks.proofs.Declared.{both_true, is_kept, is_variable, is_fit, Grows, declarations_grow}
+use Rattle.accepted_ranks.proofs.Opened.{hosted_all, procedure_opened}
+use Rattle.accepted_ranks.proofs.Interfaces.{AllNamedRight, interfaces_right}
 
 -- ---- what names stand for where statements stand
 abbrev is_resultless : Option Interface → Bool

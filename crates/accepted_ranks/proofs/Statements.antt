@@ -1,10 +1,8 @@
 -- Statements and constructs have the ranks that they want.
-use Rattle.std.proofs.Common.{◌≡◌, ℕ, ◌+◌, Bool, true, false, List, [], ◌∷◌, ◌++◌, refl}
-use Rattle.std.specs.Prelude.{cond, not, ◌||◌, Option, Some, None}
+use Rattle.std.proofs.Common.{ℕ, ◌+◌, false, List, []}
+use Rattle.std.specs.Prelude.{cond, not, ◌||◌}
 use Rattle.caf_base.specs.declared.place.Pos.{Pos}
-use Rattle.fortran_tree.specs.Expressions as f
 use Rattle.fortran_tree.specs.Statements as fs
-use Rattle.checked_tree.specs.Expressions as t
 use Rattle.checked_tree.specs.Statements as ts
 use Rattle.checked_tree.specs.Statements.{Procedure}
 use Rattle.rule_definitions.specs.Judgements.{unless, Judgement}

@@ -1,5 +1,5 @@
 -- Calls of intrinsic subroutines have the ranks that they want.
-use Rattle.std.proofs.Common.{◌≡◌, ◌∙◌, ℕ, zero, suc, Bool, true, false, List, [], ◌∷◌, ◌++◌, refl, sym, ap, subst}
+use Rattle.std.proofs.Common.{◌≡◌, ℕ, zero, suc, Bool, true, false, List, [], ◌∷◌, refl, sym, subst}
 use Rattle.std.specs.Prelude.{codes, cond, not, ◌&&◌, ◌||◌, Option, Some, None}
 use Rattle.caf_base.specs.declared.place.Pos.{Pos}
 use Rattle.caf_base.specs.declared.value.Kind.{Kind}
@@ -18,9 +18,8 @@ use Rattle.rule_definitions.specs.Parts.{Placed, plain, type_of, rank_of, is_tak
 use Rattle.rule_definitions.specs.Arguments.{Actual, Binding, needed, optional, value_for, given_to, maybe_given_to, are_bound}
 use Rattle.rule_definitions.specs.IntrinsicFunctions.{an_integer}
 use Rattle.rule_definitions.specs.IntrinsicSubroutines.{optional_result, Atom, atom_kind, atom_with, atom_of, found_atom, an_atom, taken_with, atom_value_breaks, an_atom_value, event_of, found_event, an_event, is_coindexed_form, an_own_event, collected_with, collected_of, is_own_variable, collected_breaks, found_collected, a_collected, numbers_of, written_as, called, four, five, value_dummies, atom_at, value_at, result_at, intrinsic_call}
-use Rattle.tree_meaning.specs.Pieces.{written_dummies}
 use Rattle.made_code.specs.Ranks as ranks
-use Rattle.accepted_ranks.proofs.Means.{Means, cons_nil, right_nothing, unless_nothing, no, and_left, same_number, fine_means, unknown_means, refused_means, ruled_means, under_means, made_means, both_means, three_means, then_means}
+use Rattle.accepted_ranks.proofs.Means.{Means, cons_nil, right_nothing, unless_nothing, no, and_left, fine_means, unknown_means, refused_means, ruled_means, under_means, made_means, both_means, three_means, then_means}
 use Rattle.accepted_ranks.proofs.Parts.{Good, Scalar, plain_means, scalar_of, integer_means, result_means}
 use Rattle.accepted_ranks.proofs.Held.{Held}
 use Rattle.accepted_ranks.proofs.Bindings.{OfAll, OfBound, OfValue, value_of, value_once, kept_numbers, given_once, all_bound}
