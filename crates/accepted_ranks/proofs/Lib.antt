@@ -5,3 +5,13 @@ pub mod Arguments
 pub mod Functions
 pub mod Designators
 pub mod Expressions
+pub mod Held
+pub mod Bindings
+pub mod Subroutines
+pub mod Assignments
+pub mod Actions
+pub mod Statements
+pub mod Declared
+pub mod Opened
+pub mod Interfaces
+pub mod Programs

@@ -110,14 +110,14 @@ under_means {j = j} f h k = record {
       k x (h.means (left_nothing j.breaks bs e) x m) (sym (ap (said_of f) m) ∙ r);
 }
 
-of_made : {A B : Type 0} (f : A → B) (o : Option A) (y : B) → made f o ≡ Some y → (x : A) × (o ≡ Some x) × (f x ≡ y)
+pub of_made : {A B : Type 0} (f : A → B) (o : Option A) (y : B) → made f o ≡ Some y → (x : A) × (o ≡ Some x) × (f x ≡ y)
 of_made f None y e = none_some y e
 of_made f (Some x) y e = (x, refl, some_same (f x) y e)
 
 pub made_means : {A B : Type 0} {P : A → Type 0} {Q : B → Type 0} (f : A → B) {a : Judgement A} → Means a P → ((x : A) → P x → Q (f x)) → Means (made_of f a) Q
 made_means {Q = Q} f {a = a} h k = record { means = λ e y g. (let m = of_made f a.meaning y g in subst Q m.2 (k m.0 (h.means e m.0 m.1))) }
 
-of_both : {A B C : Type 0} (f : A → B → C) (a : Option A) (b : Option B) (z : C) → both f a b ≡ Some z → (x : A) × (y : B) × (a ≡ Some x) × (b ≡ Some y) × (f x y ≡ z)
+pub of_both : {A B C : Type 0} (f : A → B → C) (a : Option A) (b : Option B) (z : C) → both f a b ≡ Some z → (x : A) × (y : B) × (a ≡ Some x) × (b ≡ Some y) × (f x y ≡ z)
 of_both f None b z e = none_some z e
 of_both f (Some x) None z e = none_some z e
 of_both f (Some x) (Some y) z e = (x, y, refl, refl, some_same (f x y) z e)

@@ -1,6 +1,6 @@
-//! What the rules of the language accept has the ranks that its code wants: so far of expressions.
-//! It stands on `rule_definitions`, which says what a program is accepted as, and on `made_code`, which says what ranks are wanted.
-//! Its main contract: `law_expression_is_ranked`.
+//! What the rules of the language accept has the ranks that its code wants.
+//! It stands on `rule_definitions`, which says what a program is accepted as, on `rule_laws`, whose lemmas of scopes it takes, and on `made_code`, which says what ranks are wanted.
+//! Its main contract: `law_accepted_is_ranked`, of whole programs; the laws of expressions, action statements and blocks are its parts.
 #![tactic(auto)]
 
 pub mod laws;
