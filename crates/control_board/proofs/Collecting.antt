@@ -147,7 +147,7 @@ come_all t r (m ∷ ms) hs s f a = go (has_stopped m hs) (has_failed m hs) (has_
     go false false true p q w s f a next = rw w (next (sym (rw p refl) ∙ s) (sym (rw q refl) ∙ f) (sym (rw w refl) ∙ a))
 
 -- ---- the first arrival of a round stays
-told_stays : {A : Type 0} (tell : List Happening → Happening → Option A) (b es rest : List Happening) (x : A) → first_told_from tell b es ≡ Some x → first_told_from tell b (es ++ rest) ≡ Some x
+pub told_stays : {A : Type 0} (tell : List Happening → Happening → Option A) (b es rest : List Happening) (x : A) → first_told_from tell b es ≡ Some x → first_told_from tell b (es ++ rest) ≡ Some x
 told_stays {A} tell b [] rest x h = absurd (cc)
 told_stays {A} tell b (e ∷ es) rest x h = by (tell b e) refl (told_stays tell (b ++ e ∷ []) es rest x)
   where

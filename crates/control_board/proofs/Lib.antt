@@ -7,6 +7,7 @@ pub mod Arrivals
 pub mod Bringing
 pub mod Steps
 pub mod Replying
+pub mod Unmade
 pub mod Departures
 pub mod Collecting
 pub mod Made

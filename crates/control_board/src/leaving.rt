@@ -14,6 +14,7 @@ ghost use Rattle.control_board.specs.Boards.{IsBoard, IsKept, AreRounds, Comes, 
 
 use crate::forming::is_bad;
 use crate::parts::{Parts, is_member};
+use crate::planning::is_form_round;
 use caf_base::listing::Listing;
 use caf_base::place::{ImageNo, TeamNo};
 use caf_base::refusal::NoMemory;
@@ -89,6 +90,25 @@ fn teams_by(
     Ok(teams)
 }
 
+// The teams that a round of a team made: none but where it is one of FORM TEAM, so that other departures don't go over the teams.
+fn teams_made(
+    alloc: Global,
+    parts: &Parts,
+    team: TeamNo,
+    round: u64,
+) -> Result<Listing<FormedTeam>, NoMemory>
+    requires kept { IsKept parts.now }
+    requires team { (0 < team.0) × (team.0 ≤ length parts.now.control.teams) }
+    requires round { 0 < round }
+    ensures { IfOk result (λ l. (n : ℕ) (h : List Entry) → IsBoard n h parts.now → l ≡ made_teams team.0 round 1 (teams_after n h)) }
+{
+    if is_form_round(parts, team, round) {
+        teams_by(alloc, parts, team, round)
+    } else {
+        Ok(Listing::new(alloc))
+    }
+}
+
 // The reply to a departure.
 pub(crate) fn left(
     alloc: Global,
@@ -101,7 +121,7 @@ pub(crate) fn left(
     ensures { IfOk result (λ r. (n : ℕ) (h : List Entry) → IsBoard n h parts.now → IsTrue (board_ready n h image.0 (asks.Leave team round))
         → r ≡ board_reply n h image.0 (asks.Leave team round)) }
 {
-    let teams = teams_by(alloc, parts, team, round)?;
+    let teams = teams_made(alloc, parts, team, round)?;
     Ok(Reply::Left {
         status: parts
             .control

@@ -130,7 +130,7 @@ fn is_form_kind(kind: &RoundKind) -> bool
 }
 
 // Whether the round of the team is one of FORM TEAM.
-fn is_form_round(parts: &Parts, team: TeamNo, round: u64) -> bool
+pub(crate) fn is_form_round(parts: &Parts, team: TeamNo, round: u64) -> bool
     requires team { (0 < team.0) × (team.0 ≤ length parts.now.control.teams) }
     requires round { 0 < round }
     ensures { (n : ℕ) (h : List Entry) → IsBoard n h parts.now → result ≡ is_form (opening_of team.0 round (happened control h)) }

@@ -7,6 +7,15 @@ use Rattle.control_board.proofs.Replying.{closed_there, left_law}
 use Rattle.control_board.proofs.Departures.{joined_parts}
 use Rattle.control_board.proofs.leaving.left.Goals as goal
 
+pub teams_made-requires-clause-team : goal.teams_made-requires-clause-team
+teams_made-requires-clause-team c =
+    let j = joined_parts c.requires.images c.requires.history c.args.image.0 c.args.team c.args.round c.requires.ready in
+    let t = member_there c.requires.images c.requires.history c.args.parts.now c.requires.board false c.args.team.0 c.args.image.0 j.0 in
+    (t.0, t.1)
+
+pub teams_made-requires-clause-round : goal.teams_made-requires-clause-round
+teams_made-requires-clause-round c = (joined_parts c.requires.images c.requires.history c.args.image.0 c.args.team c.args.round c.requires.ready).1
+
 pub result-requires-clause-team : goal.result-requires-clause-team
 result-requires-clause-team c =
     let j = joined_parts c.requires.images c.requires.history c.args.image.0 c.args.team c.args.round c.requires.ready in
