@@ -1,4 +1,4 @@
-//! Rounds, collective subroutines, CRITICAL and failures of two images, and FORM TEAM of four.
+//! Rounds, collective subroutines, SYNC IMAGES, CRITICAL, failures and stops of two and three images, and FORM TEAM of four.
 
 use caf_base::few::Few;
 use caf_base::listing::Listing;
@@ -31,18 +31,50 @@ fn step<R: Abort>(rt: &R, alloc: Global, board: &mut Board, image: u32, ask: Ask
     assert!(rt; told == shown(rt, alloc, wanted));
 }
 
-fn sync() -> Ask {
+// The ask of an image can't come now.
+fn waits<R: Abort>(rt: &R, board: &Board, image: u32, ask: Ask) {
+    assert!(rt; !board.ready(ImageNo(image), &ask));
+    drop(ask);
+}
+
+fn sync_of(team: TeamNo) -> Ask {
     Ask::Arrive {
-        team: INITIAL_TEAM,
+        team,
         arriving: Arriving::Sync,
     }
 }
 
+fn sync() -> Ask {
+    sync_of(INITIAL_TEAM)
+}
+
+fn leave_of(team: TeamNo, round: u64) -> Ask {
+    Ask::Leave { team, round }
+}
+
 fn leave(round: u64) -> Ask {
-    Ask::Leave {
-        team: INITIAL_TEAM,
-        round,
+    leave_of(INITIAL_TEAM, round)
+}
+
+fn pair<R: Abort>(rt: &R, alloc: Global, set: &[ImageNo]) -> Ask {
+    Ask::Pair {
+        images: Listing::from_slice(alloc, set).expect(rt, "memory"),
     }
+}
+
+fn enter() -> Ask {
+    Ask::Enter { construct: 1 }
+}
+
+// Image indices that have one alone.
+fn index<R: Abort>(rt: &R, alloc: Global, index: u32) -> Reply {
+    Reply::Indices {
+        indices: Listing::of_one(alloc, index).expect(rt, "memory"),
+    }
+}
+
+fn number(status: i32) -> Reply {
+    Reply::Number { status }
 }
 
 fn sum(value: i64) -> Ask {
@@ -106,7 +138,7 @@ fn all_come(rt: HostRuntime) {
     let alloc = rt.alloc();
     let mut board = Board::new(alloc, 2).expect(&rt, "memory");
     step(&rt, alloc, &mut board, 1, sync(), Reply::Round { round: 1 });
-    assert!(rt; !board.ready(ImageNo(1), &leave(1)));
+    waits(&rt, &board, 1, leave(1));
     step(&rt, alloc, &mut board, 2, sync(), Reply::Round { round: 1 });
     step(&rt, alloc, &mut board, 1, leave(1), left(alloc, 0));
     step(&rt, alloc, &mut board, 2, sum(5), Reply::Round { round: 1 });
@@ -123,25 +155,85 @@ fn all_come(rt: HostRuntime) {
 fn one_fails(rt: HostRuntime) {
     let alloc = rt.alloc();
     let mut board = Board::new(alloc, 2).expect(&rt, "memory");
+    step(&rt, alloc, &mut board, 2, enter(), number(0));
+    step(&rt, alloc, &mut board, 1, sync(), Reply::Round { round: 1 });
+    step(&rt, alloc, &mut board, 2, Ask::Gone, Reply::Done);
+    step(&rt, alloc, &mut board, 1, leave(1), left(alloc, 6001));
+    step(&rt, alloc, &mut board, 1, enter(), number(6001));
+    drop(board);
+}
+
+// An arrival of another kind joins no round, a round that closed before a failure keeps its status, and a sum that leaves its kind is told.
+#[test]
+fn one_fails_after_the_close(rt: HostRuntime) {
+    let alloc = rt.alloc();
+    let mut board = Board::new(alloc, 2).expect(&rt, "memory");
+    let greatest = sum(2_147_483_647);
     step(
         &rt,
         alloc,
         &mut board,
         2,
-        Ask::Enter { construct: 1 },
-        Reply::Number { status: 0 },
+        greatest,
+        Reply::Round { round: 1 },
     );
+    step(&rt, alloc, &mut board, 1, sum(1), Reply::Round { round: 1 });
+    let over = Reply::Taken {
+        status: 6006,
+        values: Few::new(alloc),
+    };
+    step(&rt, alloc, &mut board, 2, take(1), over);
     step(&rt, alloc, &mut board, 1, sync(), Reply::Round { round: 1 });
+    let clash = Reply::Clash {
+        image: ImageNo(1),
+        line: 7,
+    };
+    step(&rt, alloc, &mut board, 2, form(1), clash);
+    waits(&rt, &board, 1, leave(1));
+    step(&rt, alloc, &mut board, 2, sync(), Reply::Round { round: 1 });
     step(&rt, alloc, &mut board, 2, Ask::Gone, Reply::Done);
-    step(&rt, alloc, &mut board, 1, leave(1), left(alloc, 6001));
+    step(&rt, alloc, &mut board, 1, leave(1), left(alloc, 0));
+    let all = Ask::Failed { team: INITIAL_TEAM };
+    step(&rt, alloc, &mut board, 1, all, index(&rt, alloc, 2));
+    drop(board);
+}
+
+// SYNC IMAGES with one that comes and with one that stops, and a CRITICAL construct that is left.
+#[test]
+fn three_in_pairs(rt: HostRuntime) {
+    let alloc = rt.alloc();
+    let mut board = Board::new(alloc, 3).expect(&rt, "memory");
+    let with_2 = pair(&rt, alloc, &[ImageNo(2)]);
+    step(&rt, alloc, &mut board, 1, with_2, Reply::Done);
+    waits(&rt, &board, 1, Ask::Unpair);
+    let with_1 = pair(&rt, alloc, &[ImageNo(1)]);
+    step(&rt, alloc, &mut board, 2, with_1, Reply::Done);
+    step(&rt, alloc, &mut board, 1, Ask::Unpair, number(0));
+    let twice = pair(&rt, alloc, &[ImageNo(1), ImageNo(1)]);
+    waits(&rt, &board, 2, twice);
+    let with_3 = pair(&rt, alloc, &[ImageNo(3)]);
+    step(&rt, alloc, &mut board, 1, with_3, Reply::Done);
     step(
         &rt,
         alloc,
         &mut board,
-        1,
-        Ask::Enter { construct: 1 },
-        Reply::Number { status: 6001 },
+        3,
+        Ask::Stop { code: 0 },
+        Reply::Done,
     );
+    step(&rt, alloc, &mut board, 1, Ask::Unpair, number(6000));
+    let all = Ask::Stopped { team: INITIAL_TEAM };
+    step(&rt, alloc, &mut board, 1, all, index(&rt, alloc, 3));
+    let third = Ask::Status {
+        team: INITIAL_TEAM,
+        index: 3,
+    };
+    step(&rt, alloc, &mut board, 1, third, number(6000));
+    step(&rt, alloc, &mut board, 1, enter(), number(0));
+    waits(&rt, &board, 2, enter());
+    let exit = Ask::Exit { construct: 1 };
+    step(&rt, alloc, &mut board, 1, exit, Reply::Done);
+    step(&rt, alloc, &mut board, 2, enter(), number(0));
     drop(board);
 }
 
@@ -173,7 +265,7 @@ fn four_form_teams(rt: HostRuntime) {
         form(1),
         Reply::Round { round: 1 },
     );
-    assert!(rt; !board.ready(ImageNo(3), &leave(1)));
+    waits(&rt, &board, 3, leave(1));
     step(
         &rt,
         alloc,
@@ -184,11 +276,17 @@ fn four_form_teams(rt: HostRuntime) {
     );
     step(&rt, alloc, &mut board, 3, leave(1), told_teams(&rt, alloc));
     step(&rt, alloc, &mut board, 4, leave(1), told_teams(&rt, alloc));
-    let there = Ask::Arrive {
-        team: TeamNo(3),
-        arriving: Arriving::Sync,
-    };
-    assert!(rt; !board.ready(ImageNo(3), &there));
-    step(&rt, alloc, &mut board, 4, there, Reply::Round { round: 1 });
+    waits(&rt, &board, 3, sync_of(TeamNo(3)));
+    let third = sync_of(TeamNo(3));
+    step(&rt, alloc, &mut board, 4, third, Reply::Round { round: 1 });
+    step(&rt, alloc, &mut board, 2, Ask::Gone, Reply::Done);
+    let second = sync_of(TeamNo(2));
+    step(&rt, alloc, &mut board, 1, second, Reply::Round { round: 1 });
+    let second = sync_of(TeamNo(2));
+    step(&rt, alloc, &mut board, 3, second, Reply::Round { round: 1 });
+    let end = leave_of(TeamNo(2), 1);
+    step(&rt, alloc, &mut board, 3, end, left(alloc, 0));
+    let end = leave_of(TeamNo(3), 1);
+    step(&rt, alloc, &mut board, 4, end, left(alloc, 6001));
     drop(board);
 }

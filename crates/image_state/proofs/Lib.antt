@@ -7,4 +7,3 @@ pub mod BoundsLaws
 pub mod PrintLaws
 pub mod TeamLaws
 pub mod IndexLaws
-pub mod PlainLaws

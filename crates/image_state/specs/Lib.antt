@@ -1,4 +1,3 @@
-pub mod Plain
 pub mod Kept
 pub mod Acting
 pub mod Arrays

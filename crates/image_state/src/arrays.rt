@@ -48,7 +48,8 @@ impl ImageState {
         self.arrays.merge();
     }
 
-    pub(crate) fn empty_array(&mut self) -> Acting
+    /// Does the step `EmptyArray`.
+    pub fn empty_array(&mut self) -> Acting
         requires { length self.old.core.arrays < self.old.rooms.arrays }
         ensures { Acts self.old (stack_effect acts.empty_array self.old.core) self.new result }
     {
@@ -84,8 +85,9 @@ impl ImageState {
         self.add_element(v);
     }
 
+    /// Does the step `Append`.
     #[tactic(auto, using(crate::proofs::ArrayLaws::none_to_append, crate::proofs::ArrayLaws::no_array_to_append, crate::proofs::ArrayLaws::append_full, crate::proofs::ArrayLaws::appended))]
-    pub(crate) fn append(&mut self) -> Acting
+    pub fn append(&mut self) -> Acting
         ensures { Acts self.old (stack_effect acts.append self.old.core) self.new result }
     {
         let Some(v) = self.top() else {
@@ -101,8 +103,9 @@ impl ImageState {
         Acting::Done
     }
 
+    /// Does the step `AppendArray`.
     #[tactic(auto, using(crate::proofs::ArrayLaws::two_arrays_missing, crate::proofs::ArrayLaws::two_arrays_there))]
-    pub(crate) fn append_array(&mut self) -> Acting
+    pub fn append_array(&mut self) -> Acting
         ensures { Acts self.old (stack_effect acts.append_array self.old.core) self.new result }
     {
         if !self.has_arrays(2) {
@@ -112,8 +115,9 @@ impl ImageState {
         Acting::Done
     }
 
+    /// Does the step `DropArray`.
     #[tactic(auto, using(crate::proofs::ArrayLaws::array_missing, crate::proofs::ArrayLaws::array_dropped))]
-    pub(crate) fn drop_array(&mut self) -> Acting
+    pub fn drop_array(&mut self) -> Acting
         ensures { Acts self.old (stack_effect acts.drop_array self.old.core) self.new result }
     {
         if !self.has_arrays(1) {
@@ -131,8 +135,9 @@ impl ImageState {
         first_of(self.elements())
     }
 
+    /// Does the step `OnlyElement`.
     #[tactic(auto, using(crate::proofs::ArrayLaws::element_missing, crate::proofs::ArrayLaws::element_there, crate::proofs::ArrayLaws::some_array))]
-    pub(crate) fn only_element(&mut self) -> Acting
+    pub fn only_element(&mut self) -> Acting
         requires { length self.old.core.values < self.old.rooms.numbers }
         ensures { Acts self.old (stack_effect acts.only_element self.old.core) self.new result }
     {
@@ -145,8 +150,9 @@ impl ImageState {
         }
     }
 
+    /// Does the step `TakeCells`.
     #[tactic(auto, using(crate::proofs::ArrayLaws::cells_missing, crate::proofs::ArrayLaws::cells_full, crate::proofs::ArrayLaws::cells_taken))]
-    pub(crate) fn take_cells(&mut self) -> Acting
+    pub fn take_cells(&mut self) -> Acting
         ensures { Acts self.old (stack_effect acts.take_cells self.old.core) self.new result }
     {
         if !self.has_arrays(1) {
@@ -160,8 +166,9 @@ impl ImageState {
         Acting::Done
     }
 
+    /// Does the step `FitsEach`.
     #[tactic(auto, using(crate::proofs::ArrayLaws::fits_each_missing, crate::proofs::ArrayLaws::fits_each_fails, crate::proofs::ArrayLaws::fits_each_holds))]
-    pub(crate) fn fits_each(&self, kind: Kind) -> Acting
+    pub fn fits_each(&self, kind: Kind) -> Acting
         ensures { Acts self.now (operator_effect (acts.fits_each kind) self.now.core) self.now result }
     {
         if !self.has_arrays(1) {

@@ -59,8 +59,9 @@ impl ImageState {
         self.arrays.extents()
     }
 
+    /// Does the step `SameShape`.
     #[tactic(auto, using(crate::proofs::BoundsLaws::shape_without_place, crate::proofs::BoundsLaws::shape_without_array, crate::proofs::BoundsLaws::shape_agrees, crate::proofs::BoundsLaws::shape_differs))]
-    pub(crate) fn same_shape(&self, depth: u32, rank: u32) -> Acting
+    pub fn same_shape(&self, depth: u32, rank: u32) -> Acting
         requires { rank ≤ 3 }
         ensures { Acts self.now (bounds_effect (acts.same_shape depth rank) self.now.core) self.now result }
     {
@@ -76,8 +77,9 @@ impl ImageState {
         Acting::Fault(SHAPE)
     }
 
+    /// Does the step `SomeCells`.
     #[tactic(auto, using(crate::proofs::BoundsLaws::cells_unseen, crate::proofs::BoundsLaws::cells_told))]
-    pub(crate) fn some_cells(&mut self, depth: u32, rank: u32) -> Acting
+    pub fn some_cells(&mut self, depth: u32, rank: u32) -> Acting
         requires { length self.old.core.values < self.old.rooms.numbers }
         ensures { Acts self.old (bounds_effect (acts.some_cells depth rank) self.old.core) self.new result }
     {
@@ -96,8 +98,9 @@ impl ImageState {
         self.arrays.begin(extents);
     }
 
+    /// Does the step `NothingRead`.
     #[tactic(auto, using(crate::proofs::BoundsLaws::nothing_missing, crate::proofs::BoundsLaws::nothing_put))]
-    pub(crate) fn nothing_read(&mut self, rank: u32) -> Acting
+    pub fn nothing_read(&mut self, rank: u32) -> Acting
         requires rank { rank ≤ 3 }
         requires place { length self.old.core.arrays < self.old.rooms.arrays }
         requires room { length self.old.core.values + 1 ≤ self.old.rooms.numbers + (place_size rank + 1) }
@@ -120,8 +123,9 @@ impl ImageState {
         self.arrays.begin_bounds(extents);
     }
 
+    /// Does the step `SectionBounds`.
     #[tactic(auto, using(crate::proofs::BoundsLaws::section_missing, crate::proofs::BoundsLaws::section_full, crate::proofs::BoundsLaws::section_bounded))]
-    pub(crate) fn section_bounds(&mut self, rank: u32) -> Acting
+    pub fn section_bounds(&mut self, rank: u32) -> Acting
         requires rank { rank ≤ 3 }
         requires place { length self.old.core.arrays < self.old.rooms.arrays }
         ensures { Acts self.old (bounds_effect (acts.section_bounds rank) self.old.core) self.new result }
@@ -146,8 +150,9 @@ impl ImageState {
         self.spare() + self.elements().len()
     }
 
+    /// Does the step `ValueBounds`.
     #[tactic(auto, using(crate::proofs::BoundsLaws::value_missing, crate::proofs::BoundsLaws::value_full, crate::proofs::BoundsLaws::value_bounded))]
-    pub(crate) fn value_bounds(&mut self) -> Acting
+    pub fn value_bounds(&mut self) -> Acting
         requires { length self.old.core.arrays ≤ self.old.rooms.arrays }
         ensures { Acts self.old (bounds_effect acts.value_bounds self.old.core) self.new result }
     {
@@ -162,8 +167,9 @@ impl ImageState {
         Acting::Done
     }
 
+    /// Does the step `Size`.
     #[tactic(auto, using(crate::proofs::BoundsLaws::size_missing, crate::proofs::BoundsLaws::size_faults, crate::proofs::BoundsLaws::size_told))]
-    pub(crate) fn size(&mut self) -> Acting
+    pub fn size(&mut self) -> Acting
         requires { length self.old.core.values < self.old.rooms.numbers }
         ensures { Acts self.old (bounds_effect acts.size self.old.core) self.new result }
     {
@@ -202,8 +208,9 @@ impl ImageState {
         extent_along(self.elements(), &dim)
     }
 
+    /// Does the step `Extent`.
     #[tactic(auto, using(crate::proofs::BoundsLaws::extent_missing, crate::proofs::BoundsLaws::extent_without_array, crate::proofs::BoundsLaws::extent_found))]
-    pub(crate) fn extent(&mut self) -> Acting
+    pub fn extent(&mut self) -> Acting
         ensures { Acts self.old (bounds_effect acts.extent self.old.core) self.new result }
     {
         let Some(dim) = self.top() else {
@@ -223,8 +230,9 @@ impl ImageState {
         lower_along(self.elements(), &dim)
     }
 
+    /// Does the step `LowerBound`.
     #[tactic(auto, using(crate::proofs::BoundsLaws::lower_missing, crate::proofs::BoundsLaws::lower_without_array, crate::proofs::BoundsLaws::lower_found))]
-    pub(crate) fn lower_bound(&mut self) -> Acting
+    pub fn lower_bound(&mut self) -> Acting
         ensures { Acts self.old (bounds_effect acts.lower_bound self.old.core) self.new result }
     {
         let Some(dim) = self.top() else {
@@ -244,8 +252,9 @@ impl ImageState {
         upper_along(self.elements(), &dim)
     }
 
+    /// Does the step `UpperBound`.
     #[tactic(auto, using(crate::proofs::BoundsLaws::upper_missing, crate::proofs::BoundsLaws::upper_without_array, crate::proofs::BoundsLaws::upper_found))]
-    pub(crate) fn upper_bound(&mut self) -> Acting
+    pub fn upper_bound(&mut self) -> Acting
         ensures { Acts self.old (bounds_effect acts.upper_bound self.old.core) self.new result }
     {
         let Some(dim) = self.top() else {

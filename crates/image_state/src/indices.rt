@@ -19,8 +19,9 @@ impl ImageState {
         MOST_ITEMS - self.arrays.total()
     }
 
+    /// Does the step `EveryIndex`.
     #[tactic(auto, using(crate::proofs::IndexLaws::every_full, crate::proofs::IndexLaws::every_told))]
-    pub(crate) fn every_index(&mut self) -> Acting
+    pub fn every_index(&mut self) -> Acting
         requires { length self.old.core.arrays < self.old.rooms.arrays }
         ensures { Acts self.old (bounds_effect acts.every_index self.old.core) self.new result }
     {

@@ -71,7 +71,8 @@ impl ImageState {
         self.prints.end();
     }
 
-    pub(crate) fn begin_free(&mut self) -> Acting
+    /// Does the step `BeginFree`.
+    pub fn begin_free(&mut self) -> Acting
         requires { length self.old.core.printing < self.old.rooms.texts }
         ensures { Acts self.old (print_effect acts.begin_free self.old.core) self.new result }
     {
@@ -79,7 +80,8 @@ impl ImageState {
         Acting::Done
     }
 
-    pub(crate) fn begin_format(&mut self, text: u32) -> Acting
+    /// Does the step `BeginFormat`.
+    pub fn begin_format(&mut self, text: u32) -> Acting
         requires { length self.old.core.printing < self.old.rooms.texts }
         ensures { Acts self.old (print_effect (acts.begin_format (text_at (texts_of self.old) text)) self.old.core) self.new result }
     {
@@ -87,8 +89,9 @@ impl ImageState {
         Acting::Done
     }
 
+    /// Does the step `PrintLiteral`.
     #[tactic(auto, using(crate::proofs::PrintLaws::prints_nothing, crate::proofs::PrintLaws::prints_too_much, crate::proofs::PrintLaws::prints))]
-    pub(crate) fn print_literal(&mut self, text: u32) -> Acting
+    pub fn print_literal(&mut self, text: u32) -> Acting
         ensures { Acts self.old (print_effect (acts.print_literal (text_at (texts_of self.old) text)) self.old.core) self.new result }
     {
         if !self.has_text() {
@@ -101,8 +104,9 @@ impl ImageState {
         Acting::Done
     }
 
+    /// Does the step `PrintNumber`.
     #[tactic(auto, using(crate::proofs::Taking::none_taken, crate::proofs::PrintLaws::number_printed))]
-    pub(crate) fn print_number(&mut self) -> Acting
+    pub fn print_number(&mut self) -> Acting
         ensures { Acts self.old (print_effect acts.print_number self.old.core) self.new result }
     {
         match self.top() {
@@ -111,8 +115,9 @@ impl ImageState {
         }
     }
 
+    /// Does the step `PrintTruth`.
     #[tactic(auto, using(crate::proofs::Taking::none_taken, crate::proofs::PrintLaws::truth_printed))]
-    pub(crate) fn print_truth(&mut self) -> Acting
+    pub fn print_truth(&mut self) -> Acting
         ensures { Acts self.old (print_effect acts.print_truth self.old.core) self.new result }
     {
         match self.top() {
@@ -172,8 +177,9 @@ impl ImageState {
         put_items(&mut self.prints, kind, self.arrays.elements());
     }
 
+    /// Does the step `PrintArray`.
     #[tactic(auto, using(crate::proofs::PrintLaws::array_not_there, crate::proofs::PrintLaws::array_without_text, crate::proofs::PrintLaws::array_too_much, crate::proofs::PrintLaws::array_printed))]
-    pub(crate) fn print_array(&mut self, kind: Kind) -> Acting
+    pub fn print_array(&mut self, kind: Kind) -> Acting
         ensures { Acts self.old (print_effect (acts.print_array kind) self.old.core) self.new result }
     {
         if !self.has_arrays(1) {

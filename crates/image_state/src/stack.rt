@@ -18,8 +18,9 @@ const ABSENT: i64 = -1;
 const OVERFLOWED: i64 = -2;
 
 impl ImageState {
+    /// Does the step `Copy`.
     #[tactic(auto, using(crate::proofs::StackLaws::none_repeated, crate::proofs::StackLaws::repeated, crate::proofs::StackLaws::not_repeated))]
-    pub(crate) fn copy(&mut self, depth: u32, n: u32) -> Acting
+    pub fn copy(&mut self, depth: u32, n: u32) -> Acting
         requires { length self.old.core.values + n ≤ self.old.rooms.numbers }
         ensures { Acts self.old (stack_effect (acts.copy depth n) self.old.core) self.new result }
     {
@@ -33,8 +34,9 @@ impl ImageState {
         }
     }
 
+    /// Does the step `Bring`.
     #[tactic(auto, using(crate::proofs::StackLaws::brought, crate::proofs::StackLaws::not_brought))]
-    pub(crate) fn bring(&mut self, depth: u32, n: u32) -> Acting
+    pub fn bring(&mut self, depth: u32, n: u32) -> Acting
         ensures { Acts self.old (stack_effect (acts.bring depth n) self.old.core) self.new result }
     {
         if self.has(depth, n) {
@@ -45,8 +47,9 @@ impl ImageState {
         }
     }
 
+    /// Does the step `Accessed`.
     #[tactic(auto, using(crate::proofs::StackLaws::accessed_nothing, crate::proofs::StackLaws::accessed_past, crate::proofs::StackLaws::accessed_well, crate::proofs::StackLaws::accessed_missing))]
-    pub(crate) fn accessed(&self) -> Acting
+    pub fn accessed(&self) -> Acting
         ensures { Acts self.now (stack_effect acts.accessed self.now.core) self.now result }
     {
         match self.top() {

@@ -49,7 +49,8 @@ impl ImageState {
         }
     }
 
-    pub(crate) fn this_team(&mut self) -> Acting
+    /// Does the step `ThisTeam`.
+    pub fn this_team(&mut self) -> Acting
         requires { length self.old.core.values < self.old.rooms.numbers }
         ensures { Acts self.old (selector_effect acts.this_team self.old.core) self.new result }
     {
@@ -57,8 +58,9 @@ impl ImageState {
         self.number(i64::from(team))
     }
 
+    /// Does the step `OwnIndex`.
     #[tactic(auto, using(crate::proofs::Taking::none_taken, crate::proofs::TeamLaws::index_told))]
-    pub(crate) fn own_index(&mut self) -> Acting
+    pub fn own_index(&mut self) -> Acting
         ensures { Acts self.old (selector_effect acts.own_index self.old.core) self.new result }
     {
         match self.top() {
@@ -71,8 +73,9 @@ impl ImageState {
         }
     }
 
+    /// Does the step `ImageCount`.
     #[tactic(auto, using(crate::proofs::Taking::none_taken, crate::proofs::TeamLaws::size_told))]
-    pub(crate) fn image_count(&mut self) -> Acting
+    pub fn image_count(&mut self) -> Acting
         ensures { Acts self.old (selector_effect acts.image_count self.old.core) self.new result }
     {
         match self.top() {
@@ -85,8 +88,9 @@ impl ImageState {
         }
     }
 
+    /// Does the step `AreIndices`.
     #[tactic(auto, using(crate::proofs::TeamLaws::no_indices, crate::proofs::TeamLaws::indices_told))]
-    pub(crate) fn are_indices(&mut self) -> Acting
+    pub fn are_indices(&mut self) -> Acting
         requires { length self.old.core.values < self.old.rooms.numbers }
         ensures { Acts self.old (bounds_effect acts.are_indices self.old.core) self.new result }
     {
@@ -97,8 +101,9 @@ impl ImageState {
         self.number(truth(holds))
     }
 
+    /// Does the step `IsIndex`.
     #[tactic(auto, using(crate::proofs::Taking::none_taken, crate::proofs::TeamLaws::is_index_told))]
-    pub(crate) fn is_index(&mut self) -> Acting
+    pub fn is_index(&mut self) -> Acting
         ensures { Acts self.old (bounds_effect acts.is_index self.old.core) self.new result }
     {
         match self.top() {

@@ -4,7 +4,7 @@ use Rattle.caf_base.specs.declared.value.Kind.{Kind}
 use Rattle.image_code.specs.declared.step.Scope.{Scope}
 use Rattle.image_code.specs.declared.step.Step.{Step}
 use Rattle.image_code.specs.declared.step.Step.TheVariants as steps
-use Rattle.image_state.specs.Plain.{IsPlainAct}
+use Rattle.image_steps.specs.Plain.{IsPlainAct}
 
 pub none_left : (s : Step) → IsPlainAct s
     → ((x0 : ℤ) → s ≡ steps.Number x0 → ⊥)
