@@ -1,7 +1,7 @@
 -- The machines before the first step are those of the images by number, each with its room.
 use Rattle.std.proofs.Common.{◌≡◌, ℕ, zero, suc, ◌<◌, List, [], ◌∷◌, length, refl, sym, ap, subst, arith}
 use Rattle.std.specs.Prelude.{Option, Some, None, map, slice_get, slice_index_or, MatchOption}
-use Rattle.trace_theory.specs.Machines.{go, goes}
+use Rattle.trace_theory.specs.Machines.{go, goes, Rests}
 use Rattle.core_runs.proofs.Numbered.{item_within}
 use Rattle.image_core.specs.Parts.{EachAt}
 use Rattle.lane_parts.specs.FirstLanes.{HaveCome}
@@ -39,12 +39,14 @@ module _ (w : Whole) (limit n : ℕ) (xs : List Engine) (h : EachAt (HasBegun w 
   rooms_of (suc k) = rooms_in k (slice_get xs k) refl
 
   come_in : (k : ℕ) (o : Option Engine) (e : slice_get xs k ≡ o) → MatchOption o (Unit {0}) (λ c. (j : ℕ) × (go machine_step j (start_of w limit (rooms_in k o e) (suc k) n) ≡ goes c))
+  unfolding rooms_in begun_at
   come_in k None e = tt
   come_in k (Some c) e =
       let starts = (begun_at k c e).starts in
       (starts.1, starts.2)
 
   come_from : HaveCome machine_step (λ i. start_of w limit (rooms_of i) i n) xs
+  unfolding rooms_of rooms_in
   come_from = record {
     starts = λ k c at. subst (λ o. MatchOption o (Unit {0}) (λ d. (j : ℕ) × (go machine_step j (start_of w limit (rooms_of (suc k)) (suc k) n) ≡ goes d))) at (come_in k (slice_get xs k) refl);
     rests = λ k c at. (begun_at k c at).rests;
@@ -52,3 +54,14 @@ module _ (w : Whole) (limit n : ℕ) (xs : List Engine) (h : EachAt (HasBegun w 
 
   pub have_come : HaveCome machine_step (λ i. start_of w limit (rooms_of i) i n) (map (λ x. x) xs)
   have_come = subst (λ ys. HaveCome machine_step (λ i. start_of w limit (rooms_of i) i n) ys) (sym (map_same xs)) come_from
+
+-- a machine of the same code has begun
+pub begun : (v w : Whole) (limit n k me : ℕ) (m : Engine) → v ≡ w → me ≡ suc k → (rooms : Rooms) × (steps : ℕ) × (go machine_step steps (start_of v limit rooms me n) ≡ goes m) → Rests (machine_step m) → HasBegun w limit n k m
+begun v w limit n k me m same number starts rests = record {
+  starts = (
+    starts.0,
+    starts.1,
+    subst (λ x. go machine_step starts.1 (start_of w limit starts.0 x n) ≡ goes m) number (subst (λ x. go machine_step starts.1 (start_of x limit starts.0 me n) ≡ goes m) same starts.2),
+  );
+  rests = rests;
+}

@@ -1,23 +1,26 @@
 -- The report of a run of machines whose code has the walks of a program is that of a run of the program.
-use Rattle.std.proofs.Common.{ℕ, List}
+use Rattle.std.proofs.Common.{◌≡◌, ℕ, List, length, sym, subst}
+use Rattle.std.specs.Prelude.{map}
 use Rattle.object_rules.specs.Cells.{Declared}
 use Rattle.checked_tree.specs.Statements as checked
 use Rattle.image_core.specs.Choosing.{choosing}
+use Rattle.image_core.specs.Parts.{EachAt}
 use Rattle.image_core.specs.declared.choices.Choices.{Choices}
 use Rattle.image_lanes.specs.LaneRuns.{lane_rules}
 use Rattle.image_code.specs.Code.{Whole}
 use Rattle.image_state.specs.declared.state.Rooms.{Rooms}
-use Rattle.image_machine.specs.Engine.{start_of}
+use Rattle.image_machine.specs.Engine.{Engine, start_of}
 use Rattle.image_machine.specs.Walk.{machine_step}
 use Rattle.caf_report.specs.declared.report.Report.{Report}
 use Rattle.order_report.specs.Reports.{choices_of}
 use Rattle.order_report.proofs.SameEnd.{report_end_too}
-use Rattle.full_report.specs.Reports.{ImagesEnd, IsImagesReport}
+use Rattle.full_report.specs.Reports.{RunsFrom, ImagesEnd, IsImagesReport}
 use Rattle.program_walks.specs.Runs.{program_rules, program_begins}
 use Rattle.machine_runs.specs.Runs.{HasWalksOn, machines_begin}
-use Rattle.machine_runs.proofs.MachineRuns.{machine_ends, core_onward, order_onward, waits_onward}
-use Rattle.program_run.specs.Machines.{hears}
+use Rattle.machine_runs.proofs.MachineRuns.{machine_ends, machine_fit, core_onward, order_onward, waits_onward}
+use Rattle.program_run.specs.Machines.{hears, HasBegun, HearsAll}
 use Rattle.program_run.specs.Reports.{IsProgramReport}
+use Rattle.program_run.proofs.Begun.{rooms_of, have_come}
 
 module _ (p : checked.Program) (w : Whole) (limit : ℕ) (rooms : ℕ → Rooms) (coarrays : List Declared) (n : ℕ) (fails_at : ℕ → ℕ) (words : ℕ) (h : HasWalksOn p limit n w) where
   pub machines_end : ImagesEnd machine_step hears coarrays n (λ i. start_of w limit (rooms i) i n) fails_at words
@@ -33,3 +36,24 @@ module _ (p : checked.Program) (w : Whole) (limit : ℕ) (rooms : ℕ → Rooms)
         (λ i line ask waits. waits_onward hears p w limit rooms coarrays n fails_at words h report.trace.entries is.core i line ask waits) n report.end is.end;
     allowed = is.allowed;
   }
+
+module _ (w : Whole) (limit n : ℕ) (xs : List Engine) (count : length xs ≡ n) (begun : EachAt (HasBegun w limit n) xs) (coarrays : List Declared) (fails_at : ℕ → ℕ) (words : ℕ) where
+  -- where the machines begin, each with its room
+  abbrev pub first : ℕ → Engine
+  first i = start_of w limit (rooms_of w limit n xs begun i) i n
+
+  -- they run the code, and their run is fit
+  pub machines_run : (p : checked.Program) → HasWalksOn p limit n w → HearsAll w limit coarrays n fails_at words → RunsFrom machine_step hears coarrays (length xs) first fails_at words (map (λ x. x) xs)
+  machines_run p h due =
+      subst (λ k. RunsFrom machine_step hears coarrays k first fails_at words (map (λ x. x) xs)) (sym count)
+      (record { come = have_come w limit n xs begun; fit = machine_fit hears p w limit (rooms_of w limit n xs begun) coarrays n fails_at words h (due (rooms_of w limit n xs begun)) })
+
+  -- so the report of their run is that of the program
+  pub run_report : (seed : ℕ) (report : Report) → HearsAll w limit coarrays n fails_at words
+      → ((start : ℕ → Engine) → RunsFrom machine_step hears coarrays (length xs) start fails_at words (map (λ x. x) xs) → ImagesEnd machine_step hears coarrays (length xs) start fails_at words
+      → IsImagesReport machine_step hears coarrays (length xs) start fails_at words seed report)
+      → (p : checked.Program) → HasWalksOn p limit n w → IsProgramReport p limit coarrays n fails_at words seed report
+  run_report seed report due is p h =
+      program_report p w limit (rooms_of w limit n xs begun) coarrays n fails_at words h seed report
+      (subst (λ k. IsImagesReport machine_step hears coarrays k first fails_at words seed report) count
+      (is first (machines_run p h due) (subst (λ k. ImagesEnd machine_step hears coarrays k first fails_at words) (sym count) (machines_end p w limit (rooms_of w limit n xs begun) coarrays n fails_at words h))))
