@@ -16,7 +16,7 @@ use Rattle.image_code.specs.Code.{Whole, code_of}
 use Rattle.image_code.specs.declared.tables.FirstArray.{FirstArray}
 use Rattle.image_code.specs.declared.tables.MainFrame.{MainFrame}
 use Rattle.image_code.specs.declared.tables.Tables.{Tables}
-use Rattle.image_state.specs.Kept as state
+use Rattle.team_tables.specs.Tables as state
 use Rattle.image_machine.specs.Start as machine
 use Rattle.tree_meaning.specs.Forms.{bodies}
 use Rattle.tree_meaning.specs.Start as tree
