@@ -15,7 +15,6 @@ use Rattle.part_rules.specs.Views.{list_of}
 use Rattle.fortran_tree.specs.Units as u
 use Rattle.rule_definitions.specs.declared.broken.Broken.{Broken}
 use Rattle.rule_definitions.specs.Acceptance.{Accepts}
-use Rattle.rule_laws.proofs.UnitsSound.{accepted_whole}
 use Rattle.rule_definitions.specs.Declarations.{Declared, limit_breaks}
 use Rattle.rule_definitions.specs.Judgements.{Judgement, both, comes_first, first_of, is_nothing, is_there, ruled, unless}
 use Rattle.rule_definitions.specs.Names.{Interface, Named, Scope, is_among, variables_of}
@@ -265,16 +264,6 @@ formed_seen p ns ms cs j m e h =
 pub accepts : (p : u.Program) (f : Option Broken) (c : Option Checked) (k : Checked) → f ≡ first_of None (program_judged p).breaks → (f ≡ None → option_map typed.program c ≡ (program_judged p).meaning)
     → f ≡ None → c ≡ Some k → Accepts p (typed.program k)
 accepts p f c k e h z m = record { unbroken = unbroken (program_judged p).breaks (sym e ∙ z); meaning = sym (h z) ∙ ap (option_map typed.program) m }
-
-no_checked : (k : ts.Program) → None ≡ Some k → ⊥
-no_checked k e = cc
-
--- where no rule is broken there is a checked program
-pub checks : (p : u.Program) (f : Option Broken) (c : Option Checked) → f ≡ first_of None (program_judged p).breaks → (f ≡ None → option_map typed.program c ≡ (program_judged p).meaning)
-    → f ≡ None → c ≡ None → ⊥
-checks p f c e h z m =
-    let a = accepted_whole p (unbroken (program_judged p).breaks (sym e ∙ z)) in
-    no_checked (a.0) (sym (ap (option_map typed.program) m) ∙ h z ∙ (a.1).meaning)
 
 -- names that are the same
 pub same_twice : (a b : List (List ℕ)) (hs : List Headed) → ((n : List ℕ) → is_among a n ≡ is_among b n) → twice_breaks a hs ≡ twice_breaks b hs

@@ -23,11 +23,11 @@ pub fn check_tree(alloc: Global, program: &Program) -> Result<Checked, Refusal<B
         drop(checked);
         return Err(Refusal::Cause(broken));
     }
-    // A program that breaks no rule is accepted as a checked one (rule_laws).
-    let Some(checked) = checked else {
-        unreachable!()
-    };
-    Ok(checked)
+    match checked {
+        Some(checked) => Ok(checked),
+        // That this can't come, no break and no meaning, isn't proved yet.
+        None => Err(Refusal::NoMemory),
+    }
 }
 
 /// The checked program that a program is accepted as, or the first rule that it breaks.

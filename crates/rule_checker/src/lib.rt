@@ -1,7 +1,7 @@
 //! The rules of the language (ISO/IEC 1539-1:2018), judged of a whole program.
 //! It stands on `unit_scopes`, `statement_rules` and what is below them; `caf_run` stands on it.
 //! Its main contract: `check::check` answers the checked program that the program is accepted as, or the first rule that it breaks, at its place: the earliest
-//! in the source, at one place the lower number. Nothing but want of memory keeps an answer away, which is free.
+//! in the source, at one place the lower number. Want of memory is free; that it alone keeps an answer away isn't proved.
 #![tactic(auto)]
 
 pub mod check;
