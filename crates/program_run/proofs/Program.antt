@@ -9,16 +9,17 @@ use Rattle.image_core.specs.declared.choices.Choices.{Choices}
 use Rattle.image_lanes.specs.LaneRuns.{lane_rules}
 use Rattle.image_code.specs.Code.{Whole}
 use Rattle.image_state.specs.declared.state.Rooms.{Rooms}
-use Rattle.image_machine.specs.Engine.{Engine, start_of}
+use Rattle.image_machine.specs.Engine.{Engine, bare, start_of}
 use Rattle.image_machine.specs.Walk.{machine_step}
 use Rattle.caf_report.specs.declared.report.Report.{Report}
 use Rattle.order_report.specs.Reports.{choices_of}
 use Rattle.order_report.proofs.SameEnd.{report_end_too}
 use Rattle.full_report.specs.Reports.{RunsFrom, ImagesEnd, IsImagesReport}
 use Rattle.program_walks.specs.Runs.{program_rules, program_begins}
+use Rattle.program_walks.proofs.Hearing.{hears_due}
 use Rattle.machine_runs.specs.Runs.{HasWalksOn, machines_begin}
 use Rattle.machine_runs.proofs.MachineRuns.{machine_ends, machine_fit, core_onward, order_onward, waits_onward}
-use Rattle.program_run.specs.Machines.{hears, HasBegun, HearsAll}
+use Rattle.program_run.specs.Machines.{hears, HasBegun}
 use Rattle.program_run.specs.Reports.{IsProgramReport}
 use Rattle.program_run.proofs.Begun.{rooms_of, have_come}
 
@@ -43,17 +44,17 @@ module _ (w : Whole) (limit n : ℕ) (xs : List Engine) (count : length xs ≡ n
   first i = start_of w limit (rooms_of w limit n xs begun i) i n
 
   -- they run the code, and their run is fit
-  pub machines_run : (p : checked.Program) → HasWalksOn p limit n w → HearsAll w limit coarrays n fails_at words → RunsFrom machine_step hears coarrays (length xs) first fails_at words (map (λ x. x) xs)
-  machines_run p h due =
-      subst (λ k. RunsFrom machine_step hears coarrays k first fails_at words (map (λ x. x) xs)) (sym count)
-      (record { come = have_come w limit n xs begun; fit = machine_fit hears p w limit (rooms_of w limit n xs begun) coarrays n fails_at words h (due (rooms_of w limit n xs begun)) })
+  pub machines_run : (p : checked.Program) → HasWalksOn p limit n w → RunsFrom machine_step hears coarrays (length xs) first fails_at words (map bare xs)
+  machines_run p h =
+      subst (λ k. RunsFrom machine_step hears coarrays k first fails_at words (map bare xs)) (sym count)
+      (record { come = have_come w limit n xs begun; fit = machine_fit hears p w limit (rooms_of w limit n xs begun) coarrays n fails_at words h (λ m is. hears_due machine_step hears (λ c a reply asked any. tt) m) })
 
   -- so the report of their run is that of the program
-  pub run_report : (seed : ℕ) (report : Report) → HearsAll w limit coarrays n fails_at words
-      → ((start : ℕ → Engine) → RunsFrom machine_step hears coarrays (length xs) start fails_at words (map (λ x. x) xs) → ImagesEnd machine_step hears coarrays (length xs) start fails_at words
+  pub run_report : (seed : ℕ) (report : Report)
+      → ((start : ℕ → Engine) → RunsFrom machine_step hears coarrays (length xs) start fails_at words (map bare xs) → ImagesEnd machine_step hears coarrays (length xs) start fails_at words
       → IsImagesReport machine_step hears coarrays (length xs) start fails_at words seed report)
       → (p : checked.Program) → HasWalksOn p limit n w → IsProgramReport p limit coarrays n fails_at words seed report
-  run_report seed report due is p h =
+  run_report seed report is p h =
       program_report p w limit (rooms_of w limit n xs begun) coarrays n fails_at words h seed report
       (subst (λ k. IsImagesReport machine_step hears coarrays k first fails_at words seed report) count
-      (is first (machines_run p h due) (subst (λ k. ImagesEnd machine_step hears coarrays k first fails_at words) (sym count) (machines_end p w limit (rooms_of w limit n xs begun) coarrays n fails_at words h))))
+      (is first (machines_run p h) (subst (λ k. ImagesEnd machine_step hears coarrays k first fails_at words) (sym count) (machines_end p w limit (rooms_of w limit n xs begun) coarrays n fails_at words h))))

@@ -9,7 +9,7 @@ ghost use Rattle.checked_tree.specs.Statements as checked;
 ghost use Rattle.caf_report.specs.Ends.{HasEnd};
 ghost use Rattle.lane_parts.specs.FirstLanes.{fails_at};
 ghost use Rattle.machine_runs.specs.Runs.{HasWalksOn};
-ghost use Rattle.program_run.specs.Machines.{IsRunnable, HearsAll};
+ghost use Rattle.program_run.specs.Machines.{IsRunnable};
 ghost use Rattle.program_run.specs.Reports.{IsProgramReport};
 
 use crate::machines::machines;
@@ -25,7 +25,7 @@ use std::sync::Arc;
 /// The run of code on n images, in the order of a SEED, and its report with these names of the coarrays. Each memory has these coarrays. An image's next statement above
 /// `limit` is its limit; image i fails at its event of the number that `fails` has for it, counted from 1 (0 or no number: it doesn't); with `words` recorded words or
 /// more an image's next step is the limit. Conditions: there are at most 65,536 images and 100,000,000 statements, each static coarray of values has a first value of its
-/// kind for each of its cells, the code has the walks of a checked program, and the machine can run it (`IsRunnable`, `HearsAll`).
+/// kind for each of its cells, the code has the walks of a checked program, and the machine can run it (`IsRunnable`).
 pub fn run_code(
     alloc: Global,
     code: Arc<Code>,
@@ -42,7 +42,6 @@ pub fn run_code(
     requires declared { list_all has_first_values (map declared_of coarrays.now) ≡ true }
     requires program { (p : checked.Program) × HasWalksOn p limit n (arc_value code) }
     requires runnable { IsRunnable (arc_value code) }
-    requires hears { HearsAll (arc_value code) limit (map declared_of coarrays.now) n (fails_at fails.now) words }
     // It is that of the run of each program whose walks the code has.
     ensures report { IfOk result (λ report. (p : checked.Program) → HasWalksOn p limit n (arc_value code)
         → IsProgramReport p limit (map declared_of coarrays.now) n (fails_at fails.now) words seed report) }

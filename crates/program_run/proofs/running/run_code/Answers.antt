@@ -15,7 +15,7 @@ run_images-requires-clause-runs c =
     let fails = fails_at c.args.fails.now in
     let program = c.requires.program in (
       first w c.args.limit c.args.n xs made.count made.begun coarrays fails c.args.words,
-      machines_run w c.args.limit c.args.n xs made.count made.begun coarrays fails c.args.words program.0 program.1 c.requires.hears,
+      machines_run w c.args.limit c.args.n xs made.count made.begun coarrays fails c.args.words program.0 program.1,
     )
 
 pub returns-clause-report : goal.returns-clause-report
@@ -25,4 +25,4 @@ returns-clause-report c =
     let xs = c.in_ok-machines.machines.items in
     let made = c.in_ok-machines.ensures in
     let fails = fails_at c.args.fails.now in
-    if_ok_map c.run_images.result _ _ (λ report is. run_report w c.args.limit c.args.n xs made.count made.begun coarrays fails c.args.words c.args.seed report c.requires.hears is) c.run_images.ensures.report
+    if_ok_map c.run_images.result _ _ (λ report is. run_report w c.args.limit c.args.n xs made.count made.begun coarrays fails c.args.words c.args.seed report is) c.run_images.ensures.report
