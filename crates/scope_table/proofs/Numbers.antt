@@ -1,8 +1,9 @@
 -- A variable is found by its number.
-use Rattle.std.proofs.Common.{◌&&◌, ◌≡◌, ◌∙◌, ◌+◌, ◌<◌, ◌++◌, ◌∷◌, [], ℕ, zero, suc, Bool, true, false, cond, List, Option, Some, None, length, map, nat_eq, refl, sym, ap, subst, arith}
+use Rattle.std.proofs.Common.{◌&&◌, Bor, ◌≡◌, ◌∙◌, ◌+◌, ◌<◌, ◌++◌, ◌∷◌, [], ℕ, zero, suc, Bool, true, false, cond, List, Option, Some, None, length, map, nat_eq, refl, sym, ap, subst, arith, add-zero, zero-add}
 use Rattle.std.specs.Prelude.{slice_get}
+use Rattle.std.specs.Option.{option_map}
 use Rattle.std.proofs.lemmas.Grind.{common_steps}
-use Rattle.std.proofs.lemmas.List.{map-append}
+use Rattle.std.proofs.lemmas.List.{map-append, length-map}
 use Rattle.checked_tree.specs.declared.data.Home.{Home}
 use Rattle.checked_tree.specs.declared.data.Home.TheVariants.{Own, Host}
 use Rattle.checked_tree.specs.declared.data.Local.{Local}
@@ -11,11 +12,14 @@ use Rattle.checked_tree.specs.declared.data.Object.TheVariants as objects
 use Rattle.rule_definitions.specs.Judgements.{made}
 use Rattle.rule_definitions.specs.Names as n
 use Rattle.rule_definitions.specs.Names.{if_object, is_home, is_local, is_object, symbol_in}
-use Rattle.rule_definitions.specs.Units.{hosted_object}
+use Rattle.rule_definitions.specs.Units.{hosted, hosted_object}
 use Rattle.scope_table.specs.Counts.{variable_count, variables_in}
 use Rattle.scope_table.specs.Scopes.{object_seen, seen_entry}
-use Rattle.scope_table.specs.Symbols.{symbol, seen_from}
+use Rattle.scope_table.specs.Symbols.{entry, symbol, seen_from}
+use Rattle.scope_table.proofs.Tables.{hosted_entries}
 use Rattle.scope_table.specs.declared.symbol.Entry.{Entry}
+use Rattle.scope_table.specs.declared.symbol.Symbol.{Symbol}
+use Rattle.scope_table.specs.declared.symbol.ConstantSymbol.{ConstantSymbol}
 use Rattle.scope_table.specs.declared.symbol.Entry.TheVariants as entries
 use Rattle.scope_table.specs.Numbered.{variable_places, HasNumber, AreNumbered, ArePlaced, local_object, local_in, local_at}
 
@@ -117,3 +121,60 @@ constant_more [] (entries.Variable x) h = absurd (omega (arith, h))
 constant_more [] (entries.Constant c) h = refl
 constant_more (entries.Constant c ∷ es) e h = ap (map suc) (constant_more es e h)
 constant_more (entries.Variable x ∷ es) e h = ap (λ ps. 0 ∷ map suc ps) (constant_more es e h)
+
+same_home : (a b : Home) → is_home a b ≡ true → a ≡ b
+same_home Own Own e = refl
+same_home Host Host e = refl
+same_home Own Host e = absurd (let d : false ≡ true = e in cc)
+same_home Host Own e = absurd (let d : false ≡ true = e in cc)
+
+pub found_as : (h : Home) (o : Object) (l : Local) (es : List Entry) (ps : List ℕ) (b : Bool) → ArePlaced b ps es → b ≡ true → o ≡ objects.Local l → is_home l.home h ≡ true
+    → local_at h es (slice_get ps l.variable) ≡ symbol_in (map (seen_entry h) es) o
+found_as h o l es ps b p t e d =
+    ap (λ qs. local_at h es (slice_get qs l.variable)) p.placed ∙ sym (found h es 0 l.variable l.variable (p.numbers t) (omega arith))
+    ∙ ap (λ k. symbol_in (map (seen_entry h) es) (objects.Local (record { home = k; variable = l.variable }))) (sym (same_home l.home h d)) ∙ ap (symbol_in (map (seen_entry h) es)) (sym e)
+
+-- one variable more
+numbered_more : (es : List Entry) (x : Symbol) (i j : ℕ) → AreNumbered i es → j ≡ i + length (variable_places es) → HasNumber j x.object → AreNumbered i (es ++ entries.Variable x ∷ [])
+numbered_more [] x i j a e h = (subst (λ k. HasNumber k x.object) (e ∙ add-zero i) h, tt)
+numbered_more (entries.Constant c ∷ es) x i j a e h = numbered_more es x i j a (e ∙ ap (λ k. i + k) (length-map (variable_places es) suc)) h
+numbered_more (entries.Variable y ∷ es) x i j a e h =
+    let k = length-map (variable_places es) suc in
+    (a.0, numbered_more es x (suc i) j a.1 (omega (arith, e, k)) h)
+
+numbered_constant : (es : List Entry) (c : ConstantSymbol) (i : ℕ) → AreNumbered i es → AreNumbered i (es ++ entries.Constant c ∷ [])
+numbered_constant [] c i a = tt
+numbered_constant (entries.Constant d ∷ es) c i a = numbered_constant es c i a
+numbered_constant (entries.Variable y ∷ es) c i a = (a.0, numbered_constant es c (suc i) a.1)
+
+both_true : (b w : Bool) → (b && w) ≡ true → (b ≡ true) × (w ≡ true)
+both_true true w e = (refl, e)
+both_true false w e = absurd (let d : false ≡ true = e in cc)
+
+pub variable_placed : (es : List Entry) (ps : List ℕ) (x : Symbol) (b w : Bool) → (w ≡ true → HasNumber (length ps) x.object) → ArePlaced b ps es
+    → ArePlaced (b && w) (ps ++ length es ∷ []) (es ++ entries.Variable x ∷ [])
+variable_placed es ps x b w h p = record {
+  placed = ap (λ qs. qs ++ length es ∷ []) p.placed ∙ sym (variable_more es (entries.Variable x) refl);
+  numbers = λ t. let d = both_true b w t in numbered_more es x 0 (length ps) (p.numbers (d.0)) (ap length p.placed ∙ sym (zero-add (length (variable_places es)))) (h (d.1));
+}
+
+pub constant_placed : (es : List Entry) (ps : List ℕ) (c : ConstantSymbol) (b : Bool) → ArePlaced b ps es → ArePlaced b ps (es ++ entries.Constant c ∷ [])
+constant_placed es ps c b p = record {
+  placed = p.placed ∙ sym (constant_more es (entries.Constant c) refl);
+  numbers = λ t. numbered_constant es c 0 (p.numbers t);
+}
+
+pub next_placed : (es : List Entry) (ps qs : List ℕ) (e : Entry) (x : Symbol) (k n : ℕ) (b w v : Bool) → e ≡ entries.Variable x → length es ≡ k → qs ≡ ps ++ k ∷ [] → n ≡ length ps
+    → v ≡ (b && w) → (w ≡ true → HasNumber n x.object) → ArePlaced b ps es → ArePlaced v qs (es ++ e ∷ [])
+next_placed es ps qs e x k n b w v d l q m t h p =
+    let a = variable_placed es ps x b w (λ s. subst (λ j. HasNumber j x.object) m (h s)) p in
+    let y : ArePlaced (b && w) (ps ++ k ∷ []) (es ++ entries.Variable x ∷ []) = subst (λ j. ArePlaced (b && w) (ps ++ j ∷ []) (es ++ entries.Variable x ∷ [])) l a in
+    subst (λ j. ArePlaced j qs (es ++ e ∷ [])) (sym t) (subst (λ z. ArePlaced (b && w) z (es ++ e ∷ [])) (sym q) (subst (λ z. ArePlaced (b && w) (ps ++ k ∷ []) (es ++ z ∷ [])) (sym d) y))
+
+pub hosted_found : (h : Home) (o : Object) (r : Option (Bor Symbol)) (es fs : List Entry) (ps qs : List ℕ) (b : Bool) (ns : List n.Named) → h ≡ Host → es ≡ fs → ps ≡ qs → ArePlaced b qs fs → map entry fs ≡ ns
+    → (ArePlaced b ps es → option_map (λ (x : Bor Symbol). seen_from h (symbol x.now)) r ≡ symbol_in (map (seen_entry h) es) o)
+    → option_map (λ (x : Bor Symbol). seen_from Host (symbol x.now)) r ≡ symbol_in (map hosted ns) o
+hosted_found h o r es fs ps qs b ns e f g p v k =
+    let a : ArePlaced b ps es = subst (λ z. ArePlaced b z es) (sym g) (subst (λ z. ArePlaced b qs z) (sym f) p) in
+    subst (λ z. option_map (λ (x : Bor Symbol). seen_from z (symbol x.now)) r ≡ symbol_in (map (seen_entry z) es) o) e (k a)
+    ∙ ap (λ z. symbol_in (map (seen_entry Host) z) o) f ∙ ap (λ z. symbol_in z o) (sym (hosted_entries fs)) ∙ ap (λ z. symbol_in (map hosted z) o) v
