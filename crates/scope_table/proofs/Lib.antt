@@ -4,3 +4,4 @@ pub mod Orders
 pub mod Places
 pub mod Sets
 pub mod Tables
+pub mod Numbers

@@ -9,6 +9,7 @@ pub mod dummy;
 pub mod item;
 pub mod known;
 pub mod names;
+mod numbered;
 pub mod object;
 pub mod outside;
 pub mod pending;

@@ -31,7 +31,7 @@ pub fn is_same_local(one: Local, other: Local) -> bool
     one.variable == other.variable
 }
 
-fn is_same_home(one: Home, other: Home) -> bool
+pub(crate) fn is_same_home(one: Home, other: Home) -> bool
     ensures { result ≡ is_home one other }
 {
     match (one, other) {

@@ -11,7 +11,7 @@ ghost use Rattle.scope_table.specs.Symbols.{entry_meaning, interface};
 
 use crate::item::item;
 use crate::known::Known;
-use crate::object::{is_same_object, symbol_among};
+use crate::object::is_same_object;
 use crate::outside::Outside;
 use crate::pending::Pending;
 use crate::symbol::{ConstantSymbol, Entry, FunctionName, Interface, SubroutineName, Symbol};
@@ -98,7 +98,7 @@ impl<'a> Scope<'a> {
     pub fn symbol_of(&self, object: Object) -> Option<Visible<'_>>
         ensures { option_map visible result ≡ symbol_of self.now object }
     {
-        if let Some(symbol) = symbol_among(self.own.entries(), Home::Own, object) {
+        if let Some(symbol) = self.own.symbol(Home::Own, object) {
             return Some(Visible {
                 symbol,
                 home: Home::Own,
@@ -213,11 +213,10 @@ fn hosted_symbol<'a>(
     }
 }
 
-#[tactic(auto, using(crate::proofs::Tables::hosted_entries))]
 fn symbol_of_host<'a>(host: &'a Table, object: Object) -> Option<Visible<'a>>
     ensures { option_map visible result ≡ symbol_in (map hosted_name host.now) object }
 {
-    match symbol_among(host.entries(), Home::Host, object) {
+    match host.symbol(Home::Host, object) {
         Some(symbol) => Some(Visible {
             symbol,
             home: Home::Host,

@@ -2,16 +2,20 @@
 
 ghost use Rattle.std.specs.Prelude.{◌≡◌, ◌++◌, ◌∷◌, ◌<◌, [], List, ℕ, None, map, vec_len, vec_capacity, false, length, ◌+◌, IfOk, OnOk, OnErr};
 ghost use Rattle.std.specs.Option.{option_map};
-ghost use Rattle.rule_definitions.specs.Names.{denoted_in, is_among, variables_of};
+ghost use Rattle.checked_tree.specs.declared.data.Home.TheVariants.{Host, Own};
+ghost use Rattle.rule_definitions.specs.Names.{denoted_in, is_among, symbol_in, variables_of};
+ghost use Rattle.rule_definitions.specs.Units.{hosted};
 ghost use Rattle.rule_definitions.specs.Declarations.{count_coarrays};
 ghost use Rattle.scope_table.specs.Counts.{coarray_count, variable_count};
-ghost use Rattle.scope_table.specs.Symbols.{entry, entry_name, entry_meaning};
+ghost use Rattle.scope_table.specs.Symbols.{entry, entry_name, entry_meaning, seen_from, symbol as symbol_seen};
 
 use crate::item::item;
 use crate::names::Names;
-use crate::symbol::Entry;
+use crate::numbered::{place_variable, symbol_found};
+use crate::symbol::{Entry, Symbol};
 use caf_base::listing::Text;
 use caf_base::refusal::NoMemory;
+use checked_tree::data::{Home, Object};
 use std::alloc::Global;
 use std::marker::Model;
 
@@ -22,6 +26,10 @@ pub struct Table {
     entries: Vec<Entry>,
     variables: u32,
     coarrays: u32,
+    // Where the variables stand among the entries.
+    places: Vec<usize>,
+    // Whether each of them that is no coarray has its number in this order.
+    are_numbered: bool,
 }
 
 impl Model for Table {
@@ -34,11 +42,13 @@ impl Model for Table {
     ghost view = { λ t. map entry t.entries.items };
 
     ghost use Rattle.scope_table.specs.Counts.{variables_in, coarrays_in};
+    ghost use Rattle.scope_table.specs.Numbered.{ArePlaced};
 
     ghost invariant = { λ t. record {
       names : t.names ≡ map entry_name t.entries.items;
       variables : t.variables ≡ variables_in t.entries.items;
       coarrays : t.coarrays ≡ coarrays_in t.entries.items;
+      placed : ArePlaced t.are_numbered t.places.items t.entries.items;
     } };
 }
 
@@ -52,6 +62,8 @@ impl Table {
             entries: Vec::new(alloc),
             variables: 0,
             coarrays: 0,
+            places: Vec::new(alloc),
+            are_numbered: true,
         }
     }
 
@@ -70,6 +82,20 @@ impl Table {
         ensures { map entry result.now ≡ self.now }
     {
         self.entries.as_slice()
+    }
+
+    /// The variable among them that an object is, seen from their scope or from a procedure of it (19.5.1.4).
+    pub(crate) fn symbol(&self, home: Home, object: Object) -> Option<&Symbol>
+        ensures own { home ≡ Own → option_map (λ x. symbol_seen x.now) result ≡ symbol_in self.now object }
+        ensures host { home ≡ Host → option_map (λ x. seen_from Host (symbol_seen x.now)) result ≡ symbol_in (map hosted self.now) object }
+    {
+        symbol_found(
+            self.entries.as_slice(),
+            self.places.as_slice(),
+            self.are_numbered,
+            home,
+            object,
+        )
     }
 
     /// How many of them are variables.
@@ -93,7 +119,10 @@ impl Table {
         ensures kept { OnErr result (self.new ≡ self.old) }
     {
         let (variables, coarrays) = counted(self.variables, self.coarrays, &next)?;
+        self.places.reserve(1)?;
         add_name(&mut self.names, &mut self.entries, name_of(&next))?;
+        let place = self.entries.len();
+        self.are_numbered = place_variable(&mut self.places, self.are_numbered, &next, place);
         drop(self.entries.push(next));
         self.variables = variables;
         self.coarrays = coarrays;

@@ -1,5 +1,6 @@
-use Rattle.std.proofs.Common.{◌≡◌, ◌∙◌, ap, sym, arith, ◌++◌, ◌∷◌, [], map, ◌+◌}
+use Rattle.std.proofs.Common.{◌≡◌, ◌∙◌, ap, sym, arith, ◌++◌, ◌∷◌, [], map, ◌+◌, length, subst}
 use Rattle.std.proofs.lemmas.Grind.{common_steps}
+use Rattle.scope_table.specs.Numbered.{ArePlaced}
 use Rattle.scope_table.specs.Symbols.{entry_name}
 use Rattle.scope_table.specs.Counts.{variables_in, coarrays_in, variable_count, coarray_count}
 use Rattle.scope_table.proofs.Tables.{one_more_entry}
@@ -9,6 +10,8 @@ use Rattle.scope_table.proofs.table.Table.add.Goals as goal
 pub invariant_of-self-2 : goal.invariant_of-self-2
 invariant_of-self-2 c =
     let p : c.push.new.self.items ≡ c.self.inside.entries.items ++ c.args.next ∷ [] = grind (arith, common_steps) in
+    let l : length c.self.inside.entries.items ≡ c.len-place.result = grind (arith, common_steps) in
+    let r : c.reserve.new.self.items ≡ c.self.inside.places.items = grind (arith, common_steps) in
     record {
       names = one_more_entry c.self.inside.entries.items c.args.next c.self.inside.names c.add_name.new.names c.name_of.result.now c.args.self.now
           c.self.invariant.names c.self.view_is c.name_of.ensures c.in_ok-add_name.ensures.names c.requires
@@ -17,4 +20,6 @@ invariant_of-self-2 c =
           ∙ sym (variables_more c.self.inside.entries.items c.args.next) ∙ ap variables_in (sym p);
       coarrays = c.in_ok-variables.ensures.coarrays ∙ ap (λ k. k + coarray_count c.args.next) c.self.invariant.coarrays
           ∙ sym (coarrays_more c.self.inside.entries.items c.args.next) ∙ ap coarrays_in (sym p);
+      placed = subst (λ z. ArePlaced c.place_variable-self-inside.result c.place_variable-self-inside.new.places.items z) (sym p)
+          (c.place_variable-self-inside.ensures c.self.inside.entries.items l (subst (λ z. ArePlaced c.self.inside.are_numbered z c.self.inside.entries.items) (sym r) c.self.invariant.placed));
     }
