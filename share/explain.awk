@@ -33,9 +33,6 @@ function explain(entry,   kind) {
     if (entry in standard) print "    " (standard[entry] ~ /^[0-9]/ ? "ISO/IEC 1539-1:2018, " : "") standard[entry]
     if (kind == "status" && (key_at[entry] in advice)) print "    what to do: " advice[key_at[entry]]
     if (entry in example) show_example(example[entry], place[entry])
-    if ((kind == "status" || kind == "refusal" || kind == "fault") && !(entry in is_told) && entry != "status 1") {
-        print "    today's program doesn't tell it yet"
-    }
 }
 
 # An example in backticks is a program; any other is told in words.

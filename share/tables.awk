@@ -1,6 +1,6 @@
 # The tables of docs/REFUSALS.md, read by read_tables. An entry is a kind and a key: refusal 32, status 8, fault Overflow, code 6001, wait leave, limit stamp.
-# Its cells are in name, meaning, standard, example and place, by entry; is_told tells which of them today's program tells. What to do after a status is in
-# advice, by status, and what stands in the place of a form that isn't read is in meaning["left WORD"].
+# Its cells are in name, meaning, standard, example and place, by entry; a refusal for which there is no program has neither example nor place. What to do after a
+# status is in advice, by status, and what stands in the place of a form that isn't read is in meaning["left WORD"].
 
 function kind_of(section) {
     if (section == "Statuses") return "status"
@@ -29,6 +29,7 @@ function keep_row(kind, cells,   entry) {
     if (kind == "status") output[entry] = plain(cells[3])
     if (kind == "refusal") {
         standard[entry] = plain(cells[4])
+        if (cells[6] == "-") return
         example[entry] = cells[5]
         place[entry] = cells[6]
     }
@@ -43,20 +44,12 @@ function keep_left(list, text,   words, count, i) {
     for (i = 1; i <= count; i++) meaning["left " words[i]] = plain(text)
 }
 
-function keep_told(kind, list,   words, count, i) {
-    count = split(list, words, " ")
-    for (i = 1; i <= count; i++) is_told[kind " " words[i]] = 1
-}
-
 function read_tables(path,   line, kind, in_rows, cells) {
     while ((getline line < path) > 0) {
         if (line ~ /^## /) {
             kind = kind_of(substr(line, 4))
             in_rows = 0
         }
-        if (line ~ /^- statuses: /) keep_told("status", substr(line, 13))
-        if (line ~ /^- refusals: /) keep_told("refusal", substr(line, 13))
-        if (line ~ /^- run faults: /) keep_told("fault", substr(line, 15))
         if (line ~ /^\|---/) in_rows = 1
         if (kind != "" && in_rows && line ~ /^\| /) {
             split(substr(line, 3, length(line) - 4), cells, / [|] /)

@@ -21,7 +21,7 @@ use Rattle.rule_definitions.specs.Specifiers.{Written, all_breaks, order_written
 use Rattle.rule_definitions.specs.Arguments.{Actual, breaks_in_all}
 use Rattle.rule_definitions.specs.Expressions.{judged_arguments, judged_specifiers, placed}
 use Rattle.rule_definitions.specs.Actions.{Around, Site, called_with, called, actuals_of, item_breaks, printed, printed_all, format_judged, literals_of_format, depth_of, crosses, absent_place, leaving, has_boundary, control_breaks, controlled, maybe, allocated_bounds, bounds_or_none, AllocatedCobounds, no_cobounds, allocated_cobounds, local_allocation, allocation_of, variable_denoted, allocatable_breaks, AllocatedShape, shape_judged, shape_rules, allocation_judged, deallocated, any_coarray, controlled_if, stat_name, with_stat, written_if, image_set_breaks, image_set, team_variable, form_team, lock_of, found_lock, a_lock, placed_designator, lock_judged, wait_judged, alone, judged_action}
-use Rattle.made_code.specs.Ranks as ranks
+use Rattle.accepted_ranks.specs.Kinded as ranks
 use Rattle.made_code.specs.Ranks.{procedure_at}
 use Rattle.accepted_ranks.specs.Scopes.{AreRanks, HasResult}
 use Rattle.accepted_ranks.proofs.Means.{Means, fine_means, unknown_means, refused_means, around_means, ruled_means, formed_means, under_means, made_means, both_means, three_means, then_means, cond_means}
@@ -66,7 +66,7 @@ module _ (ps : List Procedure) where
   LockFound None = Unit {0}
   LockFound (Some d) = ranks.IsCell ps d
 
-  form_lock : (f : t.Form) (y : DataType) (r : ℕ) → ranks.HasRank ps f r → Held (t.typed f y r) → LockFound (lock_of (t.typed f y r))
+  form_lock : (f : t.Form) (y : DataType) (r : ℕ) → ranks.HasRank ps f y r → Held (t.typed f y r) → LockFound (lock_of (t.typed f y r))
   form_lock (t.designator (t.part (objects.Coarray n) ss c)) Lock zero h k = h
   form_lock (t.designator (t.part (objects.Local n) ss c)) Lock zero h k = absurd k
   form_lock (t.designator (t.part (objects.Constant n) ss c)) Lock zero h k = absurd k

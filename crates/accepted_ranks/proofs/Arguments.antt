@@ -14,7 +14,7 @@ use Rattle.rule_definitions.specs.Constants.{known_extents, known_extent}
 use Rattle.rule_definitions.specs.Parts.{Placed, rank_of}
 use Rattle.rule_definitions.specs.Arguments.{Part, expression, triplet, Actual, matches_type, matches_shape, all_agree, takes_value, is_local_variable, matching_breaks, defined_breaks, argument_for, value_paired, paired_value, keyword_breaks, surplus, paired_all, number_breaks, arguments, IntrinsicDummy, Binding, bindings, bound_to, bound_placed, value_for, given_to, maybe_given_to, are_bound, has_needed, bound}
 use Rattle.tree_meaning.specs.Environment.{rank_in}
-use Rattle.made_code.specs.Ranks as ranks
+use Rattle.accepted_ranks.specs.Kinded as ranks
 use Rattle.accepted_ranks.specs.Scopes.{AreDummies}
 use Rattle.accepted_ranks.proofs.Means.{Means, left_nothing, right_nothing, unless_nothing, no, and_left, and_right, same_number, fine_means, no_meaning, unknown_means, refused_means, ruled_means, under_means, made_means, both_means, cond_means}
 use Rattle.accepted_ranks.proofs.Parts.{Good, Scalar, plain_means}

@@ -17,7 +17,7 @@ use Rattle.rule_definitions.specs.Names.{Scope, denotes, is_procedure}
 use Rattle.rule_definitions.specs.Parts.{Placed, is_listed, type_of, rank_of}
 use Rattle.rule_definitions.specs.Declarations.{is_like}
 use Rattle.rule_definitions.specs.Actions.{Site, is_selected, bracket_breaks, left_side, is_definable, is_listed_value, definable_breaks, is_plain_array, kindred_breaks, assigned_breaks, list_breaks, images_assigned, listed_assignment, plain_assignment, form_judged, assigned, target_breaks, assignment}
-use Rattle.made_code.specs.Ranks as ranks
+use Rattle.accepted_ranks.specs.Kinded as ranks
 use Rattle.accepted_ranks.specs.Scopes.{AreRanks}
 use Rattle.accepted_ranks.proofs.Means.{Means, cons_nil, left_nothing, right_nothing, unless_nothing, formed_nothing, no, same_number, of_both, fine_means, unknown_means, around_means, ruled_means, then_means, cond_means}
 use Rattle.accepted_ranks.proofs.Parts.{Good}
@@ -40,43 +40,43 @@ module _ (ps : List Procedure) where
   formed (Some x) h = fine_means x h
 
   -- ---- a list of images
-  images_formed : (l : Local) (k : Kind) (v : t.Form) (r : ℕ) → ranks.HasRank ps v r → Formed (images_assigned l k v)
-  images_formed l k (t.intrinsic (t.failed_images m)) r h = h.1
-  images_formed l k (t.intrinsic (t.stopped_images m)) r h = h.1
-  images_formed l k (t.intrinsic (t.abs x)) r h = tt
-  images_formed l k (t.intrinsic (t.remainder x y o)) r h = tt
-  images_formed l k (t.intrinsic (t.modulo x y o)) r h = tt
-  images_formed l k (t.intrinsic (t.min es)) r h = tt
-  images_formed l k (t.intrinsic (t.max es)) r h = tt
-  images_formed l k (t.intrinsic t.huge) r h = tt
-  images_formed l k (t.intrinsic (t.int x)) r h = tt
-  images_formed l k (t.intrinsic (t.size x d o)) r h = tt
-  images_formed l k (t.intrinsic (t.lbound x d o)) r h = tt
-  images_formed l k (t.intrinsic (t.ubound x d o)) r h = tt
-  images_formed l k (t.intrinsic (t.allocated x)) r h = tt
-  images_formed l k (t.intrinsic (t.this_image m)) r h = tt
-  images_formed l k (t.intrinsic (t.this_cosubscript c d m o)) r h = tt
-  images_formed l k (t.intrinsic (t.num_images m)) r h = tt
-  images_formed l k (t.intrinsic (t.num_images_of_number n)) r h = tt
-  images_formed l k (t.intrinsic (t.image_index c sub m o)) r h = tt
-  images_formed l k (t.intrinsic (t.image_status i m o)) r h = tt
-  images_formed l k (t.intrinsic (t.number_of_team m)) r h = tt
-  images_formed l k (t.intrinsic (t.get_team v)) r h = tt
-  images_formed l k (t.number z) r h = tt
-  images_formed l k (t.logical b) r h = tt
-  images_formed l k (t.designator d) r h = tt
-  images_formed l k (t.call n es) r h = tt
-  images_formed l k (t.parenthesized x) r h = tt
-  images_formed l k (t.array_constructor es) r h = tt
-  images_formed l k (t.plus x) r h = tt
-  images_formed l k (t.minus x) r h = tt
-  images_formed l k (t.not x) r h = tt
-  images_formed l k (t.arithmetic o x y) r h = tt
-  images_formed l k (t.relation o x y) r h = tt
-  images_formed l k (t.logic o x y) r h = tt
+  images_formed : (l : Local) (k : Kind) (v : t.Form) (w : DataType) (r : ℕ) → ranks.HasRank ps v w r → Formed (images_assigned l k v)
+  images_formed l k (t.intrinsic (t.failed_images m)) w r h = h.1
+  images_formed l k (t.intrinsic (t.stopped_images m)) w r h = h.1
+  images_formed l k (t.intrinsic (t.abs x)) w r h = tt
+  images_formed l k (t.intrinsic (t.remainder x y o)) w r h = tt
+  images_formed l k (t.intrinsic (t.modulo x y o)) w r h = tt
+  images_formed l k (t.intrinsic (t.min es)) w r h = tt
+  images_formed l k (t.intrinsic (t.max es)) w r h = tt
+  images_formed l k (t.intrinsic t.huge) w r h = tt
+  images_formed l k (t.intrinsic (t.int x)) w r h = tt
+  images_formed l k (t.intrinsic (t.size x d o)) w r h = tt
+  images_formed l k (t.intrinsic (t.lbound x d o)) w r h = tt
+  images_formed l k (t.intrinsic (t.ubound x d o)) w r h = tt
+  images_formed l k (t.intrinsic (t.allocated x)) w r h = tt
+  images_formed l k (t.intrinsic (t.this_image m)) w r h = tt
+  images_formed l k (t.intrinsic (t.this_cosubscript c d m o)) w r h = tt
+  images_formed l k (t.intrinsic (t.num_images m)) w r h = tt
+  images_formed l k (t.intrinsic (t.num_images_of_number n)) w r h = tt
+  images_formed l k (t.intrinsic (t.image_index c sub m o)) w r h = tt
+  images_formed l k (t.intrinsic (t.image_status i m o)) w r h = tt
+  images_formed l k (t.intrinsic (t.number_of_team m)) w r h = tt
+  images_formed l k (t.intrinsic (t.get_team v)) w r h = tt
+  images_formed l k (t.number z) w r h = tt
+  images_formed l k (t.logical b) w r h = tt
+  images_formed l k (t.designator d) w r h = tt
+  images_formed l k (t.call n es) w r h = tt
+  images_formed l k (t.parenthesized x) w r h = tt
+  images_formed l k (t.array_constructor es) w r h = tt
+  images_formed l k (t.plus x) w r h = tt
+  images_formed l k (t.minus x) w r h = tt
+  images_formed l k (t.not x) w r h = tt
+  images_formed l k (t.arithmetic o x y) w r h = tt
+  images_formed l k (t.relation o x y) w r h = tt
+  images_formed l k (t.logic o x y) w r h = tt
 
   listed_formed : (x v : t.Expression) → ranks.IsRanked ps v → Formed (listed_assignment x v)
-  listed_formed (t.typed (t.designator (t.part (objects.Local l) ss c)) (Intrinsic k) r) (t.typed v y q) h = images_formed l k v q h
+  listed_formed (t.typed (t.designator (t.part (objects.Local l) ss c)) (Intrinsic k) r) (t.typed v y q) h = images_formed l k v y q h
   listed_formed (t.typed (t.designator (t.part (objects.Local l) ss c)) Team r) (t.typed v y q) h = tt
   listed_formed (t.typed (t.designator (t.part (objects.Local l) ss c)) Event r) (t.typed v y q) h = tt
   listed_formed (t.typed (t.designator (t.part (objects.Local l) ss c)) Lock r) (t.typed v y q) h = tt

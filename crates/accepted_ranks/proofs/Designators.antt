@@ -18,7 +18,7 @@ use Rattle.rule_definitions.specs.Arguments.{Part, expression, triplet, Actual, 
 use Rattle.rule_definitions.specs.Specifiers.{Written, selector_specifiers}
 use Rattle.rule_definitions.specs.Expressions as rules
 use Rattle.rule_definitions.specs.Expressions.{WrittenSelector, subscripts_of, rank_behind, subscript_breaks, selection_breaks, typed_as, variable_part, scalar_value, constant_form, constant_part, unselected, unsubscripted, result_typed, call_typed, function_called, referenced, function_named, subroutine_named, designated, cosubscripts, selector_written}
-use Rattle.made_code.specs.Ranks as ranks
+use Rattle.accepted_ranks.specs.Kinded as ranks
 use Rattle.made_code.specs.Ranks.{procedure_at}
 use Rattle.accepted_ranks.specs.Scopes.{AreRanks, IsInterfaceOf, HasResult}
 use Rattle.accepted_ranks.proofs.Means.{Means, left_nothing, unless_nothing, same_number, fine_means, no_meaning, unknown_means, refused_means, around_means, ruled_means, formed_means, made_means, both_means, three_means, then_means, cond_means}
@@ -109,14 +109,14 @@ module _ (ps : List Procedure) where
   unsubscripted_means : {j : Judgement t.Expression} (xs : List Actual) (p : Pos) → Means j (ranks.IsRanked ps) → Means (unsubscripted j xs p) (ranks.IsRanked ps)
   unsubscripted_means {j = j} xs p h = ruled_means {j = j} _ (λ b. h)
 
-  result_given : (o : Option DataType) (n r : ℕ) (es : t.Arguments) → ranks.HasRank ps (t.call n es) r → Means (elim o [ None ↦ unknown {T = t.Expression} | Some y ↦ fine (t.typed (t.call n es) y r) ]) (ranks.IsRanked ps)
+  result_given : (o : Option DataType) (n r : ℕ) (es : t.Arguments) → ((y : DataType) → ranks.HasRank ps (t.call n es) y r) → Means (elim o [ None ↦ unknown {T = t.Expression} | Some y ↦ fine (t.typed (t.call n es) y r) ]) (ranks.IsRanked ps)
   result_given None n r es h = unknown_means
-  result_given (Some y) n r es h = fine_means (t.typed (t.call n es) y r) h
+  result_given (Some y) n r es h = fine_means (t.typed (t.call n es) y r) (h y)
 
   call_means : (o : Option Symbol) (n : ℕ) (es : t.Arguments) → HasResult (procedure_at ps n).unit.variables o (procedure_at ps n).answer
       → ranks.ArePassed ps (procedure_at ps n).unit.variables (procedure_at ps n).dummies es → Means (call_typed o n es) (ranks.IsRanked ps)
   call_means None n es h k = unknown_means
-  call_means (Some x) n es h k = result_given x.of_type n (length x.bounds) es (h, k)
+  call_means (Some x) n es h k = result_given x.of_type n (length x.bounds) es (λ y. (h, k))
 
   function_means : (s : Scope) (o : Option Interface) (n : ℕ) (xs : List Actual) (p : Pos) → ((i : Interface) → o ≡ Some i → IsInterfaceOf i (procedure_at ps n)) → AllActuals ps xs → Means (function_called s o n xs p) (ranks.IsRanked ps)
   function_means s None n xs p f h = no_meaning refl

@@ -6,7 +6,7 @@ use Rattle.checked_tree.specs.Statements.{Procedure}
 use Rattle.rule_definitions.specs.Names.{Scope, denotes}
 use Rattle.rule_definitions.specs.Parts.{truth}
 use Rattle.rule_definitions.specs.Expressions.{judged, judged_designator, judged_brackets, judged_bracket, judged_bound, judged_selector, judged_list, judged_specifiers, judged_arguments, placed}
-use Rattle.made_code.specs.Ranks as ranks
+use Rattle.accepted_ranks.specs.Kinded as ranks
 use Rattle.accepted_ranks.specs.Scopes.{AreRanks}
 use Rattle.accepted_ranks.proofs.Means.{Means, fine_means, made_means, three_means}
 use Rattle.accepted_ranks.proofs.Parts.{AllGood, number_means, parenthesized_means, constructor_means, prefix_means, binary_means, integer_means}

@@ -18,9 +18,9 @@ use Rattle.rule_definitions.specs.Parts.{Placed, plain, type_of, rank_of, team_o
 use Rattle.rule_definitions.specs.Arguments.{Part, expression, triplet, Actual, breaks_in_all, needed, needed_list, optional, Binding, given_to, maybe_given_to, order_of, bound}
 use Rattle.rule_definitions.specs.IntrinsicFunctions.{taken, an_integer, of_integer_type, an_array, an_integer_list, is_allocatable_symbol, allocatable_of, found, an_allocatable, a_coarray, of_type, default_integer, the_team, of_team, two_integers, joint_type, named_breaks, unnamed_integers, several_breaks, several_integers, kind_argument, is_of_coarray, this_image, is_first_integer, is_first_unnamed, num_images, with_dim, intrinsic_reference, are_unnamed}
 use Rattle.tree_meaning.specs.Expressions.{count_of}
-use Rattle.made_code.specs.Ranks as ranks
+use Rattle.accepted_ranks.specs.Kinded as ranks
 use Rattle.accepted_ranks.proofs.Means.{Means, cons_nil, left_nothing, right_nothing, unless_nothing, no, and_right, same_number, fine_means, no_meaning, refused_means, ruled_means, under_means, made_means, both_means, three_means, then_means, cond_means}
-use Rattle.accepted_ranks.proofs.Parts.{Good, Scalar, plain_means, integer_means, team_means}
+use Rattle.accepted_ranks.proofs.Parts.{Good, Scalar, plain_means, integer_means, number_typed, team_means}
 use Rattle.accepted_ranks.proofs.Arguments.{PartGood, AllActuals, AllBindings, given_means, maybe_means, bound_means}
 
 some_rank : (r : ℕ) → not (nat_eq r 0) ≡ true → 1 ≤ r
@@ -201,7 +201,7 @@ module _ (ps : List Procedure) where
     allocatable_means e h = then_means (λ x. found (allocatable_of s x) e.at x) (plain_means ps e h) (λ x k. found_named (allocatable_of s x) e.at x (allocatable_named x))
 
     pub intrinsic_means : (n : FunctionName) (xs : List Actual) (p : Pos) → AllActuals ps xs → Means (intrinsic_reference s n xs p) (ranks.IsRanked ps)
-    intrinsic_means Names.abs xs p h = bound_means ps (needed (codes "a") ∷ []) xs p (λ bs. made_of (λ a. of_type (type_of a) (t.abs a)) (given_to bs 0 an_integer)) h (λ bs g. made_means (λ a. of_type (type_of a) (t.abs a)) (given_means ps bs 0 an_integer g an_integer_means) (λ x u. (refl, u)))
+    intrinsic_means Names.abs xs p h = bound_means ps (needed (codes "a") ∷ []) xs p (λ bs. made_of (λ a. of_type (type_of a) (t.abs a)) (given_to bs 0 an_integer)) h (λ bs g. made_means (λ a. of_type (type_of a) (t.abs a)) (given_means ps bs 0 an_integer g (number_typed ps 59)) (λ x u. (u.1, refl, u.0)))
     intrinsic_means Names.remainder xs p h = two_means (λ a q bs. of_type (joint (type_of a) (type_of q)) (t.remainder a q (order_of bs 0 1))) xs p (codes "a") (codes "p") h (λ x y bs u v. (refl, u, v))
     intrinsic_means Names.modulo xs p h = two_means (λ a q bs. of_type (joint (type_of a) (type_of q)) (t.modulo a q (order_of bs 0 1))) xs p (codes "a") (codes "p") h (λ x y bs u v. (refl, u, v))
     intrinsic_means Names.min xs p h = min_means xs p h

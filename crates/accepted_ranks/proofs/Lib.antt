@@ -14,4 +14,5 @@ pub mod Statements
 pub mod Declared
 pub mod Opened
 pub mod Interfaces
+pub mod Ranked
 pub mod Programs

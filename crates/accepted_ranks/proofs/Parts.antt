@@ -3,6 +3,7 @@ use Rattle.std.proofs.Common.{◌≡◌, ◌≤◌, ℕ, Bool, true, false, List
 use Rattle.std.specs.Prelude.{cond, nat_eq, not, ◌&&◌, Option, Some, None, pos}
 use Rattle.caf_base.specs.declared.place.Pos.{Pos}
 use Rattle.caf_base.specs.declared.value.Kind.{Kind}
+use Rattle.caf_base.specs.declared.value.Kind.TheVariants.{I4, I8, L4}
 use Rattle.fortran_tree.specs.declared.expr.NumberKind.{NumberKind}
 use Rattle.fortran_tree.specs.declared.expr.PrefixOperator.{PrefixOperator}
 use Rattle.fortran_tree.specs.declared.expr.PrefixOperator.TheVariants.{Plus, Minus, Not}
@@ -17,10 +18,26 @@ use Rattle.rule_definitions.specs.declared.broken.Broken.{Broken}
 use Rattle.rule_definitions.specs.declared.taken.Taken.{Taken}
 use Rattle.rule_definitions.specs.Judgements.{breaks, unless}
 use Rattle.rule_definitions.specs.Names.{Scope, is_integer, is_team}
-use Rattle.rule_definitions.specs.Parts.{Placed, type_of, rank_of, is_listed, plain, is_taken, scalar_breaks, operand_breaks, operand, wanted, unlike_breaks, integer_breaks, integer, team_of, applied, binary, taken_by, prefixed, prefix, prefix_taken_by, in_brackets, parenthesized, fits, literal, number, item_breaks, items, type_behind, first_type, constructor, elements_of, result_form, result_of, result_judged, result_variable}
+use Rattle.rule_definitions.specs.Parts.{joint, Placed, type_of, rank_of, is_listed, plain, is_taken, scalar_breaks, operand_breaks, operand, wanted, unlike_breaks, integer_breaks, integer, team_of, applied, binary, taken_by, prefixed, prefix, prefix_taken_by, in_brackets, parenthesized, fits, literal, number, item_breaks, items, type_behind, first_type, constructor, elements_of, result_form, result_of, result_judged, result_variable}
 use Rattle.tree_meaning.specs.Expressions.{count_of}
-use Rattle.made_code.specs.Ranks as ranks
-use Rattle.accepted_ranks.proofs.Means.{Means, cons_nil, right_nothing, unless_nothing, same_number, fine_means, refused_means, ruled_means, under_means, made_means, both_means, then_means, cond_means}
+use Rattle.accepted_ranks.specs.Kinded as ranks
+use Rattle.accepted_ranks.proofs.Means.{Means, no, cons_nil, left_nothing, right_nothing, unless_nothing, same_number, fine_means, refused_means, ruled_means, under_means, made_means, both_means, then_means, cond_means}
+
+pub number_type : (y : DataType) → is_integer y ≡ true → ranks.IsNumber y
+number_type (Intrinsic I4) e = tt
+number_type (Intrinsic I8) e = tt
+number_type (Intrinsic L4) e = no e
+number_type Team e = no e
+number_type Event e = no e
+number_type Lock e = no e
+
+joint_number : (x y : DataType) → is_integer x ≡ true → is_integer y ≡ true → ranks.IsNumber (joint x y)
+joint_number (Intrinsic I4) y e f = number_type y f
+joint_number (Intrinsic I8) y e f = tt
+joint_number (Intrinsic L4) y e f = no e
+joint_number Team y e f = no e
+joint_number Event y e f = no e
+joint_number Lock y e f = no e
 
 module _ (ps : List Procedure) where
   abbrev pub Good : Placed → Type 0
@@ -49,8 +66,16 @@ module _ (ps : List Procedure) where
   operand_scalar : (w : Taken) (p : Pos) (x : t.Expression) → ranks.IsRanked ps x → operand_breaks w p x ≡ [] → Scalar x
   operand_scalar w p x h e = of_rank x 0 h (same_number (rank_of x) 0 (operand_rank (nat_eq (rank_of x) 0) (unless (is_taken w (type_of x)) 31 p) p e))
 
-  pub operand_means : (w : Taken) (e : Placed) → Good e → Means (operand w e) Scalar
-  operand_means w e h = under_means (operand_breaks w e.at) (plain_means e h) (λ x k b. operand_scalar w e.at x k b)
+  operand_taken : (b c : Bool) (p : Pos) → cond b (unless c 31 p) (breaks 37 p) ≡ [] → c ≡ true
+  operand_taken true c p e = unless_nothing c 31 p e
+  operand_taken false c p e = cons_nil (record { rule = 37; at = p }) [] e
+
+  -- an operand is a scalar of a type that its operator takes
+  abbrev Operand : Taken → t.Expression → Type 0
+  Operand w x = Scalar x × (is_taken w (type_of x) ≡ true)
+
+  operand_means : (w : Taken) (e : Placed) → Good e → Means (operand w e) (Operand w)
+  operand_means w e h = under_means (operand_breaks w e.at) (plain_means e h) (λ x k b. (operand_scalar w e.at x k b, operand_taken (nat_eq (rank_of x) 0) (is_taken w (type_of x)) e.at b))
 
   pub wanted_means : (w : Taken) (e : Placed) → Good e → Means (wanted w e) Scalar
   wanted_means w e h = under_means (λ x. unless (is_taken w (type_of x)) 39 e.at ++ scalar_breaks (rank_of x) e.at) (plain_means e h)
@@ -60,35 +85,46 @@ module _ (ps : List Procedure) where
   integer_means r e h = under_means (integer_breaks r e.at) (plain_means e h)
       (λ x k b. scalar_of x e.at k (right_nothing (cond (is_integer (type_of x)) [] (unlike_breaks r (type_of x) e.at)) (scalar_breaks (rank_of x) e.at) b))
 
+  -- the same, and its type is one of integers
+  integer_typed : (b : Bool) (r : ℕ) (y : DataType) (p : Pos) → cond b [] (unlike_breaks r y p) ≡ [] → b ≡ true
+  integer_typed true r y p e = refl
+  integer_typed false r y p e = cons_nil _ [] e
+
+  pub number_typed : (r : ℕ) (e : Placed) → Good e → Means (integer r e) (λ x. Scalar x × ranks.IsNumber (type_of x))
+  number_typed r e h = under_means (integer_breaks r e.at) (plain_means e h)
+      (λ x k b. (let typed = cond (is_integer (type_of x)) [] (unlike_breaks r (type_of x) e.at) in
+      let scalar = scalar_breaks (rank_of x) e.at in
+      (scalar_of x e.at k (right_nothing typed scalar b), number_type (type_of x) (integer_typed (is_integer (type_of x)) r (type_of x) e.at (left_nothing typed scalar b)))))
+
   pub team_means : (r : ℕ) (e : Placed) → Good e → Means (team_of r e) Scalar
   team_means r e h = under_means (λ x. unless (is_team (type_of x)) r e.at ++ scalar_breaks (rank_of x) e.at) (plain_means e h)
       (λ x k b. scalar_of x e.at k (right_nothing (unless (is_team (type_of x)) r e.at) (scalar_breaks (rank_of x) e.at) b))
 
   -- ---- operators
-  applied_ranked : (o : Operator) (a b : t.Expression) → Scalar a → Scalar b → ranks.IsRanked ps (applied o a b)
-  applied_ranked Power a b h k = (refl, h, k)
-  applied_ranked Multiply a b h k = (refl, h, k)
-  applied_ranked Divide a b h k = (refl, h, k)
-  applied_ranked Add a b h k = (refl, h, k)
-  applied_ranked Subtract a b h k = (refl, h, k)
-  applied_ranked Equal a b h k = (refl, h, k)
-  applied_ranked NotEqual a b h k = (refl, h, k)
-  applied_ranked Less a b h k = (refl, h, k)
-  applied_ranked LessEqual a b h k = (refl, h, k)
-  applied_ranked Greater a b h k = (refl, h, k)
-  applied_ranked GreaterEqual a b h k = (refl, h, k)
-  applied_ranked And a b h k = (refl, h, k)
-  applied_ranked Or a b h k = (refl, h, k)
-  applied_ranked Eqv a b h k = (refl, h, k)
-  applied_ranked Neqv a b h k = (refl, h, k)
+  applied_ranked : (o : Operator) (a b : t.Expression) → Operand (taken_by o) a → Operand (taken_by o) b → ranks.IsRanked ps (applied o a b)
+  applied_ranked Power a b h k = (joint_number (type_of a) (type_of b) h.1 k.1, refl, h.0, k.0)
+  applied_ranked Multiply a b h k = (joint_number (type_of a) (type_of b) h.1 k.1, refl, h.0, k.0)
+  applied_ranked Divide a b h k = (joint_number (type_of a) (type_of b) h.1 k.1, refl, h.0, k.0)
+  applied_ranked Add a b h k = (joint_number (type_of a) (type_of b) h.1 k.1, refl, h.0, k.0)
+  applied_ranked Subtract a b h k = (joint_number (type_of a) (type_of b) h.1 k.1, refl, h.0, k.0)
+  applied_ranked Equal a b h k = (refl, h.0, k.0)
+  applied_ranked NotEqual a b h k = (refl, h.0, k.0)
+  applied_ranked Less a b h k = (refl, h.0, k.0)
+  applied_ranked LessEqual a b h k = (refl, h.0, k.0)
+  applied_ranked Greater a b h k = (refl, h.0, k.0)
+  applied_ranked GreaterEqual a b h k = (refl, h.0, k.0)
+  applied_ranked And a b h k = (refl, h.0, k.0)
+  applied_ranked Or a b h k = (refl, h.0, k.0)
+  applied_ranked Eqv a b h k = (refl, h.0, k.0)
+  applied_ranked Neqv a b h k = (refl, h.0, k.0)
 
   pub binary_means : (o : Operator) (a b : Placed) → Good a → Good b → Means (binary o a b) (ranks.IsRanked ps)
   binary_means o a b h k = both_means (applied o) (operand_means (taken_by o) a h) (operand_means (taken_by o) b k) (λ x y u v. applied_ranked o x y u v)
 
-  prefixed_ranked : (o : PrefixOperator) (a : t.Expression) → Scalar a → ranks.IsRanked ps (prefixed o a)
-  prefixed_ranked Plus a h = (refl, h)
-  prefixed_ranked Minus a h = (refl, h)
-  prefixed_ranked Not a h = (refl, h)
+  prefixed_ranked : (o : PrefixOperator) (a : t.Expression) → Operand (prefix_taken_by o) a → ranks.IsRanked ps (prefixed o a)
+  prefixed_ranked Plus a h = (refl, h.0)
+  prefixed_ranked Minus a h = (number_type (type_of a) h.1, refl, h.0)
+  prefixed_ranked Not a h = (refl, h.0)
 
   pub prefix_means : (o : PrefixOperator) (a : Placed) → Good a → Means (prefix o a) (ranks.IsRanked ps)
   prefix_means o a h = made_means (prefixed o) (operand_means (prefix_taken_by o) a h) (λ x u. prefixed_ranked o x u)
@@ -133,7 +169,7 @@ module _ (ps : List Procedure) where
   part_result : (l : _) (ss : t.Subscripts) (k : Kind) (r : ℕ) → ranks.AreSubscripts ps ss → ranks.IsSection ss r → ranks.IsResult ps (t.result_variable l (elements_of ss) k)
   part_result l ss k r h g = (elements_scalar ss h, (let a = elements_few ss in let b = section_few ss r g in omega arith))
 
-  form_found : (f : t.Form) (y : DataType) (r : ℕ) → ranks.HasRank ps f r → Found (result_form f y)
+  form_found : (f : t.Form) (y : DataType) (r : ℕ) → ranks.HasRank ps f y r → Found (result_form f y)
   form_found (t.designator (t.part (objects.Local l) ss t.no_selector)) (Intrinsic k) r h = part_result l ss k r h.0 h.1
   form_found (t.designator (t.part (objects.Local l) ss t.no_selector)) Team r h = tt
   form_found (t.designator (t.part (objects.Local l) ss t.no_selector)) Event r h = tt

@@ -18,11 +18,13 @@ use Rattle.rule_definitions.specs.Names.{Scope, Symbol, ConstantSymbol, Named, n
 use Rattle.rule_definitions.specs.Declarations.{is_special, limit_breaks}
 use Rattle.rule_definitions.specs.Statements.{Counted, counted_statements, behind, end_breaks, judged_statements}
 use Rattle.rule_definitions.specs.Units.{is_module, uses_breaks, accessible_name, accessible_names, accessible_by, accessible_of, Headed, headed, meaning_of_heading, procedure_names, twice_breaks, Opened, opened_procedure, opened_procedures, constants_behind, symbol_named, interface_of, variable_of, unit_judged, procedure_form, completed, position_of, procedure_judged, procedures_judged, counted_all, procedures_of, main_unit, headings_of, first_scope, opened_breaks, name_of, program_form, program_with, program_opened, main_declared, interfaces_of, program_judged}
-use Rattle.made_code.specs.Ranks as ranks
+use Rattle.accepted_ranks.specs.Kinded as ranks
 use Rattle.made_code.specs.Ranks.{procedure_at}
 use Rattle.rule_laws.proofs.Filled.{all_meant, meant_in, meant_both}
+use Rattle.made_code.specs.Ranks.{IsRankedProgram}
+use Rattle.accepted_ranks.proofs.Ranked.{program_ranked}
 use Rattle.accepted_ranks.specs.Scopes.{AreRanks, IsKeptIfTyped, IsInterfaceOf}
-use Rattle.accepted_ranks.proofs.Means.{Means, none_some, some_same, no, of_both, left_nothing, right_nothing, and_left, and_right, fine_means, ruled_means, made_means, both_means}
+use Rattle.accepted_ranks.proofs.Means.{Means, weaker, none_some, some_same, no, of_both, left_nothing, right_nothing, and_left, and_right, fine_means, ruled_means, made_means, both_means}
 use Rattle.accepted_ranks.proofs.Actions.{any}
 use Rattle.accepted_ranks.proofs.Statements.{statements_means}
 use Rattle.accepted_ranks.proofs.Declared.{both_true, is_kept, is_variable, is_fit, Grows, declarations_grow}
@@ -263,7 +265,7 @@ module _ (ps : List Procedure) where
   procedures_mean is cs c (o ∷ os) h f = both_means (λ q qs. q ∷ qs) (procedure_means is cs c o (scope_ranks ps (completed is cs o.scope) h.0 f)) (procedures_mean is cs (behind c (counted_statements o.body.statements)) os h.1 f) (λ q qs v w. (v, w))
 
 -- ---- the program
-with_means : (p : u.Program) (s : Scope) (os : List Opened) (cs : List Constant) → IsGoodScope (completed (map interface_of os) cs s) → AllGood (map interface_of os) cs os → AllNamedRight os → Means (program_with p s os (map interface_of os) cs) ranks.IsRankedProgram
+with_means : (p : u.Program) (s : Scope) (os : List Opened) (cs : List Constant) → IsGoodScope (completed (map interface_of os) cs s) → AllGood (map interface_of os) cs os → AllNamedRight os → Means (program_with p s os (map interface_of os) cs) ranks.IsKindedProgram
 with_means p s os cs h g r = record {
   means = λ e x m.
       let is = map interface_of os in
@@ -277,10 +279,10 @@ with_means p s os cs h g r = record {
       let k = scope_ranks o.1 (completed is cs s) h f in
       let main = (unit_means o.1 (variables_of s.own) p.body.statements (statements_means o.1 (position_of (completed is cs s) start) k p.body.statements)).means (left_nothing a.breaks b.breaks e) o.0 o.2 in
       let others = (procedures_mean o.1 is cs c os g f).means (right_nothing a.breaks b.breaks e) o.1 o.3 in
-      subst ranks.IsRankedProgram o.4 (main, others);
+      subst ranks.IsKindedProgram o.4 (main, others);
 }
 
-opened_means : (p : u.Program) (s : Scope) → all_meant is_fit s.own ≡ true → s.host ≡ [] → s.procedures ≡ procedure_names 0 (headings_of p) → s.accessible ≡ accessible_of p.uses → Means (program_opened p s) ranks.IsRankedProgram
+opened_means : (p : u.Program) (s : Scope) → all_meant is_fit s.own ≡ true → s.host ≡ [] → s.procedures ≡ procedure_names 0 (headings_of p) → s.accessible ≡ accessible_of p.uses → Means (program_opened p s) ranks.IsKindedProgram
 opened_means p s h e f g =
     let xs = procedures_of p in
     let os = opened_procedures s xs in
@@ -299,9 +301,13 @@ opened_means p s h e f g =
     let q = opened_good is cs s xs host (left_nothing c (x ++ y) (right_nothing b (c ++ (x ++ y)) (right_nothing a (b ++ (c ++ (x ++ y))) w))) in
     with_means p s os cs here q.0 q.1))
 
-pub program_means : (p : u.Program) → Means (program_judged p) ranks.IsRankedProgram
-program_means p =
+pub program_kinded : (p : u.Program) → Means (program_judged p) ranks.IsKindedProgram
+program_kinded p =
     let s = record (first_scope p) { interfaces = interfaces_of p } in
     let x = main_declared p (interfaces_of p) in
     let g : Grows (Unit {0}) false s x = declarations_grow main_unit p.body.declarations s in
     ruled_means x.breaks (λ e. opened_means p (record x.scope { pending = [] }) (g.fits tt (refl, λ k. no k) e).0 g.host g.procedures g.accessible)
+
+-- and so it has its ranks
+pub program_means : (p : u.Program) → Means (program_judged p) IsRankedProgram
+program_means p = weaker (program_kinded p) program_ranked

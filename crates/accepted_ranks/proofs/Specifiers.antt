@@ -10,7 +10,7 @@ use Rattle.rule_definitions.specs.declared.taken.Taken.TheVariants.{Integers as 
 use Rattle.rule_definitions.specs.Judgements.{Judgement, made_of}
 use Rattle.rule_definitions.specs.Parts.{Placed, integer, team, result_variable}
 use Rattle.rule_definitions.specs.Specifiers.{Written, specifier_breaks, value_breaks, values_breaks, all_breaks, value_named, meant, stat_variable, acquired_variable, number_named, by_number, selected_team}
-use Rattle.made_code.specs.Ranks as ranks
+use Rattle.accepted_ranks.specs.Kinded as ranks
 use Rattle.accepted_ranks.proofs.Means.{Means, left_nothing, right_nothing, none_some, some_same, fine_means, made_means}
 use Rattle.accepted_ranks.proofs.Parts.{Good, integer_means, team_means, result_means}
 

@@ -18,7 +18,7 @@ use Rattle.rule_definitions.specs.Parts.{Placed, plain, type_of, rank_of, is_tak
 use Rattle.rule_definitions.specs.Arguments.{Actual, Binding, needed, optional, value_for, given_to, maybe_given_to, are_bound}
 use Rattle.rule_definitions.specs.IntrinsicFunctions.{an_integer}
 use Rattle.rule_definitions.specs.IntrinsicSubroutines.{optional_result, Atom, atom_kind, atom_with, atom_of, found_atom, an_atom, taken_with, atom_value_breaks, an_atom_value, event_of, found_event, an_event, is_coindexed_form, an_own_event, collected_with, collected_of, is_own_variable, collected_breaks, found_collected, a_collected, numbers_of, written_as, called, four, five, value_dummies, atom_at, value_at, result_at, intrinsic_call}
-use Rattle.made_code.specs.Ranks as ranks
+use Rattle.accepted_ranks.specs.Kinded as ranks
 use Rattle.accepted_ranks.proofs.Means.{Means, cons_nil, right_nothing, unless_nothing, no, and_left, fine_means, unknown_means, refused_means, ruled_means, under_means, made_means, both_means, three_means, then_means}
 use Rattle.accepted_ranks.proofs.Parts.{Good, Scalar, plain_means, scalar_of, integer_means, result_means}
 use Rattle.accepted_ranks.proofs.Held.{Held}
@@ -50,7 +50,7 @@ module _ (ps : List Procedure) where
   with_found d None h = tt
   with_found d (Some k) h = h
 
-  form_atom : (w : Taken) (f : t.Form) (y : DataType) (r : ℕ) → ranks.HasRank ps f r → AtomFound (atom_of w (t.typed f y r))
+  form_atom : (w : Taken) (f : t.Form) (y : DataType) (r : ℕ) → ranks.HasRank ps f y r → AtomFound (atom_of w (t.typed f y r))
   form_atom w (t.designator (t.part (objects.Coarray n) ss c)) y zero h = with_found (t.part (objects.Coarray n) ss c) (atom_kind w y) h
   form_atom w (t.designator (t.part (objects.Coarray n) ss c)) y (suc r) h = tt
   form_atom w (t.designator (t.part (objects.Local n) ss c)) y r h = tt
@@ -87,7 +87,7 @@ module _ (ps : List Procedure) where
   EventFound None = Unit {0}
   EventFound (Some d) = ranks.IsCell ps d
 
-  form_event : (f : t.Form) (y : DataType) (r : ℕ) → ranks.HasRank ps f r → Held (t.typed f y r) → EventFound (event_of (t.typed f y r))
+  form_event : (f : t.Form) (y : DataType) (r : ℕ) → ranks.HasRank ps f y r → Held (t.typed f y r) → EventFound (event_of (t.typed f y r))
   form_event (t.designator (t.part (objects.Coarray n) ss c)) Event zero h k = h
   form_event (t.designator (t.part (objects.Local n) ss c)) Event zero h k = absurd k
   form_event (t.designator (t.part (objects.Constant n) ss c)) Event zero h k = absurd k
@@ -176,7 +176,7 @@ module _ (ps : List Procedure) where
   with_collected d Event r h = tt
   with_collected d Lock r h = tt
 
-  form_collected : (f : t.Form) (y : DataType) (r : ℕ) → ranks.HasRank ps f r → is_own_variable (t.typed f y r) ≡ true → CollectedFound (collected_of (t.typed f y r))
+  form_collected : (f : t.Form) (y : DataType) (r : ℕ) → ranks.HasRank ps f y r → is_own_variable (t.typed f y r) ≡ true → CollectedFound (collected_of (t.typed f y r))
   form_collected (t.designator (t.part (objects.Coarray n) ss t.no_selector)) y r h k = with_collected (t.part (objects.Coarray n) ss t.no_selector) y r (h.0, h.1)
   form_collected (t.designator (t.part (objects.Coarray n) ss (t.selector cs m q))) y r h k = no k
   form_collected (t.designator (t.part (objects.Local n) ss c)) y r h k = with_collected (t.part (objects.Local n) ss c) y r (h.0, h.1)

@@ -9,7 +9,7 @@ use Rattle.image_stores.specs.Piles.{Pile, pile, items_in, newest, head_of, heap
 use Rattle.array_values.specs.declared.extents.Extents.{Extents}
 use Rattle.array_values.specs.declared.extents.Extents.TheVariants as extents
 use Rattle.array_values.specs.Extents.{listed}
-use Rattle.array_values.specs.Values.{array_of, arrays_in, row_of, extents_on_top, elements_on_top, with_element, merged_arrays}
+use Rattle.array_values.specs.Values.{array_of, arrays_in, row_of, extents_on_top, elements_on_top, with_element, merged_arrays, lengthened}
 use Rattle.array_values.proofs.RowLaws.{counted_long}
 
 pub newest_elements : (ps : List (Pile Extents ℤ)) → reverse (newest ps) ≡ elements_on_top (arrays_in ps)
@@ -85,3 +85,7 @@ row_turned xs = rw (reverse-reverse xs) refl
 
 pub counted_row : (n : ℕ) → array_of (pile (extents.One (pos n)) (reverse (counted_from 1 n))) ≡ row_of (counted_from 1 n)
 counted_row n = same_row n (reverse (reverse (counted_from 1 n))) (counted_from 1 n) (reverse-reverse (counted_from 1 n)) (sym (counted_long 1 n))
+
+pub arrays_lengthened : (v : ℤ) (ps : List (Pile Extents ℤ)) → arrays_in (heaped v ps) ≡ lengthened v (arrays_in ps)
+arrays_lengthened v [] = refl
+arrays_lengthened v (p ∷ ps) = ap (λ (vs : List ℤ). record (array_of p) { elements = vs } ∷ arrays_in ps) (reverse-append (v ∷ []) p.items)

@@ -1,5 +1,5 @@
 -- Array values in piles, and what is done to them.
-use Rattle.std.specs.Prelude.{ℕ, ℤ, pos, List, [], ◌∷◌, map, length, reverse}
+use Rattle.std.specs.Prelude.{ℕ, ℤ, pos, List, [], ◌∷◌, ◌++◌, map, length, reverse}
 use Rattle.caf_base.specs.Arithmetic.{natural}
 use Rattle.image_acts.specs.Core.{Array, row}
 use Rattle.image_acts.specs.Operate.Stack.{behind}
@@ -50,3 +50,8 @@ merged_arrays (y ∷ x ∷ xs) = behind x y.elements ∷ xs
 -- a lower bound of 1 and an upper one, put on the newest pile
 abbrev pub with_bounds : ℤ → List (Pile Extents ℤ) → List (Pile Extents ℤ)
 with_bounds n ps = heaped (pos (natural n)) (heaped (pos 1) ps)
+
+-- a number behind the elements of the top one, whose extents stay as they are
+abbrev pub lengthened : ℤ → List Array → List Array
+lengthened v [] = []
+lengthened v (x ∷ xs) = record x { elements = x.elements ++ v ∷ [] } ∷ xs

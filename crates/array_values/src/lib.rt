@@ -4,4 +4,5 @@
 #![tactic(auto)]
 
 pub mod extents;
+mod filling;
 pub mod values;

@@ -18,7 +18,7 @@ use std::marker::Model;
 /// Array values, one on top of the other, in room that is made once.
 #[derive(Drop)]
 pub struct ArrayValues {
-    piles: Piles<Extents, i64>,
+    pub(crate) piles: Piles<Extents, i64>,
 }
 
 impl Model for ArrayValues {

@@ -238,7 +238,7 @@ fn undeclared_name(rt: HostRuntime) {
     );
 }
 
-// The forms of the thin program in another spelling: capitals, a comment, a continued name, two statements on a line.
+// The neighbour's read in another spelling: capitals, a comment, a continued name, two statements on a line.
 #[test]
 fn another_spelling(rt: HostRuntime) {
     let words = ["run", "-n", "4", "--order", "0", "a.f90"];
@@ -294,62 +294,7 @@ fn misread(rt: HostRuntime) {
     }
 }
 
-// What is read, breaks no rule and isn't of the thin form: the first statement, declaration or term that isn't. A check takes it.
-#[test]
-fn not_built(rt: HostRuntime) {
-    let words = ["run", "-n", "1", "--order", "0", "a.f90"];
-    let table: [(&str, &[u8]); 22] = [
-        ("refused 10 at 2:5\n", b"integer :: a\na = 2 * a\nend\n"),
-        (
-            "refused 10 at 2:14\n",
-            b"integer :: a\nprint *, a - (a)\nend\n",
-        ),
-        ("refused 10 at 1:1\n", b"integer :: a(3)\nend\n"),
-        ("refused 10 at 1:1\n", b"integer(4) :: a\nend\n"),
-        ("refused 10 at 1:1\n", b"integer, save :: a\nend\n"),
-        ("refused 10 at 1:1\n", b"integer :: a = 1\nend\n"),
-        ("refused 10 at 1:1\n", b"integer :: this_image\nend\n"),
-        (
-            "refused 10 at 2:3\n",
-            b"integer :: a\n  logical :: b\nend\n",
-        ),
-        ("refused 10 at 1:1\n", b"implicit none\nend\n"),
-        ("refused 10 at 1:1\n", b"use iso_fortran_env\nend\n"),
-        ("refused 10 at 1:9\n", b"program p\nend\n"),
-        ("refused 10 at 1:1\n", b"do; end do; end\n"),
-        (
-            "refused 10 at 1:24\n",
-            b"if (this_image() == 1) sync all\nend\n",
-        ),
-        (
-            "refused 10 at 1:5\n",
-            b"if (1 == this_image()) print *, 1\nend\n",
-        ),
-        (
-            "refused 10 at 2:14\n",
-            b"integer :: x[*]\nprint *, 1 + x[this_image()]\nend\n",
-        ),
-        ("refused 10 at 1:1\n", b"print *, 1, 2\nend\n"),
-        ("refused 10 at 1:10\n", b"print *, 3000000000_8\nend\n"),
-        ("refused 10 at 1:10\n", b"print *, -1\nend\n"),
-        ("refused 10 at 1:1\n", b"sync all ()\nend\n"),
-        ("refused 10 at 2:1\n", b"contains\nend\n"),
-        (
-            "refused 10 at 3:1\n",
-            b"sync all\ncontains\nsubroutine s\nend\nend\n",
-        ),
-        (
-            "refused 10 at 1:1\n",
-            b"call s\ncontains\nsubroutine s\nend\nend\n",
-        ),
-    ];
-    for (wanted, file) in table {
-        says(&rt, rt.alloc(), &words, file, WHOLE, 3, wanted);
-        says(&rt, rt.alloc(), &CHECK, file, WHOLE, 0, "ok\n");
-    }
-}
-
-// What breaks a rule from 20 to 59 is refused by a check and by a run alike, before what isn't built is told.
+// What breaks a rule from 20 to 59 is refused by a check and by a run alike.
 #[test]
 fn broken_rules(rt: HostRuntime) {
     let words = ["run", "--order", "0", "a.f90"];
@@ -466,17 +411,17 @@ fn unknown_file(rt: HostRuntime) {
     says(&rt, rt.alloc(), &words, b"end\n", WHOLE, 10, "read fault\n");
 }
 
-// A file of the most bytes is read by 17 calls behind its begin, one longer by 17 too: what is listed from the nineteenth on changes nothing.
+// A file of the most bytes is read by 257 calls behind its begin, one longer by 257 too: what is listed from the 259th on changes nothing.
 #[test]
 fn too_long_file(rt: HostRuntime) {
     let words = ["run", "-n", "1", "--order", "0", "a.f90"];
     let behind = Pace {
         read: 4096,
         write: 4096,
-        broken: &[19],
+        broken: &[259],
         failing: &[2],
     };
-    let mut file = vec![in rt.alloc(); b'\n'; 65_533].expect(&rt, "memory");
+    let mut file = vec![in rt.alloc(); b'\n'; 1_048_573].expect(&rt, "memory");
     file.extend_from_slice(b"end").expect(&rt, "memory");
     says(&rt, rt.alloc(), &words, file.as_slice(), behind, 0, "");
     file.push(b'\n').expect(&rt, "memory");
@@ -501,6 +446,18 @@ fn valid_words(rt: HostRuntime) {
     }
 }
 
+// The least and the greatest limit and failures; one of an image that the run hasn't does nothing.
+#[test]
+fn limits_and_failures_of_valid_words(rt: HostRuntime) {
+    for (steps, fail) in [("2", "1@1"), ("100000000", "64@1000000")] {
+        let words = [
+            "run", "-n", "1", "--steps", steps, "--fail", fail, "--order", "0", "--fail", fail,
+            "a.f90",
+        ];
+        says(&rt, rt.alloc(), &words, b"end\n", WHOLE, 0, "");
+    }
+}
+
 // Options stand in any order, and a run without -n has four images.
 #[test]
 fn options_in_any_order(rt: HostRuntime) {
@@ -520,7 +477,7 @@ fn usage(rt: HostRuntime) {
         broken: &[1],
         failing: &[2],
     };
-    let table: [(&str, &[&str]); 34] = [
+    let table: [(&str, &[&str]); 42] = [
         ("usage: word 1\n", &[]),
         ("usage: word 1\n", &["chek", "a.f90"]),
         ("usage: word 2\n", &["check"]),
@@ -545,6 +502,35 @@ fn usage(rt: HostRuntime) {
         (
             "usage: word 5\n",
             &["run", "--trace", "--order", "0", "--trace", "a.f90"],
+        ),
+        (
+            "usage: word 3\n",
+            &["run", "--steps", "0", "--order", "0", "a.f90"],
+        ),
+        (
+            "usage: word 3\n",
+            &["run", "--steps", "100000001", "--order", "0", "a.f90"],
+        ),
+        (
+            "usage: word 4\n",
+            &["run", "--steps", "1", "--steps", "1", "--order", "0", "a.f90"],
+        ),
+        ("usage: word 3\n", &["run", "--fail"]),
+        (
+            "usage: word 3\n",
+            &["run", "--fail", "65@1", "--order", "0", "a.f90"],
+        ),
+        (
+            "usage: word 5\n",
+            &["run", "--fail", "1@1", "--fail", "1@0", "--order", "0", "a.f90"],
+        ),
+        (
+            "usage: word 3\n",
+            &["run", "--fail", "1@01", "--order", "0", "a.f90"],
+        ),
+        (
+            "usage: word 6\n",
+            &["run", "--fail", "1@1", "--fail", "1@1", "a.f90"],
         ),
         ("usage: word 3\n", &["run", "-n"]),
         (

@@ -2,4 +2,3 @@ pub mod Arithmetic
 pub mod Few
 pub mod Outside
 pub mod Spans
-pub mod Thin

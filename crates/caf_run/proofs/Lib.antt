@@ -1,6 +1,7 @@
+pub mod FirstFailures
 pub mod Readings
 pub mod Settled
 pub mod Tasks
 pub mod Trees
-pub mod Written
 pub mod WhatIsDue
+pub mod Written

@@ -1,5 +1,5 @@
 -- How a file's bytes settle the status.
-use Rattle.std.proofs.Common.{◌≡◌, ℕ, ◌≤◌, ◌<◌, List, length, ◌⊎◌, inl, inr, subst, arith}
+use Rattle.std.proofs.Common.{◌≡◌, ℕ, ◌≤◌, List, length, ◌⊎◌, inl, inr, subst, arith}
 use Rattle.std.specs.Prelude.{Option, None, Some}
 use Rattle.caf_base.specs.Outside.{Files, Rose, HaveNot, MayNotBegin}
 use Rattle.caf_report.specs.declared.report.Report.{Report}
@@ -7,7 +7,7 @@ use Rattle.caf_words.specs.Usages.{Word}
 use Rattle.caf_run.specs.declared.task.Task.{Task}
 use Rattle.caf_run.specs.declared.task.Task.TheVariants.{Check, Run}
 use Rattle.caf_run.specs.Reading.{HasBytesIfTold, HasBytes, IsLonger}
-use Rattle.run_report.specs.Runs.{IsRunStatus}
+use Rattle.checked_run.specs.Reports.{IsRunStatus}
 use Rattle.caf_run.specs.Dues.{IsDoneStatus, Settle, BytesDue}
 
 -- the status of a run is none of the others
@@ -16,19 +16,15 @@ not_run s (inl h) (inl k) = omega arith
 not_run s (inl h) (inr (inl k)) = omega arith
 not_run s (inl h) (inr (inr (inl k))) = omega arith
 not_run s (inl h) (inr (inr (inr k))) = omega arith
-not_run s (inr (inl h)) (inl k) = omega arith
-not_run s (inr (inl h)) (inr (inl k)) = omega arith
-not_run s (inr (inl h)) (inr (inr (inl k))) = omega arith
-not_run s (inr (inl h)) (inr (inr (inr k))) = omega arith
-not_run s (inr (inr h)) (inl k) = omega arith
-not_run s (inr (inr h)) (inr (inl k)) = omega arith
-not_run s (inr (inr h)) (inr (inr (inl k))) = omega arith
-not_run s (inr (inr h)) (inr (inr (inr k))) = omega arith
+not_run s (inr h) (inl k) = omega (arith, h.0, h.1)
+not_run s (inr h) (inr (inl k)) = omega (arith, h.0, h.1)
+not_run s (inr h) (inr (inr (inl k))) = omega (arith, h.0, h.1)
+not_run s (inr h) (inr (inr (inr k))) = omega (arith, h.0, h.1)
 
 -- a status with which a task is done is one of a run, and the other way round where it is known
 pub done_run : (task : Task) (s : ℕ) → IsDoneStatus task s → IsRunStatus s
 done_run Check s done = inl done
-done_run (Run o) s done = done
+done_run (Run o fails) s done = done
 
 pub run_done : (task : Task) (s : ℕ) → IsDoneStatus task s ⊎ (s ≡ 3) → IsRunStatus s → IsDoneStatus task s
 run_done task s (inl done) run = done
@@ -57,7 +53,7 @@ fault_settles files file bytes faults faults' (inl rose) has = rose
 fault_settles files file bytes faults faults' (inr none) has = absurd (told_has files file bytes has none)
 
 -- bytes that were read settle the status
-bytes_settle : (bytes : List ℕ) (task : Task) (status : ℕ) (text : List ℕ) (report : Option Report) → length bytes ≤ 65536 → BytesDue bytes task status text report → Settle task bytes status
+bytes_settle : (bytes : List ℕ) (task : Task) (status : ℕ) (text : List ℕ) (report : Option Report) → length bytes ≤ 1048576 → BytesDue bytes task status text report → Settle task bytes status
 bytes_settle bytes task status text report few b = record {
   too_long = (λ s. absurd (elim b.known [ inl d ↦ not_done task status d (inr (inr (inr s))) | inr k ↦ omega arith ]), λ long. absurd (omega arith));
   refused = (λ s. (few, (b.refused s).0), λ h. elim b.known [ inl d ↦ absurd (h.1 (b.done d).0) | inr s ↦ s ]);
@@ -69,6 +65,6 @@ same_bytes : (files : Option Files) (file : Word) (bytes told : List ℕ) → Ha
 same_bytes None file bytes told whole has = absurd has
 same_bytes (Some fs) file bytes told whole has = cc
 
-pub whole_settles : (files : Option Files) (file : Word) (bytes told : List ℕ) (task : Task) (status : ℕ) (text : List ℕ) (report : Option Report) → HasBytesIfTold files file bytes → HasBytes files file told → length bytes ≤ 65536 → BytesDue bytes task status text report → Settle task told status
+pub whole_settles : (files : Option Files) (file : Word) (bytes told : List ℕ) (task : Task) (status : ℕ) (text : List ℕ) (report : Option Report) → HasBytesIfTold files file bytes → HasBytes files file told → length bytes ≤ 1048576 → BytesDue bytes task status text report → Settle task told status
 whole_settles files file bytes told task status text report whole has few b =
     subst (λ v. Settle task v status) (same_bytes files file bytes told whole has) (bytes_settle bytes task status text report few b)

@@ -1,8 +1,8 @@
 -- What is due, case by case.
-use Rattle.std.proofs.Common.{◌≡◌, ℕ, ◌≤◌, length, ap, List, ◌⊎◌, inl, inr, sym, subst, arith}
+use Rattle.std.proofs.Common.{◌≡◌, ℕ, ◌≤◌, length, List, ◌⊎◌, inl, inr, sym, subst, arith}
 use Rattle.std.specs.Prelude.{Option, None, Some, Result, Ok, Err, IfOk}
 use Rattle.caf_base.specs.declared.place.Pos.{Pos}
-use Rattle.caf_base.specs.declared.thin.ThinProgram.{ThinProgram}
+use Rattle.checked_tree.specs.Statements as typed
 use Rattle.caf_base.specs.Outside.{Files, Rose, HaveNot}
 use Rattle.caf_report.specs.declared.report.Report.{Report}
 use Rattle.fortran_tree.specs.Units.{Program}
@@ -18,26 +18,23 @@ use Rattle.caf_run.specs.declared.task.Task.TheVariants.{Check, Run}
 use Rattle.caf_run.specs.Reading.{HasBytesIfTold, HasBytes, HasNothingLeft}
 use Rattle.caf_run.specs.Tasks.{Asks}
 use Rattle.caf_run.specs.Dues.{usage_text, IsDoneStatus, IsBad, Settle, IsDue, IsTold, RanAs, TreeDue, BytesDue, FileDue, ReportClause, RunClause}
-use Rattle.caf_run.specs.Sources.{BreaksFirst, StandsFor, IsBuilt, IsRefusedAs, IsRefusal, refusal_text}
+use Rattle.caf_run.specs.Sources.{BreaksFirst, StandsFor, IsRefusedAs, IsRefusal, refusal_text}
 use Rattle.caf_run.proofs.Settled.{not_run, not_done, run_done, whole_has, whole_settles}
 use Rattle.caf_run.proofs.Tasks.{Same, asks_valid, one_task}
-use Rattle.caf_run.proofs.Trees.{none_first, not_built_none}
+use Rattle.caf_run.proofs.Trees.{none_first}
 
 -- bytes that are refused aren't good
-refused_none : (task : Task) (bytes : List ℕ) (r : ℕ) (at : Pos) → IsRefusedAs task bytes r at → IsBad task bytes
-refused_none task bytes r at (inl m) good = read_not_refused bytes good.tree m.fault good.read m.refused
-refused_none task bytes r at (inr (inl b)) good =
+refused_none : (bytes : List ℕ) (r : ℕ) (at : Pos) → IsRefusedAs bytes r at → IsBad bytes
+refused_none bytes r at (inl m) good = read_not_refused bytes good.tree m.fault good.read m.refused
+refused_none bytes r at (inr b) good =
     let same = read_once bytes b.tree good.tree b.read good.read in
     none_first good.tree r at good.unbroken (subst (λ x. BreaksFirst x r at) same b.first)
-refused_none task bytes r at (inr (inr u)) good =
-    let same = read_once bytes u.tree good.tree u.read good.read in
-    not_built_none task u.tree at u.built (subst (IsBuilt task) (sym same) good.built)
 
 -- the bytes are refused
-refused_bytes : (bytes : List ℕ) (task : Task) (status : ℕ) (text : List ℕ) (report : Option Report) → IsRefusal task bytes text → status ≡ 3 → report ≡ None → BytesDue bytes task status text report
+refused_bytes : (bytes : List ℕ) (task : Task) (status : ℕ) (text : List ℕ) (report : Option Report) → IsRefusal bytes text → status ≡ 3 → report ≡ None → BytesDue bytes task status text report
 refused_bytes bytes task status text report is s e = record {
   known = inr s;
-  refused = λ _. (refused_none task bytes is.number is.at is.refused, is);
+  refused = λ _. (refused_none bytes is.number is.at is.refused, is);
   done = λ d. absurd (not_done task status d (inr (inl s)));
   told = subst (λ v. IsTold task v status text) (sym e) (inr (inl s));
   ran = subst (RanAs task (StandsFor bytes)) (sym e) tt;
@@ -48,38 +45,35 @@ pub misread_bytes : (bytes : List ℕ) (f : ReadFault) (r : ℕ) (task : Task) (
 misread_bytes bytes f r task status at text report is nr pl s t e =
     refused_bytes bytes task status text report (record { number = r; at = at; refused = inl (record { fault = f; refused = is; number = nr; place = pl }); said = t }) s e
 
--- what holds of each report of one kind of thin program holds of a wider kind
-ran_map : (task : Task) (K L : ThinProgram → Type 0) (report : Option Report) → ((p : ThinProgram) → K p → L p) → RanAs task K report → RanAs task L report
+-- what holds of each report of one kind of program holds of a wider kind
+ran_map : (task : Task) (K L : typed.Program → Type 0) (report : Option Report) → ((p : typed.Program) → K p → L p) → RanAs task K report → RanAs task L report
 ran_map task K L None wider ran = tt
 ran_map Check K L (Some r) wider ran = ran
-ran_map (Run o) K L (Some r) wider (p, is, of) = (p, wider p is, of)
+ran_map (Run o fails) K L (Some r) wider (p, is, of) = (p, wider p is, of)
 
 -- a source that is read
 pub read_bytes : (bytes : List ℕ) (x : Program) (task : Task) (status : ℕ) (text : List ℕ) (report : Option Report) → IsRead bytes x → TreeDue x task status text report → BytesDue bytes task status text report
 read_bytes bytes x task status text report read t = record {
   known = t.known;
-  refused = λ s. (let is = refused s in (refused_none task bytes is.number is.at is.refused, is));
-  done = λ d. (let (built, checked, accepts) = t.done d in
-      (record { tree = x; read = read; unbroken = accepts.unbroken; built = built }, record { tree = x; checked = checked; read = read; accepts = accepts }));
+  refused = λ s. (let is = refused s in (refused_none bytes is.number is.at is.refused, is));
+  done = λ d. (let (checked, accepts) = t.done d in
+      (record { tree = x; read = read; unbroken = accepts.unbroken }, (checked, record { tree = x; read = read; accepts = accepts })));
   told = t.told;
-  ran = ran_map task _ (StandsFor bytes) report (λ p (none, found). record { tree = x; read = read; unbroken = none; thin = found }) t.ran;
+  ran = ran_map task _ (StandsFor bytes) report (λ p accepts. record { tree = x; read = read; accepts = accepts }) t.ran;
 }
   where
-    refused : status ≡ 3 → IsRefusal task bytes text
+    refused : status ≡ 3 → IsRefusal bytes text
     refused s =
         let h = t.refused s in
         record {
           number = h.number;
           at = h.at;
-          refused = elim h.refused [
-            | inl first ↦ inr (inl (record { tree = x; read = read; first = first }))
-            | inr u ↦ inr (inr (record { tree = x; read = read; unbroken = u.0; built = u.1; number = u.2 }))
-          ];
+          refused = inr (record { tree = x; read = read; first = h.refused });
           said = h.said;
         }
 
 -- a file that was read whole
-pub whole_file : (files : Option Files) (file : Word) (task : Task) (left' : Option (List ℕ)) (faults faults' : ℕ) (bytes : List ℕ) (status : ℕ) (text : List ℕ) (report : Option Report) → HasBytesIfTold files file bytes → length bytes ≤ 65536 → HasNothingLeft files left' → BytesDue bytes task status text report
+pub whole_file : (files : Option Files) (file : Word) (task : Task) (left' : Option (List ℕ)) (faults faults' : ℕ) (bytes : List ℕ) (status : ℕ) (text : List ℕ) (report : Option Report) → HasBytesIfTold files file bytes → length bytes ≤ 1048576 → HasNothingLeft files left' → BytesDue bytes task status text report
     → FileDue files file task left' faults faults' status text report
 whole_file files file task left' faults faults' bytes status text report whole few nothing b = record {
   usage = λ s. other (inl s);
@@ -107,24 +101,24 @@ whole_file files file task left' faults faults' bytes status text report whole f
 
 told_words : (words : List Word) (task : Task) (file : Word) (report : Option Report) (status : ℕ) (text : List ℕ) → Asks words task file → IsTold task report status text → ReportClause words report status text
 told_words words Check file None status text asked (inr (inr (inr (inr (s, t))))) = inr (inr (inr (inr (s, (file, asked), t))))
-told_words words (Run o) file None status text asked (inr (inr (inr (inr h)))) = absurd h
+told_words words (Run o fails) file None status text asked (inr (inr (inr (inr h)))) = absurd h
 told_words words task file None status text asked (inl s) = inl s
 told_words words task file None status text asked (inr (inl s)) = inr (inl s)
 told_words words task file None status text asked (inr (inr (inl s))) = inr (inr (inl s))
 told_words words task file None status text asked (inr (inr (inr (inl s)))) = inr (inr (inr (inl s)))
 told_words words Check file (Some r) status text asked (run, of, text_is) = absurd text_is
-told_words words (Run o) file (Some r) status text asked (run, of, text_is) = (run, of, (o, file, asked, text_is))
+told_words words (Run o fails) file (Some r) status text asked (run, of, text_is) = (run, of, (o, fails, file, asked, text_is))
 
 ran_words : (words : List Word) (files : Option Files) (task : Task) (file : Word) (report : Option Report) → Asks words task file → RanAs task (λ p. (bytes : List ℕ) × HasBytesIfTold files file bytes × StandsFor bytes p) report → RunClause words files report
 ran_words words files task file None asked ran = tt
 ran_words words files Check file (Some r) asked ran = absurd ran
-ran_words words files (Run o) file (Some r) asked (p, (bytes, whole, stands), of) = (o, file, bytes, p, asked, whole, stands, of)
+ran_words words files (Run o fails) file (Some r) asked (p, (bytes, whole, stands), of) = (o, fails, file, bytes, p, asked, whole, stands, of)
 
 -- words that ask for a task of a file
 pub file_named : (words : List Word) (task : Task) (file : Word) (files : Option Files) (left' : Option (List ℕ)) (faults faults' status : ℕ) (text : List ℕ) (report : Option Report) → Asks words task file → FileDue files file task left' faults faults' status text report → IsDue words files left' faults faults' status text report
 file_named words task file files left' faults faults' status text report asked f = record {
   usage = record { wrong = λ s. absurd (f.usage s); valid = λ _. asks_valid words task file asked };
-  refusal = record { refused = λ s. (let h = f.refused s in (task, file, h.0, asked, h.1, h.2, h.3)) };
+  refusal = record { refused = λ s. (let h = f.refused s in (file, h.0, (task, asked), h.1, h.2, h.3)) };
   acceptance = record { accepted = λ r. (let h = f.accepted r in (file, h.0, (task, asked), h.1, h.2)) };
   input = f.input;
   causes = record {

@@ -1,8 +1,7 @@
 -- What a call of the program owes: the status and the text that are due, and what the words, the file and the run have to do with them.
-use Rattle.std.specs.Prelude.{ℕ, ◌≡◌, ◌≤◌, ◌<◌, ◌⊎◌, ◌↔◌, false, List, ◌++◌, length, codes, Option, None, Some, IsNone, Ok}
+use Rattle.std.specs.Prelude.{ℕ, ◌≡◌, ◌≤◌, ◌<◌, ◌⊎◌, ◌↔◌, false, List, ◌++◌, length, codes, Option, None, Some, IsNone}
 use Rattle.std.specs.Fmt.{decimal}
 use Rattle.std.specs.Io.KnownBytes.{Appends, Keeps}
-use Rattle.caf_base.specs.declared.thin.ThinProgram.{ThinProgram}
 use Rattle.caf_base.specs.Outside.{Files, Rose, HaveNot, MayNotBegin}
 use Rattle.caf_report.specs.declared.report.Report.{Report}
 use Rattle.caf_report.specs.Ends.{status_of}
@@ -10,19 +9,19 @@ use Rattle.caf_report.specs.ReportText.{report_text}
 use Rattle.caf_report.specs.declared.report.Shown.{Shown}
 use Rattle.fortran_tree.specs.Units.{Program}
 use Rattle.checked_tree.specs.Statements as typed
-use Rattle.rule_definitions.specs.declared.broken.Broken.{Broken}
 use Rattle.rule_definitions.specs.Acceptance.{Accepts}
-use Rattle.thin_form.specs.ThinForms.{thin_of}
 use Rattle.caf_base.specs.declared.place.Pos.{Pos}
 use Rattle.caf_words.specs.Usages.{Word}
 use Rattle.caf_words.specs.Words.{IsRun, ChecksSome, IsValid, UsageIs}
-use Rattle.caf_words.specs.declared.words.Options.{Options}
+use Rattle.caf_words.specs.declared.command.FailAt.{FailAt}
+use Rattle.caf_words.specs.declared.command.Options.{Options}
 use Rattle.caf_run.specs.declared.task.Task.{Task}
 use Rattle.caf_run.specs.declared.task.Task.TheVariants.{Check, Run}
-use Rattle.caf_run.specs.Tasks.{Asks, NamesFile, seed_of}
+use Rattle.caf_run.specs.Tasks.{Asks, NamesFile, told_of}
 use Rattle.caf_run.specs.Reading.{HasBytesIfTold, HasBytes, HasNothingLeft, IsLonger}
-use Rattle.run_report.specs.Runs.{IsReportOf, IsRunStatus}
-use Rattle.caf_run.specs.Sources.{BreaksNone, BreaksFirst, IsAccepted, StandsFor, IsBuilt, IsNotBuilt, IsGood, IsRefusal, refusal_text}
+use Rattle.checked_run.specs.Reports.{IsRunOf, IsRunStatus}
+use Rattle.caf_run.specs.Failures.{first_failure}
+use Rattle.caf_run.specs.Sources.{BreaksFirst, IsAccepted, StandsFor, IsGood, IsRefusal, refusal_text}
 use Rattle.caf_run.specs.Writing.{GrewByProperPrefix}
 
 -- the text where the words aren't valid
@@ -36,30 +35,35 @@ ok_text = codes "ok\n"
 -- a status with which the task is done: 0 of a check, and of a run that of its end
 abbrev pub IsDoneStatus : Task → ℕ → Type 0
 IsDoneStatus Check s = s ≡ 0
-IsDoneStatus (Run o) s = IsRunStatus s
+IsDoneStatus (Run o fails) s = IsRunStatus s
 
--- the bytes aren't good for the task
-abbrev pub IsBad : Task → List ℕ → Type 0
-IsBad task bytes = IsGood task bytes → ⊥
+-- the bytes aren't good
+abbrev pub IsBad : List ℕ → Type 0
+IsBad bytes = IsGood bytes → ⊥
 
 -- Usage: status 2 is due where the words are no valid list, with their usage number; elsewhere they are one.
 pub record UsageClause (words : List Word) (status : ℕ) (text : List ℕ) : Type 0 where
   pub wrong : status ≡ 2 → (k : ℕ) × UsageIs words k × (text ≡ usage_text k)
   pub valid : (status ≡ 2 → ⊥) → IsValid words
 
--- Refusal: status 3 is due where the file's bytes, read to their end, aren't good for the task of the words; the text has the number and the place of the refusal that they have.
+-- Refusal: status 3 is due where the file's bytes, read to their end, aren't good; the text has the number and the place of the refusal that they have.
 pub record RefusalClause (words : List Word) (files : Option Files) (status : ℕ) (text : List ℕ) : Type 0 where
-  pub refused : status ≡ 3 → (task : Task) × (file : Word) × (bytes : List ℕ) × Asks words task file × HasBytesIfTold files file bytes × IsBad task bytes × IsRefusal task bytes text
+  pub refused : status ≡ 3 → (file : Word) × (bytes : List ℕ) × NamesFile words file × HasBytesIfTold files file bytes × IsBad bytes × IsRefusal bytes text
 
 -- Acceptance: where the status of a run or of a check is due, the file's bytes, read to their end, are accepted.
 pub record AcceptanceClause (words : List Word) (files : Option Files) (status : ℕ) : Type 0 where
   pub accepted : IsRunStatus status → (file : Word) × (bytes : List ℕ) × NamesFile words file × HasBytesIfTold files file bytes × IsAccepted bytes
 
--- Run: with a report, the file's bytes, read to their end, are a thin program, and the report is of its run on the images of the words in the order of their SEED. So a race is
--- told exactly where the run's trace has one, and up to it each reference gives the last definition in segment order (`IsReportOf`: `end`, `allowed`).
+-- the report is that of a run of the checked program as the words tell it: on their images, with their failures and limits, in the order of their SEED
+abbrev pub IsToldRun : typed.Program → Options → List FailAt → Report → Type 0
+IsToldRun p o fails r = IsRunOf p (told_of o) (first_failure fails) r
+
+-- Run: with a report, the file's bytes, read to their end, stand for a checked program, and the report is of its run as the words tell it. So a race is told exactly where the run's trace has
+-- one, and up to it each reference gives the last definition in segment order (`IsOrderReport`: `end`, `allowed`).
 abbrev pub RunClause : List Word → Option Files → Option Report → Type 0
 RunClause words files None = Unit {0}
-RunClause words files (Some r) = (o : Options) × (file : Word) × (bytes : List ℕ) × (p : ThinProgram) × IsRun words o file × HasBytesIfTold files file bytes × StandsFor bytes p × IsReportOf p o.images (seed_of o.way) r
+RunClause words files (Some r) = (o : Options) × (fails : List FailAt) × (file : Word) × (bytes : List ℕ) × (p : typed.Program) × IsRun words o fails file × HasBytesIfTold files file bytes × StandsFor bytes p
+    × IsToldRun p o fails r
 
 -- Input: after a run, a check or a refusal nothing of the file is left.
 abbrev pub InputClause : Option Files → Option (List ℕ) → ℕ → Type 0
@@ -68,13 +72,13 @@ InputClause files left status = IsRunStatus status ⊎ (status ≡ 3) → HasNot
 -- Causes: a read fault comes only where the count of faults rose or the files haven't the name, and only a longer file is too long.
 pub record CausesClause (words : List Word) (files : Option Files) (faults faults' status : ℕ) (text : List ℕ) : Type 0 where
   pub read_fault : status ≡ 10 → (file : Word) × NamesFile words file × MayNotBegin files file faults faults' × (text ≡ codes "read fault\n")
-  pub too_long : status ≡ 13 → (file : Word) × NamesFile words file × IsLonger files file 65536 × (text ≡ codes "too long\n")
+  pub too_long : status ≡ 13 → (file : Word) × NamesFile words file × IsLonger files file 1048576 × (text ≡ codes "too long\n")
 
--- the bytes settle the status of a task: 13 exactly where they are more than 65,536, else 3 exactly where they aren't good for it, a status with which it is done exactly where they are
+-- the bytes settle the status of a task: 13 exactly where they are more than 1,048,576, else 3 exactly where they aren't good, a status with which it is done exactly where they are
 pub record Settle (task : Task) (bytes : List ℕ) (status : ℕ) : Type 0 where
-  pub too_long : (status ≡ 13) ↔ (65536 < length bytes)
-  pub refused : (status ≡ 3) ↔ ((length bytes ≤ 65536) × IsBad task bytes)
-  pub done : IsDoneStatus task status ↔ ((length bytes ≤ 65536) × IsGood task bytes)
+  pub too_long : (status ≡ 13) ↔ (1048576 < length bytes)
+  pub refused : (status ≡ 3) ↔ ((length bytes ≤ 1048576) × IsBad bytes)
+  pub done : IsDoneStatus task status ↔ ((length bytes ≤ 1048576) × IsGood bytes)
 
 -- Exactness: where the files are told, 10 is due where they haven't the name; where they have it, its bytes settle the status, or 10 stands in its place after a rise of the count of faults.
 pub record ExactClause (words : List Word) (files : Option Files) (faults faults' status : ℕ) : Type 0 where
@@ -87,7 +91,7 @@ shown_of o = record { vars = false; trace = o.trace }
 
 -- the text of a report is the one that the words ask for
 abbrev pub IsTextOf : List Word → Report → List ℕ → Type 0
-IsTextOf words r text = (o : Options) × (file : Word) × IsRun words o file × (text ≡ report_text (shown_of o) r)
+IsTextOf words r text = (o : Options) × (fails : List FailAt) × (file : Word) × IsRun words o fails file × (text ≡ report_text (shown_of o) r)
 
 -- Report: one is there exactly where a run's status is due, which is that of its end, and the text due is its text, with the trace exactly where the words ask for it; without one 0 is due of a
 -- check alone, whose text is `ok`.
@@ -127,69 +131,64 @@ IsAnswer words files left' faults faults' written written' sink_faults sink_faul
 -- a task is done: a check by 0 and no report, a run by a report and exactly the status of its end
 abbrev pub IsTaskDone : Task → Option Report → ℕ → Type 0
 IsTaskDone Check report answered = IsNone report × (answered ≡ 0)
-IsTaskDone (Run o) report answered = (r : Report) × (report ≡ Some r) × (answered ≡ status_of r.end)
+IsTaskDone (Run o fails) report answered = (r : Report) × (report ≡ Some r) × (answered ≡ status_of r.end)
 
--- Completeness: valid words, a source of at most 65,536 bytes that is good for their task and no rise of either count of faults give a report and exactly the status of its end, of a check 0, or want of memory.
+-- Completeness: valid words, a source of at most 1,048,576 bytes that is good and no rise of either count of faults give a report and exactly the status of its end, of a check 0, or want of memory.
 abbrev pub CompletenessClause : List Word → Option Files → ℕ → ℕ → ℕ → ℕ → ℕ → Option Report → Type 0
 CompletenessClause words files faults faults' sink_faults sink_faults' answered report =
-    (task : Task) (file : Word) (bytes : List ℕ) → Asks words task file → HasBytes files file bytes → length bytes ≤ 65536 → IsGood task bytes
+    (task : Task) (file : Word) (bytes : List ℕ) → Asks words task file → HasBytes files file bytes → length bytes ≤ 1048576 → IsGood bytes
     → (Rose faults faults' → ⊥) → (Rose sink_faults sink_faults' → ⊥) → IsTaskDone task report answered ⊎ (answered ≡ 12)
 
--- with a report the task is a run, and the report is of one of a thin program of this kind
-abbrev pub RanAs : Task → (ThinProgram → Type 0) → Option Report → Type 0
+-- with a report the task is a run, and the report is of one of a checked program of this kind
+abbrev pub RanAs : Task → (typed.Program → Type 0) → Option Report → Type 0
 RanAs task Kind None = Unit {0}
 RanAs Check Kind (Some r) = ⊥
-RanAs (Run o) Kind (Some r) = (p : ThinProgram) × Kind p × IsReportOf p o.images (seed_of o.way) r
+RanAs (Run o fails) Kind (Some r) = (p : typed.Program) × Kind p × IsToldRun p o fails r
 
 -- what is told of a task: its report with the status and the text of that; without one `ok`, of a check, or what keeps the task from being done
 abbrev pub IsOk : Task → ℕ → List ℕ → Type 0
 IsOk Check status text = (status ≡ 0) × (text ≡ ok_text)
-IsOk (Run o) status text = ⊥
+IsOk (Run o fails) status text = ⊥
 
 abbrev pub IsShown : Task → Report → List ℕ → Type 0
 IsShown Check r text = ⊥
-IsShown (Run o) r text = text ≡ report_text (shown_of o) r
+IsShown (Run o fails) r text = text ≡ report_text (shown_of o) r
 
 abbrev pub IsTold : Task → Option Report → ℕ → List ℕ → Type 0
 IsTold task None status text = (status ≡ 2) ⊎ (status ≡ 3) ⊎ (status ≡ 10) ⊎ (status ≡ 13) ⊎ IsOk task status text
 IsTold task (Some r) status text = IsRunStatus status × (status ≡ status_of r.end) × IsShown task r text
 
--- how a program that is read was judged: the first rule that it breaks, or the checked program that it is accepted as
-abbrev pub IsVerdict : Program → Option Broken → Type 0
-IsVerdict x None = (checked : typed.Program) × Accepts x checked
-IsVerdict x (Some b) = BreaksFirst x b.rule b.at
-
--- a program is refused for the task, with this text: by the first rule that it breaks, else by the first place of what isn't built
-pub record IsTreeRefusal (task : Task) (x : Program) (text : List ℕ) : Type 0 where
+-- a program is refused with this text, by the first rule that it breaks
+pub record IsTreeRefusal (x : Program) (text : List ℕ) : Type 0 where
   pub number : ℕ
   pub at : Pos
-  pub refused : BreaksFirst x number at ⊎ (BreaksNone x × IsNotBuilt task x at × (number ≡ 10))
+  pub refused : BreaksFirst x number at
   pub said : text ≡ refusal_text number at
 
 -- what is due for the program that a source is read as
 pub record TreeDue (x : Program) (task : Task) (status : ℕ) (text : List ℕ) (report : Option Report) : Type 0 where
   pub known : IsDoneStatus task status ⊎ (status ≡ 3)
-  pub refused : status ≡ 3 → IsTreeRefusal task x text
-  pub done : IsDoneStatus task status → IsBuilt task x × (checked : typed.Program) × Accepts x checked
+  pub refused : status ≡ 3 → IsTreeRefusal x text
+  pub done : IsDoneStatus task status → (checked : typed.Program) × Accepts x checked
   pub told : IsTold task report status text
-  pub ran : RanAs task (λ p. BreaksNone x × (thin_of x ≡ Ok p)) report
+  pub ran : RanAs task (Accepts x) report
 
 -- what is due for the bytes of a file
 pub record BytesDue (bytes : List ℕ) (task : Task) (status : ℕ) (text : List ℕ) (report : Option Report) : Type 0 where
   pub known : IsDoneStatus task status ⊎ (status ≡ 3)
-  pub refused : status ≡ 3 → IsBad task bytes × IsRefusal task bytes text
-  pub done : IsDoneStatus task status → IsGood task bytes × IsAccepted bytes
+  pub refused : status ≡ 3 → IsBad bytes × IsRefusal bytes text
+  pub done : IsDoneStatus task status → IsGood bytes × IsAccepted bytes
   pub told : IsTold task report status text
   pub ran : RanAs task (StandsFor bytes) report
 
 -- what is due for a named file
 pub record FileDue (files : Option Files) (file : Word) (task : Task) (left' : Option (List ℕ)) (faults faults' status : ℕ) (text : List ℕ) (report : Option Report) : Type 0 where
   pub usage : status ≡ 2 → ⊥
-  pub refused : status ≡ 3 → (bytes : List ℕ) × HasBytesIfTold files file bytes × IsBad task bytes × IsRefusal task bytes text
+  pub refused : status ≡ 3 → (bytes : List ℕ) × HasBytesIfTold files file bytes × IsBad bytes × IsRefusal bytes text
   pub accepted : IsRunStatus status → (bytes : List ℕ) × HasBytesIfTold files file bytes × IsAccepted bytes
   pub input : InputClause files left' status
   pub read_fault : status ≡ 10 → MayNotBegin files file faults faults' × (text ≡ codes "read fault\n")
-  pub too_long : status ≡ 13 → IsLonger files file 65536 × (text ≡ codes "too long\n")
+  pub too_long : status ≡ 13 → IsLonger files file 1048576 × (text ≡ codes "too long\n")
   pub absent : HaveNot files file → status ≡ 10
   pub settled : (bytes : List ℕ) → HasBytes files file bytes → Settle task bytes status ⊎ ((status ≡ 10) × Rose faults faults')
   pub told : IsTold task report status text

@@ -1,4 +1,5 @@
 pub mod Dues
+pub mod Failures
 pub mod Reading
 pub mod Sources
 pub mod Tasks

@@ -1,34 +1,41 @@
 //! What is due for the words and the source: a status, a text, and the report of a run.
 
 ghost use Rattle.std.specs.Prelude.{◌≡◌, ◌≤◌, ◌<◌, IfOk, Some, None, length, slice_get, ◌-◌};
-ghost use Rattle.caf_base.specs.Thin.{IsDeclared, most_moves};
+ghost use Rattle.caf_report.specs.Ends.{HasEnd, status_of};
 ghost use Rattle.caf_report.specs.declared.report.Report.{Report};
-ghost use Rattle.caf_run.specs.Dues.{usage_text, IsDue, IsTold, IsVerdict, BytesDue, FileDue, TreeDue};
-ghost use Rattle.run_report.specs.Runs.{IsReportOf};
+ghost use Rattle.caf_run.specs.Dues.{usage_text, IsDue, IsTold, BytesDue, FileDue, TreeDue};
 ghost use Rattle.caf_run.specs.Sources.{refusal_text};
-ghost use Rattle.caf_run.specs.Tasks as of_task;
-ghost use Rattle.caf_run.specs.Tasks.{IsTask, AsksAt};
+ghost use Rattle.caf_run.specs.Tasks.{IsTask, IsRunTask, AsksAt};
 ghost use Rattle.caf_run.specs.declared.task.Task.TheVariants as tasks;
 ghost use Rattle.caf_words.specs.Words.{words_in, IsValid};
+ghost use Rattle.caf_words.specs.declared.command.FailAt.{FailAt};
+ghost use Rattle.checked_run.specs.Reports.{IsRunStatus};
+ghost use Rattle.checked_tree.specs.StatementViews as typed;
 ghost use Rattle.fortran_tree.specs.UnitViews.{program};
+ghost use Rattle.fortran_tree.specs.Units as units;
+ghost use Rattle.rule_definitions.specs.Acceptance.{Accepts};
+ghost use Rattle.std.specs.Prelude.{List};
 
+use crate::failures::by_image;
 use crate::reading::{ReadEnd, read_file};
-use crate::task::{Task, file_place, seed_of, task_of};
+use crate::task::{Task, file_place, task_of, told_of};
 use caf_base::outside::Source;
 use caf_base::place::Pos;
 use caf_base::refusal::{NoMemory, Refusal};
-use caf_base::thin::{THIN_SOURCE_BYTES, ThinProgram};
 use caf_report::report::{Report, Shown};
 use caf_text::push_number;
-use caf_words::words::{Options, words_of};
+use caf_words::command::{FailAt, Options};
+use caf_words::words::words_of;
+use checked_run::running::run_checked;
+use checked_tree::program::Checked;
 use fortran_tree::unit::Program;
-use rule_checker::check::check_tree;
-use rule_definitions::broken::Broken;
-use run_report::running::run_program;
+use rule_checker::check::check;
 use source_reader::fault::{at, number};
 use source_reader::source::read;
 use std::alloc::Global;
-use thin_form::program::thin;
+
+/// The most bytes of a source.
+const SOURCE_BYTES: usize = 1_048_576;
 
 /// The status and the text that are due, and the report where a run was made.
 #[derive(Drop)]
@@ -63,15 +70,12 @@ fn usage_due(alloc: Global, word: u32) -> Result<Due, NoMemory>
     })
 }
 
-// The run of a program as the options say, with its report and the text of that.
-fn run_due(alloc: Global, program: ThinProgram, options: Options) -> Result<Due, NoMemory>
-    requires images { IsTask (tasks.Run options) }
-    requires few { most_moves program ≤ 262000 }
-    requires declared { IsDeclared program }
-    ensures { IfOk result (λ d. (r : Report) × (d.report ≡ Some r) × IsTold (tasks.Run options) d.report d.status d.text.items × IsReportOf program options.images (of_task.seed_of options.way) r) }
+// What is due for a run that was made: its status, and its text with what the options show.
+fn report_due(alloc: Global, report: Report, options: Options) -> Result<Due, NoMemory>
+    requires end { HasEnd report }
+    requires status { IsRunStatus (status_of report.end) }
+    ensures { IfOk result (λ d. (d.report ≡ Some report) × ((fails : List FailAt) → IsTold (tasks.Run options fails) d.report d.status d.text.items)) }
 {
-    let seed = seed_of(options.way);
-    let report = run_program(alloc, program, options.images, seed)?;
     let shown = Shown {
         vars: false,
         trace: options.trace,
@@ -102,73 +106,58 @@ fn refused_due(alloc: Global, number: u32, at: Pos) -> Result<Due, NoMemory>
     })
 }
 
-// The first rule that a program breaks, where it breaks one.
-fn broken_rule(alloc: Global, tree: &Program) -> Result<Option<Broken>, NoMemory>
-    ensures { IfOk result (IsVerdict (program tree.now)) }
+// What is due for an accepted program that is to be run: the machine can run each of them.
+fn run_due(
+    alloc: Global,
+    checked: &Checked,
+    options: Options,
+    fails: &[FailAt],
+) -> Result<Due, NoMemory>
+    requires task { IsRunTask options fails.now }
+    requires accepted { (x : units.Program) × Accepts x (typed.program checked.now) }
+    ensures { IfOk result (λ d. (x : units.Program) → Accepts x (typed.program checked.now) → TreeDue x (tasks.Run options fails.now) d.status d.text.items d.report) }
 {
-    match check_tree(alloc, tree) {
-        Ok(checked) => {
-            drop(checked);
-            Ok(None)
-        }
-        Err(Refusal::Cause(broken)) => Ok(Some(broken)),
+    let events = by_image(alloc, fails)?;
+    match run_checked(alloc, checked, told_of(options), events.as_slice()) {
+        Ok(report) => report_due(alloc, report, options),
         Err(Refusal::NoMemory) => Err(NoMemory),
+        Err(Refusal::Cause(_)) => unreachable!(),
     }
 }
 
-// What is due for a program that is to be run and breaks no rule.
-fn thin_due(alloc: Global, tree: Program, options: Options) -> Result<Due, NoMemory>
-    requires images { IsTask (tasks.Run options) }
-    requires accepted { IsVerdict (program tree) None }
-    ensures { IfOk result (λ d. TreeDue (program tree) (tasks.Run options) d.status d.text.items d.report) }
-{
-    let thin = thin(alloc, &tree);
-    drop(tree);
-    match thin {
-        Ok(program) => run_due(alloc, program, options),
-        Err(Refusal::Cause(fault)) => refused_due(alloc, 10, fault.at),
-        Err(Refusal::NoMemory) => Err(NoMemory),
-    }
-}
-
-// What is due for a program that breaks no rule.
-fn accepted_due(alloc: Global, tree: Program, task: Task) -> Result<Due, NoMemory>
-    requires task { IsTask task }
-    requires accepted { IsVerdict (program tree) None }
-    ensures { IfOk result (λ d. TreeDue (program tree) task d.status d.text.items d.report) }
+// What is due for an accepted program.
+fn accepted_due(alloc: Global, checked: &Checked, task: &Task) -> Result<Due, NoMemory>
+    requires task { IsTask task.now }
+    requires accepted { (x : units.Program) × Accepts x (typed.program checked.now) }
+    ensures { IfOk result (λ d. (x : units.Program) → Accepts x (typed.program checked.now) → TreeDue x task.now d.status d.text.items d.report) }
 {
     match task {
-        Task::Check => {
-            drop(tree);
-            said(alloc, 0, b"ok\n")
-        }
-        Task::Run(options) => thin_due(alloc, tree, options),
+        Task::Check => said(alloc, 0, b"ok\n"),
+        Task::Run { options, fails } => run_due(alloc, checked, *options, fails.as_slice()),
     }
 }
 
 // What is due for the program that a source is read as.
-fn tree_due(alloc: Global, tree: Program, task: Task) -> Result<Due, NoMemory>
-    requires { IsTask task }
-    ensures { IfOk result (λ d. TreeDue (program tree) task d.status d.text.items d.report) }
+fn tree_due(alloc: Global, tree: Program, task: &Task) -> Result<Due, NoMemory>
+    requires { IsTask task.now }
+    ensures { IfOk result (λ d. TreeDue (program tree) task.now d.status d.text.items d.report) }
 {
-    match broken_rule(alloc, &tree) {
-        Ok(None) => accepted_due(alloc, tree, task),
-        Ok(Some(broken)) => {
-            drop(tree);
-            refused_due(alloc, u32::from(broken.rule), broken.at)
+    match check(alloc, tree) {
+        Ok(checked) => {
+            let due = accepted_due(alloc, &checked, task);
+            drop(checked);
+            due
         }
-        Err(NoMemory) => {
-            drop(tree);
-            Err(NoMemory)
-        }
+        Err(Refusal::Cause(broken)) => refused_due(alloc, u32::from(broken.rule), broken.at),
+        Err(Refusal::NoMemory) => Err(NoMemory),
     }
 }
 
 // What is due for the bytes of a file.
-fn bytes_due(alloc: Global, bytes: &[u8], task: Task) -> Result<Due, NoMemory>
-    requires task { IsTask task }
-    requires short { length bytes.now ≤ 65536 }
-    ensures { IfOk result (λ d. BytesDue bytes.now task d.status d.text.items d.report) }
+fn bytes_due(alloc: Global, bytes: &[u8], task: &Task) -> Result<Due, NoMemory>
+    requires task { IsTask task.now }
+    requires short { length bytes.now ≤ 1048576 }
+    ensures { IfOk result (λ d. BytesDue bytes.now task.now d.status d.text.items d.report) }
 {
     match read(alloc, bytes) {
         Ok(tree) => tree_due(alloc, tree, task),
@@ -182,14 +171,14 @@ fn file_due<S: Source>(
     alloc: Global,
     source: &mut S,
     name: &str,
-    task: Task,
+    task: &Task,
 ) -> Result<Due, NoMemory>
-    requires { IsTask task }
+    requires { IsTask task.now }
     ensures files { S.files source.new ≡ S.files source.old }
     ensures later { S.faults source.old ≤ S.faults source.new }
-    ensures due { IfOk result (λ d. FileDue (S.files source.old) name.now task (S.left source.new) (S.faults source.old) (S.faults source.new) d.status d.text.items d.report) }
+    ensures due { IfOk result (λ d. FileDue (S.files source.old) name.now task.now (S.left source.new) (S.faults source.old) (S.faults source.new) d.status d.text.items d.report) }
 {
-    match read_file(alloc, source, name, THIN_SOURCE_BYTES) {
+    match read_file(alloc, source, name, SOURCE_BYTES) {
         Ok(bytes) => bytes_due(alloc, bytes.as_slice(), task),
         Err(ReadEnd::Fault) => said(alloc, 10, b"read fault\n"),
         Err(ReadEnd::TooLong) => said(alloc, 13, b"too long\n"),
@@ -211,9 +200,9 @@ fn task_due<S: Source>(
     words: &[String],
     source: &mut S,
     number: u32,
-    task: Task,
+    task: &Task,
 ) -> Result<Due, NoMemory>
-    requires { AsksAt (words_in words.now) task number }
+    requires { AsksAt (words_in words.now) task.now number }
     ensures files { S.files source.new ≡ S.files source.old }
     ensures later { S.faults source.old ≤ S.faults source.new }
     ensures due { IfOk result (λ d. IsDue (words_in words.now) (S.files source.old) (S.left source.new) (S.faults source.old) (S.faults source.new) d.status d.text.items d.report) }
@@ -232,14 +221,12 @@ pub fn what_is_due<S: Source>(
     ensures untouched { ¬ IsValid (words_in words.now) → source.new ≡ source.old }
     ensures due { IfOk result (λ d. IsDue (words_in words.now) (S.files source.old) (S.left source.new) (S.faults source.old) (S.faults source.new) d.status d.text.items d.report) }
 {
-    match words_of(words) {
-        Ok(command) => task_due(
-            alloc,
-            words,
-            source,
-            file_place(&command),
-            task_of(&command),
-        ),
+    match words_of(alloc, words) {
+        Ok(command) => {
+            let number = file_place(&command);
+            let task = task_of(command);
+            task_due(alloc, words, source, number, &task)
+        }
         Err(Refusal::Cause(usage)) => usage_due(alloc, usage.word),
         Err(Refusal::NoMemory) => Err(NoMemory),
     }

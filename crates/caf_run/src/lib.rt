@@ -6,6 +6,7 @@
 #![tactic(auto)]
 
 pub mod due;
+mod failures;
 pub mod reading;
 pub mod task;
 pub mod top;

@@ -20,8 +20,8 @@ pub struct Done {
 
 /// All that the program does with the words behind its name: it judges them, reads the file that they name to its end,
 /// reads the program, checks it, runs it where the words say so, and writes what is due. Status 0 finished, of a check that the
-/// program breaks no rule, 2 usage, 3 refused, 5 race, 8 run fault, 10 read fault, 11 write fault, 12 want of memory, 13 too long; the
-/// others, 4 error stop, 6 stuck, 7 limit and 9 clash, can't come in the present form.
+/// program breaks no rule, 2 usage, 3 refused, 4 error stop, 5 race, 6 stuck, 7 limit, 8 run fault, 9 clash, 10 read fault, 11 write fault,
+/// 12 want of memory, 13 too long.
 ///
 /// Where the source tells its files and its count of faults doesn't rise in this call, the words and the file settle the status
 /// that is due; where the sink's doesn't rise either, that is the answer, or 12.

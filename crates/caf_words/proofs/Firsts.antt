@@ -1,41 +1,41 @@
 -- The first word.
-use Rattle.std.proofs.Common.{◌≡◌, ℕ, suc, ◌+◌, List, [], ◌∷◌, refl, ap, ◌∙◌, inl, inr, arith, zero-add, Result, Ok, Err, IfOk, IfErr, IsOk, String, Global}
+use Rattle.std.proofs.Common.{◌≡◌, ℕ, suc, ◌+◌, List, [], ◌∷◌, refl, ap, ◌∙◌, inl, inr, arith, zero-add, Result, Ok, Err, IfOk, IfErr, String, Global}
 use Rattle.std.specs.Prelude.{codes, string_bytes}
 use Rattle.caf_base.specs.declared.refusal.Refusal.{Refusal}
-use Rattle.caf_base.specs.declared.refusal.Refusal.TheVariants.{Cause}
+use Rattle.caf_base.specs.declared.refusal.Refusal.TheVariants.{NoMemory, Cause}
 use Rattle.caf_words.specs.Usages.{Word, Begins, UsageOf}
-use Rattle.caf_words.specs.Words.{words_in, nothing, IsValid, UsageIs, Means}
-use Rattle.caf_words.specs.Readings.{Rests, FileAlone, IsRefusedFrom}
+use Rattle.caf_words.specs.Words.{words_in, nothing, IsValid, UsageIs, Means, RunsWithFailure}
+use Rattle.caf_words.specs.Readings.{Rests, FileAlone, IsRefusedFrom, RestsWithFailure, IsMisread}
 use Rattle.caf_words.specs.declared.words.Usage.{Usage}
-use Rattle.caf_words.specs.declared.words.Command.{Command}
-use Rattle.caf_words.specs.declared.words.Command.TheVariants.{Run, Check}
-use Rattle.caf_words.specs.declared.words.Input.TheVariants.{File}
+use Rattle.caf_words.specs.declared.command.Command.{Command}
+use Rattle.caf_words.specs.declared.command.Command.TheVariants.{Run, Check}
+use Rattle.caf_words.specs.declared.command.Input.TheVariants.{File}
 use Rattle.caf_words.proofs.Usages.{usage_none, usage_first, usage_behind, usage_once, usage_invalid}
-use Rattle.caf_words.proofs.Options.{alone_begins}
+use Rattle.caf_words.proofs.Forms.{alone_begins}
 
 valid_begins : Begins IsValid []
 valid_begins = let (rest, alone) = alone_begins in (codes "check" ∷ rest, inr (alone.0, record { form = ap (λ l. codes "check" ∷ l) alone.1; name = alone.2 }))
 
 valid_none : IsValid [] → ⊥
-valid_none (inl (o, file, run)) = cc run.form
+valid_none (inl (o, fails, file, run)) = cc run.form
 valid_none (inr (file, check)) = cc check.form
 
 run_onward : (rest : List Word) → Rests nothing rest → IsValid (codes "run" ∷ rest)
-run_onward rest (o, file, options) = inl (o, file, record { rest = rest; form = refl; options = options })
+run_onward rest (o, fails, file, options) = inl (o, fails, file, record { rest = rest; form = refl; options = options })
 
 run_back : (rest : List Word) → IsValid (codes "run" ∷ rest) → Rests nothing rest
-run_back rest (inl (o, file, run)) = let e : rest ≡ run.rest = cc run.form in (o, file, rw e run.options)
+run_back rest (inl (o, fails, file, run)) = let e : rest ≡ run.rest = cc run.form in (o, fails, file, rw e run.options)
 run_back rest (inr (file, check)) = cc check.form
 
 check_onward : (rest : List Word) → FileAlone rest → IsValid (codes "check" ∷ rest)
 check_onward rest (file, form, name) = inr (file, record { form = ap (λ l. codes "check" ∷ l) form; name = name })
 
 check_back : (rest : List Word) → IsValid (codes "check" ∷ rest) → FileAlone rest
-check_back rest (inl (o, file, run)) = cc run.form
+check_back rest (inl (o, fails, file, run)) = cc run.form
 check_back rest (inr (file, check)) = (file, cc check.form, check.name)
 
 other_first : (word : Word) → (word ≡ codes "run" → ⊥) → (word ≡ codes "check" → ⊥) → (rest : List Word) → IsValid (word ∷ rest) → ⊥
-other_first word no_run no_check rest (inl (o, file, run)) = no_run (cc run.form)
+other_first word no_run no_check rest (inl (o, fails, file, run)) = no_run (cc run.form)
 other_first word no_run no_check rest (inr (file, check)) = no_check (cc check.form)
 
 pub usage_nothing : UsageOf IsValid [] 1
@@ -45,33 +45,41 @@ pub usage_other : (word : Word) (words : List Word) → (word ≡ codes "run" �
 usage_other word words no_run no_check = usage_first IsValid word words valid_begins (λ rest v. other_first word no_run no_check rest v)
 
 -- what goes wrong behind the first word
-pub refused_run : (words behind : List (String Global)) (first : String Global) (r : Result Command (Refusal Usage)) → words ≡ first ∷ behind → string_bytes first ≡ codes "run" → IfErr r (IsRefusedFrom (Rests nothing) (words_in behind) 1)
-    → IfErr r (IsRefusedFrom IsValid (words_in words) 0)
-refused_run words behind first (Ok c) e is refused = refused
-refused_run words behind first (Err x) e is (k, usage, told) =
+refused_behind : (V : List Word → Type 0) (word : Word) (words : List Word) (r : Refusal Usage) → ((rest : List Word) → V rest → IsValid (word ∷ rest)) → ((rest : List Word) → IsValid (word ∷ rest) → V rest)
+    → IsRefusedFrom V words 1 r → IsRefusedFrom IsValid (word ∷ words) 0 r
+refused_behind V word words r onward back (k, usage, told) =
     let far : 1 + k ≡ 0 + suc k = omega arith in
-    (suc k, rw (e, is) (usage_behind IsValid (Rests nothing) (codes "run") (words_in behind) k valid_begins run_onward run_back usage), told ∙ ap (λ m. Cause (record { word = m })) far)
+    (suc k, usage_behind IsValid V word words k valid_begins onward back usage, told ∙ ap (λ m. Cause (record { word = m })) far)
 
-pub refused_check : (words behind : List (String Global)) (first : String Global) (r : Result Command (Refusal Usage)) → words ≡ first ∷ behind → string_bytes first ≡ codes "check" → IfErr r (IsRefusedFrom FileAlone (words_in behind) 1)
-    → IfErr r (IsRefusedFrom IsValid (words_in words) 0)
-refused_check words behind first (Ok c) e is refused = refused
-refused_check words behind first (Err x) e is (k, usage, told) =
-    let far : 1 + k ≡ 0 + suc k = omega arith in
-    (suc k, rw (e, is) (usage_behind IsValid FileAlone (codes "check") (words_in behind) k valid_begins check_onward check_back usage), told ∙ ap (λ m. Cause (record { word = m })) far)
+misread_run : (words : List Word) (r : Refusal Usage) → IsMisread (Rests nothing) RestsWithFailure words 1 r → IsMisread IsValid RunsWithFailure (codes "run" ∷ words) 0 r
+misread_run words r (inl refused) = inl (refused_behind (Rests nothing) (codes "run") words r run_onward run_back refused)
+misread_run words r (inr (short, (o, fails, file, is, some))) = inr (short, (o, fails, file, record { rest = words; form = refl; options = is }, some))
+
+pub misread_behind_run : (words behind : List (String Global)) (first : String Global) (r : Result Command (Refusal Usage)) → words ≡ first ∷ behind → string_bytes first ≡ codes "run"
+    → IfErr r (IsMisread (Rests nothing) RestsWithFailure (words_in behind) 1) → IfErr r (IsMisread IsValid RunsWithFailure (words_in words) 0)
+misread_behind_run words behind first (Ok c) e is misread = misread
+misread_behind_run words behind first (Err x) e is misread = rw (e, is) (misread_run (words_in behind) x misread)
+
+pub misread_behind_check : (words behind : List (String Global)) (first : String Global) (r : Result Command (Refusal Usage)) → words ≡ first ∷ behind → string_bytes first ≡ codes "check"
+    → IfErr r (IsRefusedFrom FileAlone (words_in behind) 1) → IfErr r (IsMisread IsValid RunsWithFailure (words_in words) 0)
+misread_behind_check words behind first (Ok c) e is refused = refused
+misread_behind_check words behind first (Err x) e is refused = inl (rw (e, is) (refused_behind FileAlone (codes "check") (words_in behind) x check_onward check_back refused))
 
 -- words that mean a command are valid
 means_valid : (words : List Word) (c : Command) → Means words c → IsValid words
-means_valid words (Run (File word) o) (file, run, last) = inl (o, file, run)
+means_valid words (Run (File word) fails o) (file, run, last) = inl (o, fails, file, run)
 means_valid words (Check word) (file, check, last) = inr (file, check)
 
--- valid words mean a command
-pub valid_ok : (words : List Word) (r : Result Command (Refusal Usage)) → IfErr r (IsRefusedFrom IsValid words 0) → IsValid words → IsOk r
-valid_ok words (Ok c) refused valid = refl
-valid_ok words (Err x) (k, usage, told) valid = absurd (usage_invalid IsValid words k usage valid)
+-- valid words mean a command, or there was no memory
+pub valid_short : (words : List Word) (r : Result Command (Refusal Usage)) → IfErr r (IsMisread IsValid RunsWithFailure words 0) → IsValid words → IfErr r (λ refusal. refusal ≡ NoMemory)
+valid_short words (Ok c) misread valid = tt
+valid_short words (Err x) (inl (k, usage, told)) valid = absurd (usage_invalid IsValid words k usage valid)
+valid_short words (Err x) (inr short) valid = short.0
 
 -- the usage number is told
-pub usage_told : (words : List Word) (r : Result Command (Refusal Usage)) → IfOk r (Means words) → IfErr r (IsRefusedFrom IsValid words 0) → (k : ℕ) → UsageIs words k → r ≡ Err (Cause (record { word = k }))
-usage_told words (Ok c) means refused k usage = absurd (usage_invalid IsValid words k usage (means_valid words c means))
-usage_told words (Err x) means (n, other, told) k usage =
+pub usage_told : (words : List Word) (r : Result Command (Refusal Usage)) → IfOk r (Means words) → IfErr r (IsMisread IsValid RunsWithFailure words 0) → (k : ℕ) → UsageIs words k → r ≡ Err (Cause (record { word = k }))
+usage_told words (Ok c) means misread k usage = absurd (usage_invalid IsValid words k usage (means_valid words c means))
+usage_told words (Err x) means (inl (n, other, told)) k usage =
     let same : 0 + n ≡ k = zero-add n ∙ usage_once IsValid words n k other usage in
     ap (λ e. Err e) (told ∙ ap (λ m. Cause (record { word = m })) same)
+usage_told words (Err x) means (inr (short, (o, fails, file, run, some))) k usage = absurd (usage_invalid IsValid words k usage (inl (o, fails, file, run)))

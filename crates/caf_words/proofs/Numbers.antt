@@ -3,12 +3,12 @@ use Rattle.std.proofs.Common.{◌≡◌, ◌≢◌, ℕ, zero, suc, ◌<◌, ◌
 use Rattle.std.specs.Fmt.{decimal}
 use Rattle.std.specs.Result.{result_ok, OkIff}
 use Rattle.std.specs.Str.Parse.{AllDigits, digits_value, ParsesUnsigned}
-use Rattle.std.proofs.lemmas.Fmt.{decimal_digit, first_decimal, decimal-digits_value, parse-decimal, decimal_injective}
+use Rattle.std.proofs.lemmas.Fmt.{decimal_digit, first_decimal, decimal-digits_value, parse-decimal}
 use Rattle.std.proofs.lemmas.Option.{get_or_from_slice_get}
 use Rattle.std.specs.Prelude.{slice_get, ◌⊎◌}
 use Rattle.std.proofs.lemmas.Str.Parse.{IsNumeralModel, numerals_by_value, tells_digits, parse_plain}
 
-digits : IsNumeralModel (AllDigits 10) (digits_value 10)
+pub digits : IsNumeralModel (AllDigits 10) (digits_value 10)
 digits = numerals_by_value (AllDigits 10) tells_digits
 
 -- a number's first byte is a digit
@@ -54,9 +54,3 @@ odd_no_number word first begins odd n small is =
     let low : 48 ≤ get_or word 0 0 = subst (λ w. 48 ≤ get_or w 0 0) (sym is) (first_is_digit n (omega arith)) in
     let lead : get_or word 0 0 ≡ 48 → length word ≡ 1 = subst (λ w. get_or w 0 0 ≡ 48 → length w ≡ 1) (sym is) (no_leading_zero n (omega arith)) in
     elim odd [ inl plus ↦ omega arith | inr zero_first ↦ omega (arith, lead (head ∙ zero_first.0), zero_first.1) ]
-
--- where one number stands, no other does
-pub other_number : (words : List (List ℕ)) (place : ℕ) (word : List ℕ) (m n : ℕ) → Some word ≡ slice_get words place → word ≡ decimal m → m < 2 ^ 32 → n < 2 ^ 32 → m ≢ n → slice_get words place ≢ Some (decimal n)
-other_number words place word m n stands is small small_n differ = λ e.
-    let both : decimal m ≡ decimal n = cc in
-    differ (decimal_injective m n (omega arith) (omega arith) both)

@@ -1,48 +1,102 @@
 -- An option is read, and then the rest.
-use Rattle.std.proofs.Common.{◌≡◌, ℕ, suc, ◌+◌, List, ◌∷◌, length, ap, ◌∙◌, arith, Result, Ok, Err, IfOk, IfErr, String, Global}
-use Rattle.std.specs.Prelude.{string_bytes}
+use Rattle.std.proofs.Common.{◌≡◌, ◌≢◌, ℕ, ◌+◌, ◌-◌, List, [], ◌∷◌, ◌++◌, length, take, drop, refl, sym, ap, ◌∙◌, subst, inl, inr, arith, append_assoc, take-append-drop, Result, Ok, Err, IfErr, String, Global}
+use Rattle.std.specs.Prelude.{Option, None, Some, string_bytes}
+use Rattle.std.proofs.lemmas.List.{append-nil, drop-map}
+use Rattle.std.proofs.lemmas.Grind.{common_steps}
 use Rattle.caf_base.specs.declared.refusal.Refusal.{Refusal}
 use Rattle.caf_base.specs.declared.refusal.Refusal.TheVariants.{Cause}
-use Rattle.caf_words.specs.Usages.{Word}
-use Rattle.caf_words.specs.Words.{words_in}
-use Rattle.caf_words.specs.Readings.{Rests, IsNextKey, Flags, Gives, RunsFrom, IsRefusedFrom}
+use Rattle.caf_words.specs.Usages.{Word, UsageOf}
+use Rattle.caf_words.specs.Words.{words_in, IsRest, nothing}
+use Rattle.caf_words.specs.Words.IsRest.{option_next}
+use Rattle.caf_words.specs.Readings.{Rests, IsNextKey, Flags, Gives, IsNext, listed, AreKept, EndsRun, RunsFrom, IsRefusedFrom, RestsWithFailure, IsMisread}
 use Rattle.caf_words.specs.declared.words.Usage.{Usage}
-use Rattle.caf_words.specs.declared.words.Given.{Given}
-use Rattle.caf_words.specs.declared.words.Key.{Key}
-use Rattle.caf_words.specs.declared.words.Command.{Command}
-use Rattle.caf_words.proofs.Options.{usage_option, runs_option, usage_flag, runs_flag}
+use Rattle.caf_words.specs.declared.options.Given.{Given}
+use Rattle.caf_words.specs.declared.options.Key.{Key}
+use Rattle.caf_words.specs.declared.options.Taken.{Taken}
+use Rattle.caf_words.specs.declared.options.Next.TheVariants as nexts
+use Rattle.caf_words.specs.declared.command.FailAt.{FailAt}
+use Rattle.caf_words.specs.declared.command.Options.{Options}
+use Rattle.caf_words.specs.declared.command.Command.{Command}
+use Rattle.caf_words.specs.declared.command.Command.TheVariants.{Run, Check}
+use Rattle.caf_words.specs.declared.command.Input.TheVariants.{File}
+use Rattle.caf_words.proofs.Forms.{flag_option, keyed_option, usage_option}
 
-pub stepped : (g h : Given) (k : Key) (word number : Word) (words : List Word) (place last : ℕ) (r : Result Command (Refusal Usage)) → IsNextKey g word k → Gives g k number h → IfOk r (RunsFrom h words last) → IfOk r (RunsFrom g (word ∷ number ∷ words) last)
-stepped g h k word number words place last (Ok c) is gives runs = runs_option g h k word number words last c is gives runs
-stepped g h k word number words place last (Err e) is gives runs = runs
+-- what stands next
+pub flag_next : (g h : Given) (words behind : List (String Global)) (first : String Global) → words ≡ first ∷ behind → Flags g (string_bytes first) h
+    → IsNext g (words_in words) (nexts.Option (record { given = h; fail = None; words = 1 }))
+flag_next g h words behind first e flags = rw e (omega arith, omega arith, flag_option g h (string_bytes first) flags)
 
-pub misstepped : (g h : Given) (k : Key) (word number : Word) (words : List Word) (place : ℕ) (r : Result Command (Refusal Usage)) → IsNextKey g word k → Gives g k number h → IfErr r (IsRefusedFrom (Rests h) words (place + 2)) → IfErr r (IsRefusedFrom (Rests g) (word ∷ number ∷ words) place)
-misstepped g h k word number words place (Ok c) is gives refused = refused
-misstepped g h k word number words place (Err e) is gives (n, usage, told) =
-    let far : place + 2 + n ≡ place + suc (suc n) = omega arith in
-    (suc (suc n), usage_option g h k word number words n is gives usage, told ∙ ap (λ m. Cause (record { word = m })) far)
+pub keyed_next : (g : Given) (t : Taken) (k : Key) (words behind rest : List (String Global)) (first second : String Global) → words ≡ first ∷ behind → behind ≡ second ∷ rest
+    → IsNextKey g (string_bytes first) k → t.words ≡ 2 → Gives g k (string_bytes second) t.given (listed t.fail) → IsNext g (words_in words) (nexts.Option t)
+keyed_next g t k words behind rest first second e f is two gives =
+    rw (e, f, two) (omega arith, omega arith, keyed_option g t.given k (string_bytes first) (string_bytes second) (listed t.fail) is gives)
 
-pub stepped_from : (g h : Given) (k : Key) (words behind rest : List (String Global)) (first second : String Global) (place : ℕ) (r : Result Command (Refusal Usage)) → words ≡ first ∷ behind → behind ≡ second ∷ rest
-    → IsNextKey g (string_bytes first) k → Gives g k (string_bytes second) h → IfOk r (RunsFrom h (words_in rest) (place + 2 + length rest)) → IfOk r (RunsFrom g (words_in words) (place + length words))
-stepped_from g h k words behind rest first second place r e f is gives runs =
-    let far : place + suc (suc (length rest)) ≡ place + 2 + length rest = omega arith in
-    rw (e, f, far) (stepped g h k (string_bytes first) (string_bytes second) (words_in rest) place (place + 2 + length rest) r is gives runs)
+-- The words so far are options: what is given by them, and what holds of the rest holds of the whole. They name failures, which are kept.
+pub record HasTaken (words rest : List Word) (g : Given) (place : ℕ) (kept : Option (List FailAt)) : Type 0 where
+  pub some : List FailAt
+  pub onward : (o : Options) (fails : List FailAt) (file : Word) → IsRest g rest o fails file → IsRest nothing words o (some ++ fails) file
+  pub usage : (k : ℕ) → UsageOf (Rests g) rest k → (n : ℕ) × UsageOf (Rests nothing) words n × (place + k ≡ 1 + n)
+  pub are_kept : AreKept kept some
+  pub long : place + length rest ≡ 1 + length words
 
-pub misstepped_from : (g h : Given) (k : Key) (words behind rest : List (String Global)) (first second : String Global) (place : ℕ) (r : Result Command (Refusal Usage)) → words ≡ first ∷ behind → behind ≡ second ∷ rest
-    → IsNextKey g (string_bytes first) k → Gives g k (string_bytes second) h → IfErr r (IsRefusedFrom (Rests h) (words_in rest) (place + 2)) → IfErr r (IsRefusedFrom (Rests g) (words_in words) place)
-misstepped_from g h k words behind rest first second place r e f is gives refused =
-    rw (e, f) (misstepped g h k (string_bytes first) (string_bytes second) (words_in rest) place r is gives refused)
+pub taken_none : (words : List Word) → HasTaken words words nothing 1 (Some [])
+taken_none words = record {
+  some = [];
+  onward = λ o fails file is. is;
+  usage = λ k usage. (k, usage, refl);
+  are_kept = refl;
+  long = refl;
+}
 
-pub flagged_from : (g h : Given) (words behind : List (String Global)) (first : String Global) (place : ℕ) (r : Result Command (Refusal Usage)) → words ≡ first ∷ behind
-    → Flags g (string_bytes first) h → IfOk r (RunsFrom h (words_in behind) (place + 1 + length behind)) → IfOk r (RunsFrom g (words_in words) (place + length words))
-flagged_from g h words behind first place (Ok c) e is runs =
-    let far : place + suc (length behind) ≡ place + 1 + length behind = omega arith in
-    rw (e, far) (runs_flag g h (string_bytes first) (words_in behind) (place + 1 + length behind) c is runs)
-flagged_from g h words behind first place (Err x) e is runs = runs
+pub taken_more : (words rest : List Word) (g : Given) (place : ℕ) (kept kept' : Option (List FailAt)) (t : Taken) → HasTaken words rest g place kept → IsNext g rest (nexts.Option t)
+    → ((some : List FailAt) → AreKept kept some → AreKept kept' (some ++ listed t.fail)) → HasTaken words (drop t.words rest) t.given (place + t.words) kept'
+taken_more words rest g place kept kept' t h (least, most, is) more =
+    let whole : take t.words rest ++ drop t.words rest ≡ rest = take-append-drop t.words rest in
+    let front : length (take t.words rest) ≡ t.words = grind (arith, common_steps) in
+    let back : length (drop t.words rest) + t.words ≡ length rest = grind (arith, common_steps) in
+    record {
+      some = h.some ++ listed t.fail;
+      onward = λ o fails file next.
+          (let on = h.onward o (listed t.fail ++ fails) file (rw whole at (option_next g t.given (take t.words rest) (listed t.fail) (drop t.words rest) o fails file is next)) in
+          rw append_assoc on);
+      usage = λ k usage.
+          (let (n, of, e) = h.usage (length (take t.words rest) + k) (rw whole at (usage_option g t.given (take t.words rest) (listed t.fail) (drop t.words rest) k is usage)) in
+          (n, of, omega (arith, front, e)));
+      are_kept = more h.some h.are_kept;
+      long = omega (arith, h.long, back);
+    }
 
-pub misflagged_from : (g h : Given) (words behind : List (String Global)) (first : String Global) (place : ℕ) (r : Result Command (Refusal Usage)) → words ≡ first ∷ behind
-    → Flags g (string_bytes first) h → IfErr r (IsRefusedFrom (Rests h) (words_in behind) (place + 1)) → IfErr r (IsRefusedFrom (Rests g) (words_in words) place)
-misflagged_from g h words behind first place (Ok c) e is refused = refused
-misflagged_from g h words behind first place (Err x) e is (n, usage, told) =
-    let far : place + 1 + n ≡ place + suc n = omega arith in
-    (suc n, rw e (usage_flag g h (string_bytes first) (words_in behind) n is usage), told ∙ ap (λ m. Cause (record { word = m })) far)
+-- the rest, as code takes it
+pub rest_texts : (texts : List (String Global)) (n : ℕ) → words_in (take (length texts - n) (drop n texts)) ≡ drop n (words_in texts)
+rest_texts texts n =
+    let whole : take (length texts - n) (drop n texts) ≡ drop n texts = grind (arith, common_steps) in
+    rw whole (sym (drop-map string_bytes n texts))
+
+-- a run is read to its end
+pub runs_taken : (words rest : List Word) (g : Given) (place : ℕ) (kept : Option (List FailAt)) (last last' : ℕ) (c : Command) → HasTaken words rest g place kept → last ≡ last' → EndsRun g rest last kept c → RunsFrom words last' c
+runs_taken words rest g place kept last last' (Run (File word) fails o) h same (file, is, at_last, all) =
+    let named : fails ≡ h.some = subst (λ x. AreKept x h.some) all h.are_kept in
+    (file, rw named (rw append-nil at (h.onward o [] file is)), at_last ∙ same)
+runs_taken words rest g place kept last last' (Check i) h same ends = absurd ends
+
+some_more : (fails more : List FailAt) → fails ≢ [] → fails ++ more ≢ []
+some_more [] more odd e = odd refl
+some_more (f ∷ fails) more odd e = cc e
+
+-- or misread
+pub refused_taken : (words rest : List Word) (g : Given) (place : ℕ) (kept : Option (List FailAt)) (r : Refusal Usage) → HasTaken words rest g place kept → IsRefusedFrom (Rests g) rest place r → IsRefusedFrom (Rests nothing) words 1 r
+refused_taken words rest g place kept r h (k, usage, told) =
+    let (n, of, e) = h.usage k usage in
+    (n, of, told ∙ ap (λ m. Cause (record { word = m })) e)
+
+misread_taken : (words rest : List Word) (g : Given) (place : ℕ) (kept : Option (List FailAt)) (r : Refusal Usage) → HasTaken words rest g place kept → IsMisread (Rests g) (λ rest. (kept ≡ None) × Rests g rest) rest place r
+    → IsMisread (Rests nothing) RestsWithFailure words 1 r
+misread_taken words rest g place kept r h (inl refused) = inl (refused_taken words rest g place kept r h refused)
+misread_taken words rest g place kept r h (inr (short, (none, (o, fails, file, is)))) =
+    let odd : h.some ≢ [] = subst (λ x. AreKept x h.some) none h.are_kept in
+    inr (short, (o, h.some ++ fails, file, h.onward o fails file is, some_more h.some fails odd))
+
+pub misread_all : (words rest : List Word) (g : Given) (place : ℕ) (kept : Option (List FailAt)) (r : Result Command (Refusal Usage)) → HasTaken words rest g place kept
+    → IfErr r (IsMisread (Rests g) (λ rest. (kept ≡ None) × Rests g rest) rest place) → IfErr r (IsMisread (Rests nothing) RestsWithFailure words 1)
+misread_all words rest g place kept (Ok c) h misread = misread
+misread_all words rest g place kept (Err r) h misread = misread_taken words rest g place kept r h misread

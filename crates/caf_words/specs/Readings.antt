@@ -1,33 +1,49 @@
 -- What is read of words from a place on.
-use Rattle.std.specs.Prelude.{ℕ, ◌≡◌, ◌≤◌, ◌+◌, List, [], ◌∷◌, codes, None, Some, false, true}
+use Rattle.std.specs.Prelude.{ℕ, ◌≡◌, ◌≢◌, ◌≤◌, ◌+◌, ◌⊎◌, List, [], ◌∷◌, codes, length, take, Option, None, Some, false, true, ⊤}
 use Rattle.std.specs.Fmt.{decimal}
 use Rattle.caf_base.specs.declared.refusal.Refusal.{Refusal}
-use Rattle.caf_base.specs.declared.refusal.Refusal.TheVariants.{Cause}
+use Rattle.caf_base.specs.declared.refusal.Refusal.TheVariants.{NoMemory, Cause}
 use Rattle.caf_words.specs.Usages.{Word, UsageOf}
-use Rattle.caf_words.specs.Words.{IsFileName, IsRest}
+use Rattle.caf_words.specs.Words.{IsFileName, IsFailure, IsOption, IsRest, nothing}
 use Rattle.caf_words.specs.declared.words.Usage.{Usage}
-use Rattle.caf_words.specs.declared.words.Given.{Given}
-use Rattle.caf_words.specs.declared.words.Options.{Options}
-use Rattle.caf_words.specs.declared.words.Key.{Key}
-use Rattle.caf_words.specs.declared.words.Key.TheVariants as keys
-use Rattle.caf_words.specs.declared.words.Command.{Command}
-use Rattle.caf_words.specs.declared.words.Command.TheVariants.{Run, Check}
-use Rattle.caf_words.specs.declared.words.Input.TheVariants.{File}
+use Rattle.caf_words.specs.declared.options.Given.{Given}
+use Rattle.caf_words.specs.declared.options.Key.{Key}
+use Rattle.caf_words.specs.declared.options.Key.TheVariants as keys
+use Rattle.caf_words.specs.declared.options.Next.{Next}
+use Rattle.caf_words.specs.declared.options.Next.TheVariants as nexts
+use Rattle.caf_words.specs.declared.command.FailAt.{FailAt}
+use Rattle.caf_words.specs.declared.command.Options.{Options}
+use Rattle.caf_words.specs.declared.command.Command.{Command}
+use Rattle.caf_words.specs.declared.command.Command.TheVariants.{Run, Check}
+use Rattle.caf_words.specs.declared.command.Input.TheVariants.{File}
 
 -- words behind the options that are given so far
 abbrev pub Rests : Given → List Word → Type 0
-Rests g words = (o : Options) × (file : Word) × IsRest g words o file
+Rests g words = (o : Options) × (fails : List FailAt) × (file : Word) × IsRest g words o fails file
 
 -- words of a file's name alone
 abbrev pub FileAlone : List Word → Type 0
 FileAlone words = (file : Word) × (words ≡ file ∷ []) × IsFileName file
 
--- a word is the key of an option with a number that may come next
-abbrev pub IsNextKey : Given → Word → Key → Type 0
-IsNextKey g word keys.Images = (word ≡ codes "-n") × (g.images ≡ None)
-IsNextKey g word keys.Order = (word ≡ codes "--order") × (g.order ≡ None)
+-- the word of an option with a value
+abbrev pub key_word : Key → Word
+key_word keys.Images = codes "-n"
+key_word keys.Order = codes "--order"
+key_word keys.Steps = codes "--steps"
+key_word keys.Fail = codes "--fail"
 
--- a word is an option without a number that may come next, and these options are given then
+-- the option may be given now
+abbrev pub IsFree : Given → Key → Type 0
+IsFree g keys.Images = g.images ≡ None
+IsFree g keys.Order = g.order ≡ None
+IsFree g keys.Steps = g.steps ≡ None
+IsFree g keys.Fail = ⊤
+
+-- a word is the key of an option with a value that may come next
+abbrev pub IsNextKey : Given → Word → Key → Type 0
+IsNextKey g word k = (word ≡ key_word k) × IsFree g k
+
+-- a word is an option without a value that may come next, and these options are given then
 abbrev pub Flags : Given → Word → Given → Type 0
 Flags g word h = (word ≡ codes "--trace") × (g.trace ≡ false) × (h ≡ record g { trace = true })
 
@@ -36,29 +52,60 @@ pub record IsNoOption (g : Given) (word : Word) : Type 0 where
   pub no_key : (k : Key) → ¬ IsNextKey g word k
   pub no_flag : (h : Given) → ¬ Flags g word h
 
--- a word gives an option its number, and these options are given then
-abbrev pub Gives : Given → Key → Word → Given → Type 0
-Gives g keys.Images word h = (n : ℕ) × (word ≡ decimal n) × (1 ≤ n) × (n ≤ 64) × (h ≡ record g { images = Some n })
-Gives g keys.Order word h = (s : ℕ) × (word ≡ decimal s) × (s ≤ 2147483647) × (h ≡ record g { order = Some s })
+-- a word gives an option its value; these options are given then, and these failures are named
+abbrev pub Gives : Given → Key → Word → Given → List FailAt → Type 0
+Gives g keys.Images word h named = (n : ℕ) × (word ≡ decimal n) × (1 ≤ n) × (n ≤ 64) × (h ≡ record g { images = Some n }) × (named ≡ [])
+Gives g keys.Order word h named = (s : ℕ) × (word ≡ decimal s) × (s ≤ 2147483647) × (h ≡ record g { order = Some s }) × (named ≡ [])
+Gives g keys.Steps word h named = (n : ℕ) × (word ≡ decimal n) × (1 ≤ n) × (n ≤ 100000000) × (h ≡ record g { steps = Some n }) × (named ≡ [])
+Gives g keys.Fail word h named = (f : FailAt) × IsFailure word f × (h ≡ g) × (named ≡ f ∷ [])
 
 -- the words behind the key of an option
 abbrev pub BehindKey : Given → Key → List Word → Type 0
-BehindKey g k words = (word : Word) × (rest : List Word) × (h : Given) × (words ≡ word ∷ rest) × Gives g k word h × Rests h rest
+BehindKey g k words = (word : Word) × (rest : List Word) × (h : Given) × (named : List FailAt) × (words ≡ word ∷ rest) × Gives g k word h named × Rests h rest
 
--- the words run a file, with what is given so far; its name is the last of them
-abbrev pub RunsFrom : Given → List Word → ℕ → Command → Type 0
-RunsFrom g words last (Run (File word) o) = (file : Word) × IsRest g words o file × (word ≡ last)
-RunsFrom g words last (Check i) = ⊥
+-- the failure, where there is one, as a list
+abbrev pub listed : Option FailAt → List FailAt
+listed None = []
+listed (Some f) = f ∷ []
+
+-- the first word, where there is one, is no option that may come next
+abbrev pub BeginsNoOption : Given → List Word → Type 0
+BeginsNoOption g [] = ⊤
+BeginsNoOption g (word ∷ words) = IsNoOption g word
+
+-- what stands next: an option of some of the words; no option; or a key without its value, with which the second word goes wrong
+abbrev pub IsNext : Given → List Word → Next → Type 0
+IsNext g words (nexts.Option t) = (1 ≤ t.words) × (t.words ≤ length words) × IsOption g (take t.words words) t.given (listed t.fail)
+IsNext g words nexts.File = BeginsNoOption g words
+IsNext g words nexts.WrongValue = (1 ≤ length words) × UsageOf (Rests g) words 2
+
+-- the failures that were named are kept, or there was no memory for the list of some
+abbrev pub AreKept : Option (List FailAt) → List FailAt → Type 0
+AreKept None named = named ≢ []
+AreKept (Some fails) named = fails ≡ named
+
+-- the words end a run, with what is given and the failures that are kept; the file's name is the last of them
+abbrev pub EndsRun : Given → List Word → ℕ → Option (List FailAt) → Command → Type 0
+EndsRun g words last kept (Run (File word) fails o) = (file : Word) × IsRest g words o [] file × (word ≡ last) × (kept ≡ Some fails)
+EndsRun g words last kept (Check i) = ⊥
+
+-- the words run a file; its name is the last of them
+abbrev pub RunsFrom : List Word → ℕ → Command → Type 0
+RunsFrom words last (Run (File word) fails o) = (file : Word) × IsRest nothing words o fails file × (word ≡ last)
+RunsFrom words last (Check i) = ⊥
 
 abbrev pub ChecksFrom : List Word → ℕ → Command → Type 0
-ChecksFrom words last (Run i o) = ⊥
+ChecksFrom words last (Run i fails o) = ⊥
 ChecksFrom words last (Check word) = FileAlone words × (word ≡ last)
 
 -- the refusal tells the usage number of words from a place on
 abbrev pub IsRefusedFrom : (List Word → Type 0) → List Word → ℕ → Refusal Usage → Type 0
 IsRefusedFrom Valid words place refusal = (k : ℕ) × UsageOf Valid words k × (refusal ≡ Cause (record { word = place + k }))
 
--- there is a first word, and it is of that kind
-abbrev pub IsFirst : List Word → (Word → Type 0) → Type 0
-IsFirst [] Kind = ⊥
-IsFirst (word ∷ words) Kind = Kind word
+-- words of a run in which a failure is named
+abbrev pub RestsWithFailure : List Word → Type 0
+RestsWithFailure words = (o : Options) × (fails : List FailAt) × (file : Word) × IsRest nothing words o fails file × (fails ≢ [])
+
+-- the refusal tells the usage number of words from a place on, or there was no memory where failures are named
+abbrev pub IsMisread : (List Word → Type 0) → (List Word → Type 0) → List Word → ℕ → Refusal Usage → Type 0
+IsMisread Valid NamesFailure words place refusal = IsRefusedFrom Valid words place refusal ⊎ ((refusal ≡ NoMemory) × NamesFailure words)

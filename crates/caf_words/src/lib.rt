@@ -4,5 +4,8 @@
 //! words begins, or the number of words plus one where they are a valid list cut short.
 #![tactic(auto)]
 
-pub mod number;
+pub mod command;
+mod failure;
+mod number;
+mod options;
 pub mod words;

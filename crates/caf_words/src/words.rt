@@ -1,17 +1,18 @@
 //! The words of the command line.
 
-ghost use Rattle.std.specs.Prelude.{◌≡◌, ◌<◌, ◌+◌, ◌-◌, ◌^◌, ℕ, List, ◌∷◌, length, IsOk, IfOk, IfErr, IfSome, IfNone, IsTrue, ◌↔◌};
-ghost use Rattle.caf_words.specs.declared.words.Command.{Command};
-ghost use Rattle.caf_words.specs.declared.words.Key.{Key};
-ghost use Rattle.caf_words.specs.declared.words.Given.{Given};
-ghost use Rattle.caf_words.specs.Usages.{Word};
-ghost use Rattle.caf_words.specs.Words.{words_in, Means, IsValid, UsageIs, IsRefusalOf, IsFileName};
+ghost use Rattle.std.specs.Prelude.{◌≡◌, ◌<◌, ◌+◌, ◌-◌, ◌^◌, ℕ, List, ◌++◌, length, IsOk, IfOk, IfErr, IfSome, IfNone, IsTrue, ◌↔◌};
+ghost use Rattle.caf_words.specs.declared.command.Command.{Command};
+ghost use Rattle.caf_words.specs.declared.command.FailAt.{FailAt};
 ghost use Rattle.caf_words.specs.Words as spec;
-ghost use Rattle.caf_words.specs.Readings.{IsFirst, Rests, FileAlone, RunsFrom, ChecksFrom, IsRefusedFrom, IsNextKey, Flags, IsNoOption, Gives};
+ghost use Rattle.caf_words.specs.Usages.{Word};
+ghost use Rattle.caf_words.specs.Words.{words_in, Means, IsValid, UsageIs, IsRefusalOf, IsFileName, RunsWithFailure};
+ghost use Rattle.caf_words.specs.Readings.{Rests, FileAlone, listed, BeginsNoOption, AreKept, EndsRun, RunsFrom, ChecksFrom, IsRefusedFrom, RestsWithFailure, IsMisread};
 
-use crate::number::number_between;
-use caf_base::limits::IMAGES;
+use crate::command::{Command, FailAt, Input};
+use crate::options::{Given, Next, next_option};
+use caf_base::listing::Listing;
 use caf_base::refusal::Refusal;
+use std::alloc::Global;
 
 /// Words that are no command: the number of the first word, from 1, with which no valid list of words begins, or the
 /// number of words plus one where they are a valid list cut short.
@@ -20,67 +21,13 @@ pub struct Usage {
     pub word: u32,
 }
 
-/// The greatest seed of an order.
-pub const GREATEST_SEED: u32 = 2_147_483_647;
-
-/// The number of images where the words don't say it.
-pub const DEFAULT_IMAGES: u32 = 4;
-
-/// What the words ask for.
-#[derive(Drop)]
-pub enum Command {
-    /// To run a source.
-    Run { input: Input, options: Options },
-    /// To check the file whose name is this word, from 1.
-    Check { word: u32 },
-}
-
-/// Where the source comes from.
-#[derive(Clone, Copy)]
-pub enum Input {
-    /// From the file whose name is this word, from 1.
-    File { word: u32 },
-}
-
-/// How the images take turns.
-#[derive(Clone, Copy)]
-pub enum Way {
-    /// In the order of this seed, from 0 to 2147483647.
-    Order(u32),
-}
-
-/// What a run is told by its options.
-#[derive(Clone, Copy)]
-pub struct Options {
-    /// How many images there are, from 1 to 64.
-    pub images: u32,
-    pub way: Way,
-    /// Whether the trace is shown.
-    pub trace: bool,
-}
-
-/// The options of a run that were given so far.
-#[derive(Clone, Copy)]
-pub struct Given {
-    pub images: Option<u32>,
-    pub order: Option<u32>,
-    pub trace: bool,
-}
-
-/// An option with a number that may come next.
-#[derive(Clone, Copy)]
-pub enum Key {
-    Images,
-    Order,
-}
-
-/// The command that the words mean: `run OPTIONS FILE` or `check FILE`. OPTIONS are, in any order and each at most once, `-n N`, with N from 1 to 64, 4 where it
-/// isn't given, `--order SEED`, with SEED from 0 to 2147483647, which has to be there, and `--trace`. Numbers are decimal digits without a sign and without a
-/// leading zero other than `0` itself; FILE isn't empty and doesn't begin with `-`.
-/// Other words have a usage number. Want of memory comes only where there are more words than a number can tell.
-pub fn words_of(words: &[String]) -> Result<Command, Refusal<Usage>>
+/// The command that the words mean: `run OPTIONS FILE` or `check FILE`. OPTIONS are, in any order, `-n N`, with N from 1 to 64, 4 where it isn't given, `--order SEED`, with SEED from 0 to
+/// 2147483647, which has to be there, `--steps N`, with N from 1 to 100000000, 1000000 where it isn't given, `--trace`, and `--fail I@K`, with I from 1 to 64 and K from 1 to 1000000. Each
+/// stands once at most, but `--fail`. Numbers are decimal digits without a sign and without a leading zero other than `0` itself; FILE isn't empty and doesn't begin with `-`.
+/// Other words have a usage number. Want of memory comes only where there are more words than a number can tell, or where valid words name failures.
+pub fn words_of(alloc: Global, words: &[String]) -> Result<Command, Refusal<Usage>>
     ensures means { IfOk result (Means (words_in words.now)) }
-    ensures valid { IsValid (words_in words.now) → IsOk result }
+    ensures valid { IsValid (words_in words.now) → IfErr result (λ refusal. refusal ≡ Refusal.NoMemory) }
     ensures refused { IfErr result (IsRefusalOf (words_in words.now)) }
     ensures usage { (k : ℕ) → UsageIs (words_in words.now) k → length words.now < 2 ^ 32 - 1
         → result ≡ Err (Refusal.Cause (record { word = k })) }
@@ -88,7 +35,7 @@ pub fn words_of(words: &[String]) -> Result<Command, Refusal<Usage>>
     if words.len() >= 4_294_967_295 {
         return Err(Refusal::NoMemory);
     }
-    command_of(words)
+    command_of(alloc, words)
 }
 
 /// Words have at most one usage number, and none where they are valid; valid words mean one command.
@@ -107,135 +54,92 @@ fn wrong_at(place: u32) -> Refusal<Usage>
 }
 
 /// The command of words that can be numbered.
-fn command_of(words: &[String]) -> Result<Command, Refusal<Usage>>
+fn command_of(alloc: Global, words: &[String]) -> Result<Command, Refusal<Usage>>
     requires { length words.now < 4294967295 }
     ensures means { IfOk result (Means (words_in words.now)) }
-    ensures refused { IfErr result (IsRefusedFrom IsValid (words_in words.now) 0) }
+    ensures refused { IfErr result (IsMisread IsValid RunsWithFailure (words_in words.now) 0) }
 {
     let [first, rest @ ..] = words else {
         return Err(wrong_at(0));
     };
-    let none = Given {
-        images: None,
-        order: None,
-        trace: false,
-    };
     match first.as_str() {
-        "run" => options_of(rest, 1, none),
-        "check" => check_of(rest, 1),
+        "run" => options_of(alloc, rest),
+        "check" => check_of(rest),
         _ => Err(wrong_at(0)),
     }
 }
 
-/// The key of an option with a number that isn't given yet.
-fn next_key(word: &str, given: Given) -> Option<Key>
-    ensures key { IfSome result (IsNextKey given word.now) }
-    ensures none { IfNone result ((k : Key) → ¬ IsNextKey given word.now k) }
+/// The failures and one more where an option names one; nothing where there is no memory for them.
+fn with_failure(fails: Option<Listing<FailAt>>, fail: Option<FailAt>) -> Option<Listing<FailAt>>
+    ensures { (named : List FailAt) → AreKept fails named → AreKept result (named ++ listed fail) }
 {
-    match word {
-        "-n" if given.images.is_none() => Some(Key::Images),
-        "--order" if given.order.is_none() => Some(Key::Order),
-        _ => None,
+    let mut fails = fails?;
+    if let Some(fail) = fail {
+        fails.push(fail).ok()?;
+    }
+    Some(fails)
+}
+
+/// The command of words behind `run`.
+fn options_of(alloc: Global, words: &[String]) -> Result<Command, Refusal<Usage>>
+    requires { 1 + length words.now < 4294967295 }
+    ensures means { IfOk result (RunsFrom (words_in words.now) (1 + length words.now)) }
+    ensures refused { IfErr result (IsMisread (Rests spec.nothing) RestsWithFailure (words_in words.now) 1) }
+{
+    let mut given = Given::nothing();
+    let mut fails = Some(Listing::new(alloc));
+    let mut rest = words;
+    let mut place = 1;
+    loop {
+        match next_option(rest, given) {
+            Next::Option(taken) => {
+                given = taken.given;
+                fails = with_failure(fails, taken.fail);
+                rest = &rest[taken.words as usize..];
+                place += taken.words;
+            }
+            Next::File => return file_of(rest, place, given, fails),
+            Next::WrongValue => return Err(wrong_at(place + 1)),
+        }
     }
 }
 
-/// What is given with an option without a number that isn't given yet.
-fn flagged_with(word: &str, given: Given) -> Option<Given>
-    ensures given { IfSome result (Flags given word.now) }
-    ensures none { IfNone result ((h : Given) → ¬ Flags given word.now h) }
-{
-    match word {
-        "--trace" if !given.trace => Some(Given {
-            trace: true,
-            ..given
-        }),
-        _ => None,
-    }
-}
-
-/// What is given with an option's number.
-fn given_with(key: Key, word: &str, given: Given) -> Option<Given>
-    ensures given { IfSome result (Gives given key word.now) }
-    ensures none { IfNone result ((h : Given) → ¬ Gives given key word.now h) }
-{
-    match key {
-        Key::Images => Some(Given {
-            images: Some(number_between(word, 1, IMAGES)?),
-            ..given
-        }),
-        Key::Order => Some(Given {
-            order: Some(number_between(word, 0, GREATEST_SEED)?),
-            ..given
-        }),
-    }
-}
-
-/// The command of words from a place on, behind `run` and the options that are given so far.
-fn options_of(words: &[String], place: u32, given: Given) -> Result<Command, Refusal<Usage>>
-    requires { place + length words.now < 4294967295 }
-    ensures means { IfOk result (RunsFrom given (words_in words.now) (place + length words.now)) }
-    ensures refused { IfErr result (IsRefusedFrom (Rests given) (words_in words.now) place) }
-{
-    let [first, behind @ ..] = words else {
-        return Err(wrong_at(place));
-    };
-    let word = first.as_str();
-    if let Some(next) = flagged_with(word, given) {
-        return options_of(behind, place + 1, next);
-    }
-    let Some(key) = next_key(word, given) else {
-        return file_of(words, place, given);
-    };
-    let [second, rest @ ..] = behind else {
-        return Err(wrong_at(place + 1));
-    };
-    let Some(next) = given_with(key, second.as_str(), given) else {
-        return Err(wrong_at(place + 1));
-    };
-    options_of(rest, place + 2, next)
-}
-
-/// What a run is told by its options, in the order of a seed.
-fn told(given: Given, seed: u32) -> Options
-    ensures { result ≡ spec.told given seed }
-{
-    let images = match given.images {
-        Some(n) => n,
-        None => DEFAULT_IMAGES,
-    };
-    Options {
-        images,
-        way: Way::Order(seed),
-        trace: given.trace,
-    }
-}
-
-/// The command whose file's name stands at a place, behind all options.
-fn file_of(words: &[String], place: u32, given: Given) -> Result<Command, Refusal<Usage>>
+/// The command whose file's name stands at a place, behind all options; these failures are named, if there was memory for them.
+fn file_of(
+    words: &[String],
+    place: u32,
+    given: Given,
+    fails: Option<Listing<FailAt>>,
+) -> Result<Command, Refusal<Usage>>
     requires few { place + length words.now < 4294967295 }
-    requires no_option { IsFirst (words_in words.now) (IsNoOption given) }
-    ensures means { IfOk result (RunsFrom given (words_in words.now) (place + length words.now)) }
-    ensures refused { IfErr result (IsRefusedFrom (Rests given) (words_in words.now) place) }
+    requires no_option { BeginsNoOption given (words_in words.now) }
+    ensures means { IfOk result (EndsRun given (words_in words.now) (place + length words.now) fails) }
+    ensures refused { IfErr result (IsMisread (Rests given) (λ rest. (fails ≡ None) × Rests given rest) (words_in words.now) place) }
 {
     let Some(seed) = given.order else {
         return Err(wrong_at(place));
     };
-    match file_alone(words, place) {
-        Ok(word) => Ok(Command::Run {
+    let word = match file_alone(words, place) {
+        Ok(word) => word,
+        Err(refusal) => return Err(refusal),
+    };
+    match fails {
+        Some(fails) => Ok(Command::Run {
             input: Input::File { word },
-            options: told(given, seed),
+            fails,
+            options: given.told(seed),
         }),
-        Err(refusal) => Err(refusal),
+        None => Err(Refusal::NoMemory),
     }
 }
 
-/// The command of words from a place on, behind `check`.
-fn check_of(words: &[String], place: u32) -> Result<Command, Refusal<Usage>>
-    requires { place + length words.now < 4294967295 }
-    ensures means { IfOk result (ChecksFrom (words_in words.now) (place + length words.now)) }
-    ensures refused { IfErr result (IsRefusedFrom FileAlone (words_in words.now) place) }
+/// The command of words behind `check`.
+fn check_of(words: &[String]) -> Result<Command, Refusal<Usage>>
+    requires { 1 + length words.now < 4294967295 }
+    ensures means { IfOk result (ChecksFrom (words_in words.now) (1 + length words.now)) }
+    ensures refused { IfErr result (IsRefusedFrom FileAlone (words_in words.now) 1) }
 {
-    match file_alone(words, place) {
+    match file_alone(words, 1) {
         Ok(word) => Ok(Command::Check { word }),
         Err(refusal) => Err(refusal),
     }

@@ -1,5 +1,5 @@
 -- What tables that are fit have.
-use Rattle.std.proofs.Common.{◌≡◌, ◌∙◌, ℕ, ◌+◌, ◌^◌, ◌<◌, ◌≤◌, ℤ, pos, ◌+ℤ◌, ◌-ℤ◌, ◌≤ℤ◌, Bool, true, false, ◌&&◌, ◌||◌, List, [], ◌∷◌, map, length, refl, sym, arith}
+use Rattle.std.proofs.Common.{◌≡◌, ◌∙◌, ℕ, ◌+◌, ◌≤◌, ℤ, pos, ◌+ℤ◌, ◌-ℤ◌, ◌≤ℤ◌, Bool, true, false, ◌&&◌, ◌||◌, List, [], ◌∷◌, map, length, refl, sym, arith}
 use Rattle.std.specs.Prelude.{FitsSigned, int_le, nat_le, sum_by}
 use Rattle.std.specs.Int.{w32}
 use Rattle.std.proofs.lemmas.Bool.Decides.{nat_tests}
@@ -70,7 +70,7 @@ few_cells n (c ∷ cs) g h =
 pub few_where_fit : (cs : List Coarray) (b : Bool) → b ≡ are_fit 0 cs → b ≡ true → AreFew cs
 few_where_fit cs b e h = are_few 0 cs (sym e ∙ h)
 
-pub cells_where_fit : (cs : List Coarray) (b : Bool) → b ≡ are_fit 0 cs → b ≡ true → sum_by own_size (map first_own cs) < 2 ^ 64
+pub cells_where_fit : (cs : List Coarray) (b : Bool) → b ≡ are_fit 0 cs → b ≡ true → sum_by own_size (map first_own cs) ≤ 65536
 cells_where_fit cs b e h =
     let g : 0 ≤ most_cells = omega arith in
     let n : 0 + sum_by own_size (map first_own cs) ≤ most_cells = few_cells 0 cs g (sym e ∙ h) in

@@ -106,7 +106,7 @@ fn fit_together(tables: &[Coarray]) -> bool
 pub fn are_fit(tables: &[Coarray]) -> bool
     ensures value { result ≡ are_fit 0 tables.now }
     ensures few { IsTrue result → AreFew tables.now }
-    ensures cells { IsTrue result → sum_by own_size (map first_own tables.now) < 2 ^ 64 }
+    ensures cells { IsTrue result → sum_by own_size (map first_own tables.now) ≤ 65536 }
 {
     fit_together(tables)
 }

@@ -17,6 +17,8 @@ use Rattle.image_code.specs.declared.tables.FirstArray.{FirstArray}
 use Rattle.image_code.specs.declared.tables.MainFrame.{MainFrame}
 use Rattle.image_code.specs.declared.tables.Tables.{Tables}
 use Rattle.team_tables.specs.Tables as state
+use Rattle.local_arrays.specs.Frames as local
+use Rattle.coarray_tables.specs.Start as owns
 use Rattle.image_machine.specs.Start as machine
 use Rattle.tree_meaning.specs.Forms.{bodies}
 use Rattle.tree_meaning.specs.Start as tree
@@ -24,17 +26,17 @@ use Rattle.program_tables.specs.Tables.{array_kept, frame_kept, own_kept, tables
 use Rattle.program_tables.proofs.Kept.{frame_same, owns_are}
 use Rattle.made_code.proofs.Made.{walks}
 
-arrays_same : (xs : List (Option FirstArray)) → map machine.first_array xs ≡ map array_kept xs
+arrays_same : (xs : List (Option FirstArray)) → map local.first_array xs ≡ map array_kept xs
 arrays_same [] = refl
 arrays_same (None ∷ xs) = ap (λ ys. None ∷ ys) (arrays_same xs)
 arrays_same (Some x ∷ xs) = ap (λ ys. Some (record { bounds = x.bounds; elements = x.elements }) ∷ ys) (arrays_same xs)
 
-sizes_from : (n : ℕ) (os : List (Option Own)) → fold (λ m o. m + machine.own_size o) n os ≡ fold (λ m o. m + tree.own_size o) n os
+sizes_from : (n : ℕ) (os : List (Option Own)) → fold (λ m o. m + owns.own_size o) n os ≡ fold (λ m o. m + tree.own_size o) n os
 sizes_from n [] = refl
 sizes_from n (None ∷ os) = sizes_from (n + 0) os
-sizes_from n (Some o ∷ os) = sizes_from (n + machine.own_size (Some o)) os
+sizes_from n (Some o ∷ os) = sizes_from (n + owns.own_size (Some o)) os
 
-sizes_same : (os : List (Option Own)) → sum_by machine.own_size os ≡ tree.own_sizes os
+sizes_same : (os : List (Option Own)) → sum_by owns.own_size os ≡ tree.own_sizes os
 sizes_same os = sizes_from 0 os
 
 images_same : (i n : ℕ) → state.images_from i n ≡ tree.images_from i n
@@ -64,18 +66,18 @@ begun f os cells need t me images = record {
 
 -- the core that tables say
 abbrev core_in : Tables → (me images : ℕ) → Core
-core_in t me images = begun (machine.first_frame t.main) (map machine.first_own t.coarrays) (sum_by machine.own_size (map machine.first_own t.coarrays)) t.main.need (state.initial_team images) me images
+core_in t me images = begun (machine.first_frame t.main) (map owns.first_own t.coarrays) (sum_by owns.own_size (map owns.first_own t.coarrays)) t.main.need (state.initial_team images) me images
 
 tables_start : (p : s.Program) (me images : ℕ) → core_in (tables_of p) me images ≡ tree.first_core p me images
 tables_start p me images =
     let m = (tables_of p).main in
     let f : machine.first_frame m ≡ tree.first_frame p = ap (λ xs. record { cells = m.cells; arrays = xs; base = 0; need = m.need }) (arrays_same m.arrays) ∙ frame_same p in
-    let os = map machine.first_own (tables_of p).coarrays in
+    let os = map owns.first_own (tables_of p).coarrays in
     let o : os ≡ tree.own_coarrays p = owns_are p in
-    let n : sum_by machine.own_size os ≡ tree.own_sizes (tree.own_coarrays p) = sizes_same os ∙ ap tree.own_sizes o in
+    let n : sum_by owns.own_size os ≡ tree.own_sizes (tree.own_coarrays p) = sizes_same os ∙ ap tree.own_sizes o in
     let t : state.initial_team images ≡ tree.initial_team images = ap (λ is. record { team = 1; parent = 0; round = 0; number = (tree.initial_team images).number; members = is }) (images_same 1 images) in
-    ap (λ x. begun x os (sum_by machine.own_size os) m.need (state.initial_team images) me images) f
-    ∙ ap (λ x. begun (tree.first_frame p) x (sum_by machine.own_size os) m.need (state.initial_team images) me images) o
+    ap (λ x. begun x os (sum_by owns.own_size os) m.need (state.initial_team images) me images) f
+    ∙ ap (λ x. begun (tree.first_frame p) x (sum_by owns.own_size os) m.need (state.initial_team images) me images) o
     ∙ ap (λ x. begun (tree.first_frame p) (tree.own_coarrays p) x m.need (state.initial_team images) me images) n
     ∙ ap (λ x. begun (tree.first_frame p) (tree.own_coarrays p) (tree.own_sizes (tree.own_coarrays p)) m.need x me images) t
 

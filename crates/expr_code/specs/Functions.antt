@@ -1,16 +1,17 @@
 -- The intrinsic functions, and bounds, as their code is made.
-use Rattle.std.specs.Prelude.{ℕ, Bool, true, false, List, [], ◌∷◌}
+use Rattle.std.specs.Prelude.{ℕ, Bool, true, false, [], ◌∷◌}
 use Rattle.walk_theory.specs.Syntax.{Parts}
+use Rattle.caf_base.specs.declared.value.Kind.{Kind}
 use Rattle.checked_tree.specs.declared.data.Object.{Object}
 use Rattle.checked_tree.specs.declared.data.Object.TheVariants as objects
-use Rattle.checked_tree.specs.declared.expr.WrittenOrder.{WrittenOrder}
 use Rattle.checked_tree.specs.Expressions as t
 use Rattle.image_acts.specs.Places.{place_size}
 use Rattle.image_acts.specs.Acts as a
-use Rattle.image_acts.specs.Acts.{Act, Scope, variable, bounded, selector}
-use Rattle.tree_meaning.specs.Environment.{Environment, scope_of}
+use Rattle.image_acts.specs.Acts.{Act, Scope, stack, variable, bounded, selector}
+use Rattle.tree_meaning.specs.Environment.{Environment, kind_of, scope_of, constant_place, procedure_in}
 use Rattle.tree_meaning.specs.Sequences.{◌▸◌, doing, nothing, dropping, copying}
-use Rattle.tree_meaning.specs.Expressions.{expression, bounds_of, beside_as_written, owner, optional_size, taking_cells}
+use Rattle.tree_meaning.specs.Expressions.{expression, intrinsic, items, subscripts, form_of, owner, optional_size, taking_cells}
+use Rattle.expr_code.specs.Calls.{called}
 use Rattle.expr_code.specs.declared.function.Extreme.{Extreme}
 use Rattle.expr_code.specs.declared.function.Extreme.TheVariants as extremes
 
@@ -43,12 +44,12 @@ selected_bounds rank stat = dropping 1 ▸ doing (bounded (a.section_bounds rank
 abbrev pub place_and_value : Scope → (array form rank : ℕ) → Parts Act
 place_and_value s x form rank = doing (bounded (a.section s x form) ∷ []) ▸ copying 0 (place_size rank) ▸ doing (variable (a.load s x rank) ∷ []) ▸ taking_cells rank
 
-module _ (e : Environment) where
-  -- SIZE
-  abbrev pub size_of_array : t.Expression → t.OptionalExpression → WrittenOrder → Parts Act
-  size_of_array x t.missing o = bounds_of e x ▸ doing (bounded a.size ∷ [])
-  size_of_array x (t.given d) o = beside_as_written o (bounds_of e x) (expression e d) ▸ doing (bounded a.extent ∷ [])
+-- SIZE by the bounds on top, and the dimension above them where there is one
+abbrev pub extent_by : t.OptionalExpression → Parts Act
+extent_by t.missing = doing (bounded a.size ∷ [])
+extent_by (t.given d) = doing (bounded a.extent ∷ [])
 
+module _ (e : Environment) where
   -- GET_TEAM
   abbrev pub team_of_level : t.OptionalExpression → Parts Act
   team_of_level t.missing = doing (selector a.this_team ∷ [])
@@ -63,3 +64,22 @@ module _ (e : Environment) where
   abbrev pub coarray_bounds : Bool → (c form rank : ℕ) → t.Selector → Parts Act
   coarray_bounds true c form rank sel = doing (bounded (a.co_bounds c) ∷ [])
   coarray_bounds false c form rank sel = doing (bounded (a.co_section c form) ∷ []) ▸ section_bounds_of c rank sel
+
+  -- the bounds of a variable, a constant array or a part of one: its subscripts, and then the bounds of what they select
+  abbrev pub bounds_of_designator : t.Designator → ℕ → Parts Act
+  bounds_of_designator (t.part (objects.Local v) ss sel) rank = subscripts e ss ▸ local_bounds (is_whole ss) (scope_of v.home) v.variable (form_of ss rank) rank
+  bounds_of_designator (t.part (objects.Constant n) ss sel) rank = subscripts e ss ▸ local_bounds (is_whole ss) e.main (constant_place e n) (form_of ss rank) rank
+  bounds_of_designator (t.part (objects.Coarray c) ss sel) rank = subscripts e ss ▸ coarray_bounds (is_whole ss) c (form_of ss rank) rank sel
+
+  -- the bounds of an array, by its form, its kind and its rank; of a value they are known once it is there
+  abbrev pub bounds_of_form : t.Form → Kind → ℕ → Parts Act
+  bounds_of_form (t.designator d) k rank = bounds_of_designator d rank
+  bounds_of_form (t.call n es) k rank = called e n (procedure_in e n) es ▸ doing (bounded a.value_bounds ∷ [])
+  bounds_of_form (t.intrinsic i) k rank = intrinsic e i k ▸ doing (bounded a.value_bounds ∷ [])
+  bounds_of_form (t.parenthesized x) k rank = expression e x ▸ doing (bounded a.value_bounds ∷ [])
+  bounds_of_form (t.array_constructor es) k rank = doing (stack a.empty_array ∷ []) ▸ items e es ▸ doing (bounded a.value_bounds ∷ [])
+  bounds_of_form f k rank = nothing
+
+  -- the bounds of an array
+  abbrev pub bounds_of_array : t.Expression → Parts Act
+  bounds_of_array (t.typed f type rank) = bounds_of_form f (kind_of type) rank

@@ -8,15 +8,15 @@ ghost use Rattle.tree_meaning.specs.Expressions as meaning;
 ghost use Rattle.expr_code.specs.Calls.{called};
 ghost use Rattle.expr_code.specs.Drafts.{written};
 ghost use Rattle.expr_code.specs.Environments.{environment};
-ghost use Rattle.expr_code.specs.Functions.{extreme_act};
+ghost use Rattle.expr_code.specs.Functions.{bounds_of_array, bounds_of_designator, bounds_of_form, extreme_act, section_bounds_of, team_of_level};
 ghost use Rattle.expr_code.specs.Pieces.{arithmetic_operators, logic_operators};
 
 use crate::call::{push_calling, push_calling_none, rank_in};
 use crate::draft::Draft;
 use crate::env::Env;
 use crate::function::{
-    Extreme, push_extreme, push_failed, push_huge, push_is_there, push_place_and_value,
-    push_stopped,
+    Extreme, is_whole, push_extent, push_extreme, push_failed, push_huge, push_is_there,
+    push_local_bounds, push_place_and_value, push_selected_bounds, push_stopped,
 };
 use crate::piece::{
     kind_of, optional_size, push_access, push_arithmetic, push_item, push_local_value, push_logic,
@@ -35,7 +35,6 @@ use image_code::step::{AskStep, Step};
 use std::alloc::Global;
 
 /// Appends the code of an expression: it leaves a number, or an array with its evaluation cells. After want of memory nothing is said of the draft.
-/// SIZE, LBOUND, UBOUND and GET_TEAM with a level aren't built yet: an expression with one of them is want of memory.
 #[cycle(expression)]
 #[tactic(auto, using(crate::proofs::Forms::laws))]
 pub fn push_expr(
@@ -428,7 +427,155 @@ fn push_team_of(
     }
 }
 
-// The intrinsic functions (16.9); the result is of this kind. SIZE, LBOUND, UBOUND and GET_TEAM of a level aren't made yet: there is no memory for them.
+// GET_TEAM: the current team where the level is missing.
+#[cycle(expression)]
+#[tactic(auto, using(crate::proofs::Forms::laws))]
+fn push_team_of_level(
+    draft: &mut Draft,
+    env: &Env<'_>,
+    level: &Option<Box<TypedExpr>>,
+    line: u32,
+) -> Result<(), NoMemory>
+    ensures { OnOk result (draft.new ≡ written line (team_of_level (environment env.now) (view.optional_expression level.now)) draft.old) }
+{
+    match level {
+        Some(level) => {
+            push_expr(draft, env, level, line)?;
+            draft.push(Step::GetTeam, line)
+        }
+        None => draft.push(Step::ThisTeam, line),
+    }
+}
+
+// The bounds of an array. Of a variable or a part of one nothing is read.
+#[cycle(expression)]
+#[tactic(auto, using(crate::proofs::Functions::laws))]
+fn push_bounds(
+    draft: &mut Draft,
+    env: &Env<'_>,
+    array: &TypedExpr,
+    line: u32,
+) -> Result<(), NoMemory>
+    ensures { OnOk result (draft.new ≡ written line (bounds_of_array (environment env.now) (view.expression array.now)) draft.old) }
+{
+    push_form_bounds(
+        draft,
+        env,
+        &array.form,
+        kind_of(array.of_type),
+        array.rank,
+        line,
+    )
+}
+
+// The same of an array by its form, its kind and its rank.
+#[cycle(expression)]
+#[tactic(auto, using(crate::proofs::Functions::laws))]
+fn push_form_bounds(
+    draft: &mut Draft,
+    env: &Env<'_>,
+    form: &ExprForm,
+    kind: Kind,
+    rank: u32,
+    line: u32,
+) -> Result<(), NoMemory>
+    ensures { OnOk result (draft.new ≡ written line (bounds_of_form (environment env.now) (view.form form.now) kind rank) draft.old) }
+{
+    match form {
+        ExprForm::Designator(designator) => push_part_bounds(draft, env, designator, rank, line),
+        ExprForm::Call {
+            procedure,
+            arguments,
+        } => {
+            push_call(draft, env, *procedure, arguments, line)?;
+            draft.push(Step::ValueBounds, line)
+        }
+        ExprForm::Intrinsic(intrinsic) => {
+            push_intrinsic(draft, env, intrinsic, kind, line)?;
+            draft.push(Step::ValueBounds, line)
+        }
+        ExprForm::Parenthesized(inner) => {
+            push_expr(draft, env, inner, line)?;
+            draft.push(Step::ValueBounds, line)
+        }
+        ExprForm::ArrayConstructor(values) => {
+            draft.push(Step::EmptyArray, line)?;
+            push_items(draft, env, values, line)?;
+            draft.push(Step::ValueBounds, line)
+        }
+        ExprForm::Number(_) => Ok(()),
+        ExprForm::Logical(_) => Ok(()),
+        ExprForm::Plus(_) => Ok(()),
+        ExprForm::Minus(_) => Ok(()),
+        ExprForm::Not(_) => Ok(()),
+        ExprForm::Arithmetic { .. } => Ok(()),
+        ExprForm::Relation { .. } => Ok(()),
+        ExprForm::Logic { .. } => Ok(()),
+    }
+}
+
+// The bounds of a variable, a constant array, or a part of one.
+#[cycle(expression)]
+#[tactic(auto, using(crate::proofs::Functions::laws))]
+fn push_part_bounds(
+    draft: &mut Draft,
+    env: &Env<'_>,
+    designator: &Designator,
+    rank: u32,
+    line: u32,
+) -> Result<(), NoMemory>
+    ensures { OnOk result (draft.new ≡ written line (bounds_of_designator (environment env.now) (view.designator designator.now) rank) draft.old) }
+{
+    let whole = is_whole(&designator.subscripts);
+    let form = form_of(&designator.subscripts, rank)?;
+    match designator.object {
+        Object::Local(local) => {
+            let scope = scope_of(local.home);
+            push_subscripts(draft, env, &designator.subscripts, line)?;
+            push_local_bounds(draft, whole, scope, local.variable, form, rank, line)
+        }
+        Object::Constant(constant) => {
+            let place = env.constant_place(constant)?;
+            push_subscripts(draft, env, &designator.subscripts, line)?;
+            push_local_bounds(draft, whole, env.main(), place, form, rank, line)
+        }
+        Object::Coarray(coarray) => {
+            push_subscripts(draft, env, &designator.subscripts, line)?;
+            if whole {
+                return draft.push(Step::CoBounds(coarray), line);
+            }
+            draft.push(Step::CoSection(coarray, form), line)?;
+            push_section_bounds(draft, env, coarray, rank, &designator.selector, line)
+        }
+    }
+}
+
+// The bounds of the section of a coarray whose place is on top.
+#[cycle(expression)]
+#[tactic(auto, using(crate::proofs::Functions::laws))]
+fn push_section_bounds(
+    draft: &mut Draft,
+    env: &Env<'_>,
+    coarray: u32,
+    rank: u32,
+    selector: &Option<Selector>,
+    line: u32,
+) -> Result<(), NoMemory>
+    ensures { OnOk result (draft.new ≡ written line (section_bounds_of (environment env.now) coarray rank (view.maybe_selector selector.now)) draft.old) }
+{
+    match selector {
+        Some(selector) => {
+            push_selected(draft, env, coarray, rank, selector, line)?;
+            push_selected_bounds(draft, rank, optional_size(&selector.stat), line)
+        }
+        None => {
+            draft.push(Step::NeedsOwn(coarray), line)?;
+            draft.push(Step::SectionBounds(rank), line)
+        }
+    }
+}
+
+// The intrinsic functions (16.9); the result is of this kind.
 #[cycle(expression)]
 #[tactic(auto, using(crate::proofs::Functions::laws))]
 fn push_intrinsic(
@@ -482,9 +629,42 @@ fn push_intrinsic(
             push_expr(draft, env, a, line)?;
             draft.push(Step::Fits(kind, 0), line)
         }
-        Intrinsic::Size { .. } => Err(NoMemory),
-        Intrinsic::Lbound { .. } => Err(NoMemory),
-        Intrinsic::Ubound { .. } => Err(NoMemory),
+        Intrinsic::Size { array, dim, order } => match order {
+            WrittenOrder::Same => {
+                push_bounds(draft, env, array, line)?;
+                push_optional(draft, env, dim, line)?;
+                push_extent(draft, dim, line)
+            }
+            WrittenOrder::Reversed => {
+                push_optional(draft, env, dim, line)?;
+                push_bounds(draft, env, array, line)?;
+                push_extent(draft, dim, line)
+            }
+        },
+        Intrinsic::Lbound { array, dim, order } => match order {
+            WrittenOrder::Same => {
+                push_bounds(draft, env, array, line)?;
+                push_expr(draft, env, dim, line)?;
+                draft.push(Step::LowerBound, line)
+            }
+            WrittenOrder::Reversed => {
+                push_expr(draft, env, dim, line)?;
+                push_bounds(draft, env, array, line)?;
+                draft.push(Step::LowerBound, line)
+            }
+        },
+        Intrinsic::Ubound { array, dim, order } => match order {
+            WrittenOrder::Same => {
+                push_bounds(draft, env, array, line)?;
+                push_expr(draft, env, dim, line)?;
+                draft.push(Step::UpperBound, line)
+            }
+            WrittenOrder::Reversed => {
+                push_expr(draft, env, dim, line)?;
+                push_bounds(draft, env, array, line)?;
+                draft.push(Step::UpperBound, line)
+            }
+        },
         Intrinsic::Allocated { variable } => push_is_there(draft, *variable, line),
         Intrinsic::ThisImage { team } => {
             push_team_of(draft, env, team, line)?;
@@ -565,10 +745,7 @@ fn push_intrinsic(
             push_team_of(draft, env, team, line)?;
             draft.push(Step::TeamNumber, line)
         }
-        Intrinsic::GetTeam { level } => match level {
-            None => draft.push(Step::ThisTeam, line),
-            Some(_) => Err(NoMemory),
-        },
+        Intrinsic::GetTeam { level } => push_team_of_level(draft, env, level, line),
     }
 }
 

@@ -16,7 +16,7 @@ use crate::shape::place_size;
 use caf_base::refusal::NoMemory;
 use caf_base::value::Kind;
 use checked_tree::data::Object;
-use checked_tree::expr::Subscript;
+use checked_tree::expr::{Subscript, TypedExpr};
 use image_code::step::{AskStep, Scope, Step};
 
 /// MIN or MAX.
@@ -75,6 +75,20 @@ pub fn push_stopped(draft: &mut Draft, line: u32) -> Result<(), NoMemory>
 {
     draft.push(Step::Ask(AskStep::Stopped), line)?;
     draft.push(Step::TakeCells, line)
+}
+
+/// SIZE by the bounds on top: the size of the array, or its extent along the dimension above them.
+pub fn push_extent(
+    draft: &mut Draft,
+    dim: &Option<Box<TypedExpr>>,
+    line: u32,
+) -> Result<(), NoMemory>
+    ensures { OnOk result (draft.new ≡ written line (functions.extent_by (view.optional_expression dim.now)) draft.old) }
+{
+    match dim {
+        Some(_) => draft.push(Step::Extent, line),
+        None => draft.push(Step::Size, line),
+    }
 }
 
 /// Whether a designator with these subscripts is the whole object.

@@ -1,6 +1,6 @@
 -- The cells of a place are the subscript order values of the section's elements.
 use Rattle.std.proofs.Common.{◌≡◌, refl, ap, ap₂, sym, subst, ◌∙◌, arith, ℕ, zero, suc, ◌+◌, ◌-◌, ◌*◌, ◌==◌, Bool, true, false, ◌&&◌, ◌||◌, cond, ℤ, pos, negsuc, neg_ℤ, ◌+ℤ◌, ◌-ℤ◌, ◌*ℤ◌, ◌≤ℤ◌, List, [], ◌∷◌, map, length, All, ◌⊎◌, inl, inr}
-use Rattle.std.specs.Prelude.{int_le, nat_le, unwrap_or}
+use Rattle.std.specs.Prelude.{int_le, nat_le, nat_lt, unwrap_or}
 use Rattle.std.proofs.lemmas.Bool.{leb-true}
 use Rattle.std.specs.Ordering.{int_eq}
 use Rattle.std.specs.Int.Signed.{le_z_yes}
@@ -14,7 +14,8 @@ use Rattle.coarray_types.specs.Places.{extent_of, AllWithin, subscript_order}
 use Rattle.coarray_types.specs.Sections.{Triplet, firsts_of, crossed, elements_of, with_dim, dims_of}
 use Rattle.coarray_types.proofs.SectionLemmas.{section_places}
 use Rattle.walk_theory.specs.Terms.{Found, found, at_fault, with_found}
-use Rattle.image_acts.specs.Places.{apart_by, Subscript, single, triplet, Dimension, Place, dimension, dimensions, start_of, steps_of, place_of, offsets}
+use Rattle.image_acts.specs.Faults.{room}
+use Rattle.image_acts.specs.Places.{apart_by, Subscript, single, triplet, Dimension, Place, dimension, dimensions, start_of, steps_of, spread_of, place_of, place_within, offsets}
 use Rattle.image_acts.specs.Sections.{triplet_of, triplets_of}
 use Rattle.image_acts.proofs.Images.{left_one, right_one}
 
@@ -240,10 +241,19 @@ cells_in_order bs ss ds q a =
     ∙ (begun bs ss (starts bs ss d.1) ∙ section_places bs (triplets_of bs ss) (triplets_many bs ss q) (all_within bs ss q d.1)))
 
 -- a place has the section's elements, in their order
-pub section_in_order : (bs : List (ℤ × ℤ)) (ss : List Subscript) (p : Place) → length ss ≡ length bs → place_of bs ss ≡ found p
+section_in_order : (bs : List (ℤ × ℤ)) (ss : List Subscript) (p : Place) → length ss ≡ length bs → place_of bs ss ≡ found p
     → All (AllWithin bs) (elements_of (triplets_of bs ss)) × (offsets p ≡ map (λ subs. pos (subscript_order bs subs)) (elements_of (triplets_of bs ss)))
 section_in_order bs ss p q e = go (dimensions bs ss) refl e where
   go : (x : Found (List Dimension)) → dimensions bs ss ≡ x → with_found x (λ ds. found (placed bs ds)) ≡ found p
       → All (AllWithin bs) (elements_of (triplets_of bs ss)) × (offsets p ≡ map (λ subs. pos (subscript_order bs subs)) (elements_of (triplets_of bs ss)))
   go (found ds) a h = let same : p ≡ placed bs ds = cc in (all_within bs ss q (dims_found bs ss ds a).1, ap offsets same ∙ cells_in_order bs ss ds q a)
   go (at_fault k) a h = cc
+
+-- so has one whose numbers are of 64 bits
+kept_in : (t : Bool) (x : Found Place) (p : Place) (k : ℕ) → cond t x (at_fault k) ≡ found p → x ≡ found p
+kept_in true x p k e = e
+kept_in false x p k e = cc
+
+pub within_in_order : (bs : List (ℤ × ℤ)) (ss : List Subscript) (p : Place) → length ss ≡ length bs → place_within bs ss ≡ found p
+    → All (AllWithin bs) (elements_of (triplets_of bs ss)) × (offsets p ≡ map (λ subs. pos (subscript_order bs subs)) (elements_of (triplets_of bs ss)))
+within_in_order bs ss p q e = section_in_order bs ss p q (kept_in (nat_lt (spread_of bs) 9223372036854775808) (place_of bs ss) p room e)

@@ -39,9 +39,10 @@ most_teams = 32768
 abbrev pub most_items : ℕ
 most_items = 131072
 
--- the most elements of the array values that are being evaluated: as many are counted at most, and one reply isn't counted yet
+-- The most elements of the array values that are being evaluated: 65,536 are counted at most; a return, a load or a reply puts down as many before they are counted, one of
+-- them at a time; six bounds stand for each of 64 levels in 257 bodies (98,688), and the 64 images of a SYNC IMAGES (*) in each of these (16,448), with a reply's 257 more.
 abbrev pub most_elements : ℕ
-most_elements = 131072
+most_elements = 262144
 
 -- the greatest iteration count that is kept: no run comes to it
 abbrev pub most_iterations : ℕ

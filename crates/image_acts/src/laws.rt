@@ -10,7 +10,7 @@ ghost use Rattle.walk_theory.specs.Terms.{found};
 ghost use Rattle.image_acts.specs.Acts.{team, make_current, leave_team};
 ghost use Rattle.image_acts.specs.Meaning.{operate};
 ghost use Rattle.image_acts.specs.Core.{Core, Own, pushed};
-ghost use Rattle.image_acts.specs.Places.{Subscript, Place, place_of, offsets};
+ghost use Rattle.image_acts.specs.Places.{Subscript, Place, place_within, offsets};
 ghost use Rattle.image_acts.specs.Sections.{triplets_of};
 ghost use Rattle.image_acts.specs.Teams.{index_of};
 
@@ -27,7 +27,7 @@ pub fn law_no_index_names_none()
 /// The cells of an element or section are those that the standard names (9.5.3.3), each within its bounds, at the places of their subscript order
 /// values (9.5.3.2, Table 9.1), in array element order.
 pub fn law_section_is_in_order()
-    ensures { (bs : List (ℤ × ℤ)) (ss : List Subscript) (p : Place) → length ss ≡ length bs → place_of bs ss ≡ found p
+    ensures { (bs : List (ℤ × ℤ)) (ss : List Subscript) (p : Place) → length ss ≡ length bs → place_within bs ss ≡ found p
         → All (AllWithin bs) (elements_of (triplets_of bs ss)) × (offsets p ≡ map (λ subs. pos (subscript_order bs subs)) (elements_of (triplets_of bs ss))) }
 {}
 

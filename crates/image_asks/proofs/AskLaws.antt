@@ -1,22 +1,21 @@
 -- What comes of asks and their replies.
 use Rattle.std.proofs.Common.{◌≡◌, ℕ, ◌<◌, ℤ, List, [], ◌∷◌, drop, length, refl, ap, sym, ◌∙◌, subst, arith}
 use Rattle.std.specs.Prelude.{Option, Some, None}
+use Rattle.caf_base.specs.declared.place.Place.{Place}
+use Rattle.caf_base.specs.declared.place.Place.TheVariants as places
 use Rattle.caf_events.specs.declared.reply.Reply.TheVariants as replies
 use Rattle.walk_theory.specs.Language.{asking, stuck}
 use Rattle.caf_events.specs.declared.ask.Ask.TheVariants as asks
 use Rattle.caf_events.specs.declared.reply.Reply.{Reply}
-use Rattle.caf_events.specs.declared.round.Arriving.TheVariants as arrivals
 use Rattle.image_acts.specs.Core.{Core, with_values}
 use Rattle.image_acts.specs.Taking.{Acted, given}
-use Rattle.image_acts.specs.Replies.{arrival_reply, leave_reply, status_of}
+use Rattle.image_acts.specs.Replies.{leave_reply, status_of}
 use Rattle.image_acts.specs.Words.{word}
 use Rattle.image_code.specs.declared.step.AskStep.TheVariants as asked
 use Rattle.image_state.specs.Kept.{Kept}
 use Rattle.image_state.specs.Acting.{with_core}
-use Rattle.image_asks.specs.Asking.{ask_here, IsAsking, teams_heard, GoesOnWith}
-
-pub joined : (m e : Kept) (v : ℤ) (vs : List ℤ) (r : Reply) → m.core.values ≡ v ∷ vs → e ≡ with_core m (arrival_reply (with_values m.core vs) r) → GoesOnWith m (ask_here m asked.ArriveSync) r e
-joined m e v vs r h g = subst (λ ws. GoesOnWith m (elim ws [ [] ↦ stuck | y ∷ ys ↦ asking (asks.Arrive (record { 0 = word y }) arrivals.Sync) (arrival_reply (with_values m.core ys)) ]) r e) (sym h) g
+use Rattle.image_asks.specs.Asking.{ask_here, ComesTo, IsAsking, IsAskedAt, teams_heard, GoesOnWith}
+use Rattle.image_asks.specs.declared.asks.Asking.TheVariants as askings
 
 -- the status of a round, and its teams
 left_is : (c : Core) (r : Reply) → with_values (teams_heard c r) (status_of r ∷ drop 1 (teams_heard c r).values) ≡ leave_reply (with_values c (drop 1 c.values)) r
@@ -67,3 +66,19 @@ module _ (m e : Kept) (r : Reply) where
   departed i v q a f g =
       let k : e ≡ with_core m (leave_reply (with_values m.core (drop 1 m.core.values)) r) = g ∙ ap (λ (j : Kept). with_core j (with_values j.core (status_of r ∷ drop 1 j.core.values))) f ∙ ap (with_core m) (left_is m.core r) in
       subst (λ ws. IsAsking (leaving ws m.core.round) → GoesOnWith m (leaving ws m.core.round) r e) (sym q) (λ j. left_of v (drop 1 m.core.values) m.core.round j k) a
+
+  -- a departure where it may be made
+  left_not : (vs : List ℤ) (o : Option ℕ) → length vs < 1 → ComesTo (leaving vs o) askings.Stuck
+  left_not [] o h = refl
+  left_not (v ∷ vs) o h = absurd (omega arith)
+
+  left_placed : (p : Place) (vs : List ℤ) (o : Option ℕ) → IsAsking (leaving vs o) → p ≡ places.Board → IsAskedAt (leaving vs o) p
+  left_placed p [] o h e = absurd h
+  left_placed p (v ∷ vs) None h e = absurd h
+  left_placed p (v ∷ vs) (Some n) h e = e
+
+  pub leave_missing : length m.core.values < 1 → ComesTo (ask_here m asked.Leave) askings.Stuck
+  leave_missing h = left_not m.core.values m.core.round h
+
+  pub leave_placed : (p : Place) → IsAsking (ask_here m asked.Leave) → p ≡ places.Board → IsAskedAt (ask_here m asked.Leave) p
+  leave_placed p h e = left_placed p m.core.values m.core.round h e

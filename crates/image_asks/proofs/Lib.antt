@@ -1,2 +1,10 @@
-pub mod AskLaws
-pub mod TeamAsks
+mod AskLaws
+mod OperandLaws
+mod ReplyLaws
+mod TeamAsks
+mod AccessAsks
+mod CellAsks
+mod AllocationAsks
+mod CollectiveAsks
+mod EndAsks
+mod Dispatch

@@ -3,6 +3,7 @@ use Rattle.std.proofs.Common.{◌≡◌, ℕ, ◌<◌, ◌≤◌, ℤ, Bool, tru
 use Rattle.std.specs.Prelude.{Option}
 use Rattle.caf_base.specs.Arithmetic.{natural}
 use Rattle.caf_base.specs.declared.place.Place.{Place}
+use Rattle.caf_base.specs.declared.place.TeamNo.{TeamNo}
 use Rattle.caf_base.specs.declared.place.Place.TheVariants as places
 use Rattle.caf_events.specs.declared.ask.Ask.{Ask}
 use Rattle.caf_events.specs.declared.ask.Ask.TheVariants as asks
@@ -12,7 +13,7 @@ use Rattle.caf_events.specs.declared.round.Arriving.TheVariants as arrivals
 use Rattle.walk_theory.specs.Language.{asking, stuck}
 use Rattle.image_acts.specs.Core.{Core, with_values}
 use Rattle.image_acts.specs.Faults.{cobounds_fault}
-use Rattle.image_acts.specs.Replies.{arrival_reply, with_status, status_of}
+use Rattle.image_acts.specs.Replies.{arrival_reply, indices_reply, with_status, status_of}
 use Rattle.image_acts.specs.Taking.{Acted, unless}
 use Rattle.image_acts.specs.Teams.{members, is_index_of}
 use Rattle.image_acts.specs.Words.{word}
@@ -21,6 +22,7 @@ use Rattle.image_state.specs.Kept.{Kept}
 use Rattle.image_state.specs.Acting.{with_core}
 use Rattle.image_asks.specs.declared.asks.Asking.TheVariants as askings
 use Rattle.image_asks.specs.Asking.{ask_here, ComesTo, IsAsking, IsAsked, IsAskedAt, GoesOnWith}
+use Rattle.image_asks.specs.Operands.{number_beneath, team_of}
 
 pub joined_behind : (m i e : Kept) (n : ℕ) (o : Option ℕ) (r : Reply) → ((c : Core) → o ≡ (arrival_reply c r).round) → i ≡ with_core m (with_values m.core (drop n m.core.values)) → e ≡ with_core i (record i.core { round = o }) → e ≡ with_core m (arrival_reply (with_values m.core (drop n m.core.values)) r)
 joined_behind m i e n o r h f g = g ∙ ap (λ (k : Kept). with_core k (record k.core { round = o })) f ∙ ap (λ (p : Option ℕ). with_core m (record (with_values m.core (drop n m.core.values)) { round = p })) (h m.core)
@@ -34,9 +36,67 @@ module _ (m : Kept) (k : Arriving) where
   one_there [] h = absurd h
   one_there (t ∷ ts) h = omega arith
 
+  one_asked : (q : Ask) (ws : List ℤ) → IsAsking (one ws) → q ≡ asks.Arrive (team_of (number_beneath 0 ws)) k → IsAsked (one ws) q
+  one_asked q [] h e = absurd h
+  one_asked q (t ∷ ts) h e = e
+
+  one_placed : (p : Place) (ws : List ℤ) → IsAsking (one ws) → p ≡ places.Board → IsAskedAt (one ws) p
+  one_placed p [] h e = absurd h
+  one_placed p (t ∷ ts) h e = e
+
+  one_asks : (ws : List ℤ) → 1 ≤ length ws → ComesTo (one ws) askings.Asks
+  one_asks [] h = absurd (omega arith)
+  one_asks (t ∷ ts) h = refl
+
+  one_missing : (ws : List ℤ) → length ws < 1 → ComesTo (one ws) askings.Stuck
+  one_missing [] h = refl
+  one_missing (t ∷ ts) h = absurd (omega arith)
+
   one_joined : (e : Kept) (ws : List ℤ) (r : Reply) → IsAsking (one ws) → e ≡ with_core m (arrival_reply (with_values m.core (drop 1 ws)) r) → GoesOnWith m (one ws) r e
   one_joined e [] r h g = absurd h
   one_joined e (t ∷ ts) r h g = g
+
+pub sync_asked : (m : Kept) (q : Ask) → IsAsking (ask_here m asked.ArriveSync) → q ≡ asks.Arrive (team_of (number_beneath 0 m.core.values)) arrivals.Sync → IsAsked (ask_here m asked.ArriveSync) q
+sync_asked m q h e = one_asked m arrivals.Sync q m.core.values h e
+
+pub sync_placed : (m : Kept) (p : Place) → IsAsking (ask_here m asked.ArriveSync) → p ≡ places.Board → IsAskedAt (ask_here m asked.ArriveSync) p
+sync_placed m p h e = one_placed m arrivals.Sync p m.core.values h e
+
+pub sync_asks : (m : Kept) → 1 ≤ length m.core.values → ComesTo (ask_here m asked.ArriveSync) askings.Asks
+sync_asks m h = one_asks m arrivals.Sync m.core.values h
+
+pub sync_missing : (m : Kept) → length m.core.values < 1 → ComesTo (ask_here m asked.ArriveSync) askings.Stuck
+sync_missing m h = one_missing m arrivals.Sync m.core.values h
+
+pub sync_there : (m : Kept) → IsAsking (ask_here m asked.ArriveSync) → 1 ≤ length m.core.values
+sync_there m h = one_there m arrivals.Sync m.core.values h
+
+pub sync_joined : (m e : Kept) (r : Reply) → IsAsking (ask_here m asked.ArriveSync) → e ≡ with_core m (arrival_reply (with_values m.core (drop 1 m.core.values)) r) → GoesOnWith m (ask_here m asked.ArriveSync) r e
+sync_joined m e r h g = one_joined m arrivals.Sync e m.core.values r h g
+
+pub change_asked : (m : Kept) (q : Ask) → IsAsking (ask_here m asked.ArriveChange) → q ≡ asks.Arrive (team_of (number_beneath 0 m.core.values)) arrivals.Change → IsAsked (ask_here m asked.ArriveChange) q
+change_asked m q h e = one_asked m arrivals.Change q m.core.values h e
+
+pub change_placed : (m : Kept) (p : Place) → IsAsking (ask_here m asked.ArriveChange) → p ≡ places.Board → IsAskedAt (ask_here m asked.ArriveChange) p
+change_placed m p h e = one_placed m arrivals.Change p m.core.values h e
+
+pub change_asks : (m : Kept) → 1 ≤ length m.core.values → ComesTo (ask_here m asked.ArriveChange) askings.Asks
+change_asks m h = one_asks m arrivals.Change m.core.values h
+
+pub change_missing : (m : Kept) → length m.core.values < 1 → ComesTo (ask_here m asked.ArriveChange) askings.Stuck
+change_missing m h = one_missing m arrivals.Change m.core.values h
+
+pub end_asked : (m : Kept) (q : Ask) → IsAsking (ask_here m asked.ArriveEnd) → q ≡ asks.Arrive (team_of (number_beneath 0 m.core.values)) arrivals.End → IsAsked (ask_here m asked.ArriveEnd) q
+end_asked m q h e = one_asked m arrivals.End q m.core.values h e
+
+pub end_placed : (m : Kept) (p : Place) → IsAsking (ask_here m asked.ArriveEnd) → p ≡ places.Board → IsAskedAt (ask_here m asked.ArriveEnd) p
+end_placed m p h e = one_placed m arrivals.End p m.core.values h e
+
+pub end_asks : (m : Kept) → 1 ≤ length m.core.values → ComesTo (ask_here m asked.ArriveEnd) askings.Asks
+end_asks m h = one_asks m arrivals.End m.core.values h
+
+pub end_missing : (m : Kept) → length m.core.values < 1 → ComesTo (ask_here m asked.ArriveEnd) askings.Stuck
+end_missing m h = one_missing m arrivals.End m.core.values h
 
 pub change_there : (m : Kept) → IsAsking (ask_here m asked.ArriveChange) → 1 ≤ length m.core.values
 change_there m h = one_there m arrivals.Change m.core.values h
@@ -73,6 +133,18 @@ module _ (m : Kept) where
   placed_of (i ∷ n ∷ []) p e h = absurd h
   placed_of (i ∷ n ∷ t ∷ ts) p e h = e
 
+  made_of : (q : Ask) (ws : List ℤ) → IsAsking (form ws) → q ≡ asks.Arrive (team_of (number_beneath 2 ws)) (arrivals.Form (number_beneath 1 ws) (number_beneath 0 ws)) → IsAsked (form ws) q
+  made_of q [] h e = absurd h
+  made_of q (i ∷ []) h e = absurd h
+  made_of q (i ∷ n ∷ []) h e = absurd h
+  made_of q (i ∷ n ∷ t ∷ ts) h e = e
+
+  comes_of : (ws : List ℤ) → 3 ≤ length ws → ComesTo (form ws) askings.Asks
+  comes_of [] h = absurd (omega arith)
+  comes_of (i ∷ []) h = absurd (omega arith)
+  comes_of (i ∷ n ∷ []) h = absurd (omega arith)
+  comes_of (i ∷ n ∷ t ∷ ts) h = refl
+
   form_goes : (e : Kept) (ws : List ℤ) (r : Reply) → IsAsking (form ws) → e ≡ with_core m (arrival_reply (with_values m.core (drop 3 ws)) r) → GoesOnWith m (form ws) r e
   form_goes e [] r h g = absurd h
   form_goes e (i ∷ []) r h g = absurd h
@@ -82,17 +154,14 @@ module _ (m : Kept) where
   pub three_there : IsAsking (ask_here m asked.ArriveForm) → 3 ≤ length m.core.values
   three_there h = three_of m.core.values h
 
-  pub form_there : IsAsking (ask_here m asked.ArriveForm) → length m.core.values < 3 → ⊥
-  form_there h l = (let k = three_there h in absurd (omega arith))
-
   pub form_missing : length m.core.values < 3 → ComesTo (ask_here m asked.ArriveForm) askings.Stuck
   form_missing h = none_of m.core.values h
 
-  pub form_asks : (i n t : ℤ) → m.core.values ≡ i ∷ n ∷ t ∷ drop 3 m.core.values → ComesTo (ask_here m asked.ArriveForm) askings.Asks
-  form_asks i n t h = subst (λ ws. ComesTo (form ws) askings.Asks) (sym h) refl
+  pub form_asks : 3 ≤ length m.core.values → ComesTo (ask_here m asked.ArriveForm) askings.Asks
+  form_asks h = comes_of m.core.values h
 
-  pub form_asked : (i n t : ℤ) (q : Ask) → m.core.values ≡ i ∷ n ∷ t ∷ drop 3 m.core.values → q ≡ asks.Arrive (record { 0 = word t }) (arrivals.Form n i) → IsAsked (ask_here m asked.ArriveForm) q
-  form_asked i n t q h e = subst (λ ws. IsAsked (form ws) q) (sym h) e
+  pub form_made : (q : Ask) → IsAsking (ask_here m asked.ArriveForm) → q ≡ asks.Arrive (team_of (number_beneath 2 m.core.values)) (arrivals.Form (number_beneath 1 m.core.values) (number_beneath 0 m.core.values)) → IsAsked (ask_here m asked.ArriveForm) q
+  form_made q h e = made_of q m.core.values h e
 
   pub form_placed : (p : Place) → p ≡ places.Board → IsAsking (ask_here m asked.ArriveForm) → IsAskedAt (ask_here m asked.ArriveForm) p
   form_placed p e h = placed_of m.core.values p e h
@@ -163,3 +232,57 @@ module _ (m : Kept) where
 
   pub status_heard : (e : Kept) (r : Reply) → IsAsking (ask_here m asked.Status) → e ≡ with_core m (with_values m.core (status_of r ∷ drop 2 m.core.values)) → GoesOnWith m (ask_here m asked.Status) r e
   status_heard e r h g = heard_in e m.core.values r h g
+
+-- FAILED_IMAGES and STOPPED_IMAGES
+module _ (m : Kept) (f : TeamNo → Ask) where
+  abbrev list : List ℤ → Acted
+  list ws = elim ws [ [] ↦ stuck | t ∷ ts ↦ asking (f (team_of t)) (indices_reply (with_values m.core ts)) ]
+
+  list_there : (ws : List ℤ) → IsAsking (list ws) → 1 ≤ length ws
+  list_there [] h = absurd h
+  list_there (t ∷ ts) h = omega arith
+
+  list_is : (P : Acted → Type 0) (ws : List ℤ) → 1 ≤ length ws → P (asking (f (team_of (number_beneath 0 ws))) (indices_reply (with_values m.core (drop 1 ws)))) → P (list ws)
+  list_is P [] h p = absurd (omega arith)
+  list_is P (t ∷ ts) h p = p
+
+  list_missing : (ws : List ℤ) → length ws < 1 → ComesTo (list ws) askings.Stuck
+  list_missing [] h = refl
+  list_missing (t ∷ ts) h = absurd (omega arith)
+
+module _ (m : Kept) where
+  pub failed_there : IsAsking (ask_here m asked.Failed) → 1 ≤ length m.core.values
+  failed_there h = list_there m asks.Failed m.core.values h
+
+  pub failed_asks : 1 ≤ length m.core.values → ComesTo (ask_here m asked.Failed) askings.Asks
+  failed_asks h = list_is m asks.Failed (λ x. ComesTo x askings.Asks) m.core.values h refl
+
+  pub failed_missing : length m.core.values < 1 → ComesTo (ask_here m asked.Failed) askings.Stuck
+  failed_missing h = list_missing m asks.Failed m.core.values h
+
+  pub failed_placed : (p : Place) → IsAsking (ask_here m asked.Failed) → p ≡ places.Board → IsAskedAt (ask_here m asked.Failed) p
+  failed_placed p h e = list_is m asks.Failed (λ x. IsAskedAt x p) m.core.values (failed_there h) e
+
+  pub failed_asked : (q : Ask) → IsAsking (ask_here m asked.Failed) → q ≡ asks.Failed (team_of (number_beneath 0 m.core.values)) → IsAsked (ask_here m asked.Failed) q
+  failed_asked q h e = list_is m asks.Failed (λ x. IsAsked x q) m.core.values (failed_there h) e
+
+  pub failed_heard : (e : Kept) (r : Reply) → IsAsking (ask_here m asked.Failed) → e ≡ with_core m (indices_reply (with_values m.core (drop 1 m.core.values)) r) → GoesOnWith m (ask_here m asked.Failed) r e
+  failed_heard e r h g = list_is m asks.Failed (λ x. GoesOnWith m x r e) m.core.values (failed_there h) g
+
+  pub stopped_there : IsAsking (ask_here m asked.Stopped) → 1 ≤ length m.core.values
+  stopped_there h = list_there m asks.Stopped m.core.values h
+
+  pub stopped_asks : 1 ≤ length m.core.values → ComesTo (ask_here m asked.Stopped) askings.Asks
+  stopped_asks h = list_is m asks.Stopped (λ x. ComesTo x askings.Asks) m.core.values h refl
+
+  pub stopped_missing : length m.core.values < 1 → ComesTo (ask_here m asked.Stopped) askings.Stuck
+  stopped_missing h = list_missing m asks.Stopped m.core.values h
+
+  pub stopped_placed : (p : Place) → IsAsking (ask_here m asked.Stopped) → p ≡ places.Board → IsAskedAt (ask_here m asked.Stopped) p
+  stopped_placed p h e = list_is m asks.Stopped (λ x. IsAskedAt x p) m.core.values (stopped_there h) e
+
+  pub stopped_asked : (q : Ask) → IsAsking (ask_here m asked.Stopped) → q ≡ asks.Stopped (team_of (number_beneath 0 m.core.values)) → IsAsked (ask_here m asked.Stopped) q
+  stopped_asked q h e = list_is m asks.Stopped (λ x. IsAsked x q) m.core.values (stopped_there h) e
+
+  pub stopped_heard : (e : Kept) (r : Reply) → IsAsking (ask_here m asked.Stopped) → e ≡ with_core m (indices_reply (with_values m.core (drop 1 m.core.values)) r) → GoesOnWith m (ask_here m asked.Stopped) r e
+  stopped_heard e r h g = list_is m asks.Stopped (λ x. GoesOnWith m x r e) m.core.values (stopped_there h) g

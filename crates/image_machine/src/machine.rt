@@ -1,6 +1,6 @@
 //! The machine of an image, at its next ask or at its end.
 
-ghost use Rattle.std.specs.Prelude.{◌≡◌, ◌≤◌, ◌<◌, ◌*◌, [], ℕ, Some, length, slice_get, IfOk};
+ghost use Rattle.std.specs.Prelude.{◌≡◌, ◌≤◌, ◌<◌, ◌*◌, ◌^◌, ℕ, Some, length, map, slice_get, sum_by, IfOk};
 ghost use Rattle.std.specs.Arc.{arc_value};
 ghost use Rattle.trace_theory.specs.Machines.{go, goes, Rests};
 ghost use Rattle.caf_events.specs.Walkers.{IsAtAsk, AsksNext, NextIs};
@@ -9,7 +9,7 @@ ghost use Rattle.image_code.specs.declared.step.Step.{Step};
 ghost use Rattle.image_state.specs.Acting.{HasFrame};
 ghost use Rattle.image_state.specs.declared.state.Rooms.{Rooms};
 ghost use Rattle.image_machine.specs.Engine.{start_of, bare, kept_of};
-ghost use Rattle.image_machine.specs.Start.{HasNoArrays};
+ghost use Rattle.coarray_tables.specs.Start.{AreFew, first_own, own_size};
 ghost use Rattle.image_machine.specs.Walk.{ArePlain, HasRoom, IsWell, machine_step, Stood, Answered};
 ghost use Rattle.image_state.specs.Kept.{table_of};
 ghost use Rattle.team_tables.specs.Tables as teams;
@@ -49,8 +49,8 @@ impl Model for Machine {
 }
 
 impl Machine {
-    /// Image `me` of so many at the first ask of its code, which may count so many statements. Its stack and its frames are made whole here. So far the code is plain and
-    /// has no coarrays and no variables that are arrays.
+    /// Image `me` of so many at the first ask of its code, which may count so many statements. Its stack, its frames and all cells are made whole here. Conditions: the code's
+    /// kinds and ranks are such as made code has, and so are its static coarrays (`AreFew`), which have 65,536 cells at most.
     #[tactic(auto, using(crate::proofs::Bare::bare_rests))]
     pub fn new(
         alloc: Global,
@@ -61,8 +61,8 @@ impl Machine {
     ) -> Result<Machine, NoMemory>
         requires limit { limit ≤ 100000000 }
         requires plain { ArePlain (arc_value code).program.steps }
-        requires coarrays { (arc_value code).program.tables.coarrays ≡ [] }
-        requires arrays { HasNoArrays (arc_value code).program.tables.main.arrays }
+        requires few { AreFew (arc_value code).program.tables.coarrays }
+        requires cells { sum_by own_size (map first_own (arc_value code).program.tables.coarrays) ≤ 65536 }
         ensures start { IfOk result (λ m. (rooms : Rooms) × (steps : ℕ) × (go machine_step steps (start_of (arc_value code) limit rooms me.0 n) ≡ goes (bare m))) }
         ensures rests { IfOk result (λ m. Rests (machine_step (bare m))) }
     {
@@ -184,16 +184,18 @@ fn hear(engine: &mut Engine, stand: Went, reply: &Reply)
     }
 }
 
-/// Room for the stacks of all bodies, and for the scalars of a frame.
+/// Room for the stacks of all bodies, and for a frame.
 fn rooms(code: &Code) -> Result<Rooms, NoMemory>
     ensures { IfOk result (λ r. HasRoom code.now r) }
 {
     let most = code.highest();
+    let frame = frame_room(code.steps());
     Ok(Rooms {
         numbers: stack_room(most.numbers)?,
         arrays: stack_room(most.arrays)?,
         texts: stack_room(most.texts)?,
-        scalars: most_scalars(code.steps()),
+        scalars: frame.scalars,
+        locals: frame.locals,
     })
 }
 
@@ -231,24 +233,38 @@ fn stack_room(most: u64) -> Result<usize, NoMemory>
     Ok(room as usize)
 }
 
-/// The most scalars of a frame that some step begins.
-fn most_scalars(steps: &[Step]) -> u32
-    ensures { (p : ℕ) (s : Step) → slice_get steps.now p ≡ Some s → HasFrame result s }
+/// Room for a procedure's frame: so many scalars with hidden cells, and so many arrays.
+#[derive(Clone, Copy)]
+struct FrameRoom {
+    scalars: u32,
+    locals: u32,
+}
+
+/// Room for each frame that some step begins.
+fn frame_room(steps: &[Step]) -> FrameRoom
+    ensures { (p : ℕ) (s : Step) → slice_get steps.now p ≡ Some s → HasFrame result.scalars result.locals s }
 {
-    let mut most = 0;
+    let mut most = FrameRoom {
+        scalars: 0,
+        locals: 0,
+    };
     for p in 0..steps.len() {
-        most = with_scalars(step_at(steps, p), most);
+        most = with_frame(step_at(steps, p), most);
     }
     most
 }
 
-/// The greater of `most` and the scalars of the frame that a step begins.
-fn with_scalars(step: Step, most: u32) -> u32
-    ensures frame { HasFrame result step }
-    ensures most { most ≤ result }
+/// The same with room for the frame that a step begins.
+fn with_frame(step: Step, most: FrameRoom) -> FrameRoom
+    ensures frame { HasFrame result.scalars result.locals step }
+    ensures scalars { most.scalars ≤ result.scalars }
+    ensures locals { most.locals ≤ result.locals }
 {
     match step {
-        Step::BeginFrame(cells, _, _) if most < cells => cells,
+        Step::BeginFrame(cells, arrays, _) => FrameRoom {
+            scalars: most.scalars.max(cells),
+            locals: most.locals.max(arrays),
+        },
         _ => most,
     }
 }

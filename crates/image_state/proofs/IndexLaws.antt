@@ -2,6 +2,8 @@
 use Rattle.std.proofs.Common.{◌≡◌, ℕ, zero, suc, ◌<◌, ◌≤◌, pos, List, [], ◌∷◌, length, take, ◌⊎◌, inl, inr, refl, ap, sym, ◌∙◌, arith}
 use Rattle.std.specs.Prelude.{map, min}
 use Rattle.std.proofs.lemmas.List.{length-take}
+use Rattle.caf_base.specs.declared.value.Value.{Value}
+use Rattle.caf_base.specs.Arithmetic.{number_of}
 
 take_map : (n : ℕ) (ns : List ℕ) → map (λ n. pos n) (take n ns) ≡ take n (map (λ n. pos n) ns)
 take_map zero ns = refl
@@ -27,3 +29,18 @@ take_kept n ns = elim (order (length ns) n) [
 
 pub take_within : (n m : ℕ) (ns : List ℕ) → length (take (min m n) ns) ≤ n
 take_within n m ns = (let l = length-take (min m n) ns in omega arith)
+
+-- the same of values
+values_map : (n : ℕ) (vs : List Value) → map number_of (take n vs) ≡ take n (map number_of vs)
+values_map zero vs = refl
+values_map (suc n) [] = refl
+values_map (suc n) (x ∷ vs) = ap (λ xs. number_of x ∷ xs) (values_map n vs)
+
+pub values_kept : (n : ℕ) (vs : List Value) → map number_of (take (min (length vs) n) vs) ≡ take n (map number_of vs)
+values_kept n vs = elim (order (length vs) n) [
+  | inl l ↦ (let e : min (length vs) n ≡ length vs = omega arith in ap (λ j. map number_of (take j vs)) e ∙ ap (map number_of) (sym (take_over n vs l)) ∙ values_map n vs)
+  | inr l ↦ (let e : min (length vs) n ≡ n = omega arith in ap (λ j. map number_of (take j vs)) e ∙ values_map n vs)
+]
+
+pub values_within : (n m : ℕ) (vs : List Value) → length (take (min m n) vs) ≤ n
+values_within n m vs = (let l = length-take (min m n) vs in omega arith)

@@ -1,7 +1,11 @@
 pub mod Frames
+pub mod LocalLaws
+pub mod KeptLaws
+pub mod SectionLaws
 pub mod Taking
 pub mod LoopLaws
 pub mod StackLaws
+pub mod NumberLaws
 pub mod ArrayLaws
 pub mod BoundsLaws
 pub mod PrintLaws

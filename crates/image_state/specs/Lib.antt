@@ -3,3 +3,4 @@ pub mod Acting
 pub mod Arrays
 pub mod Places
 pub mod Texts
+pub mod Coarrays

@@ -11,7 +11,7 @@ ghost use Rattle.image_state.specs.Acting.{with_core, Acts};
 ghost use Rattle.array_values.specs.Values.{elements_on_top, with_element, merged_arrays};
 ghost use Rattle.image_state.specs.Arrays.{with_arrays};
 
-use crate::state::{Acting, ImageState, MOST_CELLS, MOST_ITEMS, ROOM};
+use crate::state::{Acting, ImageState, MOST_CELLS, MOST_ELEMENTS, ROOM};
 use array_values::extents::Extents;
 use caf_base::value::Kind;
 use number_operators::arithmetic::{OVERFLOW, is_of_kind};
@@ -59,16 +59,16 @@ impl ImageState {
 
     /// Whether there is no room for a further element.
     fn is_array_full(&self) -> bool
-        ensures full { IsTrue result → 131072 ≤ elements_in self.now.core.arrays }
-        ensures not { IsFalse result → elements_in self.now.core.arrays < 131072 }
+        ensures full { IsTrue result → 262144 ≤ elements_in self.now.core.arrays }
+        ensures not { IsFalse result → elements_in self.now.core.arrays < 262144 }
     {
-        self.arrays.total() >= MOST_ITEMS
+        self.arrays.total() >= MOST_ELEMENTS
     }
 
     /// Puts an element behind those of the top array.
     fn add_element(&mut self, v: i64)
         requires there { 0 < length self.old.core.arrays }
-        requires room { elements_in self.old.core.arrays < 131072 }
+        requires room { elements_in self.old.core.arrays < 262144 }
         ensures { self.new ≡ with_core self.old (with_arrays self.old.core (with_element v self.old.core.arrays)) }
     {
         self.arrays.add(v);
@@ -78,7 +78,7 @@ impl ImageState {
     fn move_element(&mut self, v: i64)
         requires value { 0 < length self.old.core.values }
         requires there { 0 < length self.old.core.arrays }
-        requires room { elements_in self.old.core.arrays < 131072 }
+        requires room { elements_in self.old.core.arrays < 262144 }
         ensures { self.new ≡ with_core self.old (with_arrays (with_values self.old.core (drop 1 self.old.core.values)) (with_element v self.old.core.arrays)) }
     {
         self.drop_top(1);

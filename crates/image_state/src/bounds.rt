@@ -15,7 +15,7 @@ ghost use Rattle.image_state.specs.Acting.{with_core, Acts};
 ghost use Rattle.image_state.specs.Arrays.{with_arrays};
 ghost use Rattle.image_state.specs.Places.{place_at, without_tops};
 
-use crate::state::{Acting, ImageState, MOST_ITEMS, ROOM};
+use crate::state::{Acting, ImageState, MOST_ELEMENTS, ROOM};
 use array_places::bounds::{extent_along, lower_along, size_in, upper_along};
 use array_places::place::cells_in;
 use array_values::extents::{Extents, extents_of};
@@ -51,7 +51,7 @@ impl ImageState {
     }
 
     /// The extents of the top array.
-    fn top_extents(&self) -> Option<Extents>
+    pub fn top_extents(&self) -> Option<Extents>
         ensures there { IfSome result (λ e. 0 < length self.now.core.arrays) }
         ensures is { IfSome result (λ e. listed e ≡ extents_on_top self.now.core.arrays) }
         ensures none { IfNone result (length self.now.core.arrays ≡ 0) }
@@ -117,7 +117,7 @@ impl ImageState {
     /// Begins an array value with the bounds of these extents.
     fn begin_bounds(&mut self, extents: Extents)
         requires place { length self.old.core.arrays < self.old.rooms.arrays }
-        requires room { elements_in self.old.core.arrays + 2 * length (listed extents) ≤ 131072 }
+        requires room { elements_in self.old.core.arrays + 2 * length (listed extents) ≤ 262144 }
         ensures { self.new ≡ with_core self.old (with_array (row_of (pairs_numbers (from_one (listed extents)))) self.old.core) }
     {
         self.arrays.begin_bounds(extents);
@@ -145,7 +145,7 @@ impl ImageState {
     #[tactic(auto, using(crate::proofs::BoundsLaws::top_and_others))]
     fn spare_beneath(&self) -> usize
         requires { 0 < length self.now.core.arrays }
-        ensures { result + elements_in (drop 1 self.now.core.arrays) ≡ 131072 }
+        ensures { result + elements_in (drop 1 self.now.core.arrays) ≡ 262144 }
     {
         self.spare() + self.elements().len()
     }

@@ -7,20 +7,20 @@ ghost use Rattle.image_state.specs.Acting.{with_core};
 ghost use Rattle.array_values.specs.Values.{row_of};
 ghost use Rattle.image_state.specs.Arrays.{with_arrays};
 
-use crate::state::{ImageState, MOST_ITEMS};
+use crate::state::{ImageState, MOST_ELEMENTS};
 
 impl ImageState {
     /// For how many elements there is room.
     pub fn spare(&self) -> usize
-        ensures { result + elements_in self.now.core.arrays ≡ 131072 }
+        ensures { result + elements_in self.now.core.arrays ≡ 262144 }
     {
-        MOST_ITEMS - self.arrays.total()
+        MOST_ELEMENTS - self.arrays.total()
     }
 
     /// Begins an array value with the numbers from 1 to n.
     pub fn begin_counted(&mut self, n: u32)
         requires place { length self.old.core.arrays < self.old.rooms.arrays }
-        requires room { elements_in self.old.core.arrays + n ≤ 131072 }
+        requires room { elements_in self.old.core.arrays + n ≤ 262144 }
         ensures { self.new ≡ with_core self.old (with_arrays self.old.core (row_of (counted_from 1 n) ∷ self.old.core.arrays)) }
     {
         self.arrays.begin_counted(n);
@@ -30,7 +30,7 @@ impl ImageState {
     #[tactic(auto, using(crate::proofs::IndexLaws::take_kept, crate::proofs::IndexLaws::take_within))]
     pub fn begin_indices(&mut self, indices: &[u32])
         requires { length self.old.core.arrays < self.old.rooms.arrays }
-        ensures { self.new ≡ with_core self.old (with_arrays self.old.core (row_of (take (131072 - elements_in self.old.core.arrays) (map (λ n. pos n) indices.now)) ∷ self.old.core.arrays)) }
+        ensures { self.new ≡ with_core self.old (with_arrays self.old.core (row_of (take (262144 - elements_in self.old.core.arrays) (map (λ n. pos n) indices.now)) ∷ self.old.core.arrays)) }
     {
         let kept = lesser(indices.len(), self.spare());
         self.arrays.begin_row(&indices[..kept]);
@@ -38,7 +38,7 @@ impl ImageState {
 }
 
 /// The lesser of two numbers.
-fn lesser(n: usize, m: usize) -> usize
+pub(crate) fn lesser(n: usize, m: usize) -> usize
     ensures { result ≡ min n m }
 {
     if n < m { n } else { m }

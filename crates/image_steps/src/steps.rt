@@ -5,6 +5,8 @@ ghost use Rattle.image_state.specs.Acting.{ActsAs, HasFrame, HasPlace};
 ghost use Rattle.image_state.specs.Kept.{texts_of};
 ghost use Rattle.image_steps.specs.Plain.{IsPlainAct};
 
+use array_steps::{allocation, arguments, sections, values};
+use coarray_steps::{bounds, owners, plans};
 use image_code::step::Step;
 use image_state::state::{Acting, ImageState};
 use number_operators::operators::{Binary, Unary};
@@ -14,7 +16,7 @@ use team_steps::{current, indices, named};
 pub fn act(image: &mut ImageState, step: Step) -> Acting
     requires plain { IsPlainAct step }
     requires room { HasPlace image.old step }
-    requires frame { HasFrame image.old.rooms.scalars step }
+    requires frame { HasFrame image.old.rooms.scalars image.old.rooms.locals step }
     ensures { ActsAs image.old (instr_of (texts_of image.old) step) image.new result }
 {
     match step {
@@ -86,12 +88,47 @@ pub fn act(image: &mut ImageState, step: Step) -> Acting
         Step::MakeCurrent => current::make_current(image),
         Step::LeaveTeam => current::leave_team(image),
         Step::NoteTeams(scope, x) => current::note_teams(image, scope, x),
+        Step::Load(scope, x, rank) => values::load(image, scope, x, rank),
+        Step::Put(scope, x, rank) => values::put(image, scope, x, rank),
+        Step::PutArray(scope, x, rank) => values::put_array(image, scope, x, rank),
+        Step::PutImages(scope, x) => values::put_images(image, scope, x),
+        Step::Section(scope, x, form) => sections::section(image, scope, x, form),
+        Step::Bounds(scope, x) => sections::bounds(image, scope, x),
+        Step::IsThere(scope, x) => sections::is_there(image, scope, x),
+        Step::BeginPlan => allocation::begin_plan(image),
+        Step::PlanLocal(scope, x, depth, rank) => allocation::plan_local(image, scope, x, depth, rank),
+        Step::EndPlan => allocation::end_plan(image),
+        Step::Make(scope, x, depth, rank) => allocation::make(image, scope, x, depth, rank),
+        Step::Free(scope, x) => allocation::free(image, scope, x),
+        Step::LayOut(x, rank) => allocation::lay_out(image, x, rank),
+        Step::CopyIn(x) => arguments::copy_in(image, x),
+        Step::CopyOut(x) => arguments::copy_out(image, x),
+        Step::CoSection(coarray, form) => bounds::co_section(image, coarray, form),
+        Step::CoBounds(coarray) => bounds::co_bounds(image, coarray),
+        Step::CoIsThere(coarray) => bounds::co_is_there(image, coarray),
+        Step::NeedsOwn(coarray) => bounds::needs_own(image, coarray),
+        Step::MadeInTeam(coarray) => bounds::made_in_team(image, coarray),
+        Step::PlanCoarray(coarray, depth, rank, corank) => plans::plan_coarray(image, coarray, depth, rank, corank),
+        Step::NoteMade(coarray, depth, rank, corank) => plans::note_made(image, coarray, depth, rank, corank),
+        Step::NoteFreed(coarray) => plans::note_freed(image, coarray),
+        Step::OwnImage(rank) => owners::own_image(image, rank),
+        Step::Owner(coarray, rank, corank) => owners::owner(image, coarray, rank, corank),
+        Step::ImageIndex(coarray, corank) => owners::image_index(image, coarray, corank),
+        Step::Cosubscript(coarray) => owners::cosubscript(image, coarray),
         Step::BeginFree => image.begin_free(),
         Step::BeginFormat(text) => image.begin_format(text),
         Step::PrintNumber => image.print_number(),
         Step::PrintTruth => image.print_truth(),
         Step::PrintArray(kind) => image.print_array(kind),
         Step::PrintLiteral(text) => image.print_literal(text),
-        _ => unreachable!(),
+        Step::Count
+        | Step::Jump(_)
+        | Step::JumpIf(_)
+        | Step::JumpUnless(_)
+        | Step::Skip(_)
+        | Step::SkipUnless(_)
+        | Step::Call(_)
+        | Step::Back
+        | Step::Ask(_) => unreachable!(),
     }
 }

@@ -150,6 +150,7 @@ impl Arrays {
     /// The bounds of an array, where it is there: a lower and an upper one for each dimension.
     pub fn bounds(&self, scope: Scope, x: u32) -> Option<&[i64]>
         ensures some { IfSome result (λ ns. bounds_in (array_of (scope_of scope) x self.now.frames) ≡ Some (pairs_in ns.now)) }
+        ensures few { IfSome result (λ ns. length ns.now ≤ 6) }
         ensures none { IfNone result (array_of (scope_of scope) x self.now.frames ≡ None) }
     {
         match slot(scope, x, self.base, self.main, self.row.len()) {

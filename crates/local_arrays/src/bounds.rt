@@ -42,7 +42,8 @@ impl Bounds {
     /// The numbers, a lower and an upper one for each dimension.
     pub fn as_slice(&self) -> &[i64]
         requires { AreBounds self.now }
-        ensures { pairs_in result.now ≡ pairs_of self.now }
+        ensures pairs { pairs_in result.now ≡ pairs_of self.now }
+        ensures few { length result.now ≤ 6 }
     {
         &self.numbers[..self.len]
     }

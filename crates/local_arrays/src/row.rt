@@ -208,6 +208,7 @@ impl Row {
     pub fn bounds(&self, k: usize) -> Option<&[i64]>
         requires { k < length self.now.arrays }
         ensures some { IfSome result (λ ns. bounds_in (array_at k self.now.arrays) ≡ Some (pairs_in ns.now)) }
+        ensures few { IfSome result (λ ns. length ns.now ≤ 6) }
         ensures none { IfNone result (array_at k self.now.arrays ≡ None) }
     {
         match &info_of(&self.infos, k).bounds {

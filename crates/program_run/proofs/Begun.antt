@@ -26,7 +26,7 @@ get_bare (x ∷ xs) zero c h =
 get_bare (x ∷ xs) (suc k) c h = get_bare xs k c h
 
 no_rooms : Rooms
-no_rooms = record { numbers = 0; arrays = 0; texts = 0; scalars = 0 }
+no_rooms = record { numbers = 0; arrays = 0; texts = 0; scalars = 0; locals = 0 }
 
 module _ (w : Whole) (limit n : ℕ) (xs : List Engine) (h : EachAt (HasBegun w limit n) xs) where
   begun_at : (k : ℕ) (c : Engine) → slice_get xs k ≡ Some c → HasBegun w limit n k c

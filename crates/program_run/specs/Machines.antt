@@ -1,18 +1,19 @@
--- The machines of code before their first step, and the code that they run so far.
-use Rattle.std.specs.Prelude.{ℕ, suc, ◌≡◌, []}
+-- The machines of code before their first step, and the code that they run.
+use Rattle.std.specs.Prelude.{ℕ, suc, ◌≡◌, ◌≤◌, map, sum_by}
 use Rattle.trace_theory.specs.Machines.{go, goes, Rests}
 use Rattle.caf_events.specs.declared.reply.Reply.{Reply}
 use Rattle.image_code.specs.Code.{Whole}
+use Rattle.image_acts.specs.Statuses.{most_cells}
+use Rattle.coarray_tables.specs.Start.{AreFew, first_own, own_size}
 use Rattle.image_state.specs.declared.state.Rooms.{Rooms}
 use Rattle.image_machine.specs.Engine.{Engine, bare, start_of}
-use Rattle.image_machine.specs.Start.{HasNoArrays}
 use Rattle.image_machine.specs.Walk.{ArePlain, machine_step}
 
--- what a machine runs so far: plain code without coarrays, whose main program has no array at its start
+-- What a machine runs: code whose kinds and ranks, and whose static coarrays, are such as made code has. An image has at most so many coarray cells.
 pub record IsRunnable (w : Whole) : Type 0 where
   pub plain : ArePlain w.program.steps
-  pub coarrays : w.program.tables.coarrays ≡ []
-  pub arrays : HasNoArrays w.program.tables.main.arrays
+  pub coarrays : AreFew w.program.tables.coarrays
+  pub cells : sum_by own_size (map first_own w.program.tables.coarrays) ≤ most_cells
 
 -- a machine hears every reply
 abbrev pub hears : Engine → Reply → Type 0

@@ -20,6 +20,7 @@ use Rattle.rule_definitions.specs.Judgements.{Judgement, both, comes_first, firs
 use Rattle.rule_definitions.specs.Names.{Interface, Named, Scope, is_among, variables_of}
 use Rattle.rule_definitions.specs.Statements.{Counted, Position, behind, counted_statements, end_breaks, no_count}
 use Rattle.rule_definitions.specs.Units.{Headed, Opened, coarray_numbers, completed, constants_behind, counted_all, headed, headings_of, interface_of, interfaces_of, main_declared, name_of, opened_breaks, opened_procedure, opened_procedures, position_of, procedures_judged, procedures_of, program_declared, program_judged, program_opened, program_with, twice_breaks, uses_breaks}
+use Rattle.rule_laws.proofs.UnitsSound.{accepted_whole}
 use Rattle.scope_table.proofs.First.{first_of_both}
 use Rattle.scope_table.specs.Outside.{Outer}
 use Rattle.scope_table.specs.Symbols.{interface}
@@ -264,6 +265,16 @@ formed_seen p ns ms cs j m e h =
 pub accepts : (p : u.Program) (f : Option Broken) (c : Option Checked) (k : Checked) → f ≡ first_of None (program_judged p).breaks → (f ≡ None → option_map typed.program c ≡ (program_judged p).meaning)
     → f ≡ None → c ≡ Some k → Accepts p (typed.program k)
 accepts p f c k e h z m = record { unbroken = unbroken (program_judged p).breaks (sym e ∙ z); meaning = sym (h z) ∙ ap (option_map typed.program) m }
+
+-- what breaks nothing stands for a checked program, so one is there
+no_checked : (k : ts.Program) → None ≡ Some k → ⊥
+no_checked k e = cc
+
+pub checks : (p : u.Program) (f : Option Broken) (c : Option Checked) → f ≡ first_of None (program_judged p).breaks → (f ≡ None → option_map typed.program c ≡ (program_judged p).meaning)
+    → f ≡ None → c ≡ None → ⊥
+checks p f c e h z m =
+    let a = accepted_whole p (unbroken (program_judged p).breaks (sym e ∙ z)) in
+    no_checked (a.0) (sym (ap (option_map typed.program) m) ∙ h z ∙ (a.1).meaning)
 
 -- names that are the same
 pub same_twice : (a b : List (List ℕ)) (hs : List Headed) → ((n : List ℕ) → is_among a n ≡ is_among b n) → twice_breaks a hs ≡ twice_breaks b hs

@@ -1,6 +1,6 @@
 -- The steps on the current team.
-use Rattle.std.proofs.Common.{◌≡◌, ℕ, ℤ, pos, Bool, true, false, List, [], ◌∷◌, length, drop, ◌<◌, refl, ap, sym, ◌∙◌, subst}
-use Rattle.std.specs.Prelude.{Option, Some, None, nat_lt}
+use Rattle.std.proofs.Common.{◌≡◌, ℕ, ℤ, pos, Bool, true, false, ◌∷◌, length, drop, ◌<◌, refl, ap, sym, ◌∙◌, subst}
+use Rattle.std.specs.Prelude.{Some, None, nat_lt}
 use Rattle.std.proofs.lemmas.Bool.{ltb-true}
 use Rattle.caf_base.specs.Arithmetic.{natural}
 use Rattle.walk_theory.specs.Language.{goes_to}
@@ -9,7 +9,7 @@ use Rattle.image_acts.specs.Core.{Core, with_values}
 use Rattle.image_acts.specs.Faults.{no_team, room}
 use Rattle.image_acts.specs.Frames.{with_cell}
 use Rattle.image_acts.specs.Statuses.{most_teams}
-use Rattle.image_acts.specs.Taking.{Acted, unless}
+use Rattle.image_acts.specs.Taking.{unless}
 use Rattle.image_acts.specs.Teams.{team_in}
 use Rattle.image_acts.specs.Operate.Teaming.{team_effect}
 use Rattle.team_tables.specs.Tables.{is_child, is_near, with_noted, with_teams}

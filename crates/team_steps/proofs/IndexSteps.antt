@@ -1,8 +1,8 @@
 -- Image indices of the current team.
-use Rattle.std.proofs.Common.{◌≡◌, ℕ, zero, suc, ◌+◌, ◌<◌, ◌≤◌, ℤ, pos, true, false, List, [], ◌∷◌, length, get_or, drop, refl, ap, sym, ◌∙◌, subst, arith}
+use Rattle.std.proofs.Common.{◌≡◌, ℕ, zero, suc, ◌+◌, ◌<◌, ◌≤◌, ℤ, true, false, List, [], ◌∷◌, length, get_or, drop, refl, ap, sym, ◌∙◌, subst, arith}
 use Rattle.std.specs.Ordering.{int_eq}
 use Rattle.std.proofs.lemmas.Bool.{le-leb, lt-leb}
-use Rattle.caf_base.specs.Arithmetic.{natural, truth}
+use Rattle.caf_base.specs.Arithmetic.{truth}
 use Rattle.walk_theory.specs.Language.{stuck}
 use Rattle.image_acts.specs.Acts as a
 use Rattle.image_acts.specs.Core.{Array, with_values, pushed, elements_in, row}
@@ -40,15 +40,15 @@ module _ (m : Kept) where
   indices_told e h g = told_of e m.core.arrays h g
 
 module _ (m : Kept) (n : ℕ) where
-  pub every_full : n ≡ length (members m.core (current_team m.core)) → 131072 < elements_in m.core.arrays + n → Acts m (bounds_effect a.every_index m.core) m (actings.Fault 11)
-  every_full e h = (let f : 131072 < elements_in m.core.arrays + length (members m.core (current_team m.core)) = omega arith in rw (lt-leb (elements_in m.core.arrays + length (members m.core (current_team m.core))) 131072 f) (refl, refl))
+  pub every_full : n ≡ length (members m.core (current_team m.core)) → 262144 < elements_in m.core.arrays + n → Acts m (bounds_effect a.every_index m.core) m (actings.Fault 11)
+  every_full e h = (let f : 262144 < elements_in m.core.arrays + length (members m.core (current_team m.core)) = omega arith in rw (lt-leb (elements_in m.core.arrays + length (members m.core (current_team m.core))) 262144 f) (refl, refl))
 
-  pub every_told : (e : Kept) → n ≡ length (members m.core (current_team m.core)) → elements_in m.core.arrays + n ≤ 131072 → e ≡ with_core m (with_arrays m.core (row_of (counted_from 1 n) ∷ m.core.arrays)) → Acts m (bounds_effect a.every_index m.core) e actings.Done
+  pub every_told : (e : Kept) → n ≡ length (members m.core (current_team m.core)) → elements_in m.core.arrays + n ≤ 262144 → e ≡ with_core m (with_arrays m.core (row_of (counted_from 1 n) ∷ m.core.arrays)) → Acts m (bounds_effect a.every_index m.core) e actings.Done
   every_told e f h g =
       let k : ℕ = length (members m.core (current_team m.core)) in
-      let l : elements_in m.core.arrays + k ≤ 131072 = omega arith in
+      let l : elements_in m.core.arrays + k ≤ 262144 = omega arith in
       let r : row_of (counted_from 1 n) ≡ row (counted_from 1 k) k = ap (row (counted_from 1 n)) (counted_long 1 n) ∙ ap (λ j. row (counted_from 1 j) j) f in
-      rw (le-leb (elements_in m.core.arrays + k) 131072 l) (refl, g ∙ ap (λ (x : Array). with_core m (with_arrays m.core (x ∷ m.core.arrays))) r)
+      rw (le-leb (elements_in m.core.arrays + k) 262144 l) (refl, g ∙ ap (λ (x : Array). with_core m (with_arrays m.core (x ∷ m.core.arrays))) r)
 
 -- a number after another one that it differs from, and an index after another one
 module _ (v d : ℤ) where

@@ -1,16 +1,16 @@
 -- The steps that name teams.
-use Rattle.std.proofs.Common.{◌≡◌, ℕ, ℤ, pos, Bool, true, false, List, [], ◌∷◌, length, drop, refl, ap, sym, ◌∙◌, subst}
+use Rattle.std.proofs.Common.{◌≡◌, ℕ, ℤ, pos, Bool, true, false, List, ◌∷◌, length, drop, refl, ap, sym, ◌∙◌, subst}
 use Rattle.std.specs.Prelude.{Option, Some, None}
 use Rattle.std.specs.Option.{option_map}
 use Rattle.caf_base.specs.Arithmetic.{natural, truth}
 use Rattle.image_acts.specs.Acts as a
 use Rattle.image_acts.specs.Core.{Core, Team, with_values}
 use Rattle.image_acts.specs.Faults.{no_team}
-use Rattle.image_acts.specs.Taking.{Acted, unless, giving, telling}
+use Rattle.image_acts.specs.Taking.{unless, giving}
 use Rattle.image_acts.specs.Teams.{is_in, team_in}
 use Rattle.image_acts.specs.Operate.Selecting.{selector_effect}
-use Rattle.team_tables.specs.Tables.{Table, numbered_here, team_at_level, image_count_of_number, index_here, members_here, is_root}
-use Rattle.team_tables.specs.Steps.{core_of, given_or_no_team}
+use Rattle.team_tables.specs.Tables.{numbered_here, team_at_level, image_count_of_number, index_here, members_here, is_root}
+use Rattle.team_tables.specs.Steps.{given_or_no_team}
 use Rattle.team_tables.proofs.StepLaws.{found_of, counted, at_level}
 use Rattle.image_state.specs.Kept.{Kept, table_of}
 use Rattle.image_state.specs.declared.state.Acting.{Acting}

@@ -73,6 +73,13 @@ impl Teams {
         })
     }
 
+    /// The number of this image.
+    pub fn me(&self) -> u32
+        ensures { result ≡ self.now.me }
+    {
+        self.me
+    }
+
     /// The current team, the initial one where none is left.
     pub fn current(&self) -> u64
         ensures value { result ≡ current_of self.now }

@@ -6,7 +6,7 @@ use Rattle.caf_run.proofs.WhatIsDue.{usage_wrong, if_ok_map}
 use Rattle.caf_run.proofs.due.what_is_due.Goals as goal
 
 pub task_due-requires : goal.task_due-requires
-task_due-requires g c = rw (c.file_place.ensures, c.task_of.ensures) (means_at (words_in c.args.words.now) c.in-Ok.command c.in-Ok.ensures.means)
+task_due-requires g c = rw (c.file_place-number.ensures, c.task_of-task.ensures) (means_at (words_in c.args.words.now) c.in-Ok.command c.in-Ok.ensures.means)
 
 -- words that mean a command are valid
 pub returns-in-Ok-clause-untouched : goal.returns-in-Ok-clause-untouched

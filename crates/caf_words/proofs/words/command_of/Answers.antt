@@ -1,23 +1,23 @@
-use Rattle.std.proofs.Common.{◌≡◌, ◌-◌, length, take, drop, sym, ◌∙◌}
-use Rattle.caf_words.proofs.Firsts.{usage_nothing, usage_other, refused_run, refused_check}
+use Rattle.std.proofs.Common.{◌≡◌, ◌-◌, length, take, drop, sym, ◌∙◌, inl}
+use Rattle.caf_words.proofs.Firsts.{usage_nothing, usage_other, misread_behind_run, misread_behind_check}
 use Rattle.caf_words.proofs.Splits.{none_of, first_of}
 use Rattle.caf_words.proofs.words.command_of.Goals as goal
 
 pub returns-in_default-clause-refused : goal.returns-in_default-clause-refused
-returns-in_default-clause-refused c = let e = none_of c.args.words.now c.in_default.len_below in (1, rw e usage_nothing, c.wrong_at.ensures)
+returns-in_default-clause-refused c = let e = none_of c.args.words.now c.in_default.len_below in inl (1, rw e usage_nothing, c.wrong_at.ensures)
 
 pub returns-in-run-clause-refused : goal.returns-in-run-clause-refused
 returns-in-run-clause-refused c =
     let e = first_of c.args.words.now c.first-item.result c.in-len1-up.len_at_least c.first-item.is in
-    refused_run c.args.words.now (take (length c.args.words.now - 1) (drop 1 c.args.words.now)) c.first-item.result c.options_of.result e (sym c.as_str.ensures.value ∙ c.in-run.is) c.options_of.ensures.refused
+    misread_behind_run c.args.words.now (take (length c.args.words.now - 1) (drop 1 c.args.words.now)) c.first-item.result c.options_of.result e (sym c.as_str.ensures.value ∙ c.in-run.is) c.options_of.ensures.refused
 
 pub returns-in-check-clause-refused : goal.returns-in-check-clause-refused
 returns-in-check-clause-refused c =
     let e = first_of c.args.words.now c.first-item.result c.in-len1-up.len_at_least c.first-item.is in
-    refused_check c.args.words.now (take (length c.args.words.now - 1) (drop 1 c.args.words.now)) c.first-item.result c.check_of.result e (sym c.as_str.ensures.value ∙ c.in-check.is) c.check_of.ensures.refused
+    misread_behind_check c.args.words.now (take (length c.args.words.now - 1) (drop 1 c.args.words.now)) c.first-item.result c.check_of.result e (sym c.as_str.ensures.value ∙ c.in-check.is) c.check_of.ensures.refused
 
 pub returns-in_default-as_str-clause-refused : goal.returns-in_default-as_str-clause-refused
 returns-in_default-as_str-clause-refused c =
     let e = first_of c.args.words.now c.first-item.result c.in-len1-up.len_at_least c.first-item.is in
     let word : c.as_str.result.now ≡ _ = c.as_str.ensures.value in
-    (1, rw (e, ← word) (usage_other c.as_str.result.now _ c.in_default-as_str.not-run c.in_default-as_str.not-check), c.wrong_at-in_default-as_str.ensures)
+    inl (1, rw (e, ← word) (usage_other c.as_str.result.now _ c.in_default-as_str.not-run c.in_default-as_str.not-check), c.wrong_at-in_default-as_str.ensures)

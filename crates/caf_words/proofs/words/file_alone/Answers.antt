@@ -1,6 +1,6 @@
 use Rattle.std.proofs.Common.{◌≡◌, sym, ◌+◌, ◌-◌, length, take, drop, ap, ◌∙◌, arith}
 use Rattle.caf_base.specs.declared.refusal.Refusal.TheVariants.{Cause}
-use Rattle.caf_words.proofs.Options.{usage_alone_none, usage_alone_named, usage_alone_longer}
+use Rattle.caf_words.proofs.Forms.{usage_alone_none, usage_alone_named, usage_alone_longer}
 use Rattle.caf_words.proofs.Splits.{none_of, first_of}
 use Rattle.caf_words.proofs.words.file_alone.Goals as goal
 

@@ -15,5 +15,5 @@ run-stand-requires c =
 pub returns-clause-start : goal.returns-clause-start
 returns-clause-start c =
     let g = starts c.in_ok-engine.engine c.run-stand.new.self (arc_value c.args.code) c.args.limit c.in_ok-rooms.rooms c.in_ok-image.image.team_room c.args.me.0 c.args.n c.in_ok-image.image c.in_ok-engine.ensures c.in_ok-image.ensures
-    c.requires.coarrays c.requires.arrays c.run-stand.ensures.goes in
+    c.run-stand.ensures.goes in
     (c.in_ok-rooms.rooms, g.0, g.1)

@@ -8,5 +8,5 @@ use Rattle.image_state.proofs.state.ImageState.put_main.Goals as goal
 pub returns : goal.returns
 returns c =
     let k : Kept = the_view c.self.inside in
-    main_put c.self.inside.values.values c.self.inside.frames.rows c.self.inside.main.items c.put_in.new.cells.items c.self.inside.main_need c.self.inside.main_arrays c.self.inside.used c.self.inside.local (beside_of k.core) c.args.x c.args.v k c.args.self.now c.self.view_is refl
+    main_put c.self.inside.values.values c.self.inside.frames.rows c.self.inside.main.items c.put_in.new.cells.items c.self.inside.main_need c.self.inside.locals.frames c.self.inside.used c.self.inside.local (beside_of k.core) c.args.x c.args.v k c.args.self.now c.self.view_is refl
     (c.put_in.ensures ∙ ap (λ z. slice_set c.self.inside.main.items c.args.x z) (to_z-of_z w64 c.args.v c.ranges.v))

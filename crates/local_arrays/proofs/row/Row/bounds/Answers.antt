@@ -22,4 +22,4 @@ returns-in-Some-clause-some c =
     let e : slice_get c.self.inside.infos.items c.args.k ≡ Some c.info_of.result.now = ap (λ (xs : List Info). slice_get xs c.args.k) (sym c.deref.ensures.value) ∙ c.info_of.ensures in
     let v = ap (λ (r : Rowed). array_at c.args.k r.arrays) (sym c.self.view_is) in
     let t = there_local c.self.inside.cells.items c.self.inside.infos.items c.args.k c.info_of.result.now c.in-Some.bounds c.self.invariant.0 e c.in-Some.is in
-    ap bounds_in (v ∙ t) ∙ ap (λ (ps : List (ℤ × ℤ)). Some ps) (sym c.as_slice.ensures)
+    ap bounds_in (v ∙ t) ∙ ap (λ (ps : List (ℤ × ℤ)). Some ps) (sym c.as_slice.ensures.pairs)

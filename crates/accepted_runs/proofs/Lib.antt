@@ -1,0 +1,12 @@
+pub mod Declared
+pub mod Cobounds
+pub mod Few
+pub mod Sized
+pub mod Firsts
+pub mod Acts
+pub mod Evaluations
+pub mod Control
+pub mod Subroutines
+pub mod Statements
+pub mod Lines
+pub mod Programs

@@ -1,0 +1,12 @@
+pub mod AllocationLaws
+pub mod ArgumentLaws
+pub mod BoundsLaws
+pub mod Changed
+pub mod Elements
+pub mod ImageLaws
+pub mod LoadLaws
+pub mod Pairs
+pub mod PlaceLaws
+pub mod PutLaws
+pub mod SectionLaws
+pub mod OffsetLaws

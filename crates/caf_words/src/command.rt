@@ -1,0 +1,53 @@
+//! What the words of the command line may mean.
+
+use caf_base::listing::Listing;
+
+/// What the words ask for.
+#[derive(Drop)]
+pub enum Command {
+    /// To run a source, in which these images fail.
+    Run {
+        input: Input,
+        fails: Listing<FailAt>,
+        options: Options,
+    },
+    /// To check the file whose name is this word, from 1.
+    Check {
+        word: u32,
+    },
+}
+
+/// Where the source comes from.
+#[derive(Clone, Copy)]
+pub enum Input {
+    /// From the file whose name is this word, from 1.
+    File { word: u32 },
+}
+
+/// How the images take turns.
+#[derive(Clone, Copy)]
+pub enum Way {
+    /// In the order of this seed, from 0 to 2147483647.
+    Order(u32),
+}
+
+/// A failure: an image fails at an event of its own.
+#[derive(Clone, Copy)]
+pub struct FailAt {
+    /// The image, from 1 to 64. Where a run has fewer images, nothing fails.
+    pub image: u32,
+    /// The number of the event, from 1 to 1,000,000. Of several failures of one image the earliest counts.
+    pub step: u32,
+}
+
+/// What a run is told by its options.
+#[derive(Clone, Copy)]
+pub struct Options {
+    /// How many images there are, from 1 to 64.
+    pub images: u32,
+    pub way: Way,
+    /// How many statements an image executes at most, from 1 to 100,000,000.
+    pub steps: u64,
+    /// Whether the trace is shown.
+    pub trace: bool,
+}

@@ -1,0 +1,169 @@
+//! The options of a run, one by one.
+
+ghost use Rattle.std.specs.Prelude.{◌≡◌, ◌≤◌, List, IfSome, IfNone};
+ghost use Rattle.caf_words.specs.declared.command.FailAt.{FailAt};
+ghost use Rattle.caf_words.specs.declared.options.Given.{Given};
+ghost use Rattle.caf_words.specs.declared.options.Key.{Key};
+ghost use Rattle.caf_words.specs.Words.{words_in};
+ghost use Rattle.caf_words.specs.Words as spec;
+ghost use Rattle.caf_words.specs.Readings.{IsNextKey, Flags, Gives, IsNext, listed};
+
+use crate::command::{FailAt, Options, Way};
+use crate::failure::failure_of;
+use crate::number::number_between;
+use caf_base::limits::{DEFAULT_STATEMENTS, IMAGES, STATEMENTS};
+
+/// The greatest seed of an order.
+const GREATEST_SEED: u32 = 2_147_483_647;
+
+/// The number of images where the words don't say it.
+const DEFAULT_IMAGES: u32 = 4;
+
+/// The options of a run that were given so far, each of which stands once at most.
+#[derive(Clone, Copy)]
+pub(crate) struct Given {
+    pub images: Option<u32>,
+    pub order: Option<u32>,
+    pub steps: Option<u32>,
+    pub trace: bool,
+}
+
+/// An option with a value that may come next.
+#[derive(Clone, Copy)]
+pub(crate) enum Key {
+    Images,
+    Order,
+    Steps,
+    Fail,
+}
+
+/// An option that stands next.
+#[derive(Clone, Copy)]
+pub(crate) struct Taken {
+    /// What is given with it.
+    pub given: Given,
+    /// The failure that it names.
+    pub fail: Option<FailAt>,
+    /// How many words it has.
+    pub words: u32,
+}
+
+/// What stands next among the words of a run.
+#[derive(Clone, Copy)]
+pub(crate) enum Next {
+    Option(Taken),
+    /// No option: the name of the file has to stand here.
+    File,
+    /// An option's key, with no value of it behind.
+    WrongValue,
+}
+
+impl Given {
+    /// No options yet.
+    pub fn nothing() -> Given
+        ensures { result ≡ spec.nothing }
+    {
+        Given {
+            images: None,
+            order: None,
+            steps: None,
+            trace: false,
+        }
+    }
+
+    /// What a run is told by its options, in the order of a seed.
+    pub fn told(&self, seed: u32) -> Options
+        ensures { result ≡ spec.told self.now seed }
+    {
+        Options {
+            images: or_default(self.images, DEFAULT_IMAGES),
+            way: Way::Order(seed),
+            steps: u64::from(or_default(self.steps, DEFAULT_STATEMENTS as u32)),
+            trace: self.trace,
+        }
+    }
+}
+
+// The number that is given, else another.
+fn or_default(given: Option<u32>, default: u32) -> u32
+    ensures { result ≡ spec.given_or default given }
+{
+    match given {
+        Some(n) => n,
+        None => default,
+    }
+}
+
+// The key of an option with a value that may come next.
+fn next_key(word: &str, given: Given) -> Option<Key>
+    ensures key { IfSome result (IsNextKey given word.now) }
+    ensures none { IfNone result ((k : Key) → ¬ IsNextKey given word.now k) }
+{
+    match word {
+        "-n" if given.images.is_none() => Some(Key::Images),
+        "--order" if given.order.is_none() => Some(Key::Order),
+        "--steps" if given.steps.is_none() => Some(Key::Steps),
+        "--fail" => Some(Key::Fail),
+        _ => None,
+    }
+}
+
+// What is given with an option without a value that may come next.
+fn flagged_with(word: &str, given: Given) -> Option<Given>
+    ensures given { IfSome result (Flags given word.now) }
+    ensures none { IfNone result ((h : Given) → ¬ Flags given word.now h) }
+{
+    match word {
+        "--trace" if !given.trace => Some(Given {
+            trace: true,
+            ..given
+        }),
+        _ => None,
+    }
+}
+
+// What an option gives with its value.
+fn taken_with(key: Key, word: &str, given: Given) -> Option<Taken>
+    ensures taken { IfSome result (λ t. (t.words ≡ 2) × Gives given key word.now t.given (listed t.fail)) }
+    ensures none { IfNone result ((h : Given) (named : List FailAt) → ¬ Gives given key word.now h named) }
+{
+    let mut taken = Taken {
+        given,
+        fail: None,
+        words: 2,
+    };
+    match key {
+        Key::Images => taken.given.images = Some(number_between(word, 1, IMAGES)?),
+        Key::Order => taken.given.order = Some(number_between(word, 0, GREATEST_SEED)?),
+        Key::Steps => taken.given.steps = Some(number_between(word, 1, STATEMENTS as u32)?),
+        Key::Fail => taken.fail = Some(failure_of(word)?),
+    }
+    Some(taken)
+}
+
+/// What stands next among the words of a run, behind the options that are given so far.
+pub(crate) fn next_option(words: &[String], given: Given) -> Next
+    ensures { IsNext given (words_in words.now) result }
+{
+    let [first, behind @ ..] = words else {
+        return Next::File;
+    };
+    let word = first.as_str();
+    if let Some(given) = flagged_with(word, given) {
+        return Next::Option(Taken {
+            given,
+            fail: None,
+            words: 1,
+        });
+    }
+    let Some(key) = next_key(word, given) else {
+        return Next::File;
+    };
+    let [second, ..] = behind else {
+        return Next::WrongValue;
+    };
+    match taken_with(key, second.as_str(), given) {
+        Some(taken) => Next::Option(taken),
+        None => Next::WrongValue,
+    }
+}

@@ -1,0 +1,4 @@
+pub mod Coarrays
+pub mod Doing
+pub mod Reports
+pub mod Runnable

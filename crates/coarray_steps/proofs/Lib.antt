@@ -1,0 +1,4 @@
+pub mod FormLaws
+pub mod OwnBounds
+pub mod OwnPlans
+pub mod OwnImages

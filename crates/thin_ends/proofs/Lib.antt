@@ -1,9 +1,0 @@
-pub mod Syncs
-pub mod Standing
-pub mod Tasks
-pub mod Steps
-pub mod Serving
-pub mod Readiness
-pub mod Entries
-pub mod Faults
-pub mod Waiting

@@ -1,4 +1,0 @@
-pub mod Answers
-pub mod Chains
-pub mod Names
-pub mod ThinForms
