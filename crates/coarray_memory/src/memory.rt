@@ -1,14 +1,14 @@
 //! The memory of an image: cells that are overwritten, beside the history that says what they hold (ISO/IEC 1539-1:2018, 5.4.8, 16.5, 19.6.5).
 
 ghost use Rattle.std.specs.Prelude.{◌≡◌, ◌||◌, [], map, IfOk};
-ghost use Rattle.object_rules.specs.Cells.{value_after, is_mark};
+ghost use Rattle.object_rules.specs.Cells.{size_after, value_after, is_mark};
 ghost use Rattle.object_rules.specs.MemoryRules.{value_there};
 ghost use Rattle.coarray_memory.specs.Memories.{stored_at, fits_now, comes_now, reply_now, items_of, store_of, declared_of, first_of, AreDeclared};
 
 use crate::coarray::{Coarray, Declarations};
 use crate::prepare::{Prepared, dead_reply_of, first_cells, reply_of, section_of};
 use crate::store::{
-    Store, act, event_can_come, has_event, has_place, is_locked, is_there, value_of,
+    Store, act, event_can_come, has_event, has_place, is_locked, is_there, size_of, value_of,
 };
 use caf_base::place::ImageNo;
 use caf_base::refusal::NoMemory;
@@ -205,6 +205,13 @@ impl Memory {
             },
             history: History::new(alloc),
         })
+    }
+
+    /// How many cells a coarray has; None where it isn't there.
+    pub fn size(&self, coarray: u32) -> Option<usize>
+        ensures { result ≡ size_after self.now.made self.now.history coarray }
+    {
+        size_of(&self.stores, coarray)
     }
 
     /// The value of a cell; None where there is no such cell or it is a lock or an event.

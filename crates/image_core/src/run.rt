@@ -40,6 +40,13 @@ impl<M: Walker> ImageRun<M> {
         self.events.as_slice()
     }
 
+    /// The image's machine, at its next ask or its end.
+    pub fn machine(&self) -> &M
+        ensures { result.now ≡ self.now.machine }
+    {
+        &self.machine
+    }
+
     /// The line and the ask of the image's next step; None where the image has ended.
     pub fn waiting(&self) -> Result<Option<(u32, Ask)>, NoMemory>
         ensures { IfOk result (λ o. MatchOption o (IsOver (M.step (M.config self.now.machine))) (λ w. IsAtLine (M.step (M.config self.now.machine)) w.0 × AsksNext (M.step (M.config self.now.machine)) w.1)) }

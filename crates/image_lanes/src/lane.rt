@@ -57,6 +57,13 @@ impl<M: Walker> Lane<M> {
         }
     }
 
+    /// The machine of the image's program, where the lane has left it.
+    pub fn machine(&self) -> &M
+        ensures { result.now ≡ self.now.machine }
+    {
+        &self.machine
+    }
+
     fn is_due(&self) -> bool
         ensures { result ≡ is_due (lane_of M.Walker self.now) }
     {

@@ -1,12 +1,15 @@
 //! The machine of an image, at its next ask or at its end.
 
-ghost use Rattle.std.specs.Prelude.{◌≡◌, ◌≤◌, ◌<◌, ◌*◌, ◌^◌, ℕ, Some, length, map, slice_get, sum_by, IfOk};
+ghost use Rattle.std.specs.Prelude.{◌≡◌, ◌≤◌, ◌<◌, ◌*◌, ◌^◌, ℕ, None, Some, length, map, slice_get, sum_by, IfOk, IfSome, IfNone};
 ghost use Rattle.std.specs.Arc.{arc_value};
 ghost use Rattle.trace_theory.specs.Machines.{go, goes, Rests};
 ghost use Rattle.caf_events.specs.Walkers.{IsAtAsk, AsksNext, NextIs};
+ghost use Rattle.image_acts.specs.Acts.{host};
 ghost use Rattle.image_acts.specs.Faults as faults;
+ghost use Rattle.image_acts.specs.Frames.{array_in, cell_in};
 ghost use Rattle.image_code.specs.declared.step.Step.{Step};
 ghost use Rattle.image_state.specs.Acting.{HasFrame};
+ghost use Rattle.local_arrays.specs.Arrays.{elements_of};
 ghost use Rattle.image_state.specs.declared.state.Rooms.{Rooms};
 ghost use Rattle.image_machine.specs.Engine.{start_of, bare, kept_of};
 ghost use Rattle.coarray_tables.specs.Start.{AreFew, first_own, own_size};
@@ -75,6 +78,21 @@ impl Machine {
             engine,
             stand,
         })
+    }
+
+    /// A scalar of the main program, where it is there.
+    pub fn scalar(&self, x: u32) -> Option<i64>
+        ensures { result ≡ cell_in host x self.now.state.core }
+    {
+        self.engine.scalar(x)
+    }
+
+    /// The elements of an array of the main program, where it is allocated.
+    pub fn elements(&self, x: u32) -> Option<&[i64]>
+        ensures some { IfSome result (λ xs. elements_of (array_in host x self.now.state.core) ≡ Some xs.now) }
+        ensures none { IfNone result (array_in host x self.now.state.core ≡ None) }
+    {
+        self.engine.elements(x)
     }
 }
 
