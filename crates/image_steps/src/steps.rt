@@ -96,7 +96,9 @@ pub fn act(image: &mut ImageState, step: Step) -> Acting
         Step::Bounds(scope, x) => sections::bounds(image, scope, x),
         Step::IsThere(scope, x) => sections::is_there(image, scope, x),
         Step::BeginPlan => allocation::begin_plan(image),
-        Step::PlanLocal(scope, x, depth, rank) => allocation::plan_local(image, scope, x, depth, rank),
+        Step::PlanLocal(scope, x, depth, rank) => allocation::plan_local(
+            image, scope, x, depth, rank,
+        ),
         Step::EndPlan => allocation::end_plan(image),
         Step::Make(scope, x, depth, rank) => allocation::make(image, scope, x, depth, rank),
         Step::Free(scope, x) => allocation::free(image, scope, x),
@@ -108,8 +110,12 @@ pub fn act(image: &mut ImageState, step: Step) -> Acting
         Step::CoIsThere(coarray) => bounds::co_is_there(image, coarray),
         Step::NeedsOwn(coarray) => bounds::needs_own(image, coarray),
         Step::MadeInTeam(coarray) => bounds::made_in_team(image, coarray),
-        Step::PlanCoarray(coarray, depth, rank, corank) => plans::plan_coarray(image, coarray, depth, rank, corank),
-        Step::NoteMade(coarray, depth, rank, corank) => plans::note_made(image, coarray, depth, rank, corank),
+        Step::PlanCoarray(coarray, depth, rank, corank) => plans::plan_coarray(
+            image, coarray, depth, rank, corank,
+        ),
+        Step::NoteMade(coarray, depth, rank, corank) => plans::note_made(
+            image, coarray, depth, rank, corank,
+        ),
         Step::NoteFreed(coarray) => plans::note_freed(image, coarray),
         Step::OwnImage(rank) => owners::own_image(image, rank),
         Step::Owner(coarray, rank, corank) => owners::owner(image, coarray, rank, corank),
