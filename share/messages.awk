@@ -1,11 +1,11 @@
 # What an answer of `caf` means, in messages of the form FILE:LINE:COL: TEXT, each with its line and a caret.
-# Its operands are the words of the call; FILE is the last. The environment tells the rest: CAF_STATUS; CAF_TEXT, the file with
+# Its operands are the words of the call; FILE is the last, but of a made source. The environment tells the rest: CAF_STATUS; CAF_TEXT, the file with
 # the program's output; CAF_SOURCE, the file to show lines of, or empty; CAF_TABLES, docs/REFUSALS.md; CAF_HELP, the help text;
 # CAF_CALLED, the launcher as it was called.
 
 BEGIN {
     status = ENVIRON["CAF_STATUS"]
-    shown_name = ARGV[ARGC - 1]
+    shown_name = ARGC > 3 && ARGV[ARGC - 3] == "--made" ? "made source" : ARGV[ARGC - 1]
     called = ENVIRON["CAF_CALLED"] == "" ? "./caf" : ENVIRON["CAF_CALLED"]
     read_tables(ENVIRON["CAF_TABLES"])
     while ((getline line < ENVIRON["CAF_TEXT"]) > 0) if (line !~ /^[0-9]/) take_line(line)
@@ -120,8 +120,9 @@ function token_at(text, column,   rest) {
     return ""
 }
 
-function tell(i,   number, column, text) {
+function tell(i,   number, column, text, is_shown) {
     number = line_of[i]
+    is_shown = number in source
     column = column_of[i]
     text = text_of[i]
     if (text == "") text = refusal_text(source[number], column)
@@ -138,7 +139,7 @@ function tell(i,   number, column, text) {
         column = RSTART
     }
     print shown_name ":" number ":" column ": " text
-    if (number in source) print_excerpt(sprintf("%5d", number), source[number], column)
+    if (is_shown) print_excerpt(sprintf("%5d", number), source[number], column)
 }
 
 # The rule that a refused place breaks, with the token there. Past a statement's end, and in a file without a statement, 7 has no token to speak of.

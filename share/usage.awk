@@ -1,28 +1,38 @@
 # Why a word of a call of `caf` is wrong, by the forms and options that the help text tells. The words are ARGV[1] to ARGV[ARGC - 1].
 
-# Reads the lines of the forms, `    caf COMMAND ..`, and of the options, `    -OPTION VALUE..  what it is`.
+# Reads the lines of the forms, `    caf COMMAND ..`, and of the options, `    -OPTION VALUE..  what it is`. A command may have several forms; one that takes no FILE takes values, as an option does.
 function read_help(path,   line, w) {
     while ((getline line < path) > 0 && line !~ /^Standard output/) {
         split(line, w, " ")
-        if (line ~ /^    caf [a-z]/) {
-            form_of[w[2]] = line
-            forms = forms line "\n"
-            commands = commands (commands == "" ? "" : " or ") w[2]
-        }
+        if (line ~ /^    caf [a-z]/) read_form(line, w)
         if (line ~ /^    -/) read_option(line, w)
     }
     close(path)
 }
 
+function read_form(line, w,   i) {
+    forms = forms line "\n"
+    if (w[2] in form_of) form_of[w[2]] = form_of[w[2]] "\n" line
+    else {
+        form_of[w[2]] = line
+        commands = commands (commands == "" ? "" : " or ") w[2]
+    }
+    if (w[3] == "OPTIONS" || w[3] == "FILE") return
+    for (i = 3; w[i] ~ /^[A-Z]+$/; i++) value_of[w[2], i - 2] = w[i]
+    wants[w[2]] = i - 3
+}
+
 function read_option(line, w,   i) {
     line_of_option[w[1]] = line
     for (i = 2; w[i] ~ /^[A-Z][A-Z@]*$/; i++) value_of[w[1], i - 1] = w[i]
-    values[w[1]] = i - 2
+    values[w[1]] = wants[w[1]] = i - 2
     if (line ~ /has to be there/) needed = needed (needed == "" ? "" : " and ") w[1] (values[w[1]] > 0 ? " " w[2] : "")
 }
 
-# The words before the wrong one: `is_given` has their options, `file` is the place of FILE, and `wanted` the value that `option`, the last one, still lacks.
+# The words before the wrong one: `is_given` has their options, `file` is the place of FILE, and `wanted` the value that `option`, the last one or the command itself, still lacks.
 function read_words(count,   i, left) {
+    option = ARGV[1]
+    left = wants[option]
     for (i = 2; i < count; i++) {
         if (left > 0) left--
         else if (ARGV[i] in values && form_of[ARGV[1]] ~ / OPTIONS /) {
@@ -31,7 +41,7 @@ function read_words(count,   i, left) {
             left = values[option]
         } else file = i
     }
-    wanted = left > 0 ? value_of[option, values[option] - left + 1] : ""
+    wanted = left > 0 ? value_of[option, wants[option] - left + 1] : ""
 }
 
 # The option that has to be there and isn't.
@@ -45,9 +55,12 @@ function reason(number,   word) {
     word = ARGV[number]
     if (number == 1) return "the command is " commands
     if (wanted != "") return "it has to be the " wanted " of " option
+    if ("--made" in is_given) return "nothing stands behind SIZE, and the options stand before --made"
+    if (wants[ARGV[1]] > 0) return "nothing stands behind " value_of[ARGV[1], wants[ARGV[1]]]
     if (number >= ARGC) return lacking() == "" ? "it has to be FILE" : lacking() " and FILE have to be there"
     if (file > 0) return "nothing stands behind FILE, and the options stand before it"
     if (word in is_given) return word " stands twice"
+    if (word == "--made" && word in values && lacking() != "") return lacking() " has to stand before --made"
     if (word ~ /^-/) return "there is no such option" (form_of[ARGV[1]] ~ / OPTIONS / ? "" : " of " ARGV[1])
     if (word == "") return "FILE is empty"
     if (lacking() != "") return lacking() " has to stand before FILE"
@@ -66,6 +79,6 @@ function tell_usage(number, help,   i, said, line, why) {
     for (; i < ARGC; i++) line = line " " ARGV[i]
     print_excerpt("    ", line, length(said) + 2)
     printf "%s", (number > 1 ? form_of[ARGV[1]] "\n" : forms)
-    if (wanted != "") print line_of_option[option]
+    if (wanted != "" && option in line_of_option) print line_of_option[option]
     else if (lacking() != "") print line_of_option[substr(needed, 1, index(needed " ", " ") - 1)]
 }

@@ -468,6 +468,62 @@ fn options_in_any_order(rt: HostRuntime) {
     says(&rt, rt.alloc(), &four, file, WHOLE, 0, "4: 4\n");
 }
 
+// A made source is run without a call of the source, and summed up behind the line of the end.
+#[test]
+fn made_source(rt: HostRuntime) {
+    let unread = Pace {
+        read: 4096,
+        write: 4096,
+        broken: &[1],
+        failing: &[],
+    };
+    let words = ["run", "-n", "2", "--order", "0", "--made", "1", "4"];
+    let wanted = "1: 4448\nsummary images 2 events 127 status 0\n";
+    says(&rt, rt.alloc(), &words, b"", unread, 0, wanted);
+    let words = [
+        "run", "--fail", "2@1", "-n", "2", "--order", "0", "--made", "1", "4",
+    ];
+    let wanted = "error stop image 1 line 12 code 6001\nsummary images 2 events 7 status 4\n";
+    says(&rt, rt.alloc(), &words, b"", unread, 4, wanted);
+}
+
+// `make` writes it.
+#[test]
+fn source_that_is_made(rt: HostRuntime) {
+    let unread = Pace {
+        read: 4096,
+        write: 4096,
+        broken: &[1],
+        failing: &[],
+    };
+    let wanted = "program made
+integer :: u(2), edge[*], me, left, k, i, s, t
+me = this_image()
+left = me - 1
+if (left == 0) left = num_images()
+u(1) = 838
+u(2) = 758
+do k = 1, 10
+edge = u(2)
+sync all
+t = edge[left]
+sync all
+do i = 2, 2, -1
+u(i) = u(i - 1)
+end do
+u(1) = t
+end do
+s = 0
+do i = 1, 2
+s = s + u(i)
+end do
+call co_sum(s)
+if (me == 1) print *, s
+end program made
+";
+    says(&rt, rt.alloc(), &["make", "1", "2"], b"", unread, 0, wanted);
+}
+
 // No valid list begins with these words up to the one of the number. No call of the source is made.
 #[test]
 fn usage(rt: HostRuntime) {
@@ -477,7 +533,7 @@ fn usage(rt: HostRuntime) {
         broken: &[1],
         failing: &[2],
     };
-    let table: [(&str, &[&str]); 42] = [
+    let table: [(&str, &[&str]); 54] = [
         ("usage: word 1\n", &[]),
         ("usage: word 1\n", &["chek", "a.f90"]),
         ("usage: word 2\n", &["check"]),
@@ -513,7 +569,9 @@ fn usage(rt: HostRuntime) {
         ),
         (
             "usage: word 4\n",
-            &["run", "--steps", "1", "--steps", "1", "--order", "0", "a.f90"],
+            &[
+                "run", "--steps", "1", "--steps", "1", "--order", "0", "a.f90",
+            ],
         ),
         ("usage: word 3\n", &["run", "--fail"]),
         (
@@ -522,7 +580,9 @@ fn usage(rt: HostRuntime) {
         ),
         (
             "usage: word 5\n",
-            &["run", "--fail", "1@1", "--fail", "1@0", "--order", "0", "a.f90"],
+            &[
+                "run", "--fail", "1@1", "--fail", "1@0", "--order", "0", "a.f90",
+            ],
         ),
         (
             "usage: word 3\n",
@@ -589,6 +649,27 @@ fn usage(rt: HostRuntime) {
             "usage: word 7\n",
             &["run", "-n", "2", "--order", "0", "a.f90", "b.f90"],
         ),
+        ("usage: word 2\n", &["run", "--made", "1", "4"]),
+        ("usage: word 5\n", &["run", "--order", "0", "--made"]),
+        (
+            "usage: word 6\n",
+            &["run", "--order", "0", "--made", "1", "4097"],
+        ),
+        (
+            "usage: word 7\n",
+            &["run", "--order", "0", "--made", "1", "4", "--vars"],
+        ),
+        (
+            "usage: word 5\n",
+            &["run", "--vars", "--order", "0", "--vars", "a.f90"],
+        ),
+        ("usage: word 2\n", &["make"]),
+        ("usage: word 2\n", &["make", "2147483648", "4"]),
+        ("usage: word 2\n", &["make", "01", "4"]),
+        ("usage: word 3\n", &["make", "1"]),
+        ("usage: word 3\n", &["make", "1", "0"]),
+        ("usage: word 3\n", &["make", "1", "+4"]),
+        ("usage: word 4\n", &["make", "1", "4", "a.f90"]),
     ];
     for (wanted, words) in table {
         says(&rt, rt.alloc(), words, b"end\n", unread, 2, wanted);

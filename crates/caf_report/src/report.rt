@@ -1,13 +1,14 @@
 //! A report: the trace of a run and its end.
 
-ghost use Rattle.std.specs.Prelude.{◌≡◌, ⊤, IfOk, IfSome, IfNone, MatchOption};
+ghost use Rattle.std.specs.Prelude.{◌≡◌, ◌++◌, ⊤, IfOk, OnOk, IfSome, IfNone, MatchOption};
 ghost use Rattle.caf_report.specs.declared.report.End.TheVariants as ends;
 ghost use Rattle.caf_report.specs.Ends.{EndsAt, IsFirstEnding, HasNoEnding, ending_at, ending_by, IsEndOf, RaceStands, EndStands, HasEnd, IsPlain, status_of};
-ghost use Rattle.caf_report.specs.ReportText.{report_text};
+ghost use Rattle.caf_report.specs.ReportText.{middle_text, report_text};
 
 use super::ending::push_end;
 use super::finals::push_finals;
 use super::line::push_prints;
+use super::summary::push_summary;
 use caf_base::listing::{Listing, Text};
 use caf_base::place::ImageNo;
 use caf_base::refusal::NoMemory;
@@ -64,11 +65,12 @@ pub struct Final {
     pub values: Listing<Value>,
 }
 
-/// What a report's text shows beside the printed lines and the end: the final values of variables, and the trace.
+/// What a report's text shows beside the printed lines and the end: the final values of variables, the trace, and the line that sums the run up.
 #[derive(Clone, Copy)]
 pub struct Shown {
     pub vars: bool,
     pub trace: bool,
+    pub summary: bool,
 }
 
 /// A run that is over: its number of images, its trace, its end, the names of the coarrays in declared order, and the final values
@@ -211,21 +213,37 @@ impl Report {
         }
     }
 
-    /// What each image printed, by image in rising order; then the final values and the trace, where they are to be shown; and the line
-    /// of the end. Condition: the end's event stands in the trace, as in each report that `new` makes.
+    /// What each image printed, by image in rising order; then the final values and the trace, where they are to be shown; the line
+    /// of the end; and the line that sums the run up, where it is to be shown. Condition: the end's event stands in the trace, as in each report that `new` makes.
     pub fn text(&self, alloc: Global, shown: Shown) -> Result<Vec<u8>, NoMemory>
         requires { HasEnd self.now }
         ensures { IfOk result (λ bytes. bytes.items ≡ report_text shown self.now) }
     {
         let mut out = Vec::new(alloc);
-        push_prints(&mut out, self.images, &self.trace)?;
+        self.push_middle(&mut out, shown)?;
+        push_end(&mut out, self.names.as_slice(), &self.trace, &self.end)?;
+        if shown.summary {
+            push_summary(
+                &mut out,
+                self.images,
+                self.trace.entries.len() as u64,
+                self.status(),
+            )?;
+        }
+        Ok(out)
+    }
+
+    // Appends what was printed, and the final values and the trace where they are to be shown.
+    fn push_middle(&self, out: &mut Vec<u8>, shown: Shown) -> Result<(), NoMemory>
+        ensures { OnOk result (out.new.items ≡ out.old.items ++ middle_text shown self.now) }
+    {
+        push_prints(out, self.images, &self.trace)?;
         if shown.vars {
-            push_finals(&mut out, self.finals.as_slice())?;
+            push_finals(out, self.finals.as_slice())?;
         }
         if shown.trace {
-            push_trace(alloc, &mut out, self.names.as_slice(), &self.trace)?;
+            push_trace(*out.allocator(), out, self.names.as_slice(), &self.trace)?;
         }
-        push_end(&mut out, self.names.as_slice(), &self.trace, &self.end)?;
-        Ok(out)
+        Ok(())
     }
 }

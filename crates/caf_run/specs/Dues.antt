@@ -1,5 +1,5 @@
--- What a call of the program owes: the status and the text that are due, and what the words, the file and the run have to do with them.
-use Rattle.std.specs.Prelude.{ℕ, ◌≡◌, ◌≤◌, ◌<◌, ◌⊎◌, ◌↔◌, false, List, ◌++◌, length, codes, Option, None, Some, IsNone}
+-- What a call of the program owes: the status and the text that are due, and what the words, the source and the run have to do with them.
+use Rattle.std.specs.Prelude.{ℕ, ◌≡◌, ◌≤◌, ◌<◌, ◌⊎◌, ◌↔◌, List, ◌++◌, length, codes, Option, None, Some, IsNone}
 use Rattle.std.specs.Fmt.{decimal}
 use Rattle.std.specs.Io.KnownBytes.{Appends, Keeps}
 use Rattle.caf_base.specs.Outside.{Files, Rose, HaveNot, MayNotBegin}
@@ -12,13 +12,15 @@ use Rattle.checked_tree.specs.Statements as typed
 use Rattle.rule_definitions.specs.Acceptance.{Accepts}
 use Rattle.caf_base.specs.declared.place.Pos.{Pos}
 use Rattle.caf_words.specs.Usages.{Word}
-use Rattle.caf_words.specs.Words.{IsRun, ChecksSome, IsValid, UsageIs}
+use Rattle.caf_words.specs.Words.{Origin, IsRun, IsMake, ChecksSome, MakesSome, IsValid, UsageIs}
+use Rattle.caf_words.specs.Words.Origin.{from_file}
 use Rattle.caf_words.specs.declared.command.FailAt.{FailAt}
 use Rattle.caf_words.specs.declared.command.Options.{Options}
 use Rattle.caf_run.specs.declared.task.Task.{Task}
 use Rattle.caf_run.specs.declared.task.Task.TheVariants.{Check, Run}
-use Rattle.caf_run.specs.Tasks.{Asks, NamesFile, told_of}
-use Rattle.caf_run.specs.Reading.{HasBytesIfTold, HasBytes, HasNothingLeft, IsLonger}
+use Rattle.caf_run.specs.Tasks.{Asks, NamesSource, NamesFile, told_of}
+use Rattle.caf_run.specs.Reading.{IsSourceIfTold, IsSource, IsLongSource, HasNothingLeft}
+use Rattle.work_maker.specs.MadeSource.{made_source}
 use Rattle.checked_run.specs.Reports.{IsRunOf, IsRunStatus}
 use Rattle.caf_run.specs.Failures.{first_failure}
 use Rattle.caf_run.specs.Sources.{BreaksFirst, IsAccepted, StandsFor, IsGood, IsRefusal, refusal_text}
@@ -46,33 +48,40 @@ pub record UsageClause (words : List Word) (status : ℕ) (text : List ℕ) : Ty
   pub wrong : status ≡ 2 → (k : ℕ) × UsageIs words k × (text ≡ usage_text k)
   pub valid : (status ≡ 2 → ⊥) → IsValid words
 
--- Refusal: status 3 is due where the file's bytes, read to their end, aren't good; the text has the number and the place of the refusal that they have.
-pub record RefusalClause (words : List Word) (files : Option Files) (status : ℕ) (text : List ℕ) : Type 0 where
-  pub refused : status ≡ 3 → (file : Word) × (bytes : List ℕ) × NamesFile words file × HasBytesIfTold files file bytes × IsBad bytes × IsRefusal bytes text
+-- the bytes of the source that the words name: of FILE, read to its end, or those that SEED and SIZE make
+abbrev pub HasSourceBytes : List Word → Option Files → List ℕ → Type 0
+HasSourceBytes words files bytes = (origin : Origin) × NamesSource words origin × IsSourceIfTold files origin bytes
 
--- Acceptance: where the status of a run or of a check is due, the file's bytes, read to their end, are accepted.
+-- Refusal: status 3 is due where the source's bytes aren't good; the text has the number and the place of the refusal that they have.
+pub record RefusalClause (words : List Word) (files : Option Files) (status : ℕ) (text : List ℕ) : Type 0 where
+  pub refused : status ≡ 3 → (bytes : List ℕ) × HasSourceBytes words files bytes × IsBad bytes × IsRefusal bytes text
+
+-- Acceptance: where the status of a run or of a check is due, the source's bytes are accepted; else the words make a source.
 pub record AcceptanceClause (words : List Word) (files : Option Files) (status : ℕ) : Type 0 where
-  pub accepted : IsRunStatus status → (file : Word) × (bytes : List ℕ) × NamesFile words file × HasBytesIfTold files file bytes × IsAccepted bytes
+  pub accepted : IsRunStatus status → ((bytes : List ℕ) × HasSourceBytes words files bytes × IsAccepted bytes) ⊎ MakesSome words
 
 -- the report is that of a run of the checked program as the words tell it: on their images, with their failures and limits, in the order of their SEED
 abbrev pub IsToldRun : typed.Program → Options → List FailAt → Report → Type 0
 IsToldRun p o fails r = IsRunOf p (told_of o) (first_failure fails) r
 
--- Run: with a report, the file's bytes, read to their end, stand for a checked program, and the report is of its run as the words tell it. So a race is told exactly where the run's trace has
+-- Run: with a report, the source's bytes stand for a checked program, and the report is of its run as the words tell it. So a race is told exactly where the run's trace has
 -- one, and up to it each reference gives the last definition in segment order (`IsOrderReport`: `end`, `allowed`).
 abbrev pub RunClause : List Word → Option Files → Option Report → Type 0
 RunClause words files None = Unit {0}
-RunClause words files (Some r) = (o : Options) × (fails : List FailAt) × (file : Word) × (bytes : List ℕ) × (p : typed.Program) × IsRun words o fails file × HasBytesIfTold files file bytes × StandsFor bytes p
-    × IsToldRun p o fails r
+RunClause words files (Some r) = (o : Options) × (fails : List FailAt) × (origin : Origin) × (bytes : List ℕ) × (p : typed.Program) × IsRun words o fails origin × IsSourceIfTold files origin bytes
+    × StandsFor bytes p × IsToldRun p o fails r
 
--- Input: after a run, a check or a refusal nothing of the file is left.
-abbrev pub InputClause : Option Files → Option (List ℕ) → ℕ → Type 0
-InputClause files left status = IsRunStatus status ⊎ (status ≡ 3) → HasNothingLeft files left
+-- Input: after a run, a check or a refusal of a file nothing of it is left.
+abbrev pub IsReadToEnd : Option Files → Option (List ℕ) → ℕ → Type 0
+IsReadToEnd files left status = IsRunStatus status ⊎ (status ≡ 3) → HasNothingLeft files left
 
--- Causes: a read fault comes only where the count of faults rose or the files haven't the name, and only a longer file is too long.
+abbrev pub InputClause : List Word → Option Files → Option (List ℕ) → ℕ → Type 0
+InputClause words files left status = (file : Word) → NamesFile words file → IsReadToEnd files left status
+
+-- Causes: a read fault comes only of a file, where the count of faults rose or the files haven't the name, and only a longer source is too long.
 pub record CausesClause (words : List Word) (files : Option Files) (faults faults' status : ℕ) (text : List ℕ) : Type 0 where
   pub read_fault : status ≡ 10 → (file : Word) × NamesFile words file × MayNotBegin files file faults faults' × (text ≡ codes "read fault\n")
-  pub too_long : status ≡ 13 → (file : Word) × NamesFile words file × IsLonger files file 1048576 × (text ≡ codes "too long\n")
+  pub too_long : status ≡ 13 → (origin : Origin) × NamesSource words origin × IsLongSource files origin 1048576 × (text ≡ codes "too long\n")
 
 -- the bytes settle the status of a task: 13 exactly where they are more than 1,048,576, else 3 exactly where they aren't good, a status with which it is done exactly where they are
 pub record Settle (task : Task) (bytes : List ℕ) (status : ℕ) : Type 0 where
@@ -80,23 +89,32 @@ pub record Settle (task : Task) (bytes : List ℕ) (status : ℕ) : Type 0 where
   pub refused : (status ≡ 3) ↔ ((length bytes ≤ 1048576) × IsBad bytes)
   pub done : IsDoneStatus task status ↔ ((length bytes ≤ 1048576) × IsGood bytes)
 
--- Exactness: where the files are told, 10 is due where they haven't the name; where they have it, its bytes settle the status, or 10 stands in its place after a rise of the count of faults.
+-- Exactness: where the files are told, 10 is due where they haven't the name; where they have it, its bytes settle the status, or 10 stands in its place after a rise of the count of faults. So do the
+-- bytes that SEED and SIZE make.
 pub record ExactClause (words : List Word) (files : Option Files) (faults faults' status : ℕ) : Type 0 where
   pub absent : (file : Word) → NamesFile words file → HaveNot files file → status ≡ 10
-  pub settled : (task : Task) (file : Word) (bytes : List ℕ) → Asks words task file → HasBytes files file bytes → Settle task bytes status ⊎ ((status ≡ 10) × Rose faults faults')
+  pub settled : (task : Task) (origin : Origin) (bytes : List ℕ) → Asks words task origin → IsSource files origin bytes → Settle task bytes status ⊎ ((status ≡ 10) × Rose faults faults')
 
--- what a run shows beside what was printed and the end: its trace where it is told to
+-- Making: for `make SEED SIZE` status 0 is due, and the text is the source that they make.
+abbrev pub MakingClause : List Word → ℕ → List ℕ → Type 0
+MakingClause words status text = (seed : ℕ) (size : ℕ) → IsMake words seed size → (status ≡ 0) × (text ≡ made_source seed size)
+
+-- what a run shows beside what was printed and the end: its final values, its trace and its summary where it is told to
 abbrev pub shown_of : Options → Shown
-shown_of o = record { vars = false; trace = o.trace }
+shown_of o = record { vars = o.vars; trace = o.trace; summary = o.summary }
 
 -- the text of a report is the one that the words ask for
 abbrev pub IsTextOf : List Word → Report → List ℕ → Type 0
-IsTextOf words r text = (o : Options) × (fails : List FailAt) × (file : Word) × IsRun words o fails file × (text ≡ report_text (shown_of o) r)
+IsTextOf words r text = (o : Options) × (fails : List FailAt) × (origin : Origin) × IsRun words o fails origin × (text ≡ report_text (shown_of o) r)
 
--- Report: one is there exactly where a run's status is due, which is that of its end, and the text due is its text, with the trace exactly where the words ask for it; without one 0 is due of a
--- check alone, whose text is `ok`.
+-- what is said where no run is asked for: `ok` of a check, or the source that the words make
+abbrev pub IsSaid : List Word → List ℕ → Type 0
+IsSaid words text = (ChecksSome words × (text ≡ ok_text)) ⊎ MakesSome words
+
+-- Report: one is there exactly where a run's status is due, which is that of its end, and the text due is its text, with the final values, the trace and the summary exactly where the words ask for
+-- them; without one 0 is due of a check alone, whose text is `ok`, and of words that make a source.
 abbrev pub ReportClause : List Word → Option Report → ℕ → List ℕ → Type 0
-ReportClause words None status text = (status ≡ 2) ⊎ (status ≡ 3) ⊎ (status ≡ 10) ⊎ (status ≡ 13) ⊎ ((status ≡ 0) × ChecksSome words × (text ≡ ok_text))
+ReportClause words None status text = (status ≡ 2) ⊎ (status ≡ 3) ⊎ (status ≡ 10) ⊎ (status ≡ 13) ⊎ ((status ≡ 0) × IsSaid words text)
 ReportClause words (Some r) status text = IsRunStatus status × (status ≡ status_of r.end) × IsTextOf words r text
 
 -- all that is due for these words over this source
@@ -104,9 +122,10 @@ pub record IsDue (words : List Word) (files : Option Files) (left' : Option (Lis
   pub usage : UsageClause words status text
   pub refusal : RefusalClause words files status text
   pub acceptance : AcceptanceClause words files status
-  pub input : InputClause files left' status
+  pub input : InputClause words files left' status
   pub causes : CausesClause words files faults faults' status text
   pub exact : ExactClause words files faults faults' status
+  pub made : MakingClause words status text
   pub reported : ReportClause words report status text
   pub ran : RunClause words files report
 
@@ -133,11 +152,12 @@ abbrev pub IsTaskDone : Task → Option Report → ℕ → Type 0
 IsTaskDone Check report answered = IsNone report × (answered ≡ 0)
 IsTaskDone (Run o fails) report answered = (r : Report) × (report ≡ Some r) × (answered ≡ status_of r.end)
 
--- Completeness: valid words, a source of at most 1,048,576 bytes that is good and no rise of either count of faults give a report and exactly the status of its end, of a check 0, or want of memory.
-abbrev pub CompletenessClause : List Word → Option Files → ℕ → ℕ → ℕ → ℕ → ℕ → Option Report → Type 0
-CompletenessClause words files faults faults' sink_faults sink_faults' answered report =
-    (task : Task) (file : Word) (bytes : List ℕ) → Asks words task file → HasBytes files file bytes → length bytes ≤ 1048576 → IsGood bytes
-    → (Rose faults faults' → ⊥) → (Rose sink_faults sink_faults' → ⊥) → IsTaskDone task report answered ⊎ (answered ≡ 12)
+-- Completeness: valid words, a source of at most 1,048,576 bytes that is good and no rise of either count of faults give a report and exactly the status of its end, of a check 0, or want of memory. So
+-- do words that make a source, and no rise of the sink's count: they give 0.
+pub record CompletenessClause (words : List Word) (files : Option Files) (faults faults' sink_faults sink_faults' answered : ℕ) (report : Option Report) : Type 0 where
+  pub task_done : (task : Task) (origin : Origin) (bytes : List ℕ) → Asks words task origin → IsSource files origin bytes → length bytes ≤ 1048576 → IsGood bytes
+      → (Rose faults faults' → ⊥) → (Rose sink_faults sink_faults' → ⊥) → IsTaskDone task report answered ⊎ (answered ≡ 12)
+  pub source_made : (seed : ℕ) (size : ℕ) → IsMake words seed size → (Rose sink_faults sink_faults' → ⊥) → (IsNone report × (answered ≡ 0)) ⊎ (answered ≡ 12)
 
 -- with a report the task is a run, and the report is of one of a checked program of this kind
 abbrev pub RanAs : Task → (typed.Program → Type 0) → Option Report → Type 0
@@ -181,15 +201,15 @@ pub record BytesDue (bytes : List ℕ) (task : Task) (status : ℕ) (text : List
   pub told : IsTold task report status text
   pub ran : RanAs task (StandsFor bytes) report
 
--- what is due for a named file
-pub record FileDue (files : Option Files) (file : Word) (task : Task) (left' : Option (List ℕ)) (faults faults' status : ℕ) (text : List ℕ) (report : Option Report) : Type 0 where
+-- what is due for a source: of a named file, or a made one
+pub record SourceDue (files : Option Files) (origin : Origin) (task : Task) (left' : Option (List ℕ)) (faults faults' status : ℕ) (text : List ℕ) (report : Option Report) : Type 0 where
   pub usage : status ≡ 2 → ⊥
-  pub refused : status ≡ 3 → (bytes : List ℕ) × HasBytesIfTold files file bytes × IsBad bytes × IsRefusal bytes text
-  pub accepted : IsRunStatus status → (bytes : List ℕ) × HasBytesIfTold files file bytes × IsAccepted bytes
-  pub input : InputClause files left' status
-  pub read_fault : status ≡ 10 → MayNotBegin files file faults faults' × (text ≡ codes "read fault\n")
-  pub too_long : status ≡ 13 → IsLonger files file 1048576 × (text ≡ codes "too long\n")
-  pub absent : HaveNot files file → status ≡ 10
-  pub settled : (bytes : List ℕ) → HasBytes files file bytes → Settle task bytes status ⊎ ((status ≡ 10) × Rose faults faults')
+  pub refused : status ≡ 3 → (bytes : List ℕ) × IsSourceIfTold files origin bytes × IsBad bytes × IsRefusal bytes text
+  pub accepted : IsRunStatus status → (bytes : List ℕ) × IsSourceIfTold files origin bytes × IsAccepted bytes
+  pub input : (file : Word) → origin ≡ from_file file → IsReadToEnd files left' status
+  pub read_fault : status ≡ 10 → (file : Word) × (origin ≡ from_file file) × MayNotBegin files file faults faults' × (text ≡ codes "read fault\n")
+  pub too_long : status ≡ 13 → IsLongSource files origin 1048576 × (text ≡ codes "too long\n")
+  pub absent : (file : Word) → origin ≡ from_file file → HaveNot files file → status ≡ 10
+  pub settled : (bytes : List ℕ) → IsSource files origin bytes → Settle task bytes status ⊎ ((status ≡ 10) × Rose faults faults')
   pub told : IsTold task report status text
-  pub ran : RanAs task (λ p. (bytes : List ℕ) × HasBytesIfTold files file bytes × StandsFor bytes p) report
+  pub ran : RanAs task (λ p. (bytes : List ℕ) × IsSourceIfTold files origin bytes × StandsFor bytes p) report

@@ -1,12 +1,11 @@
--- What the words ask of a file: to check it, or to run it.
-use Rattle.std.specs.Prelude.{ℕ, ◌≡◌, ◌≤◌, List, length, ⊤}
+-- What the words ask of a source: to check it, or to run it; and which source they name.
+use Rattle.std.specs.Prelude.{ℕ, ◌≤◌, List, length, ⊤}
 use Rattle.std.specs.List.{AllByRecursion}
 use Rattle.caf_words.specs.Usages.{Word}
-use Rattle.caf_words.specs.Words.{IsRun, IsCheck}
-use Rattle.caf_words.specs.declared.command.Command.{Command}
-use Rattle.caf_words.specs.declared.command.Command.TheVariants as commands
+use Rattle.caf_words.specs.Words.{Origin, IsRun, IsCheck, IsInput}
+use Rattle.caf_words.specs.Words.Origin.{from_file, from_made}
 use Rattle.caf_words.specs.declared.command.FailAt.{FailAt}
-use Rattle.caf_words.specs.declared.command.Input.TheVariants.{File}
+use Rattle.caf_words.specs.declared.command.Input.{Input}
 use Rattle.caf_words.specs.declared.command.Options.{Options}
 use Rattle.caf_words.specs.declared.command.Way.{Way}
 use Rattle.caf_words.specs.declared.command.Way.TheVariants.{Order}
@@ -15,14 +14,22 @@ use Rattle.caf_run.specs.declared.task.Task.{Task}
 use Rattle.caf_run.specs.declared.task.Task.TheVariants.{Check, Run}
 use Rattle.caf_run.specs.Failures.{IsOfImage}
 
--- the words ask for the task, of this file
-abbrev pub Asks : List Word → Task → Word → Type 0
-Asks words Check file = IsCheck words file
-Asks words (Run o fails) file = IsRun words o fails file
+-- the words ask for the task, of this source
+abbrev pub Asks : List Word → Task → Origin → Type 0
+Asks words Check (from_file file) = IsCheck words file
+Asks words Check (from_made seed size) = ⊥
+Asks words (Run o fails) origin = IsRun words o fails origin
 
--- the name of the file that valid words name
+-- the source that valid words name
+abbrev pub NamesSource : List Word → Origin → Type 0
+NamesSource words origin = (task : Task) × Asks words task origin
+
+-- the name of the file that they name, if they name one
 abbrev pub NamesFile : List Word → Word → Type 0
-NamesFile words file = (task : Task) × Asks words task file
+NamesFile words file = NamesSource words (from_file file)
+
+abbrev pub NamesNoFile : List Word → Type 0
+NamesNoFile words = (file : Word) → NamesFile words file → ⊥
 
 -- a run is on 1 to 64 images, of 100,000,000 statements at most, and its failures are of such images
 pub record IsRunTask (o : Options) (fails : List FailAt) : Type 0 where
@@ -43,15 +50,6 @@ seed_of (Order seed) = seed
 abbrev pub told_of : Options → Told
 told_of o = record { images = o.images; limit = o.steps; words = 262144; seed = seed_of o.way }
 
--- the task of a command, and where it has its file among the words, from 1
-abbrev pub task_of : Command → Task
-task_of (commands.Run input fails o) = Run o fails
-task_of (commands.Check word) = Check
-
-abbrev pub place_of_file : Command → ℕ
-place_of_file (commands.Run (File word) fails o) = word
-place_of_file (commands.Check word) = word
-
--- the words ask for the task, of the file whose name has this number among them, from 1
-abbrev pub AsksAt : List Word → Task → ℕ → Type 0
-AsksAt words task number = (file : Word) × Asks words task file × (number ≡ length words)
+-- the words ask for the task, of the source that the input tells
+abbrev pub AsksOf : List Word → Task → Input → Type 0
+AsksOf words task input = (origin : Origin) × Asks words task origin × IsInput origin (length words) input

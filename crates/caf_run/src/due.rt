@@ -1,30 +1,33 @@
 //! What is due for the words and the source: a status, a text, and the report of a run.
 
-ghost use Rattle.std.specs.Prelude.{◌≡◌, ◌≤◌, ◌<◌, IfOk, Some, None, length, slice_get, ◌-◌};
+ghost use Rattle.std.specs.Prelude.{◌≡◌, ◌≤◌, ◌<◌, ℕ, List, Option, IfOk, Some, None, length, slice_get, ◌-◌};
 ghost use Rattle.caf_report.specs.Ends.{HasEnd, status_of};
 ghost use Rattle.caf_report.specs.declared.report.Report.{Report};
-ghost use Rattle.caf_run.specs.Dues.{usage_text, IsDue, IsTold, BytesDue, FileDue, TreeDue};
+ghost use Rattle.caf_base.specs.Outside.{Files};
+ghost use Rattle.caf_run.specs.Dues as spec;
+ghost use Rattle.caf_run.specs.Dues.{usage_text, IsDue, IsTold, BytesDue, SourceDue, TreeDue};
 ghost use Rattle.caf_run.specs.Sources.{refusal_text};
-ghost use Rattle.caf_run.specs.Tasks.{IsTask, IsRunTask, AsksAt};
+ghost use Rattle.caf_run.specs.Tasks.{IsTask, IsRunTask, NamesNoFile, AsksOf};
 ghost use Rattle.caf_run.specs.declared.task.Task.TheVariants as tasks;
-ghost use Rattle.caf_words.specs.Words.{words_in, IsValid};
+ghost use Rattle.caf_words.specs.Words.{words_in, Means};
+ghost use Rattle.caf_words.specs.Words.Origin.{from_file, from_made};
 ghost use Rattle.caf_words.specs.declared.command.FailAt.{FailAt};
 ghost use Rattle.checked_run.specs.Reports.{IsRunStatus};
 ghost use Rattle.checked_tree.specs.StatementViews as typed;
 ghost use Rattle.fortran_tree.specs.UnitViews.{program};
 ghost use Rattle.fortran_tree.specs.Units as units;
 ghost use Rattle.rule_definitions.specs.Acceptance.{Accepts};
-ghost use Rattle.std.specs.Prelude.{List};
+ghost use Rattle.work_maker.specs.MadeSource.{made_source};
 
 use crate::failures::by_image;
 use crate::reading::{ReadEnd, read_file};
-use crate::task::{Task, file_place, task_of, told_of};
+use crate::task::{Task, told_of};
 use caf_base::outside::Source;
 use caf_base::place::Pos;
 use caf_base::refusal::{NoMemory, Refusal};
 use caf_report::report::{Report, Shown};
 use caf_text::push_number;
-use caf_words::command::{FailAt, Options};
+use caf_words::command::{Command, FailAt, Input, Options};
 use caf_words::words::words_of;
 use checked_run::running::run_checked;
 use checked_tree::program::Checked;
@@ -33,6 +36,7 @@ use rule_checker::check::check;
 use source_reader::fault::{at, number};
 use source_reader::source::read;
 use std::alloc::Global;
+use work_maker::source::make_source;
 
 /// The most bytes of a source.
 const SOURCE_BYTES: usize = 1_048_576;
@@ -70,17 +74,24 @@ fn usage_due(alloc: Global, word: u32) -> Result<Due, NoMemory>
     })
 }
 
+// What a report's text shows of a run.
+fn shown_of(options: Options) -> Shown
+    ensures { result ≡ spec.shown_of options }
+{
+    Shown {
+        vars: options.vars,
+        trace: options.trace,
+        summary: options.summary,
+    }
+}
+
 // What is due for a run that was made: its status, and its text with what the options show.
 fn report_due(alloc: Global, report: Report, options: Options) -> Result<Due, NoMemory>
     requires end { HasEnd report }
     requires status { IsRunStatus (status_of report.end) }
     ensures { IfOk result (λ d. (d.report ≡ Some report) × ((fails : List FailAt) → IsTold (tasks.Run options fails) d.report d.status d.text.items)) }
 {
-    let shown = Shown {
-        vars: false,
-        trace: options.trace,
-    };
-    let text = report.text(alloc, shown)?;
+    let text = report.text(alloc, shown_of(options))?;
     Ok(Due {
         status: report.status(),
         text,
@@ -153,7 +164,7 @@ fn tree_due(alloc: Global, tree: Program, task: &Task) -> Result<Due, NoMemory>
     }
 }
 
-// What is due for the bytes of a file.
+// What is due for the bytes of a source.
 fn bytes_due(alloc: Global, bytes: &[u8], task: &Task) -> Result<Due, NoMemory>
     requires task { IsTask task.now }
     requires short { length bytes.now ≤ 1048576 }
@@ -176,7 +187,7 @@ fn file_due<S: Source>(
     requires { IsTask task.now }
     ensures files { S.files source.new ≡ S.files source.old }
     ensures later { S.faults source.old ≤ S.faults source.new }
-    ensures due { IfOk result (λ d. FileDue (S.files source.old) name.now task.now (S.left source.new) (S.faults source.old) (S.faults source.new) d.status d.text.items d.report) }
+    ensures due { IfOk result (λ d. SourceDue (S.files source.old) (from_file name.now) task.now (S.left source.new) (S.faults source.old) (S.faults source.new) d.status d.text.items d.report) }
 {
     match read_file(alloc, source, name, SOURCE_BYTES) {
         Ok(bytes) => bytes_due(alloc, bytes.as_slice(), task),
@@ -184,6 +195,21 @@ fn file_due<S: Source>(
         Err(ReadEnd::TooLong) => said(alloc, 13, b"too long\n"),
         Err(ReadEnd::NoMemory) => Err(NoMemory),
     }
+}
+
+// What is due for the source that a seed and a size make.
+fn made_due(alloc: Global, seed: u32, size: u32, task: &Task) -> Result<Due, NoMemory>
+    requires task { IsTask task.now }
+    requires seed { seed ≤ 2147483647 }
+    requires size { (1 ≤ size) × (size ≤ 4096) }
+    ensures { IfOk result (λ d. (files : Option Files) (left : Option (List ℕ)) (faults faults' : ℕ)
+        → SourceDue files (from_made seed size) task.now left faults faults' d.status d.text.items d.report) }
+{
+    let bytes = make_source(alloc, seed, size)?;
+    if bytes.len() > SOURCE_BYTES {
+        return said(alloc, 13, b"too long\n");
+    }
+    bytes_due(alloc, bytes.as_slice(), task)
 }
 
 // The word of a number from 1.
@@ -194,23 +220,69 @@ fn word_at(words: &[String], number: u32) -> &str
     words[(number - 1) as usize].as_str()
 }
 
-// What is due for words that ask for a task, of the file whose name has this number among them.
+// What is due for words that ask for a task, of the source that this input is. A made source leaves the files as they were.
 fn task_due<S: Source>(
     alloc: Global,
     words: &[String],
     source: &mut S,
-    number: u32,
+    input: Input,
     task: &Task,
 ) -> Result<Due, NoMemory>
-    requires { AsksAt (words_in words.now) task.now number }
+    requires { AsksOf (words_in words.now) task.now input }
     ensures files { S.files source.new ≡ S.files source.old }
     ensures later { S.faults source.old ≤ S.faults source.new }
+    ensures untouched { NamesNoFile (words_in words.now) → source.new ≡ source.old }
     ensures due { IfOk result (λ d. IsDue (words_in words.now) (S.files source.old) (S.left source.new) (S.faults source.old) (S.faults source.new) d.status d.text.items d.report) }
 {
-    file_due(alloc, source, word_at(words, number), task)
+    match input {
+        Input::File { word } => file_due(alloc, source, word_at(words, word), task),
+        Input::Made { seed, size } => made_due(alloc, seed, size, task),
+    }
 }
 
-/// What is due for the words over a source. Words that aren't valid leave the source as it was.
+// What is due for words that make a source.
+fn make_due(alloc: Global, seed: u32, size: u32) -> Result<Due, NoMemory>
+    requires seed { seed ≤ 2147483647 }
+    requires size { (1 ≤ size) × (size ≤ 4096) }
+    ensures { IfOk result (λ d. (d.status ≡ 0) × (d.text.items ≡ made_source seed size) × (d.report ≡ None)) }
+{
+    Ok(Due {
+        status: 0,
+        text: make_source(alloc, seed, size)?,
+        report: None,
+    })
+}
+
+// What is due for a command that the words mean.
+fn command_due<S: Source>(
+    alloc: Global,
+    words: &[String],
+    source: &mut S,
+    command: Command,
+) -> Result<Due, NoMemory>
+    requires { Means (words_in words.now) command }
+    ensures files { S.files source.new ≡ S.files source.old }
+    ensures later { S.faults source.old ≤ S.faults source.new }
+    ensures untouched { NamesNoFile (words_in words.now) → source.new ≡ source.old }
+    ensures due { IfOk result (λ d. IsDue (words_in words.now) (S.files source.old) (S.left source.new) (S.faults source.old) (S.faults source.new) d.status d.text.items d.report) }
+{
+    match command {
+        Command::Run {
+            input,
+            fails,
+            options,
+        } => {
+            let task = Task::Run { options, fails };
+            task_due(alloc, words, source, input, &task)
+        }
+        Command::Check { word } => {
+            task_due(alloc, words, source, Input::File { word }, &Task::Check)
+        }
+        Command::Make { seed, size } => make_due(alloc, seed, size),
+    }
+}
+
+/// What is due for the words over a source. Words that name no file leave the source as it was.
 pub fn what_is_due<S: Source>(
     alloc: Global,
     words: &[String],
@@ -218,15 +290,11 @@ pub fn what_is_due<S: Source>(
 ) -> Result<Due, NoMemory>
     ensures files { S.files source.new ≡ S.files source.old }
     ensures later { S.faults source.old ≤ S.faults source.new }
-    ensures untouched { ¬ IsValid (words_in words.now) → source.new ≡ source.old }
+    ensures untouched { NamesNoFile (words_in words.now) → source.new ≡ source.old }
     ensures due { IfOk result (λ d. IsDue (words_in words.now) (S.files source.old) (S.left source.new) (S.faults source.old) (S.faults source.new) d.status d.text.items d.report) }
 {
     match words_of(alloc, words) {
-        Ok(command) => {
-            let number = file_place(&command);
-            let task = task_of(command);
-            task_due(alloc, words, source, number, &task)
-        }
+        Ok(command) => command_due(alloc, words, source, command),
         Err(Refusal::Cause(usage)) => usage_due(alloc, usage.word),
         Err(Refusal::NoMemory) => Err(NoMemory),
     }

@@ -1,11 +1,11 @@
-//! What a call asks of a file.
+//! What a call asks of a source.
 
 ghost use Rattle.std.specs.Prelude.{◌≡◌};
 ghost use Rattle.caf_run.specs.Tasks as spec;
 
 use caf_base::limits::RECORDED_WORDS;
 use caf_base::listing::Listing;
-use caf_words::command::{Command, FailAt, Input, Options, Way};
+use caf_words::command::{FailAt, Options, Way};
 use checked_run::running::Told;
 
 /// What is to be done with a source.
@@ -18,29 +18,6 @@ pub enum Task {
         options: Options,
         fails: Listing<FailAt>,
     },
-}
-
-/// The task of a command.
-pub fn task_of(command: Command) -> Task
-    ensures { result ≡ spec.task_of command }
-{
-    match command {
-        Command::Run { fails, options, .. } => Task::Run { options, fails },
-        Command::Check { .. } => Task::Check,
-    }
-}
-
-/// The place of FILE among the words that a command was made of, from 1.
-pub fn file_place(command: &Command) -> u32
-    ensures { result ≡ spec.place_of_file command.now }
-{
-    match command {
-        Command::Run {
-            input: Input::File { word },
-            ..
-        }
-        | Command::Check { word } => *word,
-    }
 }
 
 /// What a run is told: the images, the limit and the order of the options, and the most words that an image may record.

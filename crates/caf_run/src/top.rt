@@ -3,7 +3,8 @@
 ghost use Rattle.std.specs.Prelude.{◌≡◌, ◌≤◌, ℕ, List, Option};
 ghost use Rattle.caf_base.specs.Outside.{Rose};
 ghost use Rattle.caf_run.specs.Dues.{IsAnswer, CompletenessClause};
-ghost use Rattle.caf_words.specs.Words.{words_in, IsValid};
+ghost use Rattle.caf_run.specs.Tasks.{NamesNoFile};
+ghost use Rattle.caf_words.specs.Words.{words_in};
 
 use crate::due::{Due, what_is_due};
 use crate::writing::write_all;
@@ -18,12 +19,12 @@ pub struct Done {
     pub report: Option<Report>,
 }
 
-/// All that the program does with the words behind its name: it judges them, reads the file that they name to its end,
+/// All that the program does with the words behind its name: it judges them, reads the file that they name to its end, or makes the source that they say,
 /// reads the program, checks it, runs it where the words say so, and writes what is due. Status 0 finished, of a check that the
-/// program breaks no rule, 2 usage, 3 refused, 4 error stop, 5 race, 6 stuck, 7 limit, 8 run fault, 9 clash, 10 read fault, 11 write fault,
+/// program breaks no rule, of `make` that the source is made, 2 usage, 3 refused, 4 error stop, 5 race, 6 stuck, 7 limit, 8 run fault, 9 clash, 10 read fault, 11 write fault,
 /// 12 want of memory, 13 too long.
 ///
-/// Where the source tells its files and its count of faults doesn't rise in this call, the words and the file settle the status
+/// Words that name no file leave the source as it was. Where the source tells its files and its count of faults doesn't rise in this call, the words and the file settle the status
 /// that is due; where the sink's doesn't rise either, that is the answer, or 12.
 pub fn caf<S: Source, K: Sink>(
     alloc: Global,
@@ -32,7 +33,7 @@ pub fn caf<S: Source, K: Sink>(
     sink: &mut K,
 ) -> Done
     ensures files { S.files source.new ≡ S.files source.old }
-    ensures untouched { ¬ IsValid (words_in words.now.items) → source.new ≡ source.old }
+    ensures untouched { NamesNoFile (words_in words.now.items) → source.new ≡ source.old }
     ensures answer { IsAnswer (words_in words.now.items) (S.files source.old) (S.left source.new) (S.faults source.old) (S.faults source.new)
         (K.written sink.old) (K.written sink.new) (K.faults sink.old) (K.faults sink.new) result.status result.report }
     ensures write_fault { result.status ≡ 11 → Rose (K.faults sink.old) (K.faults sink.new) }

@@ -1,20 +1,22 @@
 -- The words of a run and of a check, one by one.
-use Rattle.std.proofs.Common.{◌≡◌, ℕ, zero, suc, ◌+◌, ◌<◌, List, [], ◌∷◌, ◌++◌, length, get_or, take, refl, sym, ap, ◌∙◌, subst, inl, inr, arith, cond, eqb, String, Global}
+use Rattle.std.proofs.Common.{◌≡◌, ◌≢◌, ◌⊎◌, ℕ, suc, ◌+◌, ◌≤◌, List, [], ◌∷◌, ◌++◌, length, get_or, refl, sym, ap, ◌∙◌, subst, inl, inr, arith, cond, eqb, false, String, Global}
 use Rattle.std.specs.Prelude.{Option, None, Some, codes, string_bytes}
 use Rattle.std.specs.Fmt.{decimal}
 use Rattle.std.proofs.lemmas.Fmt.{decimal_injective}
 use Rattle.caf_words.specs.Usages.{Word, Begins, UsageOf}
-use Rattle.caf_words.specs.Words.{words_in, IsFileName, IsFailure, IsOption, IsRest, told}
-use Rattle.caf_words.specs.Words.IsOption.{images, order, steps, fail, trace}
-use Rattle.caf_words.specs.Words.IsRest.{file_last, option_next}
-use Rattle.caf_words.specs.Readings.{Rests, FileAlone, key_word, IsNextKey, Flags, IsNoOption, BeginsNoOption, Gives, BehindKey}
+use Rattle.caf_words.specs.Words.{words_in, Origin, IsFileName, IsFailure, IsOption, AreSeedAndSize, IsOrigin, IsRest, told, is_made}
+use Rattle.caf_words.specs.Words.Origin.{from_file, from_made}
+use Rattle.caf_words.specs.Words.IsOption.{images, order, steps, fail, trace, vars}
+use Rattle.caf_words.specs.Words.IsRest.{origin_last, option_next}
+use Rattle.caf_words.specs.Readings.{Rests, FileAlone, IsSize, SizeAlone, MadeAlone, OriginAlone, IsInputOf, key_word, IsNextKey, Flags, IsNoOption, BeginsNoOption, Gives, BehindKey}
 use Rattle.caf_words.specs.declared.options.Given.{Given}
 use Rattle.caf_words.specs.declared.options.Key.{Key}
 use Rattle.caf_words.specs.declared.options.Key.TheVariants as keys
 use Rattle.caf_words.specs.declared.command.FailAt.{FailAt}
 use Rattle.caf_words.specs.declared.command.Options.{Options}
+use Rattle.caf_words.specs.declared.command.Input.TheVariants.{Made}
 use Rattle.caf_words.proofs.Failures.{one_failure}
-use Rattle.caf_words.proofs.Usages.{usage_none, usage_first, usage_behind}
+use Rattle.caf_words.proofs.Usages.{usage_none, usage_first, usage_behind, usage_alike_none, usage_alike}
 
 a_is_name : IsFileName (codes "a")
 a_is_name = λ (e : 97 ≡ 45). omega arith
@@ -35,24 +37,54 @@ told_key keys.Fail = refl
 key_once : (k l : Key) → key_word k ≡ key_word l → k ≡ l
 key_once k l e = sym (told_key k) ∙ ap key_told e ∙ told_key l
 
-key_no_flag : (k : Key) → key_word k ≡ codes "--trace" → ⊥
-key_no_flag keys.Images e = let l : ◌≡◌ {A = ℕ} 110 161 = ap letters e in omega arith
-key_no_flag keys.Order e = let l : ◌≡◌ {A = ℕ} 156 161 = ap letters e in omega arith
-key_no_flag keys.Steps e = let l : ◌≡◌ {A = ℕ} 160 161 = ap letters e in omega arith
-key_no_flag keys.Fail e = let l : ◌≡◌ {A = ℕ} 147 161 = ap letters e in omega arith
+key_other : (k : Key) → ((n : ℕ) → letters (key_word k) ≡ n → (n ≡ 154) ⊎ (n ≡ 161) ⊎ (n ≡ 163) → ⊥)
+key_other keys.Images n e odd = elim odd [ inl a ↦ omega arith | inr other ↦ elim other [ inl b ↦ omega arith | inr c ↦ omega arith ] ]
+key_other keys.Order n e odd = elim odd [ inl a ↦ omega arith | inr other ↦ elim other [ inl b ↦ omega arith | inr c ↦ omega arith ] ]
+key_other keys.Steps n e odd = elim odd [ inl a ↦ omega arith | inr other ↦ elim other [ inl b ↦ omega arith | inr c ↦ omega arith ] ]
+key_other keys.Fail n e odd = elim odd [ inl a ↦ omega arith | inr other ↦ elim other [ inl b ↦ omega arith | inr c ↦ omega arith ] ]
 
--- they begin with `-`, and are no file's name
+-- what an option without a value is called
+abbrev IsFlag : Word → Type 0
+IsFlag word = (word ≡ codes "--trace") ⊎ (word ≡ codes "--vars")
+
+flag_word : (g h : Given) (word : Word) → Flags g word h → IsFlag word
+flag_word g h word (inl is) = inl is.0
+flag_word g h word (inr is) = inr is.0
+
+key_no_flag : (k : Key) (word : Word) → word ≡ key_word k → IsFlag word → ⊥
+key_no_flag k word e (inl is) = key_other k 161 (ap letters (sym e ∙ is)) (inr (inl refl))
+key_no_flag k word e (inr is) = key_other k 163 (ap letters (sym e ∙ is)) (inr (inr refl))
+
+-- what says where a source comes from begins with a file's name or with `--made`
+abbrev pub BeginsOrigin : Word → Type 0
+BeginsOrigin word = IsFileName word ⊎ (word ≡ codes "--made")
+
+-- options begin with `-`, and are no file's name
 key_odd : (k : Key) → ¬ IsFileName (key_word k)
 key_odd keys.Images name = name refl
 key_odd keys.Order name = name refl
 key_odd keys.Steps name = name refl
 key_odd keys.Fail name = name refl
 
-pub no_name : (g : Given) (word : Word) (k : Key) → IsNextKey g word k → ¬ IsFileName word
-no_name g word k is name = key_odd k (subst IsFileName is.0 name)
+pub no_origin : (g : Given) (word : Word) (k : Key) → IsNextKey g word k → ¬ BeginsOrigin word
+no_origin g word k is (inl name) = key_odd k (subst IsFileName is.0 name)
+no_origin g word k is (inr made) = key_other k 154 (ap letters (sym is.0 ∙ made)) (inl refl)
 
-pub no_flag_name : (g h : Given) (word : Word) → Flags g word h → ¬ IsFileName word
-no_flag_name g h word is name = (subst IsFileName is.0 name) refl
+flag_odd : (word : Word) → IsFlag word → ¬ BeginsOrigin word
+flag_odd word (inl is) (inl name) = (subst IsFileName is name) refl
+flag_odd word (inr is) (inl name) = (subst IsFileName is name) refl
+flag_odd word (inl is) (inr made) = let l : ◌≡◌ {A = ℕ} 161 154 = ap letters (sym is ∙ made) in omega arith
+flag_odd word (inr is) (inr made) = let l : ◌≡◌ {A = ℕ} 163 154 = ap letters (sym is ∙ made) in omega arith
+
+pub no_flag_origin : (g h : Given) (word : Word) → Flags g word h → ¬ BeginsOrigin word
+no_flag_origin g h word is begins = flag_odd word (flag_word g h word is) begins
+
+-- an option without a value gives one thing
+pub flag_once : (g h i : Given) (word : Word) → Flags g word h → Flags g word i → h ≡ i
+flag_once g h i word (inl first) (inl second) = first.2 ∙ sym second.2
+flag_once g h i word (inr first) (inr second) = first.2 ∙ sym second.2
+flag_once g h i word (inl first) (inr second) = let l : ◌≡◌ {A = ℕ} 161 163 = ap letters (sym first.0 ∙ second.0) in absurd (omega arith)
+flag_once g h i word (inr first) (inl second) = let l : ◌≡◌ {A = ℕ} 163 161 = ap letters (sym first.0 ∙ second.0) in absurd (omega arith)
 
 -- a file's name alone
 
@@ -85,6 +117,121 @@ pub usage_alone_longer : (word : Word) (behind : List (String Global)) → ¬ (l
 usage_alone_longer word [] some name = absurd (some refl)
 usage_alone_longer word (more ∷ behind) some name = usage_alone_more word (string_bytes more) (words_in behind) name
 
+-- a SIZE alone, and a SEED and a SIZE
+
+size_begins : Begins SizeAlone []
+size_begins = (decimal 1 ∷ [], (1, (refl, omega arith, omega arith)))
+
+size_none : SizeAlone [] → ⊥
+size_none size = cc (size.1.0)
+
+pub usage_size_none : UsageOf SizeAlone [] 1
+usage_size_none = usage_none SizeAlone size_begins size_none
+
+pub usage_size_odd : (word : Word) (words : List Word) → ((n : ℕ) → 1 ≤ n → n ≤ 4096 → word ≢ decimal n) → UsageOf SizeAlone (word ∷ words) 1
+usage_size_odd word words odd = usage_first SizeAlone word words size_begins (λ rest size. odd size.0 size.1.1 size.1.2 (cc (size.1.0)))
+
+usage_size_more : (n : ℕ) (word more : Word) (words : List Word) → word ≡ decimal n → 1 ≤ n → n ≤ 4096 → UsageOf SizeAlone (word ∷ more ∷ words) 2
+usage_size_more n word more words is low high =
+    usage_behind SizeAlone Nothing word (more ∷ words) 1 size_begins (λ rest none. (n, (rw (none, is) refl, low, high))) (λ rest size. cc (size.1.0))
+    (usage_first Nothing more words ([], refl) (λ rest none. cc))
+
+-- words behind a SIZE
+pub usage_size_longer : (n : ℕ) (word : Word) (behind : List (String Global)) → ¬ (length behind ≡ 0) → word ≡ decimal n → 1 ≤ n → n ≤ 4096 → UsageOf SizeAlone (word ∷ words_in behind) 2
+usage_size_longer n word [] some is low high = absurd (some refl)
+usage_size_longer n word (more ∷ behind) some is low high = usage_size_more n word (string_bytes more) (words_in behind) is low high
+
+made_begins : Begins MadeAlone []
+made_begins = (decimal 0 ∷ decimal 1 ∷ [], (0, 1, record { form = refl; most_seed = omega arith; least_size = omega arith; most_size = omega arith }))
+
+made_none : MadeAlone [] → ⊥
+made_none (seed, size, are) = cc are.form
+
+pub usage_made_none : UsageOf MadeAlone [] 1
+usage_made_none = usage_none MadeAlone made_begins made_none
+
+pub usage_made_odd : (word : Word) (words : List Word) → ((n : ℕ) → 0 ≤ n → n ≤ 2147483647 → word ≢ decimal n) → UsageOf MadeAlone (word ∷ words) 1
+usage_made_odd word words odd = usage_first MadeAlone word words made_begins (λ rest (seed, size, are). odd seed (omega arith) are.most_seed (cc are.form))
+
+pub made_of : (seed size : ℕ) (word : Word) (words : List Word) → word ≡ decimal seed → seed ≤ 2147483647 → IsSize words size → AreSeedAndSize (word ∷ words) seed size
+made_of seed size word words is high (form, low, most) = record { form = rw (is, form) refl; most_seed = high; least_size = low; most_size = most }
+
+-- words that go wrong behind a SEED
+pub usage_made : (seed : ℕ) (word : Word) (words : List Word) (k : ℕ) → word ≡ decimal seed → seed ≤ 2147483647 → UsageOf SizeAlone words k → UsageOf MadeAlone (word ∷ words) (suc k)
+usage_made seed word words k is high usage =
+    usage_behind MadeAlone SizeAlone word words k made_begins (λ rest size. (seed, size.0, made_of seed size.0 word rest is high size.1)) (λ rest made. (made.1, (cc (made.2.form), made.2.least_size, made.2.most_size))) usage
+
+-- what says where a run has its source from
+
+origin_begins : Begins OriginAlone []
+origin_begins = (codes "a" ∷ [], (from_file (codes "a"), (refl, a_is_name)))
+
+-- its first word
+pub record HasFirst (words : List Word) : Type 0 where
+  pub first : Word
+  pub behind : List Word
+  pub form : words ≡ first ∷ behind
+  pub begins : BeginsOrigin first
+
+pub origin_first : (words : List Word) (origin : Origin) → IsOrigin words origin → HasFirst words
+origin_first words (from_file file) (form, name) = record { first = file; behind = []; form = form; begins = inl name }
+origin_first words (from_made seed size) (numbers, form, are) = record { first = codes "--made"; behind = numbers; form = form; begins = inr refl }
+
+pub origin_named : (word : Word) (words : List Word) (origin : Origin) → IsOrigin (word ∷ words) origin → BeginsOrigin word
+origin_named word words origin is = let f = origin_first (word ∷ words) origin is in let e : f.first ≡ word = cc (f.form) in subst BeginsOrigin e f.begins
+
+origin_none : OriginAlone [] → ⊥
+origin_none (origin, is) = let f = origin_first [] origin is in cc (f.form)
+
+pub usage_origin_none : UsageOf OriginAlone [] 1
+usage_origin_none = usage_none OriginAlone origin_begins origin_none
+
+file_origin : (words : List Word) → FileAlone words → OriginAlone words
+file_origin words (file, form, name) = (from_file file, (form, name))
+
+origin_file : (word : Word) (words : List Word) → (word ≡ codes "--made" → ⊥) → OriginAlone (word ∷ words) → FileAlone (word ∷ words)
+origin_file word words odd (from_file file, (form, name)) = (file, form, name)
+origin_file word words odd (from_made seed size, (numbers, form, are)) = absurd (odd (cc form))
+
+-- a file's name that goes wrong
+pub usage_origin_file : (word : Word) (words : List Word) (k : ℕ) → (word ≡ codes "--made" → ⊥) → UsageOf FileAlone (word ∷ words) k → UsageOf OriginAlone (word ∷ words) k
+usage_origin_file word words k odd usage =
+    usage_alike FileAlone OriginAlone word words k alone_begins origin_begins (λ rest file. file_origin (word ∷ rest) file) (λ rest origin. origin_file word rest odd origin) usage
+
+made_origin : (words : List Word) → MadeAlone words → OriginAlone (codes "--made" ∷ words)
+made_origin words (seed, size, are) = (from_made seed size, (words, refl, are))
+
+origin_made : (words : List Word) → OriginAlone (codes "--made" ∷ words) → MadeAlone words
+origin_made words (from_file file, (form, name)) = let e : codes "--made" ≡ file = cc form in absurd ((subst IsFileName (sym e) name) refl)
+origin_made words (from_made seed size, (numbers, form, are)) = let e : words ≡ numbers = cc form in (seed, size, rw e are)
+
+-- words that go wrong behind `--made`
+pub usage_origin_made : (word : Word) (words : List Word) (k : ℕ) → word ≡ codes "--made" → UsageOf MadeAlone words k → UsageOf OriginAlone (word ∷ words) (suc k)
+usage_origin_made word words k is usage = rw is (usage_behind OriginAlone MadeAlone (codes "--made") words k origin_begins made_origin origin_made usage)
+
+-- the input of a made source
+pub input_made : (words behind : List (String Global)) (first : String Global) (last seed size : ℕ) → words ≡ first ∷ behind → string_bytes first ≡ codes "--made" → AreSeedAndSize (words_in behind) seed size
+    → IsInputOf (words_in words) last (Made seed size)
+input_made words behind first last seed size e is are = (from_made seed size, (words_in behind, rw (e, is) refl, are), (refl, refl))
+
+-- one source is named
+pub one_seed_and_size : (words : List Word) (seed size seed' size' : ℕ) → AreSeedAndSize words seed size → AreSeedAndSize words seed' size' → (seed ≡ seed') × (size ≡ size')
+one_seed_and_size words seed size seed' size' first second =
+    let seeds : decimal seed ≡ decimal seed' = cc (first.form, second.form) in
+    let sizes : decimal size ≡ decimal size' = cc (first.form, second.form) in
+    (decimal_injective seed seed' (omega (arith, first.most_seed)) (omega (arith, second.most_seed)) seeds, decimal_injective size size' (omega (arith, first.most_size)) (omega (arith, second.most_size)) sizes)
+
+pub one_origin : (words : List Word) (a b : Origin) → IsOrigin words a → IsOrigin words b → a ≡ b
+one_origin words (from_file file) (from_file file') (form, name) (form', name') = let e : file ≡ file' = cc (form, form') in ap from_file e
+one_origin words (from_file file) (from_made seed size) (form, name) (numbers, form', are) =
+    let e : file ≡ codes "--made" = cc (form, form') in absurd ((subst IsFileName e name) refl)
+one_origin words (from_made seed size) (from_file file) (numbers, form, are) (form', name) =
+    let e : file ≡ codes "--made" = cc (form, form') in absurd ((subst IsFileName e name) refl)
+one_origin words (from_made seed size) (from_made seed' size') (numbers, form, are) (numbers', form', are') =
+    let e : numbers ≡ numbers' = cc (form, form') in
+    let same = one_seed_and_size numbers seed size seed' size' are (rw e are') in
+    ap (λ n. from_made n size) same.0 ∙ ap (λ n. from_made seed' n) same.1
+
 -- an option is a key with its value, or a flag
 
 pub data Form (g : Given) (words : List Word) (h : Given) (named : List FailAt) : Type 0 where
@@ -96,7 +243,8 @@ form_of g _ _ _ (images n free low high) = keyed keys.Images (codes "-n") (decim
 form_of g _ _ _ (order s free high) = keyed keys.Order (codes "--order") (decimal s) refl (refl, free) (s, refl, high, refl, refl)
 form_of g _ _ _ (steps n free low high) = keyed keys.Steps (codes "--steps") (decimal n) refl (refl, free) (n, refl, low, high, refl, refl)
 form_of g _ _ _ (fail word f is) = keyed keys.Fail (codes "--fail") word refl (refl, tt) (f, is, refl, refl)
-form_of g _ _ _ (trace free) = flagged (codes "--trace") refl (refl, free, refl) refl
+form_of g _ _ _ (trace free) = flagged (codes "--trace") refl (inl (refl, free, refl)) refl
+form_of g _ _ _ (vars free) = flagged (codes "--vars") refl (inr (refl, free, refl)) refl
 
 pub keyed_option : (g h : Given) (k : Key) (word value : Word) (named : List FailAt) → IsNextKey g word k → Gives g k value h named → IsOption g (word ∷ value ∷ []) h named
 keyed_option g h keys.Images word value named is (n, said, low, high, given, none) = rw (is.0, said, given, none) (images n is.1 low high)
@@ -105,7 +253,8 @@ keyed_option g h keys.Steps word value named is (n, said, low, high, given, none
 keyed_option g h keys.Fail word value named is (f, said, given, one) = rw (is.0, given, one) (fail value f said)
 
 pub flag_option : (g h : Given) (word : Word) → Flags g word h → IsOption g (word ∷ []) h []
-flag_option g h word (is, free, given) = rw (is, given) (trace free)
+flag_option g h word (inl (is, free, given)) = rw (is, given) (trace free)
+flag_option g h word (inr (is, free, given)) = rw (is, given) (vars free)
 
 -- a value gives one thing
 pub record SameGift (h : Given) (named : List FailAt) (h' : Given) (named' : List FailAt) : Type 0 where
@@ -129,7 +278,7 @@ pub key_same : (g : Given) (word : Word) (k l : Key) → IsNextKey g word k → 
 key_same g word k l is other = key_once k l (sym is.0 ∙ other.0)
 
 pub key_or_flag : (g h : Given) (word : Word) (k : Key) → IsNextKey g word k → Flags g word h → ⊥
-key_or_flag g h word k is flag = key_no_flag k (sym is.0 ∙ flag.0)
+key_or_flag g h word k is flag = key_no_flag k word is.0 (flag_word g h word flag)
 
 -- the rest of a run
 
@@ -137,23 +286,32 @@ pub rests_begin : (g : Given) → Begins (Rests g) []
 rests_begin g = by_order g.order refl
   where
     by_order : (order : Option ℕ) → g.order ≡ order → Begins (Rests g) []
-    by_order (Some seed) e = (codes "a" ∷ [], (told g seed, [], codes "a", file_last g seed (codes "a") e a_is_name))
+    by_order (Some seed) e = (codes "a" ∷ [], (told g seed false, [], from_file (codes "a"), origin_last g seed (codes "a" ∷ []) (from_file (codes "a")) e (refl, a_is_name)))
     by_order None e =
         let h : Given = record g { order = Some 0 } in
-        (codes "--order" ∷ decimal 0 ∷ codes "a" ∷ [], (told h 0, [], codes "a", option_next g h (codes "--order" ∷ decimal 0 ∷ []) [] (codes "a" ∷ []) (told h 0) [] (codes "a") (order 0 e (omega arith)) (file_last h 0 (codes "a") refl a_is_name)))
+        let last : IsRest h (codes "a" ∷ []) (told h 0 false) [] (from_file (codes "a")) = origin_last h 0 (codes "a" ∷ []) (from_file (codes "a")) refl (refl, a_is_name) in (
+          codes "--order" ∷ decimal 0 ∷ codes "a" ∷ [],
+          (
+            told h 0 false,
+            [],
+            from_file (codes "a"),
+            option_next g h (codes "--order" ∷ decimal 0 ∷ []) [] (codes "a" ∷ []) (told h 0 false) [] (from_file (codes "a")) (order 0 e (omega arith)) last,
+          ),
+        )
 
--- the first word of the rest of a run is the key of an option that may come next, an option without a value, or a file's name
-pub data First (g : Given) (word : Word) (rest : List Word) (o : Options) (fails : List FailAt) (file : Word) : Type 0 where
-  by_name : (seed : ℕ) → g.order ≡ Some seed → o ≡ told g seed → fails ≡ [] → file ≡ word → FileAlone (word ∷ rest) → First g word rest o fails file
-  by_key : (k : Key) (value : Word) (behind : List Word) (h : Given) (some more : List FailAt) → IsNextKey g word k → rest ≡ value ∷ behind → Gives g k value h some → IsRest h behind o more file
-      → fails ≡ some ++ more → First g word rest o fails file
-  by_flag : (h : Given) → Flags g word h → IsRest h rest o fails file → First g word rest o fails file
+-- the first word of the rest of a run is the key of an option that may come next, an option without a value, or says where the source comes from
+pub data First (g : Given) (word : Word) (rest : List Word) (o : Options) (fails : List FailAt) (origin : Origin) : Type 0 where
+  by_origin : (seed : ℕ) → g.order ≡ Some seed → o ≡ told g seed (is_made origin) → fails ≡ [] → IsOrigin (word ∷ rest) origin → First g word rest o fails origin
+  by_key : (k : Key) (value : Word) (behind : List Word) (h : Given) (some more : List FailAt) → IsNextKey g word k → rest ≡ value ∷ behind → Gives g k value h some → IsRest h behind o more origin
+      → fails ≡ some ++ more → First g word rest o fails origin
+  by_flag : (h : Given) → Flags g word h → IsRest h rest o fails origin → First g word rest o fails origin
 
-pub first_is : (g : Given) (words : List Word) (o : Options) (fails : List FailAt) (file : Word) → IsRest g words o fails file → (word : Word) (rest : List Word) → words ≡ word ∷ rest → First g word rest o fails file
-first_is _ _ _ _ _ (file_last g seed file ordered name) word rest e = by_name seed ordered refl refl (cc e) (file, sym e, name)
-first_is _ _ _ _ _ (option_next g h option some behind o more file is next) word rest e = by_form (form_of g h option some is)
+pub first_is : (g : Given) (words : List Word) (o : Options) (fails : List FailAt) (origin : Origin) → IsRest g words o fails origin → (word : Word) (rest : List Word) → words ≡ word ∷ rest
+    → First g word rest o fails origin
+first_is _ _ _ _ _ (origin_last g seed words origin ordered is) word rest e = by_origin seed ordered refl refl (subst (λ w. IsOrigin w origin) e is)
+first_is _ _ _ _ _ (option_next g h option some behind o more origin is next) word rest e = by_form (form_of g h option some is)
   where
-    by_form : Form g option h some → First g word rest o (some ++ more) file
+    by_form : Form g option h some → First g word rest o (some ++ more) origin
     by_form (keyed k key value form is_key gives) =
         let whole : key ∷ value ∷ behind ≡ word ∷ rest = rw form at e in
         by_key k value behind h some more (let same : key ≡ word = cc whole in rw (← same) is_key) (let same : value ∷ behind ≡ rest = cc whole in sym same) gives next refl
@@ -163,68 +321,51 @@ first_is _ _ _ _ _ (option_next g h option some behind o more file is next) word
         let last : behind ≡ rest = cc whole in
         by_flag h (rw (← same) flag) (rw (none, ← last) next)
 
-rests_none : (g : Given) (words : List Word) (o : Options) (fails : List FailAt) (file : Word) → IsRest g words o fails file → words ≡ [] → ⊥
-rests_none _ _ _ _ _ (file_last g seed file ordered name) e = cc e
-rests_none _ _ _ _ _ (option_next g h option some behind o more file is next) e = by_form (form_of g h option some is)
+rests_none : (g : Given) (words : List Word) (o : Options) (fails : List FailAt) (origin : Origin) → IsRest g words o fails origin → words ≡ [] → ⊥
+rests_none _ _ _ _ _ (origin_last g seed words origin ordered is) e = origin_none (origin, subst (λ w. IsOrigin w origin) e is)
+rests_none _ _ _ _ _ (option_next g h option some behind o more origin is next) e = by_form (form_of g h option some is)
   where
     by_form : Form g option h some → ⊥
     by_form (keyed k key value form is_key gives) = let whole : key ∷ value ∷ behind ≡ [] = rw form at e in cc whole
     by_form (flagged key form flag none) = let whole : key ∷ behind ≡ [] = rw form at e in cc whole
 
-pub usage_rests_none : (g : Given) → UsageOf (Rests g) [] 1
-usage_rests_none g = usage_none (Rests g) (rests_begin g) (λ r. rests_none g [] r.0 r.1 r.2 r.3 refl)
+rests_not_none : (g : Given) → Rests g [] → ⊥
+rests_not_none g r = rests_none g [] r.0 r.1 r.2 r.3 refl
 
--- where no option stands, a file's name stands alone, and an order is given
-rests_alone : (g : Given) (word : Word) (rest : List Word) → IsNoOption g word → Rests g (word ∷ rest) → FileAlone (word ∷ rest) × (g.order ≡ None → ⊥)
-rests_alone g word rest odd r = elim (first_is g (word ∷ rest) r.0 r.1 r.2 r.3 word rest refl) [
-  | by_name seed ordered i none f alone ↦ (alone, λ free. cc (ordered, free))
+pub usage_rests_none : (g : Given) → UsageOf (Rests g) [] 1
+usage_rests_none g = usage_none (Rests g) (rests_begin g) (rests_not_none g)
+
+-- where no option stands, the words say where the source comes from, and an order is given
+rests_origin : (g : Given) (word : Word) (rest : List Word) → IsNoOption g word → Rests g (word ∷ rest) → OriginAlone (word ∷ rest) × (g.order ≡ None → ⊥)
+rests_origin g word rest odd r = elim (first_is g (word ∷ rest) r.0 r.1 r.2 r.3 word rest refl) [
+  | by_origin seed ordered i none is ↦ ((r.2, is), λ free. cc (ordered, free))
   | by_key k value behind h some more is e gives next all ↦ absurd (odd.no_key k is)
   | by_flag h flag next ↦ absurd (odd.no_flag h flag)
 ]
 
-pub file_from_alone : (g : Given) (seed : ℕ) (words : List Word) → g.order ≡ Some seed → FileAlone words → (file : Word) × IsRest g words (told g seed) [] file
-file_from_alone g seed words ordered (file, form, name) = (file, rw form (file_last g seed file ordered name))
+pub rests_from_origin : (g : Given) (seed : ℕ) (words : List Word) → g.order ≡ Some seed → OriginAlone words → Rests g words
+rests_from_origin g seed words ordered (origin, is) = (told g seed (is_made origin), [], origin, origin_last g seed words origin ordered is)
 
-pub rests_from_alone : (g : Given) (seed : ℕ) (words : List Word) → g.order ≡ Some seed → FileAlone words → Rests g words
-rests_from_alone g seed words ordered alone = let f = file_from_alone g seed words ordered alone in (told g seed, [], f.0, f.1)
-
--- what goes wrong where a file's name has to stand, behind the options of a run
-pub usage_file : (g : Given) (seed : ℕ) (words : List Word) (k : ℕ) → g.order ≡ Some seed → BeginsNoOption g words → UsageOf FileAlone words k → UsageOf (Rests g) words k
-usage_file g seed [] k ordered odd (inl at_word) = by_place k at_word.wrong at_word.least
-  where
-    by_place : (k : ℕ) → (Begins FileAlone (take k []) → ⊥) → ((j : ℕ) → j < k → Begins FileAlone (take j [])) → UsageOf (Rests g) [] k
-    by_place zero wrong least = absurd (wrong alone_begins)
-    by_place (suc k) wrong least = absurd (wrong alone_begins)
-usage_file g seed [] k ordered odd (inr cut) = rw cut.next (usage_rests_none g)
-usage_file g seed (word ∷ words) k ordered odd (inl at_word) = by_place k at_word.wrong at_word.least
-  where
-    by_place : (k : ℕ) → (Begins FileAlone (take k (word ∷ words)) → ⊥) → ((j : ℕ) → j < k → Begins FileAlone (take j (word ∷ words))) → UsageOf (Rests g) (word ∷ words) k
-    by_place zero wrong least = absurd (wrong alone_begins)
-    by_place (suc k) wrong least = inl (record { wrong = λ b. wrong (b.0, (rests_alone g word (take k words ++ b.0) odd b.1).0); least = low })
-      where
-        low : (j : ℕ) → j < suc k → Begins (Rests g) (take j (word ∷ words))
-        low zero few = rests_begin g
-        low (suc j) few = let b = least (suc j) few in (b.0, rests_from_alone g seed (word ∷ (take j words ++ b.0)) ordered b.1)
-usage_file g seed (word ∷ words) k ordered odd (inr cut) = inr (record {
-  begins = (cut.begins.0, rests_from_alone g seed (word ∷ (words ++ cut.begins.0)) ordered cut.begins.1);
-  open_end = λ r. cut.open_end (rests_alone g word words odd r).0;
-  next = cut.next;
-})
+-- what goes wrong where the words have to say where the source comes from, behind the options of a run
+pub usage_origin : (g : Given) (seed : ℕ) (words : List Word) (k : ℕ) → g.order ≡ Some seed → BeginsNoOption g words → UsageOf OriginAlone words k → UsageOf (Rests g) words k
+usage_origin g seed [] k ordered odd usage = usage_alike_none OriginAlone (Rests g) k origin_begins (rests_begin g) (rests_not_none g) usage
+usage_origin g seed (word ∷ words) k ordered odd usage =
+    usage_alike OriginAlone (Rests g) word words k origin_begins (rests_begin g) (λ rest origin. rests_from_origin g seed (word ∷ rest) ordered origin) (λ rest r. (rests_origin g word rest odd r).0) usage
 
 -- where no order is given and no option stands
 pub usage_unordered : (g : Given) (words : List Word) → g.order ≡ None → BeginsNoOption g words → UsageOf (Rests g) words 1
 usage_unordered g [] unordered odd = usage_rests_none g
-usage_unordered g (word ∷ words) unordered odd = usage_first (Rests g) word words (rests_begin g) (λ rest r. (rests_alone g word rest odd r).1 unordered)
+usage_unordered g (word ∷ words) unordered odd = usage_first (Rests g) word words (rests_begin g) (λ rest r. (rests_origin g word rest odd r).1 unordered)
 
 -- an option without a value
 flag_rests : (g h : Given) (word : Word) (rest : List Word) → Flags g word h → Rests h rest → Rests g (word ∷ rest)
-flag_rests g h word rest is (o, fails, file, next) = (o, fails, file, option_next g h (word ∷ []) [] rest o fails file (flag_option g h word is) next)
+flag_rests g h word rest is (o, fails, origin, next) = (o, fails, origin, option_next g h (word ∷ []) [] rest o fails origin (flag_option g h word is) next)
 
 rests_flag : (g h : Given) (word : Word) (rest : List Word) → Flags g word h → Rests g (word ∷ rest) → Rests h rest
 rests_flag g h word rest is r = elim (first_is g (word ∷ rest) r.0 r.1 r.2 r.3 word rest refl) [
-  | by_name seed ordered i none f alone ↦ absurd (no_flag_name g h word is (alone_named word rest alone))
+  | by_origin seed ordered i none named ↦ absurd (no_flag_origin g h word is (origin_named word rest r.2 named))
   | by_key k value behind i some more key e gives next all ↦ absurd (key_or_flag g h word k key is)
-  | by_flag i flag next ↦ let same : h ≡ i = is.2 ∙ sym flag.2 in (r.0, r.1, r.2, rw same next)
+  | by_flag i flag next ↦ let same : h ≡ i = flag_once g h i word is flag in (r.0, r.1, r.2, rw same next)
 ]
 
 usage_flag : (g h : Given) (word : Word) (words : List Word) (n : ℕ) → Flags g word h → UsageOf (Rests h) words n → UsageOf (Rests g) (word ∷ words) (suc n)
@@ -232,12 +373,12 @@ usage_flag g h word words n is usage = usage_behind (Rests g) (Rests h) word wor
 
 -- the key of an option with its value
 rests_behind : (g : Given) (k : Key) (word : Word) (rest : List Word) → IsNextKey g word k → BehindKey g k rest → Rests g (word ∷ rest)
-rests_behind g k word rest is (value, behind, h, some, form, gives, (o, fails, file, next)) =
-    (o, some ++ fails, file, rw form (option_next g h (word ∷ value ∷ []) some behind o fails file (keyed_option g h k word value some is gives) next))
+rests_behind g k word rest is (value, behind, h, some, form, gives, (o, fails, origin, next)) =
+    (o, some ++ fails, origin, rw form (option_next g h (word ∷ value ∷ []) some behind o fails origin (keyed_option g h k word value some is gives) next))
 
 behind_rests : (g : Given) (k : Key) (word : Word) (rest : List Word) → IsNextKey g word k → Rests g (word ∷ rest) → BehindKey g k rest
 behind_rests g k word rest is r = elim (first_is g (word ∷ rest) r.0 r.1 r.2 r.3 word rest refl) [
-  | by_name seed ordered i none f alone ↦ absurd (no_name g word k is (alone_named word rest alone))
+  | by_origin seed ordered i none named ↦ absurd (no_origin g word k is (origin_named word rest r.2 named))
   | by_key l value behind h some more key e gives next all ↦
       let same : k ≡ l = key_same g word k l is key in
       (value, behind, h, some, e, rw same gives, (r.0, more, r.2, next))

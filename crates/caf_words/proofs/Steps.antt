@@ -6,7 +6,7 @@ use Rattle.std.proofs.lemmas.Grind.{common_steps}
 use Rattle.caf_base.specs.declared.refusal.Refusal.{Refusal}
 use Rattle.caf_base.specs.declared.refusal.Refusal.TheVariants.{Cause}
 use Rattle.caf_words.specs.Usages.{Word, UsageOf}
-use Rattle.caf_words.specs.Words.{words_in, IsRest, nothing}
+use Rattle.caf_words.specs.Words.{words_in, Origin, IsRest, IsInput, nothing}
 use Rattle.caf_words.specs.Words.IsRest.{option_next}
 use Rattle.caf_words.specs.Readings.{Rests, IsNextKey, Flags, Gives, IsNext, listed, AreKept, EndsRun, RunsFrom, IsRefusedFrom, RestsWithFailure, IsMisread}
 use Rattle.caf_words.specs.declared.words.Usage.{Usage}
@@ -17,8 +17,7 @@ use Rattle.caf_words.specs.declared.options.Next.TheVariants as nexts
 use Rattle.caf_words.specs.declared.command.FailAt.{FailAt}
 use Rattle.caf_words.specs.declared.command.Options.{Options}
 use Rattle.caf_words.specs.declared.command.Command.{Command}
-use Rattle.caf_words.specs.declared.command.Command.TheVariants.{Run, Check}
-use Rattle.caf_words.specs.declared.command.Input.TheVariants.{File}
+use Rattle.caf_words.specs.declared.command.Command.TheVariants.{Run, Check, Make}
 use Rattle.caf_words.proofs.Forms.{flag_option, keyed_option, usage_option}
 
 -- what stands next
@@ -34,7 +33,7 @@ keyed_next g t k words behind rest first second e f is two gives =
 -- The words so far are options: what is given by them, and what holds of the rest holds of the whole. They name failures, which are kept.
 pub record HasTaken (words rest : List Word) (g : Given) (place : ℕ) (kept : Option (List FailAt)) : Type 0 where
   pub some : List FailAt
-  pub onward : (o : Options) (fails : List FailAt) (file : Word) → IsRest g rest o fails file → IsRest nothing words o (some ++ fails) file
+  pub onward : (o : Options) (fails : List FailAt) (origin : Origin) → IsRest g rest o fails origin → IsRest nothing words o (some ++ fails) origin
   pub usage : (k : ℕ) → UsageOf (Rests g) rest k → (n : ℕ) × UsageOf (Rests nothing) words n × (place + k ≡ 1 + n)
   pub are_kept : AreKept kept some
   pub long : place + length rest ≡ 1 + length words
@@ -42,7 +41,7 @@ pub record HasTaken (words rest : List Word) (g : Given) (place : ℕ) (kept : O
 pub taken_none : (words : List Word) → HasTaken words words nothing 1 (Some [])
 taken_none words = record {
   some = [];
-  onward = λ o fails file is. is;
+  onward = λ o fails origin is. is;
   usage = λ k usage. (k, usage, refl);
   are_kept = refl;
   long = refl;
@@ -56,8 +55,8 @@ taken_more words rest g place kept kept' t h (least, most, is) more =
     let back : length (drop t.words rest) + t.words ≡ length rest = grind (arith, common_steps) in
     record {
       some = h.some ++ listed t.fail;
-      onward = λ o fails file next.
-          (let on = h.onward o (listed t.fail ++ fails) file (rw whole at (option_next g t.given (take t.words rest) (listed t.fail) (drop t.words rest) o fails file is next)) in
+      onward = λ o fails origin next.
+          (let on = h.onward o (listed t.fail ++ fails) origin (rw whole at (option_next g t.given (take t.words rest) (listed t.fail) (drop t.words rest) o fails origin is next)) in
           rw append_assoc on);
       usage = λ k usage.
           (let (n, of, e) = h.usage (length (take t.words rest) + k) (rw whole at (usage_option g t.given (take t.words rest) (listed t.fail) (drop t.words rest) k is usage)) in
@@ -74,10 +73,11 @@ rest_texts texts n =
 
 -- a run is read to its end
 pub runs_taken : (words rest : List Word) (g : Given) (place : ℕ) (kept : Option (List FailAt)) (last last' : ℕ) (c : Command) → HasTaken words rest g place kept → last ≡ last' → EndsRun g rest last kept c → RunsFrom words last' c
-runs_taken words rest g place kept last last' (Run (File word) fails o) h same (file, is, at_last, all) =
+runs_taken words rest g place kept last last' (Run input fails o) h same (origin, is, at_last, all) =
     let named : fails ≡ h.some = subst (λ x. AreKept x h.some) all h.are_kept in
-    (file, rw named (rw append-nil at (h.onward o [] file is)), at_last ∙ same)
+    (origin, rw named (rw append-nil at (h.onward o [] origin is)), subst (λ n. IsInput origin n input) same at_last)
 runs_taken words rest g place kept last last' (Check i) h same ends = absurd ends
+runs_taken words rest g place kept last last' (Make seed size) h same ends = absurd ends
 
 some_more : (fails more : List FailAt) → fails ≢ [] → fails ++ more ≢ []
 some_more [] more odd e = odd refl
@@ -92,9 +92,9 @@ refused_taken words rest g place kept r h (k, usage, told) =
 misread_taken : (words rest : List Word) (g : Given) (place : ℕ) (kept : Option (List FailAt)) (r : Refusal Usage) → HasTaken words rest g place kept → IsMisread (Rests g) (λ rest. (kept ≡ None) × Rests g rest) rest place r
     → IsMisread (Rests nothing) RestsWithFailure words 1 r
 misread_taken words rest g place kept r h (inl refused) = inl (refused_taken words rest g place kept r h refused)
-misread_taken words rest g place kept r h (inr (short, (none, (o, fails, file, is)))) =
+misread_taken words rest g place kept r h (inr (short, (none, (o, fails, origin, is)))) =
     let odd : h.some ≢ [] = subst (λ x. AreKept x h.some) none h.are_kept in
-    inr (short, (o, h.some ++ fails, file, h.onward o fails file is, some_more h.some fails odd))
+    inr (short, (o, h.some ++ fails, origin, h.onward o fails origin is, some_more h.some fails odd))
 
 pub misread_all : (words rest : List Word) (g : Given) (place : ℕ) (kept : Option (List FailAt)) (r : Result Command (Refusal Usage)) → HasTaken words rest g place kept
     → IfErr r (IsMisread (Rests g) (λ rest. (kept ≡ None) × Rests g rest) rest place) → IfErr r (IsMisread (Rests nothing) RestsWithFailure words 1)

@@ -25,6 +25,33 @@ usage_behind V W word words k begins onward back (inl at_word) = inl (record { w
     least (suc j) low = let b = at_word.least j (omega arith) in (b.0, onward (take j words ++ b.0) b.1)
 usage_behind V W word words k begins onward back (inr cut) = inr (record { begins = (cut.begins.0, onward (words ++ cut.begins.0) cut.begins.1); open_end = λ v. cut.open_end (back words v); next = omega (arith, cut.next) })
 
+-- what two notions of valid lists say of no words
+pub usage_alike_none : (V W : List Word → Type 0) (k : ℕ) → Begins V [] → Begins W [] → (W [] → ⊥) → UsageOf V [] k → UsageOf W [] k
+usage_alike_none V W k begins_v begins_w none (inl at_word) = by_place k at_word.wrong
+  where
+    by_place : (k : ℕ) → (Begins V (take k []) → ⊥) → UsageOf W [] k
+    by_place zero wrong = absurd (wrong begins_v)
+    by_place (suc k) wrong = absurd (wrong begins_v)
+usage_alike_none V W k begins_v begins_w none (inr cut) = rw cut.next (usage_none W begins_w none)
+
+-- two notions of valid lists that agree on those with this first word
+pub usage_alike : (V W : List Word → Type 0) (word : Word) (words : List Word) (k : ℕ) → Begins V [] → Begins W [] → ((rest : List Word) → V (word ∷ rest) → W (word ∷ rest))
+    → ((rest : List Word) → W (word ∷ rest) → V (word ∷ rest)) → UsageOf V (word ∷ words) k → UsageOf W (word ∷ words) k
+usage_alike V W word words k begins_v begins_w onward back (inl at_word) = by_place k at_word.wrong at_word.least
+  where
+    by_place : (k : ℕ) → (Begins V (take k (word ∷ words)) → ⊥) → ((j : ℕ) → j < k → Begins V (take j (word ∷ words))) → UsageOf W (word ∷ words) k
+    by_place zero wrong least = absurd (wrong begins_v)
+    by_place (suc k) wrong least = inl (record { wrong = λ b. wrong (b.0, back (take k words ++ b.0) b.1); least = low })
+      where
+        low : (j : ℕ) → j < suc k → Begins W (take j (word ∷ words))
+        low zero few = begins_w
+        low (suc j) few = let b = least (suc j) few in (b.0, onward (take j words ++ b.0) b.1)
+usage_alike V W word words k begins_v begins_w onward back (inr cut) = inr (record {
+  begins = (cut.begins.0, onward (words ++ cut.begins.0) cut.begins.1);
+  open_end = λ w. cut.open_end (back words w);
+  next = cut.next;
+})
+
 -- words that are cut short or go wrong aren't valid
 pub usage_invalid : (V : List Word → Type 0) (words : List Word) (k : ℕ) → UsageOf V words k → V words → ⊥
 usage_invalid V words k (inl at_word) valid = at_word.wrong (drop k words, rw (take-append-drop k words) valid)

@@ -4,7 +4,7 @@ use Rattle.std.specs.Fmt.{decimal}
 use Rattle.caf_base.specs.declared.refusal.Refusal.{Refusal}
 use Rattle.caf_base.specs.declared.refusal.Refusal.TheVariants.{NoMemory, Cause}
 use Rattle.caf_words.specs.Usages.{Word, UsageOf}
-use Rattle.caf_words.specs.Words.{IsFileName, IsFailure, IsOption, IsRest, nothing}
+use Rattle.caf_words.specs.Words.{Origin, IsFileName, IsFailure, IsOption, AreSeedAndSize, IsOrigin, IsRest, IsInput, nothing}
 use Rattle.caf_words.specs.declared.words.Usage.{Usage}
 use Rattle.caf_words.specs.declared.options.Given.{Given}
 use Rattle.caf_words.specs.declared.options.Key.{Key}
@@ -14,16 +14,29 @@ use Rattle.caf_words.specs.declared.options.Next.TheVariants as nexts
 use Rattle.caf_words.specs.declared.command.FailAt.{FailAt}
 use Rattle.caf_words.specs.declared.command.Options.{Options}
 use Rattle.caf_words.specs.declared.command.Command.{Command}
-use Rattle.caf_words.specs.declared.command.Command.TheVariants.{Run, Check}
-use Rattle.caf_words.specs.declared.command.Input.TheVariants.{File}
+use Rattle.caf_words.specs.declared.command.Command.TheVariants.{Run, Check, Make}
+use Rattle.caf_words.specs.declared.command.Input.{Input}
 
 -- words behind the options that are given so far
 abbrev pub Rests : Given → List Word → Type 0
-Rests g words = (o : Options) × (fails : List FailAt) × (file : Word) × IsRest g words o fails file
+Rests g words = (o : Options) × (fails : List FailAt) × (origin : Origin) × IsRest g words o fails origin
 
 -- words of a file's name alone
 abbrev pub FileAlone : List Word → Type 0
 FileAlone words = (file : Word) × (words ≡ file ∷ []) × IsFileName file
+
+-- words of a SIZE alone; of a SEED and a SIZE; of what says where a run has its source from
+abbrev pub IsSize : List Word → ℕ → Type 0
+IsSize words size = (words ≡ decimal size ∷ []) × (1 ≤ size) × (size ≤ 4096)
+
+abbrev pub SizeAlone : List Word → Type 0
+SizeAlone words = (size : ℕ) × IsSize words size
+
+abbrev pub MadeAlone : List Word → Type 0
+MadeAlone words = (seed : ℕ) × (size : ℕ) × AreSeedAndSize words seed size
+
+abbrev pub OriginAlone : List Word → Type 0
+OriginAlone words = (origin : Origin) × IsOrigin words origin
 
 -- the word of an option with a value
 abbrev pub key_word : Key → Word
@@ -45,7 +58,7 @@ IsNextKey g word k = (word ≡ key_word k) × IsFree g k
 
 -- a word is an option without a value that may come next, and these options are given then
 abbrev pub Flags : Given → Word → Given → Type 0
-Flags g word h = (word ≡ codes "--trace") × (g.trace ≡ false) × (h ≡ record g { trace = true })
+Flags g word h = ((word ≡ codes "--trace") × (g.trace ≡ false) × (h ≡ record g { trace = true })) ⊎ ((word ≡ codes "--vars") × (g.vars ≡ false) × (h ≡ record g { vars = true }))
 
 -- a word is no option that may come next
 pub record IsNoOption (g : Given) (word : Word) : Type 0 where
@@ -76,7 +89,7 @@ BeginsNoOption g (word ∷ words) = IsNoOption g word
 -- what stands next: an option of some of the words; no option; or a key without its value, with which the second word goes wrong
 abbrev pub IsNext : Given → List Word → Next → Type 0
 IsNext g words (nexts.Option t) = (1 ≤ t.words) × (t.words ≤ length words) × IsOption g (take t.words words) t.given (listed t.fail)
-IsNext g words nexts.File = BeginsNoOption g words
+IsNext g words nexts.Origin = BeginsNoOption g words
 IsNext g words nexts.WrongValue = (1 ≤ length words) × UsageOf (Rests g) words 2
 
 -- the failures that were named are kept, or there was no memory for the list of some
@@ -84,19 +97,27 @@ abbrev pub AreKept : Option (List FailAt) → List FailAt → Type 0
 AreKept None named = named ≢ []
 AreKept (Some fails) named = fails ≡ named
 
--- the words end a run, with what is given and the failures that are kept; the file's name is the last of them
-abbrev pub EndsRun : Given → List Word → ℕ → Option (List FailAt) → Command → Type 0
-EndsRun g words last kept (Run (File word) fails o) = (file : Word) × IsRest g words o [] file × (word ≡ last) × (kept ≡ Some fails)
-EndsRun g words last kept (Check i) = ⊥
+-- the input of a run that the words say, of so many words
+abbrev pub IsInputOf : List Word → ℕ → Input → Type 0
+IsInputOf words last input = (origin : Origin) × IsOrigin words origin × IsInput origin last input
 
--- the words run a file; its name is the last of them
+-- the words end a run, with what is given and the failures that are kept; a file's name is the last of them
+abbrev pub EndsRun : Given → List Word → ℕ → Option (List FailAt) → Command → Type 0
+EndsRun g words last kept (Run input fails o) = (origin : Origin) × IsRest g words o [] origin × IsInput origin last input × (kept ≡ Some fails)
+EndsRun g words last kept other = ⊥
+
+-- the words run a source; a file's name is the last of them
 abbrev pub RunsFrom : List Word → ℕ → Command → Type 0
-RunsFrom words last (Run (File word) fails o) = (file : Word) × IsRest nothing words o fails file × (word ≡ last)
-RunsFrom words last (Check i) = ⊥
+RunsFrom words last (Run input fails o) = (origin : Origin) × IsRest nothing words o fails origin × IsInput origin last input
+RunsFrom words last other = ⊥
 
 abbrev pub ChecksFrom : List Word → ℕ → Command → Type 0
-ChecksFrom words last (Run i fails o) = ⊥
 ChecksFrom words last (Check word) = FileAlone words × (word ≡ last)
+ChecksFrom words last other = ⊥
+
+abbrev pub MakesFrom : List Word → Command → Type 0
+MakesFrom words (Make seed size) = AreSeedAndSize words seed size
+MakesFrom words other = ⊥
 
 -- the refusal tells the usage number of words from a place on
 abbrev pub IsRefusedFrom : (List Word → Type 0) → List Word → ℕ → Refusal Usage → Type 0
@@ -104,7 +125,7 @@ IsRefusedFrom Valid words place refusal = (k : ℕ) × UsageOf Valid words k × 
 
 -- words of a run in which a failure is named
 abbrev pub RestsWithFailure : List Word → Type 0
-RestsWithFailure words = (o : Options) × (fails : List FailAt) × (file : Word) × IsRest nothing words o fails file × (fails ≢ [])
+RestsWithFailure words = (o : Options) × (fails : List FailAt) × (origin : Origin) × IsRest nothing words o fails origin × (fails ≢ [])
 
 -- the refusal tells the usage number of words from a place on, or there was no memory where failures are named
 abbrev pub IsMisread : (List Word → Type 0) → (List Word → Type 0) → List Word → ℕ → Refusal Usage → Type 0

@@ -1,5 +1,5 @@
 -- The words of the command line: which lists of them are valid, what a valid list means, and the usage number of the others.
-use Rattle.std.specs.Prelude.{ℕ, ◌≡◌, ◌≢◌, ◌≤◌, ◌-◌, ◌^◌, ◌⊎◌, List, [], ◌∷◌, ◌++◌, length, map, codes, Option, None, Some, false, true, string_bytes}
+use Rattle.std.specs.Prelude.{ℕ, ◌≡◌, ◌≢◌, ◌≤◌, ◌-◌, ◌^◌, ◌⊎◌, List, [], ◌∷◌, ◌++◌, length, map, codes, Option, None, Some, Bool, false, true, string_bytes}
 use Rattle.std.specs.Fmt.{decimal}
 use Rattle.std.specs.declared.alloc.Global.{Global}
 use Rattle.std.specs.declared.string.String.{String}
@@ -11,8 +11,9 @@ use Rattle.caf_words.specs.declared.options.Given.{Given}
 use Rattle.caf_words.specs.declared.command.FailAt.{FailAt}
 use Rattle.caf_words.specs.declared.command.Options.{Options}
 use Rattle.caf_words.specs.declared.command.Command.{Command}
-use Rattle.caf_words.specs.declared.command.Command.TheVariants.{Run, Check}
-use Rattle.caf_words.specs.declared.command.Input.TheVariants.{File}
+use Rattle.caf_words.specs.declared.command.Command.TheVariants.{Run, Check, Make}
+use Rattle.caf_words.specs.declared.command.Input.{Input}
+use Rattle.caf_words.specs.declared.command.Input.TheVariants.{File, Made}
 use Rattle.caf_words.specs.declared.command.Way.TheVariants.{Order}
 
 -- the words of the program's texts
@@ -32,9 +33,19 @@ pub record IsFailure (word : Word) (f : FailAt) : Type 0 where
   pub least_step : 1 ≤ f.step
   pub most_step : f.step ≤ 1000000
 
+-- where a run has its source from: a file, by its name, or a seed and a size, which make it
+pub data Origin : Type 0 where
+  from_file : Word → Origin
+  from_made : ℕ → ℕ → Origin
+
+-- a seed and a size make it
+abbrev pub is_made : Origin → Bool
+is_made (from_file file) = false
+is_made (from_made seed size) = true
+
 -- no options yet
 abbrev pub nothing : Given
-nothing = record { images = None; order = None; steps = None; trace = false }
+nothing = record { images = None; order = None; steps = None; trace = false; vars = false }
 
 -- One option that may come next, as its words; what is given with it, and the failures that it names. Each stands once at most, but --fail. Numbers are in decimal: without a
 -- sign, and without a leading zero other than `0` itself.
@@ -44,49 +55,80 @@ pub data IsOption (g : Given) : List Word → Given → List FailAt → Type 0 w
   steps : (n : ℕ) → g.steps ≡ None → 1 ≤ n → n ≤ 100000000 → IsOption g (codes "--steps" ∷ decimal n ∷ []) (record g { steps = Some n }) []
   fail : (word : Word) (f : FailAt) → IsFailure word f → IsOption g (codes "--fail" ∷ word ∷ []) g (f ∷ [])
   trace : g.trace ≡ false → IsOption g (codes "--trace" ∷ []) (record g { trace = true }) []
+  vars : g.vars ≡ false → IsOption g (codes "--vars" ∷ []) (record g { vars = true }) []
 
 -- the number that is given, or else the default
 abbrev pub given_or : ℕ → Option ℕ → ℕ
 given_or default None = default
 given_or default (Some n) = n
 
--- what a run is told by its options, in the order of a seed: 4 images and 1000000 statements where the words don't say it
-abbrev pub told : Given → ℕ → Options
-told g seed = record { images = given_or 4 g.images; way = Order seed; steps = given_or 1000000 g.steps; trace = g.trace }
+-- what a run is told by its options, in the order of a seed: 4 images and 1000000 statements where the words don't say it; and whether it is summed up
+abbrev pub told : Given → ℕ → Bool → Options
+told g seed summary = record { images = given_or 4 g.images; way = Order seed; steps = given_or 1000000 g.steps; trace = g.trace; vars = g.vars; summary = summary }
 
--- The words of a run behind `run` and the options that are given so far: further options in any order, among them --order, then FILE. The failures are those that these words name, in order.
-pub data IsRest : Given → List Word → Options → List FailAt → Word → Type 0 where
-  file_last : (g : Given) (seed : ℕ) (file : Word) → g.order ≡ Some seed → IsFileName file → IsRest g (file ∷ []) (told g seed) [] file
-  option_next : (g h : Given) (option : List Word) (named : List FailAt) (rest : List Word) (o : Options) (fails : List FailAt) (file : Word) → IsOption g option h named → IsRest h rest o fails file
-      → IsRest g (option ++ rest) o (named ++ fails) file
+-- the words are SEED and SIZE, in decimal: 0 to 2147483647 and 1 to 4096
+pub record AreSeedAndSize (words : List Word) (seed size : ℕ) : Type 0 where
+  pub form : words ≡ decimal seed ∷ decimal size ∷ []
+  pub most_seed : seed ≤ 2147483647
+  pub least_size : 1 ≤ size
+  pub most_size : size ≤ 4096
 
--- the words are `run OPTIONS FILE`: -n N (1 to 64; 4 where it isn't given), --order SEED (0 to 2147483647), which has to be there, --steps N (1 to 100000000; 1000000 where it isn't given),
--- --fail I@K, which may stand more than once, and --trace
-pub record IsRun (words : List Word) (o : Options) (fails : List FailAt) (file : Word) : Type 0 where
+-- the words say where a run has its source from: they are FILE, or `--made SEED SIZE`
+abbrev pub IsOrigin : List Word → Origin → Type 0
+IsOrigin words (from_file file) = (words ≡ file ∷ []) × IsFileName file
+IsOrigin words (from_made seed size) = (numbers : List Word) × (words ≡ codes "--made" ∷ numbers) × AreSeedAndSize numbers seed size
+
+-- The words of a run behind `run` and the options that are given so far: further options in any order, among them --order, then FILE or `--made SEED SIZE`, which is summed up. The failures are
+-- those that these words name, in order.
+pub data IsRest : Given → List Word → Options → List FailAt → Origin → Type 0 where
+  origin_last : (g : Given) (seed : ℕ) (words : List Word) (origin : Origin) → g.order ≡ Some seed → IsOrigin words origin → IsRest g words (told g seed (is_made origin)) [] origin
+  option_next : (g h : Given) (option : List Word) (named : List FailAt) (rest : List Word) (o : Options) (fails : List FailAt) (origin : Origin) → IsOption g option h named → IsRest h rest o fails origin
+      → IsRest g (option ++ rest) o (named ++ fails) origin
+
+-- the words are `run OPTIONS FILE` or `run OPTIONS --made SEED SIZE`: -n N (1 to 64; 4 where it isn't given), --order SEED (0 to 2147483647), which has to be there, --steps N (1 to 100000000; 1000000
+-- where it isn't given), --fail I@K, which may stand more than once, --trace and --vars
+pub record IsRun (words : List Word) (o : Options) (fails : List FailAt) (origin : Origin) : Type 0 where
   pub rest : List Word
   pub form : words ≡ codes "run" ∷ rest
-  pub options : IsRest nothing rest o fails file
+  pub options : IsRest nothing rest o fails origin
 
 -- the words are `check FILE`
 pub record IsCheck (words : List Word) (file : Word) : Type 0 where
   pub form : words ≡ codes "check" ∷ file ∷ []
   pub name : IsFileName file
 
--- some run has these words; some check has them
+-- the words are `make SEED SIZE`
+pub record IsMake (words : List Word) (seed size : ℕ) : Type 0 where
+  pub numbers : List Word
+  pub form : words ≡ codes "make" ∷ numbers
+  pub are : AreSeedAndSize numbers seed size
+
+-- some run has these words; some check has them; they make some source
 abbrev pub RunsSome : List Word → Type 0
-RunsSome words = (o : Options) × (fails : List FailAt) × (file : Word) × IsRun words o fails file
+RunsSome words = (o : Options) × (fails : List FailAt) × (origin : Origin) × IsRun words o fails origin
 
 abbrev pub ChecksSome : List Word → Type 0
 ChecksSome words = (file : Word) × IsCheck words file
 
+abbrev pub MakesSome : List Word → Type 0
+MakesSome words = (seed : ℕ) × (size : ℕ) × IsMake words seed size
+
 -- a list of words is valid
 abbrev pub IsValid : List Word → Type 0
-IsValid words = RunsSome words ⊎ ChecksSome words
+IsValid words = RunsSome words ⊎ ChecksSome words ⊎ MakesSome words
+
+-- the input tells where the source comes from; of so many words FILE is the last
+abbrev pub IsInput : Origin → ℕ → Input → Type 0
+IsInput (from_file file) last (File word) = word ≡ last
+IsInput (from_file file) last (Made seed size) = ⊥
+IsInput (from_made seed size) last (File word) = ⊥
+IsInput (from_made seed size) last (Made seed' size') = (seed' ≡ seed) × (size' ≡ size)
 
 -- the command that valid words mean; FILE is the last of them
 abbrev pub Means : List Word → Command → Type 0
-Means words (Run (File word) fails o) = (file : Word) × IsRun words o fails file × (word ≡ length words)
+Means words (Run input fails o) = (origin : Origin) × IsRun words o fails origin × IsInput origin (length words) input
 Means words (Check word) = (file : Word) × IsCheck words file × (word ≡ length words)
+Means words (Make seed size) = IsMake words seed size
 
 -- the usage number of words that aren't valid
 abbrev pub UsageIs : List Word → ℕ → Type 0
@@ -94,7 +136,7 @@ UsageIs words k = UsageOf IsValid words k
 
 -- the words are those of a run in which a failure is named
 abbrev pub RunsWithFailure : List Word → Type 0
-RunsWithFailure words = (o : Options) × (fails : List FailAt) × (file : Word) × IsRun words o fails file × (fails ≢ [])
+RunsWithFailure words = (o : Options) × (fails : List FailAt) × (origin : Origin) × IsRun words o fails origin × (fails ≢ [])
 
 -- what a refusal says of the words: their usage number; or that they are too many to be numbered, or valid with failures for whose list there was no memory
 abbrev pub IsRefusalOf : List Word → Refusal Usage → Type 0

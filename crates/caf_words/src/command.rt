@@ -15,6 +15,11 @@ pub enum Command {
     Check {
         word: u32,
     },
+    /// To write the source that a seed, from 0 to 2147483647, and a size, from 1 to 4096, make.
+    Make {
+        seed: u32,
+        size: u32,
+    },
 }
 
 /// Where the source comes from.
@@ -22,6 +27,8 @@ pub enum Command {
 pub enum Input {
     /// From the file whose name is this word, from 1.
     File { word: u32 },
+    /// From a seed, from 0 to 2147483647, and a size, from 1 to 4096, which make it.
+    Made { seed: u32, size: u32 },
 }
 
 /// How the images take turns.
@@ -50,4 +57,8 @@ pub struct Options {
     pub steps: u64,
     /// Whether the trace is shown.
     pub trace: bool,
+    /// Whether the final values of variables are shown.
+    pub vars: bool,
+    /// Whether the line that sums the run up is shown, as of a made source.
+    pub summary: bool,
 }

@@ -13,8 +13,8 @@ use crate::failure::failure_of;
 use crate::number::number_between;
 use caf_base::limits::{DEFAULT_STATEMENTS, IMAGES, STATEMENTS};
 
-/// The greatest seed of an order.
-const GREATEST_SEED: u32 = 2_147_483_647;
+/// The greatest seed of an order, and of a made source.
+pub(crate) const GREATEST_SEED: u32 = 2_147_483_647;
 
 /// The number of images where the words don't say it.
 const DEFAULT_IMAGES: u32 = 4;
@@ -26,6 +26,7 @@ pub(crate) struct Given {
     pub order: Option<u32>,
     pub steps: Option<u32>,
     pub trace: bool,
+    pub vars: bool,
 }
 
 /// An option with a value that may come next.
@@ -52,8 +53,8 @@ pub(crate) struct Taken {
 #[derive(Clone, Copy)]
 pub(crate) enum Next {
     Option(Taken),
-    /// No option: the name of the file has to stand here.
-    File,
+    /// No option: what says where the source comes from has to stand here.
+    Origin,
     /// An option's key, with no value of it behind.
     WrongValue,
 }
@@ -68,18 +69,21 @@ impl Given {
             order: None,
             steps: None,
             trace: false,
+            vars: false,
         }
     }
 
-    /// What a run is told by its options, in the order of a seed.
-    pub fn told(&self, seed: u32) -> Options
-        ensures { result ≡ spec.told self.now seed }
+    /// What a run is told by its options, in the order of a seed, and whether it is summed up.
+    pub fn told(&self, seed: u32, summary: bool) -> Options
+        ensures { result ≡ spec.told self.now seed summary }
     {
         Options {
             images: or_default(self.images, DEFAULT_IMAGES),
             way: Way::Order(seed),
             steps: u64::from(or_default(self.steps, DEFAULT_STATEMENTS as u32)),
             trace: self.trace,
+            vars: self.vars,
+            summary,
         }
     }
 }
@@ -118,6 +122,10 @@ fn flagged_with(word: &str, given: Given) -> Option<Given>
             trace: true,
             ..given
         }),
+        "--vars" if !given.vars => Some(Given {
+            vars: true,
+            ..given
+        }),
         _ => None,
     }
 }
@@ -146,7 +154,7 @@ pub(crate) fn next_option(words: &[String], given: Given) -> Next
     ensures { IsNext given (words_in words.now) result }
 {
     let [first, behind @ ..] = words else {
-        return Next::File;
+        return Next::Origin;
     };
     let word = first.as_str();
     if let Some(given) = flagged_with(word, given) {
@@ -157,7 +165,7 @@ pub(crate) fn next_option(words: &[String], given: Given) -> Next
         });
     }
     let Some(key) = next_key(word, given) else {
-        return Next::File;
+        return Next::Origin;
     };
     let [second, ..] = behind else {
         return Next::WrongValue;

@@ -5,14 +5,18 @@ ghost use Rattle.caf_words.specs.declared.command.Command.{Command};
 ghost use Rattle.caf_words.specs.declared.command.FailAt.{FailAt};
 ghost use Rattle.caf_words.specs.Words as spec;
 ghost use Rattle.caf_words.specs.Usages.{Word};
-ghost use Rattle.caf_words.specs.Words.{words_in, Means, IsValid, UsageIs, IsRefusalOf, IsFileName, RunsWithFailure};
-ghost use Rattle.caf_words.specs.Readings.{Rests, FileAlone, listed, BeginsNoOption, AreKept, EndsRun, RunsFrom, ChecksFrom, IsRefusedFrom, RestsWithFailure, IsMisread};
+ghost use Rattle.caf_words.specs.Words.{Origin, words_in, IsInput, Means, IsValid, UsageIs, IsRefusalOf, IsFileName, AreSeedAndSize, RunsWithFailure};
+ghost use Rattle.caf_words.specs.Readings.{Rests, FileAlone, SizeAlone, MadeAlone, OriginAlone, IsSize, listed, BeginsNoOption, AreKept, EndsRun, RunsFrom, ChecksFrom, MakesFrom, IsInputOf, IsRefusedFrom, RestsWithFailure, IsMisread};
 
 use crate::command::{Command, FailAt, Input};
-use crate::options::{Given, Next, next_option};
+use crate::number::number_between;
+use crate::options::{GREATEST_SEED, Given, Next, next_option};
 use caf_base::listing::Listing;
 use caf_base::refusal::Refusal;
 use std::alloc::Global;
+
+/// The greatest size of a made source.
+const GREATEST_SIZE: u32 = 4_096;
 
 /// Words that are no command: the number of the first word, from 1, with which no valid list of words begins, or the
 /// number of words plus one where they are a valid list cut short.
@@ -21,9 +25,17 @@ pub struct Usage {
     pub word: u32,
 }
 
-/// The command that the words mean: `run OPTIONS FILE` or `check FILE`. OPTIONS are, in any order, `-n N`, with N from 1 to 64, 4 where it isn't given, `--order SEED`, with SEED from 0 to
-/// 2147483647, which has to be there, `--steps N`, with N from 1 to 100000000, 1000000 where it isn't given, `--trace`, and `--fail I@K`, with I from 1 to 64 and K from 1 to 1000000. Each
-/// stands once at most, but `--fail`. Numbers are decimal digits without a sign and without a leading zero other than `0` itself; FILE isn't empty and doesn't begin with `-`.
+/// What makes a source.
+#[derive(Clone, Copy)]
+struct Made {
+    seed: u32,
+    size: u32,
+}
+
+/// The command that the words mean: `run OPTIONS FILE`, `run OPTIONS --made SEED SIZE`, `check FILE` or `make SEED SIZE`. OPTIONS are, in any order, `-n N`, with N from 1 to 64, 4 where it isn't given,
+/// `--order SEED`, with SEED from 0 to 2147483647, which has to be there, `--steps N`, with N from 1 to 100000000, 1000000 where it isn't given, `--trace`, `--vars`, and `--fail I@K`, with I from 1 to 64 and
+/// K from 1 to 1000000. Each stands once at most, but `--fail`. The SEED of a made source is from 0 to 2147483647, its SIZE from 1 to 4096. Numbers are decimal digits without a sign and without a
+/// leading zero other than `0` itself; FILE isn't empty and doesn't begin with `-`.
 /// Other words have a usage number. Want of memory comes only where there are more words than a number can tell, or where valid words name failures.
 pub fn words_of(alloc: Global, words: &[String]) -> Result<Command, Refusal<Usage>>
     ensures means { IfOk result (Means (words_in words.now)) }
@@ -65,6 +77,7 @@ fn command_of(alloc: Global, words: &[String]) -> Result<Command, Refusal<Usage>
     match first.as_str() {
         "run" => options_of(alloc, rest),
         "check" => check_of(rest),
+        "make" => make_of(rest),
         _ => Err(wrong_at(0)),
     }
 }
@@ -98,14 +111,14 @@ fn options_of(alloc: Global, words: &[String]) -> Result<Command, Refusal<Usage>
                 rest = &rest[taken.words as usize..];
                 place += taken.words;
             }
-            Next::File => return file_of(rest, place, given, fails),
+            Next::Origin => return run_of(rest, place, given, fails),
             Next::WrongValue => return Err(wrong_at(place + 1)),
         }
     }
 }
 
-/// The command whose file's name stands at a place, behind all options; these failures are named, if there was memory for them.
-fn file_of(
+/// The command of a run whose source is named at a place, behind all options; these failures are named, if there was memory for them.
+fn run_of(
     words: &[String],
     place: u32,
     given: Given,
@@ -119,15 +132,15 @@ fn file_of(
     let Some(seed) = given.order else {
         return Err(wrong_at(place));
     };
-    let word = match file_alone(words, place) {
-        Ok(word) => word,
+    let input = match input_of(words, place) {
+        Ok(input) => input,
         Err(refusal) => return Err(refusal),
     };
     match fails {
         Some(fails) => Ok(Command::Run {
-            input: Input::File { word },
+            input,
             fails,
-            options: given.told(seed),
+            options: given.told(seed, is_made(input)),
         }),
         None => Err(Refusal::NoMemory),
     }
@@ -143,6 +156,85 @@ fn check_of(words: &[String]) -> Result<Command, Refusal<Usage>>
         Ok(word) => Ok(Command::Check { word }),
         Err(refusal) => Err(refusal),
     }
+}
+
+/// The command of words behind `make`.
+fn make_of(words: &[String]) -> Result<Command, Refusal<Usage>>
+    requires { 1 + length words.now < 4294967295 }
+    ensures means { IfOk result (MakesFrom (words_in words.now)) }
+    ensures refused { IfErr result (IsRefusedFrom MadeAlone (words_in words.now) 1) }
+{
+    match made_alone(words, 1) {
+        Ok(Made { seed, size }) => Ok(Command::Make { seed, size }),
+        Err(refusal) => Err(refusal),
+    }
+}
+
+/// Whether a source is a made one.
+fn is_made(input: Input) -> bool
+    ensures { (origin : Origin) (last : ℕ) → IsInput origin last input → result ≡ spec.is_made origin }
+{
+    match input {
+        Input::File { .. } => false,
+        Input::Made { .. } => true,
+    }
+}
+
+/// The input of a run that words at a place say, with nothing behind.
+fn input_of(words: &[String], place: u32) -> Result<Input, Refusal<Usage>>
+    requires { place + length words.now < 4294967295 }
+    ensures input { IfOk result (IsInputOf (words_in words.now) (place + length words.now)) }
+    ensures refused { IfErr result (IsRefusedFrom OriginAlone (words_in words.now) place) }
+{
+    let [first, behind @ ..] = words else {
+        return Err(wrong_at(place));
+    };
+    match first.as_str() {
+        "--made" => match made_alone(behind, place + 1) {
+            Ok(Made { seed, size }) => Ok(Input::Made { seed, size }),
+            Err(refusal) => Err(refusal),
+        },
+        _ => match file_alone(words, place) {
+            Ok(word) => Ok(Input::File { word }),
+            Err(refusal) => Err(refusal),
+        },
+    }
+}
+
+/// The SEED and the SIZE that stand alone at a place.
+fn made_alone(words: &[String], place: u32) -> Result<Made, Refusal<Usage>>
+    requires { place + length words.now < 4294967295 }
+    ensures made { IfOk result (λ m. AreSeedAndSize (words_in words.now) m.seed m.size) }
+    ensures refused { IfErr result (IsRefusedFrom MadeAlone (words_in words.now) place) }
+{
+    let [first, behind @ ..] = words else {
+        return Err(wrong_at(place));
+    };
+    let Some(seed) = number_between(first.as_str(), 0, GREATEST_SEED) else {
+        return Err(wrong_at(place));
+    };
+    match size_alone(behind, place + 1) {
+        Ok(size) => Ok(Made { seed, size }),
+        Err(refusal) => Err(refusal),
+    }
+}
+
+/// The SIZE that stands alone at a place.
+fn size_alone(words: &[String], place: u32) -> Result<u32, Refusal<Usage>>
+    requires { place + length words.now < 4294967295 }
+    ensures size { IfOk result (IsSize (words_in words.now)) }
+    ensures refused { IfErr result (IsRefusedFrom SizeAlone (words_in words.now) place) }
+{
+    let [first, behind @ ..] = words else {
+        return Err(wrong_at(place));
+    };
+    let Some(size) = number_between(first.as_str(), 1, GREATEST_SIZE) else {
+        return Err(wrong_at(place));
+    };
+    if !behind.is_empty() {
+        return Err(wrong_at(place + 1));
+    }
+    Ok(size)
 }
 
 /// The number, from 1, of the name of a file that stands alone at a place.

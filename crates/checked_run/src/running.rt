@@ -25,6 +25,7 @@ use caf_report::report::Report;
 use checked_tree::program::Checked;
 use coarray_memory::coarray::Coarray;
 use code_maker::maker::make;
+use final_values::listing::listed_variables;
 use image_code::code::Code;
 use image_code::tables::Tables;
 use program_run::running::run_code;
@@ -103,6 +104,7 @@ fn report(
     ensures report { IfOk result (IsRunOf (program checked.now) told (fails_at fails.now)) }
     ensures has_end { IfOk result HasEnd }
 {
+    let listed = listed_variables(alloc, checked)?;
     let names = names(alloc, checked)?;
     let shared = Arc::new(alloc, code)?;
     let report = run_code(
@@ -115,11 +117,12 @@ fn report(
         told.words,
         told.seed,
         names,
+        listed.as_slice(),
     )?;
     Ok(report)
 }
 
-/// The run of an accepted program on images, as it is told, and its report with the names of its coarrays; or where the machine can't run it. An image's next
+/// The run of an accepted program on images, as it is told, and its report with the names of its coarrays and the final values of its main program's variables; or where the machine can't run it. An image's next
 /// statement above `told.limit` is its limit; image i fails at its event of the number that `fails` has for it, counted from 1 (0 or no number: it doesn't); with
 /// `told.words` recorded words or more an image's next step is the limit. Conditions: there are at most 65,536 images and 100,000,000 statements.
 pub fn run_checked(

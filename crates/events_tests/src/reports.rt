@@ -33,7 +33,7 @@ fn print<R: Abort>(rt: &R, alloc: Global, image: u32, stamp: u64, text: &str) ->
     entry(rt, alloc, image, stamp, Ask::Print { text })
 }
 
-// Whether a report has this status and this text is judged; with `all` it shows the final values and the trace too.
+// Whether a report has this status and this text is judged; with `all` it shows the final values, the trace and the line that sums the run up too.
 fn says<R: Abort>(rt: &R, alloc: Global, report: Report, all: bool, status: u8, wanted: &str)
     requires { HasEnd report }
 {
@@ -41,6 +41,7 @@ fn says<R: Abort>(rt: &R, alloc: Global, report: Report, all: bool, status: u8, 
     let shown = Shown {
         vars: all,
         trace: all,
+        summary: all,
     };
     let text = report.text(alloc, shown);
     drop(report);
@@ -120,7 +121,7 @@ fn last<R: Abort>(rt: &R, alloc: Global, image: u32, name: &str, values: &[Value
 }
 
 #[test]
-fn final_values_and_the_trace_are_shown(rt: HostRuntime) {
+fn final_values_the_trace_and_the_summary_are_shown(rt: HostRuntime) {
     let alloc = rt.alloc();
     let owner = ImageNo(2);
     let span = Span {
@@ -152,8 +153,12 @@ fn final_values_and_the_trace_are_shown(rt: HostRuntime) {
     absent.is_allocated = false;
     finals.push(absent).expect(&rt, "memory");
     let report = Report::new(2, Trace { entries }, Listing::new(alloc), names, finals);
-    let wanted =
-        "var 1 a = T\nvar 2 v = 7,-8\nvar 2 w = unallocated\n4 1 7 m2 write field:3 -5 > ok\n";
+    let wanted = "var 1 a = T
+var 2 v = 7,-8
+var 2 w = unallocated
+4 1 7 m2 write field:3 -5 > ok
+summary images 2 events 1 status 0
+";
     says(&rt, alloc, report, true, 0, wanted);
 }
 

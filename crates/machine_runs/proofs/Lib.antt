@@ -1,2 +1,3 @@
 pub mod Lifted
 pub mod MachineRuns
+pub mod NearLanes

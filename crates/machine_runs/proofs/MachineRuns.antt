@@ -1,18 +1,20 @@
 -- Runs of machines whose code has the walks of a program are runs of the program.
-use Rattle.std.proofs.Common.{ℕ, List}
+use Rattle.std.proofs.Common.{◌≡◌, ℕ, List, ap, sym, ◌∙◌}
 use Rattle.caf_events.specs.declared.ask.Ask.{Ask}
 use Rattle.caf_events.specs.declared.reply.Reply.{Reply}
 use Rattle.caf_events.specs.declared.event.Entry.{Entry}
 use Rattle.caf_events.specs.Answers.{Answers}
 use Rattle.trace_theory.specs.Equivalence.{SameWalks}
+use Rattle.trace_theory.specs.Simulations.{AllAnswer}
 use Rattle.trace_theory.proofs.Equivalence.{same_walks_through}
+use Rattle.trace_theory.proofs.Rests.{same_rest_rests}
 use Rattle.walk_theory.specs.Walks.{Config}
 use Rattle.walk_theory.specs.Code.{State, code_step}
 use Rattle.walk_theory.specs.Programs.{SameCore}
 use Rattle.checked_tree.specs.Statements as checked
 use Rattle.object_rules.specs.Cells.{Declared, MadeMemory}
 use Rattle.core_runs.specs.Beginnings.{IsOneOf}
-use Rattle.core_runs.specs.CoreRuns.{IsCoreRun, IsFit}
+use Rattle.core_runs.specs.CoreRuns.{said_by, IsCoreRun, IsFit}
 use Rattle.core_runs.specs.Lanes.{IsMoment, HearsDue}
 use Rattle.core_runs.specs.Moments.{Moment}
 use Rattle.core_runs.specs.Orders.{Chooser, IsOrderTrace}
@@ -36,8 +38,9 @@ use Rattle.program_walks.specs.Runs.{program_rules, program_begins}
 use Rattle.program_walks.proofs.Fits.{program_fit}
 use Rattle.program_walks.proofs.LaneProgramEnds.{program_image_ends}
 use Rattle.program_walks.proofs.LaneSame.{lanes_say, lanes_core, lanes_order, lanes_waits}
-use Rattle.machine_runs.specs.Runs.{StandsAt, HasWalksFrom, HasWalksOn, machines_begin}
+use Rattle.machine_runs.specs.Runs.{StandsAt, StandsAfter, HasComputed, HasWalksFrom, HasWalksOn, machines_begin}
 use Rattle.machine_runs.proofs.Lifted.{machine_walks}
+use Rattle.machine_runs.proofs.NearLanes.{RestsAs, lanes_rest, rest_back}
 
 pub code_walks : (w : Whole) (limit : ℕ) (rooms : Rooms) (me images : ℕ)
     → SameWalks Answers (StandsAt (start_of w limit rooms me images)) (StandsAt (start_of w limit rooms me images)) (code_step image_language (code_of w.program) limit) (first_state w me images) machine_step (start_of w limit rooms me images)
@@ -56,6 +59,14 @@ module _ (p : checked.Program) (w : Whole) (limit : ℕ) (rooms : Rooms) (me ima
 
   pub program_says : SaysAs (tree.walk_step p limit) machine_step (tree.start_of p me images) (start_of w limit rooms me images)
   program_says = says_onward (tree.walk_step p limit) machine_step _ _ (tree.start_of p me images) (start_of w limit rooms me images) through
+
+  -- where the machine comes to rest the program comes to rest with the same core
+  pub machine_rests : RestsAs HasComputed machine_step (tree.walk_step p limit) (start_of w limit rooms me images) (tree.start_of p me images)
+  machine_rests es e answers walk rests =
+      let r = through.rests_backward es e answers walk rests in
+      let near = r.2 in
+      let here : near.0.core ≡ e.state.core = ap (λ (x : Engine). x.state.core) (sym near.2) in
+      (r.0, r.1, sym near.1.0 ∙ here, rest_back (tree.walk_step p limit r.0) (machine_step e) r.3)
 
   -- an image is over only behind a step that ended it
   pub machine_ends : (fails_at words : ℕ) → EndsByItself (lane_step machine_step) (lane_start me fails_at words (start_of w limit rooms me images))
@@ -98,6 +109,13 @@ module _ (hears : Engine → Reply → Type 0) (p : checked.Program) (w : Whole)
   pub waits_backward : (t : List Entry) → IsCoreRun (program_rules p limit) (program_begins p coarrays n fails_at words) t → (i line : ℕ) (a : Ask) → IsWaiting (program_rules p limit) (program_begins p coarrays n fails_at words) t i line a
       → IsWaiting (lane_rules machine_step hears) (machines_begin w limit rooms coarrays n fails_at words) t i line a
   waits_backward t core i line a x = lanes_waits (tree.walk_step p limit) machine_step hears_all (lane_hears machine_step hears) coarrays n program machine fails_at words said t core i line a x
+
+  -- where an image stands after a trace whose replies answer, that of the program stands with the same core
+  pub stands_onward : (t : List Entry) (i : ℕ) → IsOneOf n i → AllAnswer Answers (said_by i t) → (l : OnLane Engine) → StandsAfter (lane_rules machine_step hears) (machines_begin w limit rooms coarrays n fails_at words) t i l
+      → (c : OnLane (Config Act Core)) × StandsAfter (program_rules p limit) (program_begins p coarrays n fails_at words) t i c × HasComputed l.program c.program
+  stands_onward t i in_run answers l at =
+      let r = lanes_rest HasComputed machine_step (tree.walk_step p limit) i (fails_at i) words (machine i) (program i) (machine_rests p w limit (rooms i) i n (h i in_run)) (said_by i t) l answers at.walks at.rests in
+      (r.0, record { walks = r.1; rests = same_rest_rests (lane_step machine_step l) (lane_step (tree.walk_step p limit) r.0) r.3 }, r.2)
 
   -- the run is fit, where the machines hear the replies that are due to them
   pub machine_fit : ((m : Moment (OnLane Engine) MadeMemory ℕ) → IsMoment (lane_rules machine_step hears) (machines_begin w limit rooms coarrays n fails_at words) m → HearsDue (lane_rules machine_step hears) m)

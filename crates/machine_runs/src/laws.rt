@@ -2,13 +2,16 @@
 
 ghost use Rattle.std.specs.Prelude.{ℕ, ◌≡◌, List};
 ghost use Rattle.trace_theory.specs.Equivalence.{SameWalks};
+ghost use Rattle.trace_theory.specs.Simulations.{AllAnswer};
 ghost use Rattle.walk_theory.specs.Code.{code_step};
+ghost use Rattle.walk_theory.specs.Walks.{Config};
 ghost use Rattle.caf_events.specs.declared.ask.Ask.{Ask};
 ghost use Rattle.caf_events.specs.declared.reply.Reply.{Reply};
 ghost use Rattle.caf_events.specs.declared.event.Entry.{Entry};
 ghost use Rattle.caf_events.specs.Answers.{Answers};
 ghost use Rattle.object_rules.specs.Cells.{Declared, MadeMemory};
-ghost use Rattle.core_runs.specs.CoreRuns.{IsCoreRun, IsFit};
+ghost use Rattle.core_runs.specs.Beginnings.{IsOneOf};
+ghost use Rattle.core_runs.specs.CoreRuns.{said_by, IsCoreRun, IsFit};
 ghost use Rattle.core_runs.specs.Lanes.{IsMoment, HearsDue};
 ghost use Rattle.core_runs.specs.Moments.{Moment};
 ghost use Rattle.core_runs.specs.Orders.{IsOrderTrace};
@@ -18,6 +21,8 @@ ghost use Rattle.core_runs.specs.Waits.{IsWaiting};
 ghost use Rattle.image_lanes.specs.Lanes.{OnLane, lane_step, lane_start};
 ghost use Rattle.image_lanes.specs.LaneRuns.{lane_rules};
 ghost use Rattle.checked_tree.specs.Statements as checked;
+ghost use Rattle.image_acts.specs.Acts.{Act};
+ghost use Rattle.image_acts.specs.Core.{Core};
 ghost use Rattle.image_acts.specs.Meaning.{image_language};
 ghost use Rattle.image_code.specs.Code.{Whole, code_of};
 ghost use Rattle.image_state.specs.declared.state.Rooms.{Rooms};
@@ -26,7 +31,7 @@ ghost use Rattle.image_machine.specs.Start.{first_state};
 ghost use Rattle.image_machine.specs.Walk.{machine_step};
 ghost use Rattle.tree_meaning.specs.Start as tree;
 ghost use Rattle.program_walks.specs.Runs.{program_rules, program_begins};
-ghost use Rattle.machine_runs.specs.Runs.{StandsAt, HasWalksFrom, HasWalksOn, machines_begin};
+ghost use Rattle.machine_runs.specs.Runs.{StandsAt, StandsAfter, HasComputed, HasWalksFrom, HasWalksOn, machines_begin};
 
 use core_runs::order_laws::Choices;
 
@@ -80,6 +85,14 @@ pub fn law_machine_waits<H: Hearing>()
         → (t : List Entry) → IsCoreRun (program_rules p limit) (program_begins p coarrays n fails_at words) t
         → (i line : ℕ) (ask : Ask) → IsWaiting (program_rules p limit) (program_begins p coarrays n fails_at words) t i line ask
         → IsWaiting (lane_rules machine_step H.hears) (machines_begin w limit rooms coarrays n fails_at words) t i line ask }
+{}
+
+/// Where an image stands after a trace whose replies answer their asks, that of the program stands, and it has computed what the machine has.
+pub fn law_machine_stands<H: Hearing>()
+    ensures { (p : checked.Program) (w : Whole) (limit : ℕ) (rooms : ℕ → Rooms) (coarrays : List Declared) (n : ℕ) (fails_at : ℕ → ℕ) (words : ℕ) → HasWalksOn p limit n w
+        → (t : List Entry) (i : ℕ) → IsOneOf n i → AllAnswer Answers (said_by i t)
+        → (l : OnLane Engine) → StandsAfter (lane_rules machine_step H.hears) (machines_begin w limit rooms coarrays n fails_at words) t i l
+        → (c : OnLane (Config Act Core)) × StandsAfter (program_rules p limit) (program_begins p coarrays n fails_at words) t i c × HasComputed l.program c.program }
 {}
 
 /// The run of such machines is fit, where they hear the replies that are due to them; and each image is over only behind a step that ended it.

@@ -11,10 +11,12 @@ use Rattle.trace_theory.specs.Machines.{Move}
 use Rattle.object_rules.specs.Cells.{Declared}
 use Rattle.core_runs.specs.Beginnings.{Beginning, IsImage}
 use Rattle.core_runs.specs.CoreRuns.{IsCoreRun}
-use Rattle.core_runs.specs.Moments.{Rules, item_at}
+use Rattle.core_runs.specs.Kept.{IsKept}
+use Rattle.core_runs.specs.Moments.{Rules, Moment, item_at}
 use Rattle.core_runs.specs.Lawful.{IsLawfulTrace, made_memory}
 use Rattle.core_runs.specs.Orders.{IsOrderTrace}
 use Rattle.core_runs.specs.Sequences.{EndsByItself}
+use Rattle.core_runs.specs.Traces.{IsTraceOf}
 use Rattle.core_runs.specs.Waits.{HasEndedIn, IsWaiting}
 use Rattle.image_core.specs.declared.choices.Choices.{Choices}
 use Rattle.image_core.specs.declared.choices.Choices.TheVariants.{Rotate, Seed}
@@ -77,6 +79,11 @@ pub record IsOrderReport {C M B : Type 0} (r : Rules C M B) (b : Beginning C M B
   pub ordered : IsOrderTrace r b choosing (choices_of seed) report.trace.entries
   pub end : IsReportEnd b.images r b report.trace report.end
   pub allowed : Allowed (edges b.images) (accesses (made_memory coarrays)) report.trace.entries (before_race report.trace report.end)
+
+-- the moment at which a run with this trace has come to its end: the trace has the images' events
+pub record IsEndMoment {C M B : Type 0} (r : Rules C M B) (b : Beginning C M B) (t : List Entry) (m : Moment C M B) : Type 0 where
+  pub kept : IsKept r b m
+  pub trace : IsTraceOf m.events t
 
 -- every core run that begins so is a lawful trace over these coarrays
 abbrev pub AreLawful : {C M B : Type 0} → Rules C M B → Beginning C M B → List Declared → Type 0

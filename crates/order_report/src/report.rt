@@ -5,9 +5,9 @@ ghost use Rattle.object_rules.specs.Cells.{Declared};
 ghost use Rattle.core_runs.specs.Beginnings.{Beginning, IsFirst};
 ghost use Rattle.core_runs.specs.Kept.{IsKept};
 ghost use Rattle.core_runs.specs.Moments.{rules};
-ghost use Rattle.image_core.specs.Parts.{moment, AreSound};
+ghost use Rattle.image_core.specs.Parts.{moment, AreNumbered, AreSound};
 ghost use Rattle.caf_report.specs.Ends.{HasEnd};
-ghost use Rattle.order_report.specs.Reports.{AreLawful, EndByThemselves, IsOrderReport};
+ghost use Rattle.order_report.specs.Reports.{AreLawful, EndByThemselves, IsEndMoment, IsOrderReport};
 
 use crate::race::first_race;
 use crate::waits::{choices_of_seed, held};
@@ -38,6 +38,11 @@ pub fn report_order<M: Walker, O: Object, B: Object>(
         → IsOrderReport (rules M.Walker O.Object B.Object) b coarrays seed report) }
     ensures has_end { IfOk result HasEnd }
     ensures names { IfOk result (λ report. report.names ≡ names) }
+    // After it the parts are at the end of that run.
+    ensures at_end { IfOk result (λ report. (b : Beginning M.Config O.Made B.Made)
+        → IsKept (rules M.Walker O.Object B.Object) b (moment M.Walker O.Object B.Object parts.old)
+        → IsEndMoment (rules M.Walker O.Object B.Object) b report.trace.entries (moment M.Walker O.Object B.Object parts.new)) }
+    ensures numbered { IfOk result (λ _. AreNumbered parts.new.images.items) }
 {
     let n = parts.images.len() as u32;
     let mut choices = choices_of_seed(seed);

@@ -11,7 +11,7 @@ use Rattle.image_machine.specs.Engine.{Engine, bare, start_of}
 use Rattle.image_machine.specs.Walk.{machine_step}
 use Rattle.program_run.specs.Machines.{HasBegun}
 
-get_item : {A : Type 0} (xs : List A) (k : ℕ) (x : A) → slice_get xs k ≡ Some x → x ≡ slice_index_or xs k x
+pub get_item : {A : Type 0} (xs : List A) (k : ℕ) (x : A) → slice_get xs k ≡ Some x → x ≡ slice_index_or xs k x
 get_item [] k x e = absurd (cc)
 get_item (y ∷ ys) zero x e =
     let same : y ≡ x = cc in

@@ -1,2 +1,4 @@
 pub mod Begun
+pub mod Determined
+pub mod Ended
 pub mod Program

@@ -1,27 +1,38 @@
 -- The report of a run of machines whose code has the walks of a program is that of a run of the program.
-use Rattle.std.proofs.Common.{◌≡◌, ℕ, List, length, sym, subst}
+use Rattle.std.proofs.Common.{◌≡◌, ℕ, List, length, refl, sym, subst}
 use Rattle.std.specs.Prelude.{map}
-use Rattle.object_rules.specs.Cells.{Declared}
+use Rattle.caf_events.specs.declared.event.Entry.{Entry}
+use Rattle.object_rules.specs.Cells.{Declared, MadeMemory}
+use Rattle.core_runs.specs.Moments.{Moment}
+use Rattle.coarray_memory.specs.Memories.{MemoryState}
 use Rattle.checked_tree.specs.Statements as checked
 use Rattle.image_core.specs.Choosing.{choosing}
-use Rattle.image_core.specs.Parts.{EachAt}
+use Rattle.image_core.specs.Parts.{AreNumbered, EachAt}
+use Rattle.image_core.specs.declared.run.ImageRun.{ImageRun}
 use Rattle.image_core.specs.declared.choices.Choices.{Choices}
-use Rattle.image_lanes.specs.LaneRuns.{lane_rules}
+use Rattle.image_lanes.specs.declared.lane.Lane.{Lane}
+use Rattle.image_lanes.specs.Lanes.{OnLane}
+use Rattle.image_lanes.specs.LaneRuns.{lane_rules, lanes_begin}
 use Rattle.image_code.specs.Code.{Whole}
 use Rattle.image_state.specs.declared.state.Rooms.{Rooms}
 use Rattle.image_machine.specs.Engine.{Engine, bare, start_of}
 use Rattle.image_machine.specs.Walk.{machine_step}
+use Rattle.caf_report.specs.declared.report.Final.{Final}
 use Rattle.caf_report.specs.declared.report.Report.{Report}
-use Rattle.order_report.specs.Reports.{choices_of}
+use Rattle.final_values.specs.declared.listing.Listed.{Listed}
+use Rattle.final_values.specs.Finals.{run_finals}
+use Rattle.order_report.specs.Reports.{choices_of, IsEndMoment}
 use Rattle.order_report.proofs.SameEnd.{report_end_too}
 use Rattle.full_report.specs.Reports.{RunsFrom, ImagesEnd, IsImagesReport}
 use Rattle.program_walks.specs.Runs.{program_rules, program_begins}
 use Rattle.program_walks.proofs.Hearing.{hears_due}
 use Rattle.machine_runs.specs.Runs.{HasWalksOn, machines_begin}
 use Rattle.machine_runs.proofs.MachineRuns.{machine_ends, machine_fit, core_onward, order_onward, waits_onward}
+use Rattle.program_run.specs.Finals.{AreProgramFinals}
 use Rattle.program_run.specs.Machines.{hears, HasBegun}
 use Rattle.program_run.specs.Reports.{IsProgramReport}
 use Rattle.program_run.proofs.Begun.{rooms_of, have_come}
+use Rattle.program_run.proofs.Ended.{lane_at, memories_count, program_finals}
 
 module _ (p : checked.Program) (w : Whole) (limit : ℕ) (rooms : ℕ → Rooms) (coarrays : List Declared) (n : ℕ) (fails_at : ℕ → ℕ) (words : ℕ) (h : HasWalksOn p limit n w) where
   pub machines_end : ImagesEnd machine_step hears coarrays n (λ i. start_of w limit (rooms i) i n) fails_at words
@@ -58,3 +69,25 @@ module _ (w : Whole) (limit n : ℕ) (xs : List Engine) (count : length xs ≡ n
       program_report p w limit (rooms_of w limit n xs begun) coarrays n fails_at words h seed report
       (subst (λ k. IsImagesReport machine_step hears coarrays k first fails_at words seed report) count
       (is first (machines_run p h) (subst (λ k. ImagesEnd machine_step hears coarrays k first fails_at words) (sym count) (machines_end p w limit (rooms_of w limit n xs begun) coarrays n fails_at words h))))
+
+-- other final values change nothing of what a report is
+pub with_finals : (p : checked.Program) (limit : ℕ) (coarrays : List Declared) (n : ℕ) (fails_at : ℕ → ℕ) (words seed : ℕ) (report : Report) (fs : List Final) → IsProgramReport p limit coarrays n fails_at words seed report
+    → IsProgramReport p limit coarrays n fails_at words seed (record report { finals = fs })
+with_finals p limit coarrays n fails_at words seed report fs is = record { images = is.images; core = is.core; ordered = is.ordered; end = is.end; allowed = is.allowed }
+
+-- the final values that are read of the parts at the end of such a run are the program's
+module _ (w : Whole) (limit n : ℕ) (xs : List Engine) (count : length xs ≡ n) (begun : EachAt (HasBegun w limit n) xs) (coarrays : List Declared) (fails_at : ℕ → ℕ) (words : ℕ) (t : List Entry) (m : Moment (OnLane Engine) MadeMemory ℕ)
+    (at_end : (start : ℕ → Engine) → RunsFrom machine_step hears coarrays (length xs) start fails_at words (map bare xs) → IsEndMoment (lane_rules machine_step hears) (lanes_begin coarrays (length xs) start fails_at words) t m) where
+  pub end_moment : (p : checked.Program) → HasWalksOn p limit n w → IsEndMoment (lane_rules machine_step hears) (machines_begin w limit (rooms_of w limit n xs begun) coarrays n fails_at words) t m
+  end_moment p h =
+      subst (λ k. IsEndMoment (lane_rules machine_step hears) (lanes_begin coarrays k (first w limit n xs count begun coarrays fails_at words) fails_at words) t m) count
+      (at_end (first w limit n xs count begun coarrays fails_at words) (machines_run w limit n xs count begun coarrays fails_at words p h))
+
+  module _ (images : List (ImageRun (Lane Engine))) (memories : List MemoryState) (configs_are : m.configs ≡ map (λ r. lane_at r.machine) images) (events_are : m.events ≡ map (λ r. r.events.items) images)
+      (memories_are : m.memories ≡ map (λ x. x.made) memories) (histories_are : m.histories ≡ map (λ x. x.history) memories) (numbered : AreNumbered images) (p : checked.Program) (h : HasWalksOn p limit n w) (listed : List Listed) where
+    pub parts_finals : AreProgramFinals p limit coarrays n fails_at words listed t (run_finals listed images memories)
+    parts_finals =
+        program_finals p w limit (rooms_of w limit n xs begun) coarrays n fails_at words h listed t m (end_moment p h) lane_at (λ l. refl) images memories configs_are events_are memories_are histories_are numbered
+
+    pub parts_count : length images ≡ length memories
+    parts_count = memories_count p w limit (rooms_of w limit n xs begun) coarrays n fails_at words h listed t m (end_moment p h) lane_at (λ l. refl) images memories configs_are events_are memories_are histories_are numbered

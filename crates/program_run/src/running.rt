@@ -1,14 +1,16 @@
 //! The run of a program's code, and its report.
 
-ghost use Rattle.std.specs.Prelude.{◌≡◌, ◌≤◌, true, map, IfOk};
+ghost use Rattle.std.specs.Prelude.{◌≡◌, ◌≤◌, true, length, map, IfOk};
 ghost use Rattle.std.specs.Arc.{arc_value};
 ghost use Rattle.std.specs.List.{list_all};
 ghost use Rattle.object_rules.specs.MemoryRules.{has_first_values};
 ghost use Rattle.coarray_memory.specs.Memories.{declared_of};
 ghost use Rattle.checked_tree.specs.Statements as checked;
 ghost use Rattle.caf_report.specs.Ends.{HasEnd};
+ghost use Rattle.final_values.specs.Finals.{run_finals};
 ghost use Rattle.lane_parts.specs.FirstLanes.{fails_at};
 ghost use Rattle.machine_runs.specs.Runs.{HasWalksOn};
+ghost use Rattle.program_run.specs.Finals.{AreProgramFinals};
 ghost use Rattle.program_run.specs.Machines.{IsRunnable};
 ghost use Rattle.program_run.specs.Reports.{IsProgramReport};
 
@@ -17,12 +19,31 @@ use caf_base::listing::{Listing, Text};
 use caf_base::refusal::NoMemory;
 use caf_report::report::Report;
 use coarray_memory::coarray::Coarray;
-use full_report::running::run_images;
+use final_values::listing::Listed;
+use final_values::reading::{finals, with_finals};
+use full_report::running::{Ran, run_images};
 use image_code::code::Code;
+use image_machine::machine::Machine;
 use std::alloc::Global;
 use std::sync::Arc;
 
-/// The run of code on n images, in the order of a SEED, and its report with these names of the coarrays. Each memory has these coarrays. An image's next statement above
+// The report of a run with the final values of these variables.
+fn told(alloc: Global, ran: Ran<Machine>, listed: &[Listed]) -> Result<Report, NoMemory>
+    requires { length ran.parts.images.items ≡ length ran.parts.memories.items }
+    ensures { IfOk result (λ r. r ≡ record ran.report { finals = run_finals listed.now ran.parts.images.items ran.parts.memories.items }) }
+{
+    let finals = finals(
+        alloc,
+        ran.parts.images.as_slice(),
+        ran.parts.memories.as_slice(),
+        listed,
+    )?;
+    let Ran { report, parts } = ran;
+    drop(parts);
+    Ok(with_finals(report, finals))
+}
+
+/// The run of code on n images, in the order of a SEED, and its report with these names of the coarrays and the final values of the listed variables. Each memory has these coarrays. An image's next statement above
 /// `limit` is its limit; image i fails at its event of the number that `fails` has for it, counted from 1 (0 or no number: it doesn't); with `words` recorded words or
 /// more an image's next step is the limit. Conditions: there are at most 65,536 images and 100,000,000 statements, each static coarray of values has a first value of its
 /// kind for each of its cells, the code has the walks of a checked program, and the machine can run it (`IsRunnable`).
@@ -36,6 +57,7 @@ pub fn run_code(
     words: u32,
     seed: u32,
     names: Listing<Text>,
+    listed: &[Listed],
 ) -> Result<Report, NoMemory>
     requires images { n ≤ 65536 }
     requires limit { limit ≤ 100000000 }
@@ -47,7 +69,10 @@ pub fn run_code(
         → IsProgramReport p limit (map declared_of coarrays.now) n (fails_at fails.now) words seed report) }
     ensures has_end { IfOk result HasEnd }
     ensures names { IfOk result (λ report. report.names ≡ names) }
+    ensures finals { IfOk result (λ report. (p : checked.Program) → HasWalksOn p limit n (arc_value code)
+        → AreProgramFinals p limit (map declared_of coarrays.now) n (fails_at fails.now) words listed.now report.trace.entries report.finals) }
 {
     let machines = machines(alloc, &code, n, limit)?;
-    run_images(alloc, machines, coarrays, fails, words, seed, names)
+    let ran = run_images(alloc, machines, coarrays, fails, words, seed, names)?;
+    told(alloc, ran, listed)
 }

@@ -1,21 +1,54 @@
 use Rattle.std.proofs.Common.{subst}
 use Rattle.caf_words.specs.Words.{words_in}
-use Rattle.caf_run.specs.Dues.{FileDue}
-use Rattle.caf_run.proofs.Tasks.{last_word, place_within, task_within}
-use Rattle.caf_run.proofs.WhatIsDue.{file_named, if_ok_map}
+use Rattle.caf_words.specs.Words.Origin.{from_file, from_made}
+use Rattle.caf_run.specs.Dues.{SourceDue}
+use Rattle.caf_run.specs.Tasks.{AsksOf}
+use Rattle.caf_run.proofs.Tasks.{asks_file, asks_made, last_word, place_within, made_within, task_within, no_file}
+use Rattle.caf_run.proofs.WhatIsDue.{source_named, if_ok_map}
 use Rattle.caf_run.proofs.due.task_due.Goals as goal
 
 pub word_at-requires : goal.word_at-requires
-word_at-requires g c = place_within c.args.words.now c.args.task.now c.args.number c.requires
+word_at-requires g c =
+    place_within c.args.words.now c.args.task.now c.in-File.word (asks_file (words_in c.args.words.now) c.args.task.now c.in-File.word (subst (AsksOf (words_in c.args.words.now) c.args.task.now) c.in-File.is c.requires))
 
 pub file_due-requires : goal.file_due-requires
-file_due-requires g c = task_within (words_in c.args.words.now) c.args.task.now c.args.number c.requires
+file_due-requires g c = task_within (words_in c.args.words.now) c.args.task.now c.args.input c.requires
 
-pub returns-clause-due : goal.returns-clause-due
-returns-clause-due g c =
+pub made_due-requires-clause-task : goal.made_due-requires-clause-task
+made_due-requires-clause-task g c = task_within (words_in c.args.words.now) c.args.task.now c.args.input c.requires
+
+pub made_due-requires-clause-seed : goal.made_due-requires-clause-seed
+made_due-requires-clause-seed g c =
+    let asked = asks_made (words_in c.args.words.now) c.args.task.now c.in-Made.seed c.in-Made.size (subst (AsksOf (words_in c.args.words.now) c.args.task.now) c.in-Made.is c.requires) in
+    let (numbers, within) = made_within (words_in c.args.words.now) c.args.task.now c.in-Made.seed c.in-Made.size asked in
+    within.most_seed
+
+pub made_due-requires-clause-size : goal.made_due-requires-clause-size
+made_due-requires-clause-size g c =
+    let asked = asks_made (words_in c.args.words.now) c.args.task.now c.in-Made.seed c.in-Made.size (subst (AsksOf (words_in c.args.words.now) c.args.task.now) c.in-Made.is c.requires) in
+    let (numbers, within) = made_within (words_in c.args.words.now) c.args.task.now c.in-Made.seed c.in-Made.size asked in
+    (within.least_size, within.most_size)
+
+pub returns-in-File-clause-untouched : goal.returns-in-File-clause-untouched
+returns-in-File-clause-untouched g c = λ none.
+    absurd (no_file (words_in c.args.words.now) c.args.task.now c.in-File.word
+    (asks_file (words_in c.args.words.now) c.args.task.now c.in-File.word (subst (AsksOf (words_in c.args.words.now) c.args.task.now) c.in-File.is c.requires)) none)
+
+pub returns-in-File-clause-due : goal.returns-in-File-clause-due
+returns-in-File-clause-due g c =
+    let r = asks_file (words_in c.args.words.now) c.args.task.now c.in-File.word (subst (AsksOf (words_in c.args.words.now) c.args.task.now) c.in-File.is c.requires) in
     if_ok_map c.file_due.result _ _
-    (λ d f. file_named (words_in c.args.words.now) c.args.task.now c.requires.0 (g.S.Source.files c.args.source.now) (g.S.Source.left c.file_due.new.source) (g.S.Source.faults c.args.source.now) (g.S.Source.faults c.file_due.new.source)
-    d.status d.text.items d.report c.requires.1
-    (subst (λ name. FileDue (g.S.Source.files c.args.source.now) name c.args.task.now (g.S.Source.left c.file_due.new.source) (g.S.Source.faults c.args.source.now) (g.S.Source.faults c.file_due.new.source) d.status d.text.items d.report)
-    (last_word (words_in c.args.words.now) c.args.task.now c.args.number c.word_at.result.now c.requires c.word_at.ensures) f))
+    (λ d f. source_named (words_in c.args.words.now) c.args.task.now (from_file r.file) (g.S.Source.files c.args.source.now) (g.S.Source.left c.file_due.new.source) (g.S.Source.faults c.args.source.now)
+    (g.S.Source.faults c.file_due.new.source) d.status d.text.items d.report r.asked
+    (subst (λ name. SourceDue (g.S.Source.files c.args.source.now) (from_file name) c.args.task.now (g.S.Source.left c.file_due.new.source) (g.S.Source.faults c.args.source.now) (g.S.Source.faults c.file_due.new.source) d.status d.text.items d.report)
+    (last_word (words_in c.args.words.now) c.args.task.now c.in-File.word c.word_at.result.now r c.word_at.ensures) f))
     c.file_due.ensures.due
+
+pub returns-in-Made-clause-due : goal.returns-in-Made-clause-due
+returns-in-Made-clause-due g c =
+    let asked = asks_made (words_in c.args.words.now) c.args.task.now c.in-Made.seed c.in-Made.size (subst (AsksOf (words_in c.args.words.now) c.args.task.now) c.in-Made.is c.requires) in
+    if_ok_map c.made_due.result _ _
+    (λ d f. source_named (words_in c.args.words.now) c.args.task.now (from_made c.in-Made.seed c.in-Made.size) (g.S.Source.files c.args.source.now) (g.S.Source.left c.args.source.now) (g.S.Source.faults c.args.source.now)
+    (g.S.Source.faults c.args.source.now) d.status d.text.items d.report asked
+    (f (g.S.Source.files c.args.source.now) (g.S.Source.left c.args.source.now) (g.S.Source.faults c.args.source.now) (g.S.Source.faults c.args.source.now)))
+    c.made_due.ensures

@@ -11,6 +11,12 @@ returns-in-Some c =
     let flags = subst (λ w. Flags c.args.given w c.in-Some.given) c.as_str-word.ensures.value c.in-Some.ensures.given in
     flag_next c.args.given c.in-Some.given c.args.words.now _ c.first-item.result e flags
 
+pub returns-in_default-next_key : goal.returns-in_default-next_key
+returns-in_default-next_key c =
+    let e = first_of c.args.words.now c.first-item.result c.in-len1-up.len_at_least c.first-item.is in
+    let word : c.as_str-word.result.now ≡ _ = c.as_str-word.ensures.value in
+    rw (e, ← word) (record { no_key = c.in_default-next_key.ensures.none; no_flag = c.in_default-flagged_with.ensures.none })
+
 pub returns-in_default-behind : goal.returns-in_default-behind
 returns-in_default-behind c =
     let e = first_of c.args.words.now c.first-item.result c.in-len1-up.len_at_least c.first-item.is in

@@ -1,5 +1,5 @@
 use Rattle.std.proofs.Common.{◌≡◌, ◌-◌, length, take, drop, sym, ◌∙◌, inl}
-use Rattle.caf_words.proofs.Firsts.{usage_nothing, usage_other, misread_behind_run, misread_behind_check}
+use Rattle.caf_words.proofs.Firsts.{usage_nothing, usage_other, misread_behind_run, misread_behind_check, misread_behind_make}
 use Rattle.caf_words.proofs.Splits.{none_of, first_of}
 use Rattle.caf_words.proofs.words.command_of.Goals as goal
 
@@ -16,8 +16,13 @@ returns-in-check-clause-refused c =
     let e = first_of c.args.words.now c.first-item.result c.in-len1-up.len_at_least c.first-item.is in
     misread_behind_check c.args.words.now (take (length c.args.words.now - 1) (drop 1 c.args.words.now)) c.first-item.result c.check_of.result e (sym c.as_str.ensures.value ∙ c.in-check.is) c.check_of.ensures.refused
 
+pub returns-in-make-clause-refused : goal.returns-in-make-clause-refused
+returns-in-make-clause-refused c =
+    let e = first_of c.args.words.now c.first-item.result c.in-len1-up.len_at_least c.first-item.is in
+    misread_behind_make c.args.words.now (take (length c.args.words.now - 1) (drop 1 c.args.words.now)) c.first-item.result c.make_of.result e (sym c.as_str.ensures.value ∙ c.in-make.is) c.make_of.ensures.refused
+
 pub returns-in_default-as_str-clause-refused : goal.returns-in_default-as_str-clause-refused
 returns-in_default-as_str-clause-refused c =
     let e = first_of c.args.words.now c.first-item.result c.in-len1-up.len_at_least c.first-item.is in
     let word : c.as_str.result.now ≡ _ = c.as_str.ensures.value in
-    inl (1, rw (e, ← word) (usage_other c.as_str.result.now _ c.in_default-as_str.not-run c.in_default-as_str.not-check), c.wrong_at-in_default-as_str.ensures)
+    inl (1, rw (e, ← word) (usage_other c.as_str.result.now _ c.in_default-as_str.not-run c.in_default-as_str.not-check c.in_default-as_str.not-make), c.wrong_at-in_default-as_str.ensures)

@@ -13,9 +13,9 @@ loop-taken-preserved c =
     (taken_more (words_in c.args.words.now) (words_in c.loop-taken.rest.now) c.loop-taken.given c.loop-taken.place c.loop-taken.fails c.with_failure-fails.result taken c.loop-taken.invariant c.in-Option.ensures
     c.with_failure-fails.ensures)
 
-pub returns-in-File-clause-refused : goal.returns-in-File-clause-refused
-returns-in-File-clause-refused c =
-    misread_all (words_in c.args.words.now) (words_in c.loop-taken.rest.now) c.loop-taken.given c.loop-taken.place c.loop-taken.fails c.file_of.result c.loop-taken.invariant c.file_of.ensures.refused
+pub returns-in-Origin-clause-refused : goal.returns-in-Origin-clause-refused
+returns-in-Origin-clause-refused c =
+    misread_all (words_in c.args.words.now) (words_in c.loop-taken.rest.now) c.loop-taken.given c.loop-taken.place c.loop-taken.fails c.run_of.result c.loop-taken.invariant c.run_of.ensures.refused
 
 pub wrong_at-requires : goal.wrong_at-requires
 wrong_at-requires c = omega (arith, c.loop-taken.invariant.long, c.in-WrongValue.ensures.0, length-map c.args.words.now string_bytes, length-map c.loop-taken.rest.now string_bytes, c.requires)

@@ -1,4 +1,4 @@
-use Rattle.std.proofs.Common.{map}
+use Rattle.std.proofs.Common.{map, ◌∙◌}
 use Rattle.std.specs.Arc.{arc_value}
 use Rattle.checked_tree.specs.StatementViews.{program}
 use Rattle.coarray_memory.specs.Memories.{declared_of}
@@ -18,5 +18,5 @@ returns-clause-report c =
     let p = program c.args.checked.now in
     let w = arc_value c.in_ok-shared.shared in
     let done = c.in_ok-report.ensures in
-    run_of p c.args.told (fails_at c.args.fails.now) w (map declared_of c.args.coarrays.now) c.in_ok-report.report c.in_ok-names.names
-    (walks_of p c.args.code w c.args.told.limit c.args.told.images c.requires.code c.in_ok-shared.ensures.ok) c.requires.coarrays c.in_ok-names.ensures done.report done.names
+    run_of p c.args.told (fails_at c.args.fails.now) w (map declared_of c.args.coarrays.now) c.in_ok-report.report c.in_ok-names.names c.as_slice.result.now
+    (walks_of p c.args.code w c.args.told.limit c.args.told.images c.requires.code c.in_ok-shared.ensures.ok) c.requires.coarrays c.in_ok-names.ensures (c.as_slice.ensures.value ∙ c.in_ok-listed.ensures) done.report done.names done.finals

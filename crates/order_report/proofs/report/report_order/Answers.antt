@@ -1,7 +1,9 @@
 use Rattle.std.proofs.Common.{◌≡◌, length, map, sym, subst, arith}
 use Rattle.std.specs.Prelude.{MatchOption}
+use Rattle.caf_events.specs.declared.event.Trace.{Trace}
 use Rattle.core_runs.specs.Moments.{rules}
-use Rattle.image_core.specs.Parts.{moment}
+use Rattle.core_runs.specs.Traces.{IsTraceOf}
+use Rattle.image_core.specs.Parts.{event_lists, moment}
 use Rattle.image_core.proofs.Slices.{map_length}
 use Rattle.order_axioms.specs.FirstRaces.{HasNoRace}
 use Rattle.order_axioms.specs.Touching.{touches}
@@ -32,3 +34,9 @@ returns-clause-report g c b coarrays first kept enders lawful =
     report_of r b coarrays c.args.seed (moment g.M.Walker g.O.Object g.B.Object before) (moment g.M.Walker g.O.Object g.B.Object behind) c.choices_of_seed-choices.result c.run_order.new.choices c.in_ok-run_order.field-0 t ws race c.with_race.result
     first enders c.choices_of_seed-choices.ensures c.in_ok-run_order.ensures.run kept_on c.in_ok-trace.ensures.trace core held (lawful t.entries core) found
     images c.with_race.ensures.trace c.with_race.ensures.raced c.with_race.ensures.plain c.with_race.ensures.end
+
+pub returns-clause-at_end : goal.returns-clause-at_end
+returns-clause-at_end g c b kept = record {
+  kept = c.in_ok-run_order.ensures.kept b kept;
+  trace = subst (λ (t : Trace). IsTraceOf (event_lists c.run_order.new.self.images.items) t.entries) (sym c.with_race.ensures.trace) c.in_ok-trace.ensures.trace;
+}

@@ -1,9 +1,14 @@
-use Rattle.std.proofs.Common.{map}
+use Rattle.std.proofs.Common.{map, refl, ap, sym, ◌∙◌, subst}
 use Rattle.std.specs.Arc.{arc_value}
+use Rattle.caf_report.specs.Ends.{HasEnd}
+use Rattle.caf_report.specs.declared.report.Report.{Report}
 use Rattle.coarray_memory.specs.Memories.{declared_of}
+use Rattle.final_values.specs.Finals.{run_finals}
 use Rattle.image_core.proofs.Readiness.{if_ok_map}
 use Rattle.lane_parts.specs.FirstLanes.{fails_at}
-use Rattle.program_run.proofs.Program.{first, machines_run, run_report}
+use Rattle.program_run.specs.Finals.{AreProgramFinals}
+use Rattle.program_run.specs.Reports.{IsProgramReport}
+use Rattle.program_run.proofs.Program.{first, machines_run, parts_count, parts_finals, run_report, with_finals}
 use Rattle.program_run.proofs.running.run_code.Goals as goal
 
 pub run_images-requires-clause-runs : goal.run_images-requires-clause-runs
@@ -18,11 +23,41 @@ run_images-requires-clause-runs c =
       machines_run w c.args.limit c.args.n xs made.count made.begun coarrays fails c.args.words program.0 program.1,
     )
 
+pub told-requires : goal.told-requires
+told-requires c =
+    let xs = c.in_ok-machines.machines.items in
+    let made = c.in_ok-machines.ensures in
+    let program = c.requires.program in
+    let ran = c.in_ok-ran.ran in
+    parts_count (arc_value c.args.code) c.args.limit c.args.n xs made.count made.begun (map declared_of c.args.coarrays.now) (fails_at c.args.fails.now) c.args.words ran.report.trace.entries _ c.in_ok-ran.ensures.at_end
+    ran.parts.images.items ran.parts.memories.items refl refl refl refl c.in_ok-ran.ensures.numbered program.0 program.1 c.args.listed.now
+
 pub returns-clause-report : goal.returns-clause-report
 returns-clause-report c =
-    let w = arc_value c.args.code in
     let coarrays = map declared_of c.args.coarrays.now in
     let xs = c.in_ok-machines.machines.items in
     let made = c.in_ok-machines.ensures in
     let fails = fails_at c.args.fails.now in
-    if_ok_map c.run_images.result _ _ (λ report is. run_report w c.args.limit c.args.n xs made.count made.begun coarrays fails c.args.words c.args.seed report is) c.run_images.ensures.report
+    let ran = c.in_ok-ran.ran in
+    if_ok_map c.told.result _ _ (λ report same p h.
+    subst (IsProgramReport p c.args.limit coarrays c.args.n fails c.args.words c.args.seed) (sym same)
+    (with_finals p c.args.limit coarrays c.args.n fails c.args.words c.args.seed ran.report (run_finals c.args.listed.now ran.parts.images.items ran.parts.memories.items)
+    (run_report (arc_value c.args.code) c.args.limit c.args.n xs made.count made.begun coarrays fails c.args.words c.args.seed ran.report c.in_ok-ran.ensures.report p h))) c.told.ensures
+
+pub returns-clause-has_end : goal.returns-clause-has_end
+returns-clause-has_end c = if_ok_map c.told.result _ _ (λ report same. subst HasEnd (sym same) c.in_ok-ran.ensures.has_end) c.told.ensures
+
+pub returns-clause-names : goal.returns-clause-names
+returns-clause-names c = if_ok_map c.told.result _ _ (λ report same. ap (λ (r : Report). r.names) same ∙ c.in_ok-ran.ensures.names) c.told.ensures
+
+pub returns-clause-finals : goal.returns-clause-finals
+returns-clause-finals c =
+    let coarrays = map declared_of c.args.coarrays.now in
+    let xs = c.in_ok-machines.machines.items in
+    let made = c.in_ok-machines.ensures in
+    let fails = fails_at c.args.fails.now in
+    let ran = c.in_ok-ran.ran in
+    if_ok_map c.told.result _ _ (λ report same p h.
+    subst (λ (r : Report). AreProgramFinals p c.args.limit coarrays c.args.n fails c.args.words c.args.listed.now r.trace.entries r.finals) (sym same)
+    (parts_finals (arc_value c.args.code) c.args.limit c.args.n xs made.count made.begun coarrays fails c.args.words ran.report.trace.entries _ c.in_ok-ran.ensures.at_end ran.parts.images.items ran.parts.memories.items refl refl refl refl
+    c.in_ok-ran.ensures.numbered p h c.args.listed.now)) c.told.ensures
