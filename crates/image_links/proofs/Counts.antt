@@ -47,7 +47,7 @@ module _ {E : Type 0} where
   inside_tail y xs ys x on i = inside_head y xs ys x on i.front i.back i.split
 
   -- an entry that a filter keeps stands in the list
-  inside_filter : (p : E → Bool) (xs : List E) (x : E) → Inside (filter p xs) x → Inside xs x
+  pub inside_filter : (p : E → Bool) (xs : List E) (x : E) → Inside (filter p xs) x → Inside xs x
   inside_filter p [] x i = absurd (no_split i.front i.back x i.split)
   inside_filter p (y ∷ xs) x i = elim (cases_Bool (p y)) [
     | inl t ↦ inside_tail y xs (filter p xs) x (inside_filter p xs x) (rw t at i)
@@ -55,9 +55,19 @@ module _ {E : Type 0} where
   ]
 
   -- what holds of each entry that stands in a list holds of all
-  each_inside : (P : E → Type 0) (xs : List E) → ((x : E) → Inside xs x → P x) → Each P xs
+  pub each_inside : (P : E → Type 0) (xs : List E) → ((x : E) → Inside xs x → P x) → Each P xs
   each_inside P [] h = tt
   each_inside P (y ∷ xs) h = (h y (record { front = []; back = xs; split = refl }), each_inside P xs (λ x i. h x (inside_more y xs x i)))
+
+  -- what holds of all holds of each that stands in the list
+  pub inside_each : (P : E → Type 0) (xs : List E) (x : E) → Each P xs → Inside xs x → P x
+  inside_each P xs x all at = each_at P at.front at.back x (subst (Each P) at.split all)
+
+  -- where two lists have the same entries of one another, an entry of the one that is the other's stands in the other
+  pub inside_other : (image place : E → ℕ) (i o : ℕ) (es h : List E) (x : E) → of image i h ≡ of place o es → place x ≡ o → Inside es x → Inside h x
+  inside_other image place i o es h x agree is at =
+      let e : of place (place x) es ≡ of place (place x) at.front ++ x ∷ of place (place x) at.back = ap (of place (place x)) at.split ∙ of_inside place at.front at.back x in
+      inside_filter _ h x (record { front = of place (place x) at.front; back = of place (place x) at.back; split = agree ∙ ap (λ k. of place k es) (sym is) ∙ e })
 
 module _ {E : Type 0} (stamp : E → ℕ) where
   -- the last stamp is that of an entry, or the one that is taken where there is none
@@ -143,16 +153,11 @@ module _ (E : Type 0) (image place stamp : E → ℕ) (own : E → ℕ → ℕ) 
 
   -- an entry of an object's history is an event of its image
   event_of : (o : ℕ) (x : E) → Inside (histories (suc o)) x → Inside (events (image x)) x
-  event_of o x at =
-      let e : of image (image x) (histories (suc o)) ≡ of image (image x) at.front ++ x ∷ of image (image x) at.back = ap (of image (image x)) at.split ∙ of_inside image at.front at.back x in
-      inside_filter _ (events (image x)) x (record { front = of image (image x) at.front; back = of image (image x) at.back; split = sym (w.agree (image x) o) ∙ e })
+  event_of o x at = inside_other place image (suc o) (image x) (histories (suc o)) (events (image x)) x (sym (w.agree (image x) o)) refl at
 
   -- and an event at an object is an entry of its history
   entry_of : (i o : ℕ) (x : E) → place x ≡ suc o → Inside (events i) x → Inside (histories (suc o)) x
-  entry_of i o x is at =
-      let e : of place (place x) (events i) ≡ of place (place x) at.front ++ x ∷ of place (place x) at.back = ap (of place (place x)) at.split ∙ of_inside place at.front at.back x in
-      let a : of image i (histories (suc o)) ≡ of place (place x) at.front ++ x ∷ of place (place x) at.back = w.agree i o ∙ ap (λ k. of place k (events i)) (sym is) ∙ e in
-      inside_filter _ (histories (suc o)) x (record { front = of place (place x) at.front; back = of place (place x) at.back; split = a })
+  entry_of i o x is at = inside_other image place i (suc o) (events i) (histories (suc o)) x (w.agree i o) is at
 
   inside_front : (xs g g' : List E) (e x : E) → xs ≡ g ++ e ∷ g' → Inside g x → Inside xs x
   inside_front xs g g' e x at i = record { front = i.front; back = i.back ++ e ∷ g'; split = at ∙ ap (λ ys. ys ++ e ∷ g') i.split ∙ append_assoc i.front (x ∷ i.back) (e ∷ g') }
@@ -194,8 +199,14 @@ module _ (E : Type 0) (image place stamp : E → ℕ) (own : E → ℕ → ℕ) 
       let b = reached (suc t) (before t (place e.entry) e refl) in
       omega arith
 
-  pub stamps_few : (i : ℕ) → Each (λ e. stamp e ≤ events_of events n) (events i)
-  stamps_few i = each_inside (λ e. stamp e ≤ events_of events n) (events i) (λ x at.
+  few : (i : ℕ) (x : E) → Inside (events i) x → stamp x ≤ events_of events n
+  few i x at =
       let a = reached (stamp x) (record { i = i; entry = x; at = at; is = refl }) in
       let b = lows_all (stamp x) n in
-      omega arith)
+      omega arith
+
+  pub stamps_few : (i : ℕ) → Each (λ e. stamp e ≤ events_of events n) (events i)
+  stamps_few i = each_inside (λ e. stamp e ≤ events_of events n) (events i) (few i)
+
+  pub object_stamps_few : (o : ℕ) → Each (λ e. stamp e ≤ events_of events n) (histories (suc o))
+  object_stamps_few o = each_inside (λ e. stamp e ≤ events_of events n) (histories (suc o)) (λ x at. few (image x) x (event_of o x at))

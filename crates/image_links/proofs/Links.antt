@@ -147,6 +147,13 @@ module _ (E : Type 0) (image place stamp : E → ℕ) where
       let here : Each P (x ∷ of image (image x) xs) = subst (Each P) (of_first image x xs) (h (image x)) in
       (here.0, each_all_images P xs (λ i. elim (eqb_tells (image x) i) [ inl t ↦ (rw (t.0) at (h i)).1 | inr f ↦ rw (f.0) at (h i) ]))
 
+  -- an image and an object have the same entries of one another
+  pub agree_by : (count : ℕ) (events histories : ℕ → List E) → AllClosed image place stamp count events histories → (i o : ℕ) → of image i (histories (suc o)) ≡ of place (suc o) (events i)
+  agree_by count events histories a i o = elim (cases_lt o count) [
+    | inl lt ↦ let c = a.seen i o lt in c.closed.mine ∙ c.linked.agree
+    | inr le ↦ ap (of image i) (a.none_else o le) ∙ sym (of_no (suc o) count (events i) (a.images i).places (omega arith))
+  ]
+
   -- the lists of images, and the objects' histories at the end, are of one run
   pub woven : (own : E → ℕ → ℕ) (count : ℕ) (events histories : ℕ → List E) → AllClosed image place stamp count events histories → ((i : ℕ) → Each (λ e. (n : ℕ) → own e n ≡ suc n) (events i)) → Woven image place stamp own events histories
   woven own count events histories a plain = record {
@@ -157,10 +164,7 @@ module _ (E : Type 0) (image place stamp : E → ℕ) where
     ];
     image_rises = λ i. (a.images i).rises;
     object_rises = a.rises;
-    agree = λ i o. elim (cases_lt o count) [
-      | inl lt ↦ let c = a.seen i o lt in c.closed.mine ∙ c.linked.agree
-      | inr le ↦ ap (of image i) (a.none_else o le) ∙ sym (of_no (suc o) count (events i) (a.images i).places (omega arith))
-    ];
+    agree = agree_by count events histories a;
     fits = λ i o g g' h h' e at there. elim (cases_lt o count) [
       | inl lt ↦
           let c = a.seen i o lt in

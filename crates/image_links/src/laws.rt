@@ -18,8 +18,12 @@ pub fn law_linked_woven<E: Entries>()
 
 /// No stamp of a run is above the number of its events, where the stamp that is due to an own step is one more than the image's last.
 pub fn law_stamps_few<E: Entries>()
-    ensures { (n : ℕ) (events histories : ℕ → List E.Entry)
+    ensures images { (n : ℕ) (events histories : ℕ → List E.Entry)
         → Woven E.image E.place E.stamp E.own events histories → NoneElse events n
         → ((i : ℕ) → Each (λ e. (n : ℕ) → E.own e n ≡ suc n) (events i))
         → (i : ℕ) → Each (λ e. E.stamp e ≤ events_of events n) (events i) }
+    ensures objects { (n : ℕ) (events histories : ℕ → List E.Entry)
+        → Woven E.image E.place E.stamp E.own events histories → NoneElse events n
+        → ((i : ℕ) → Each (λ e. (n : ℕ) → E.own e n ≡ suc n) (events i))
+        → (o : ℕ) → Each (λ e. E.stamp e ≤ events_of events n) (histories (suc o)) }
 {}
