@@ -52,10 +52,11 @@ module _ (count i : ℕ) (es : List Event) (passes : List Known) (k : ℕ) (p p'
     events = ok.events;
     wide = length-set passes k p' ∙ ok.wide;
     each = λ o q a. elim (at_set passes k o p' q a) [
-      | inl x ↦ subst (λ (z : Known × ℕ). (z.0.image ≡ i) × Linked image_of key_of stamp_of i z.1 (entries i es) z.0.seen z.0.own) (λ j. (x.1 j, sym x.0 j))
-          (same.image ∙ here.0,
-            subst (λ (z : List Entry × List Entry). Linked image_of key_of stamp_of i k (entries i es) z.0 z.1) (λ j. (sym (seen_is ∙ longer.1) j, sym own_is j))
-            (looks_more Entry image_of key_of stamp_of i k (entries i es) p.seen p.own longer.0 ok.events.each (subst (λ (s : List Entry). of image_of i s ≡ p.own) longer.1 mine) here.1))
+      | inl x ↦ subst (λ (z : Known × ℕ). (z.0.image ≡ i) × Linked image_of key_of stamp_of i z.1 (entries i es) z.0.seen z.0.own) (λ j. (x.1 j, sym x.0 j)) (
+        same.image ∙ here.0,
+        subst (λ (z : List Entry × List Entry). Linked image_of key_of stamp_of i k (entries i es) z.0 z.1) (λ j. (sym (seen_is ∙ longer.1) j, sym own_is j))
+            (looks_more Entry image_of key_of stamp_of i k (entries i es) p.seen p.own longer.0 ok.events.each (subst (λ (s : List Entry). of image_of i s ≡ p.own) longer.1 mine) here.1),
+      )
       | inr x ↦ ok.each o q x.1
     ];
   }
@@ -74,10 +75,11 @@ module _ (count i : ℕ) (es : List Event) (passes : List Known) (k : ℕ) (p p'
         events = subst (OfImage image_of key_of stamp_of i count) (sym more) (image_more Entry image_of key_of stamp_of i count (entries i es) x refl (omega arith) (omega arith) (λ z. absurd (omega arith)) ok.events);
         wide = length-set passes k p' ∙ ok.wide;
         each = λ o q a. elim (at_set passes k o p' q a) [
-          | inl y ↦ subst (λ (z : Known × ℕ). (z.0.image ≡ i) × Linked image_of key_of stamp_of i z.1 (entries i (es ++ e ∷ [])) z.0.seen z.0.own) (λ j. (y.1 j, sym y.0 j))
-              (same.image ∙ here.0,
-                subst (λ (z : List Entry × List Entry × List Entry). Linked image_of key_of stamp_of i k z.0 z.1 z.2) (λ j. (sym more j, sym (seen_is ∙ ap (λ (s : List Entry). s ++ x ∷ []) longer.1) j, sym own_is j))
-                (made_here Entry image_of key_of stamp_of i k (entries i es) p.seen p.own longer.0 x ok.events.each ok.events.rises refl key_is (subst (λ (s : List Entry). of image_of i s ≡ p.own) longer.1 mine) due here.1))
+          | inl y ↦ subst (λ (z : Known × ℕ). (z.0.image ≡ i) × Linked image_of key_of stamp_of i z.1 (entries i (es ++ e ∷ [])) z.0.seen z.0.own) (λ j. (y.1 j, sym y.0 j)) (
+            same.image ∙ here.0,
+            subst (λ (z : List Entry × List Entry × List Entry). Linked image_of key_of stamp_of i k z.0 z.1 z.2) (λ j. (sym more j, sym (seen_is ∙ ap (λ (s : List Entry). s ++ x ∷ []) longer.1) j, sym own_is j))
+                (made_here Entry image_of key_of stamp_of i k (entries i es) p.seen p.own longer.0 x ok.events.each ok.events.rises refl key_is (subst (λ (s : List Entry). of image_of i s ≡ p.own) longer.1 mine) due here.1),
+          )
           | inr y ↦
               let r = ok.each o q y.1 in
               let ne = y.0 in
