@@ -1,5 +1,5 @@
 -- The integer and logical variables of the main program, in declared order, and where each is found.
-use Rattle.std.specs.Prelude.{ℕ, suc, nat_eq, cond, Bool, true, false, List, [], ◌∷◌, ◌++◌, length, Option, None, Some}
+use Rattle.std.specs.Prelude.{ℕ, suc, nat_eq, cond, Bool, false, List, [], ◌∷◌, ◌++◌, length, Option, None, Some}
 use Rattle.caf_base.specs.declared.value.Kind.{Kind}
 use Rattle.checked_tree.specs.declared.data.DataType.{DataType}
 use Rattle.checked_tree.specs.declared.data.DataType.TheVariants as types

@@ -74,9 +74,9 @@ impl<M: Walker> ImageRun<M> {
         self.machine.reserve()
     }
 
-    // Appends the event of the next ask, and goes on with its reply.
+    /// Appends the event of the next ask, and goes on with its reply.
     #[tactic(auto, using(crate::proofs::Last::last_more))]
-    pub(crate) fn take(&mut self, event: Event)
+    pub fn take(&mut self, event: Event)
         requires asked { AsksNext (M.step (M.config self.old.machine)) event.ask }
         requires line { IsAtLine (M.step (M.config self.old.machine)) event.line }
         requires hears { M.hears (M.config self.old.machine) event.reply }

@@ -7,3 +7,4 @@ mod closing;
 pub mod fabric;
 mod opening;
 pub mod passes;
+pub mod places;

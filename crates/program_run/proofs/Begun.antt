@@ -1,5 +1,5 @@
 -- The machines before the first step are those of the images by number, each with its room.
-use Rattle.std.proofs.Common.{◌≡◌, ℕ, zero, suc, List, [], ◌∷◌, refl, sym, ap, subst}
+use Rattle.std.proofs.Common.{◌≡◌, ℕ, zero, suc, List, [], ◌∷◌, refl, sym, subst}
 use Rattle.std.specs.Prelude.{Option, Some, None, map, slice_get, slice_index_or, MatchOption}
 use Rattle.trace_theory.specs.Machines.{go, goes, Rests}
 use Rattle.core_runs.proofs.Numbered.{item_within}

@@ -1,9 +1,9 @@
 -- A trace determines the final values.
-use Rattle.std.proofs.Common.{◌≡◌, ℕ, zero, suc, true, false, List, [], ◌∷◌, ◌++◌, inl, inr, refl, ap, ap₂, sym, ◌∙◌, subst}
+use Rattle.std.proofs.Common.{◌≡◌, ℕ, zero, suc, true, false, List, [], ◌∷◌, ◌++◌, inl, inr, ap, sym, ◌∙◌, subst}
 use Rattle.caf_events.specs.declared.ask.Ask.{Ask}
 use Rattle.caf_events.specs.declared.reply.Reply.{Reply}
 use Rattle.caf_events.specs.declared.event.Entry.{Entry}
-use Rattle.trace_theory.specs.Machines.{Move, goes, go, Said, Walk, WalkTo, Rests}
+use Rattle.trace_theory.specs.Machines.{Move, go, Said, Walk, WalkTo, Rests}
 use Rattle.trace_theory.proofs.Machines.{one_next_ask}
 use Rattle.trace_theory.proofs.Rests.{one_place}
 use Rattle.checked_tree.specs.Statements as checked

@@ -1,7 +1,7 @@
 -- The final values of a run of machines whose code has the walks of a program are those of a run of the program.
-use Rattle.std.proofs.Common.{◌≡◌, ℕ, zero, suc, ◌+◌, ◌<◌, ◌≤◌, Bool, true, false, cond, List, [], ◌∷◌, ◌++◌, inl, inr, length, map, refl, ap, sym, ◌∙◌, subst, arith}
+use Rattle.std.proofs.Common.{◌≡◌, ℕ, zero, suc, ◌+◌, ◌<◌, Bool, true, false, cond, List, [], ◌∷◌, inl, inr, length, map, refl, ap, sym, ◌∙◌, subst, arith}
 use Rattle.std.specs.Prelude.{Some, slice_get, slice_index_or}
-use Rattle.std.specs.List.{list_any, range_with_len}
+use Rattle.std.specs.List.{list_any}
 use Rattle.std.proofs.lemmas.Bool.{cases_Bool}
 use Rattle.caf_events.specs.declared.ask.Ask.{Ask}
 use Rattle.caf_events.specs.declared.reply.Reply.{Reply}
@@ -15,13 +15,11 @@ use Rattle.checked_tree.specs.Statements as checked
 use Rattle.image_acts.specs.Acts.{Act}
 use Rattle.image_acts.specs.Core.{Core}
 use Rattle.object_rules.specs.Cells.{Declared, MadeMemory}
-use Rattle.core_runs.specs.Beginnings.{IsOneOf, numbers_to}
-use Rattle.core_runs.specs.CoreRuns.{of_memory, said_by}
-use Rattle.core_runs.specs.Kept.{IsKept}
+use Rattle.core_runs.specs.Beginnings.{IsOneOf}
+use Rattle.core_runs.specs.CoreRuns.{said_by}
 use Rattle.core_runs.specs.Lawful.{made_memory}
 use Rattle.core_runs.specs.Lists.{list_at, said}
 use Rattle.core_runs.specs.Moments.{Moment, item_at}
-use Rattle.core_runs.specs.Traces.{IsTraceOf}
 use Rattle.core_runs.proofs.CoreRuns.{all_answer, memory_is, said_is}
 use Rattle.core_runs.proofs.Lanes.{numbered_item}
 use Rattle.core_runs.proofs.Numbered.{item_within}
@@ -37,7 +35,6 @@ use Rattle.image_code.specs.Code.{Whole}
 use Rattle.image_state.specs.declared.state.Rooms.{Rooms}
 use Rattle.image_machine.specs.Engine.{Engine, bare}
 use Rattle.image_machine.specs.Walk.{machine_step}
-use Rattle.caf_report.specs.declared.report.Final.{Final}
 use Rattle.program_walks.specs.Runs.{program_rules, program_begins}
 use Rattle.machine_runs.specs.Runs.{StandsAfter, HasWalksOn, machines_begin}
 use Rattle.machine_runs.proofs.MachineRuns.{stands_onward}
