@@ -1,6 +1,7 @@
 # Why a word of a call of `caf` is wrong, by the forms and options that the help text tells. The words are ARGV[1] to ARGV[ARGC - 1].
 
 # Reads the lines of the forms, `    caf COMMAND ..`, and of the options, `    -OPTION VALUE..  what it is`. A command may have several forms; one that takes no FILE takes values, as an option does.
+# An option that excludes another one says `not beside -OTHER`.
 function read_help(path,   line, w) {
     while ((getline line < path) > 0 && line !~ /^Standard output/) {
         split(line, w, " ")
@@ -26,7 +27,7 @@ function read_option(line, w,   i) {
     line_of_option[w[1]] = line
     for (i = 2; w[i] ~ /^[A-Z][A-Z@]*$/; i++) value_of[w[1], i - 1] = w[i]
     values[w[1]] = wants[w[1]] = i - 2
-    if (line ~ /has to be there/) needed = needed (needed == "" ? "" : " and ") w[1] (values[w[1]] > 0 ? " " w[2] : "")
+    if (match(line, /not beside -[-a-z]+/)) rival_of[w[1]] = substr(line, RSTART + 11, RLENGTH - 11)
 }
 
 # The words before the wrong one: `is_given` has their options, `file` is the place of FILE, and `wanted` the value that `option`, the last one or the command itself, still lacks.
@@ -44,26 +45,18 @@ function read_words(count,   i, left) {
     wanted = left > 0 ? value_of[option, wants[option] - left + 1] : ""
 }
 
-# The option that has to be there and isn't.
-function lacking(   w) {
-    if (needed == "" || form_of[ARGV[1]] !~ / OPTIONS /) return ""
-    split(needed, w, " ")
-    return w[1] in is_given ? "" : needed
-}
-
 function reason(number,   word) {
     word = ARGV[number]
     if (number == 1) return "the command is " commands
     if (wanted != "") return "it has to be the " wanted " of " option
     if ("--made" in is_given) return "nothing stands behind SIZE, and the options stand before --made"
     if (wants[ARGV[1]] > 0) return "nothing stands behind " value_of[ARGV[1], wants[ARGV[1]]]
-    if (number >= ARGC) return lacking() == "" ? "it has to be FILE" : lacking() " and FILE have to be there"
+    if (number >= ARGC) return "it has to be FILE"
     if (file > 0) return "nothing stands behind FILE, and the options stand before it"
     if (word in is_given) return word " stands twice"
-    if (word == "--made" && word in values && lacking() != "") return lacking() " has to stand before --made"
+    if (word in rival_of && rival_of[word] in is_given) return word " and " rival_of[word] " exclude each other"
     if (word ~ /^-/) return "there is no such option" (form_of[ARGV[1]] ~ / OPTIONS / ? "" : " of " ARGV[1])
     if (word == "") return "FILE is empty"
-    if (lacking() != "") return lacking() " has to stand before FILE"
     return ""
 }
 
@@ -80,5 +73,4 @@ function tell_usage(number, help,   i, said, line, why) {
     print_excerpt("    ", line, length(said) + 2)
     printf "%s", (number > 1 ? form_of[ARGV[1]] "\n" : forms)
     if (wanted != "" && option in line_of_option) print line_of_option[option]
-    else if (lacking() != "") print line_of_option[substr(needed, 1, index(needed " ", " ") - 1)]
 }

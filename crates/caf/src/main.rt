@@ -1,9 +1,10 @@
-//! The program `caf`: it checks a Coarray Fortran program, or runs it in a stated order and says exactly what happened.
+//! The program `caf`: it checks a Coarray Fortran program, or runs it, on workers or in a stated order, and says exactly what happened.
 //! It stands on `caf_run`, whose top call does all of it, and on `caf_io` for the real file and standard output.
 //! Nothing stands on it.
 //! Its main contract is that of `caf_run::top::caf`; these lines hand over the words behind the program's name.
 #![tactic(auto)]
 
+use caf_base::hook::Quiet;
 use caf_io::file_source::FileSource;
 use caf_io::std_sink::StdSink;
 use caf_run::top::caf;
@@ -14,6 +15,8 @@ use std::rt::Env;
 
 #[cfg(test)]
 mod tests;
+#[cfg(test)]
+mod tests_of_threads;
 #[cfg(test)]
 mod tests_of_traces;
 
@@ -34,6 +37,6 @@ fn main(rt: HostRuntime) -> ExitCode {
     };
     let mut source = FileSource::new(&rt);
     let mut sink = StdSink::new(&rt);
-    let done = caf(rt.alloc(), &words, &mut source, &mut sink);
+    let done = caf(&rt, rt.alloc(), &words, &mut source, &mut sink, &Quiet);
     ExitCode::from(done.status)
 }

@@ -2,11 +2,14 @@
 
 ghost use Rattle.std.specs.Prelude.{◌≤◌};
 
+use caf_base::hook::Quiet;
 use caf_io::mem_sink::MemSink;
 use caf_io::mem_source::MemSource;
 use caf_run::top::{Done, caf};
 use std::alloc::Global;
 use std::process::Abort;
+use std::sync::Wait;
+use std::thread::Threads;
 
 /// How many bytes a read and a write move at most, and which calls of the source and which writes fail, each counted from 1.
 #[derive(Clone, Copy)]
@@ -33,7 +36,7 @@ pub(crate) const NEIGHBOUR: &[u8] =
 const CHECK: [&str; 2] = ["check", "a.f90"];
 
 // The words of a call.
-fn words_of<R: Abort>(rt: &R, alloc: Global, words: &[&str]) -> Vec<String> {
+pub(crate) fn words_of<R: Abort>(rt: &R, alloc: Global, words: &[&str]) -> Vec<String> {
     let mut texts = Vec::new(alloc);
     for word in words {
         let text = String::from_str(alloc, word).expect(rt, "memory");
@@ -43,7 +46,7 @@ fn words_of<R: Abort>(rt: &R, alloc: Global, words: &[&str]) -> Vec<String> {
 }
 
 // A source with the one file `a.f90` of these bytes.
-fn source_of<R: Abort>(rt: &R, alloc: Global, file: &[u8], pace: Pace) -> MemSource
+pub(crate) fn source_of<R: Abort>(rt: &R, alloc: Global, file: &[u8], pace: Pace) -> MemSource
     requires { 1 ≤ pace.read }
 {
     let name = Vec::from_slice(alloc, b"a.f90").expect(rt, "memory");
@@ -54,7 +57,7 @@ fn source_of<R: Abort>(rt: &R, alloc: Global, file: &[u8], pace: Pace) -> MemSou
 }
 
 /// What a call with these words over the file `a.f90` answers, where it answers this status and writes this text.
-pub(crate) fn done_of<R: Abort>(
+pub(crate) fn done_of<R: Abort + Threads + Wait + Sync>(
     rt: &R,
     alloc: Global,
     words: &[&str],
@@ -69,14 +72,14 @@ pub(crate) fn done_of<R: Abort>(
     let mut source = source_of(rt, alloc, file, pace);
     let failing = Vec::from_slice(alloc, pace.failing).expect(rt, "memory");
     let mut sink = MemSink::new(alloc, failing, pace.write, 4096).expect(rt, "memory");
-    let done = caf(alloc, &texts, &mut source, &mut sink);
+    let done = caf(rt, alloc, &texts, &mut source, &mut sink, &Quiet);
     assert!(rt; sink.bytes() == text.as_bytes(), "{words:?} write {text}");
     assert!(rt; done.status == status, "{words:?} end with {status}");
     done
 }
 
 // Whether a call answers this status and writes this text is judged, and the rest of its answer forgotten.
-fn says<R: Abort>(
+pub(crate) fn says<R: Abort + Threads + Wait + Sync>(
     rt: &R,
     alloc: Global,
     words: &[&str],
@@ -329,7 +332,7 @@ fn broken_rules(rt: HostRuntime) {
 }
 
 /// A halo exchange as users write it: a ring of cells that go on from image to image, and their sums.
-const RING: &[u8] = b"program ring
+pub(crate) const RING: &[u8] = b"program ring
   implicit none
   integer :: u(1000), edge[*], me, n, left, k, i, s, t
   me = this_image()
@@ -540,7 +543,10 @@ fn usage(rt: HostRuntime) {
         ("usage: word 2\n", &["check", "-n", "2", "a.f90"]),
         ("usage: word 3\n", &["check", "a.f90", "b.f90"]),
         ("usage: word 2\n", &["run"]),
-        ("usage: word 2\n", &["run", "a.f90"]),
+        (
+            "usage: word 4\n",
+            &["run", "-w", "2", "--order", "1", "a.f90"],
+        ),
         ("usage: word 3\n", &["run", "--order"]),
         ("usage: word 4\n", &["run", "--order", "0"]),
         (
@@ -553,7 +559,10 @@ fn usage(rt: HostRuntime) {
         ),
         ("usage: word 2\n", &["check", "--trace", "a.f90"]),
         ("usage: word 3\n", &["run", "--trace"]),
-        ("usage: word 3\n", &["run", "--trace", "a.f90"]),
+        (
+            "usage: word 4\n",
+            &["run", "--order", "1", "-w", "2", "a.f90"],
+        ),
         ("usage: word 5\n", &["run", "--order", "0", "--trace"]),
         (
             "usage: word 5\n",
@@ -588,10 +597,7 @@ fn usage(rt: HostRuntime) {
             "usage: word 3\n",
             &["run", "--fail", "1@01", "--order", "0", "a.f90"],
         ),
-        (
-            "usage: word 6\n",
-            &["run", "--fail", "1@1", "--fail", "1@1", "a.f90"],
-        ),
+        ("usage: word 3\n", &["run", "-w", "0", "a.f90"]),
         ("usage: word 3\n", &["run", "-n"]),
         (
             "usage: word 3\n",
@@ -613,7 +619,7 @@ fn usage(rt: HostRuntime) {
             "usage: word 3\n",
             &["run", "-n", "", "--order", "0", "a.f90"],
         ),
-        ("usage: word 4\n", &["run", "-n", "2", "a.f90"]),
+        ("usage: word 3\n", &["run", "-w", "65", "a.f90"]),
         ("usage: word 5\n", &["run", "-n", "2", "--order"]),
         (
             "usage: word 5\n",
@@ -649,7 +655,7 @@ fn usage(rt: HostRuntime) {
             "usage: word 7\n",
             &["run", "-n", "2", "--order", "0", "a.f90", "b.f90"],
         ),
-        ("usage: word 2\n", &["run", "--made", "1", "4"]),
+        ("usage: word 4\n", &["run", "-w", "2", "-w", "3", "a.f90"]),
         ("usage: word 5\n", &["run", "--order", "0", "--made"]),
         (
             "usage: word 6\n",

@@ -7,6 +7,8 @@ use caf_run::top::Done;
 use std::alloc::Global;
 use std::fmt::Write;
 use std::process::Abort;
+use std::sync::Wait;
+use std::thread::Threads;
 
 // A word of a printed value: a number or a variant's name, but no field's name and no name of a type around a number.
 fn is_kept(word: &str) -> bool {
@@ -65,7 +67,14 @@ fn image_text<R: Abort>(rt: &R, alloc: Global, done: &Done) -> String {
 }
 
 // Whether a run on n images in the order of seed 0 ends with this status, this text and this trace is judged.
-fn traces<R: Abort>(rt: &R, alloc: Global, n: &str, file: &[u8], end: (u8, &str), wanted: &str) {
+fn traces<R: Abort + Threads + Wait + Sync>(
+    rt: &R,
+    alloc: Global,
+    n: &str,
+    file: &[u8],
+    end: (u8, &str),
+    wanted: &str,
+) {
     let words = ["run", "-n", n, "--order", "0", "a.f90"];
     let done = done_of(rt, alloc, &words, file, WHOLE, end.0, end.1);
     let trace = trace_text(rt, alloc, &done);
@@ -74,7 +83,13 @@ fn traces<R: Abort>(rt: &R, alloc: Global, n: &str, file: &[u8], end: (u8, &str)
 }
 
 // Whether a run of `SUMS` on three images in the order of a seed prints this, tells this race, and has these images in its trace, is judged.
-fn goes<R: Abort>(rt: &R, alloc: Global, seed: &str, told: (&str, &str), images: &str) {
+fn goes<R: Abort + Threads + Wait + Sync>(
+    rt: &R,
+    alloc: Global,
+    seed: &str,
+    told: (&str, &str),
+    images: &str,
+) {
     let words = ["run", "-n", "3", "--order", seed, "a.f90"];
     let text = format!(in alloc; "{}race on {}\n", told.0, told.1).expect(rt, "memory");
     let done = done_of(rt, alloc, &words, SUMS, WHOLE, 5, text.as_str());

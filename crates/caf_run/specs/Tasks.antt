@@ -1,5 +1,5 @@
 -- What the words ask of a source: to check it, or to run it; and which source they name.
-use Rattle.std.specs.Prelude.{ℕ, ◌≤◌, List, length, ⊤}
+use Rattle.std.specs.Prelude.{ℕ, ◌≤◌, List, length, min, ⊤}
 use Rattle.std.specs.List.{AllByRecursion}
 use Rattle.caf_words.specs.Usages.{Word}
 use Rattle.caf_words.specs.Words.{Origin, IsRun, IsCheck, IsInput}
@@ -7,8 +7,10 @@ use Rattle.caf_words.specs.Words.Origin.{from_file, from_made}
 use Rattle.caf_words.specs.declared.command.FailAt.{FailAt}
 use Rattle.caf_words.specs.declared.command.Input.{Input}
 use Rattle.caf_words.specs.declared.command.Options.{Options}
-use Rattle.caf_words.specs.declared.command.Way.{Way}
-use Rattle.caf_words.specs.declared.command.Way.TheVariants.{Order}
+use Rattle.caf_words.specs.declared.command.Way as words
+use Rattle.caf_words.specs.declared.command.Way.TheVariants as told
+use Rattle.full_report.specs.declared.way.Way.{Way}
+use Rattle.full_report.specs.declared.way.Way.TheVariants.{Order, Workers}
 use Rattle.checked_run.specs.declared.running.Told.{Told}
 use Rattle.caf_run.specs.declared.task.Task.{Task}
 use Rattle.caf_run.specs.declared.task.Task.TheVariants.{Check, Run}
@@ -42,13 +44,14 @@ abbrev pub IsTask : Task → Type 0
 IsTask Check = ⊤
 IsTask (Run o fails) = IsRunTask o fails
 
--- the SEED of the order in which the images take turns
-abbrev pub seed_of : Way → ℕ
-seed_of (Order seed) = seed
+-- how so many images take turns: in the order of the SEED, or on the lesser of the workers and the images
+abbrev pub way_of : words.Way → ℕ → Way
+way_of (told.Order seed) images = Order seed
+way_of (told.Workers workers) images = Workers (min workers images)
 
--- what a run is told: the images, the limit and the order of the options; an image records 262,144 words at most
+-- what a run is told: the images, the limit and the way of the options; an image records 262,144 words at most
 abbrev pub told_of : Options → Told
-told_of o = record { images = o.images; limit = o.steps; words = 262144; seed = seed_of o.way }
+told_of o = record { images = o.images; limit = o.steps; words = 262144; way = way_of o.way o.images }
 
 -- the words ask for the task, of the source that the input tells
 abbrev pub AsksOf : List Word → Task → Input → Type 0

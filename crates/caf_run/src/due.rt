@@ -22,6 +22,7 @@ ghost use Rattle.work_maker.specs.MadeSource.{made_source};
 use crate::failures::by_image;
 use crate::reading::{ReadEnd, read_file};
 use crate::task::{Task, told_of};
+use caf_base::hook::Hook;
 use caf_base::outside::Source;
 use caf_base::place::Pos;
 use caf_base::refusal::{NoMemory, Refusal};
@@ -36,6 +37,8 @@ use rule_checker::check::check;
 use source_reader::fault::{at, number};
 use source_reader::source::read;
 use std::alloc::Global;
+use std::sync::Wait;
+use std::thread::Threads;
 use work_maker::source::make_source;
 
 /// The most bytes of a source.
@@ -118,18 +121,27 @@ fn refused_due(alloc: Global, number: u32, at: Pos) -> Result<Due, NoMemory>
 }
 
 // What is due for an accepted program that is to be run: the machine can run each of them.
-fn run_due(
+fn run_due<R: Threads + Wait + Sync, H: Hook + Sync>(
+    rt: &R,
     alloc: Global,
     checked: &Checked,
     options: Options,
     fails: &[FailAt],
+    hook: &H,
 ) -> Result<Due, NoMemory>
     requires task { IsRunTask options fails.now }
     requires accepted { (x : units.Program) × Accepts x (typed.program checked.now) }
     ensures { IfOk result (λ d. (x : units.Program) → Accepts x (typed.program checked.now) → TreeDue x (tasks.Run options fails.now) d.status d.text.items d.report) }
 {
     let events = by_image(alloc, fails)?;
-    match run_checked(alloc, checked, told_of(options), events.as_slice()) {
+    match run_checked(
+        rt,
+        alloc,
+        checked,
+        told_of(options),
+        events.as_slice(),
+        hook,
+    ) {
         Ok(report) => report_due(alloc, report, options),
         Err(Refusal::NoMemory) => Err(NoMemory),
         Err(Refusal::Cause(_)) => unreachable!(),
@@ -137,25 +149,44 @@ fn run_due(
 }
 
 // What is due for an accepted program.
-fn accepted_due(alloc: Global, checked: &Checked, task: &Task) -> Result<Due, NoMemory>
+fn accepted_due<R: Threads + Wait + Sync, H: Hook + Sync>(
+    rt: &R,
+    alloc: Global,
+    checked: &Checked,
+    task: &Task,
+    hook: &H,
+) -> Result<Due, NoMemory>
     requires task { IsTask task.now }
     requires accepted { (x : units.Program) × Accepts x (typed.program checked.now) }
     ensures { IfOk result (λ d. (x : units.Program) → Accepts x (typed.program checked.now) → TreeDue x task.now d.status d.text.items d.report) }
 {
     match task {
         Task::Check => said(alloc, 0, b"ok\n"),
-        Task::Run { options, fails } => run_due(alloc, checked, *options, fails.as_slice()),
+        Task::Run { options, fails } => run_due(
+            rt,
+            alloc,
+            checked,
+            *options,
+            fails.as_slice(),
+            hook,
+        ),
     }
 }
 
 // What is due for the program that a source is read as.
-fn tree_due(alloc: Global, tree: Program, task: &Task) -> Result<Due, NoMemory>
+fn tree_due<R: Threads + Wait + Sync, H: Hook + Sync>(
+    rt: &R,
+    alloc: Global,
+    tree: Program,
+    task: &Task,
+    hook: &H,
+) -> Result<Due, NoMemory>
     requires { IsTask task.now }
     ensures { IfOk result (λ d. TreeDue (program tree) task.now d.status d.text.items d.report) }
 {
     match check(alloc, tree) {
         Ok(checked) => {
-            let due = accepted_due(alloc, &checked, task);
+            let due = accepted_due(rt, alloc, &checked, task, hook);
             drop(checked);
             due
         }
@@ -165,32 +196,40 @@ fn tree_due(alloc: Global, tree: Program, task: &Task) -> Result<Due, NoMemory>
 }
 
 // What is due for the bytes of a source.
-fn bytes_due(alloc: Global, bytes: &[u8], task: &Task) -> Result<Due, NoMemory>
+fn bytes_due<R: Threads + Wait + Sync, H: Hook + Sync>(
+    rt: &R,
+    alloc: Global,
+    bytes: &[u8],
+    task: &Task,
+    hook: &H,
+) -> Result<Due, NoMemory>
     requires task { IsTask task.now }
     requires short { length bytes.now ≤ 1048576 }
     ensures { IfOk result (λ d. BytesDue bytes.now task.now d.status d.text.items d.report) }
 {
     match read(alloc, bytes) {
-        Ok(tree) => tree_due(alloc, tree, task),
+        Ok(tree) => tree_due(rt, alloc, tree, task, hook),
         Err(Refusal::Cause(fault)) => refused_due(alloc, number(fault), at(fault)),
         Err(Refusal::NoMemory) => Err(NoMemory),
     }
 }
 
 // What is due for a named file.
-fn file_due<S: Source>(
+fn file_due<R: Threads + Wait + Sync, S: Source, H: Hook + Sync>(
+    rt: &R,
     alloc: Global,
     source: &mut S,
     name: &str,
     task: &Task,
+    hook: &H,
 ) -> Result<Due, NoMemory>
-    requires { IsTask task.now }
+    requires task { IsTask task.now }
     ensures files { S.files source.new ≡ S.files source.old }
     ensures later { S.faults source.old ≤ S.faults source.new }
     ensures due { IfOk result (λ d. SourceDue (S.files source.old) (from_file name.now) task.now (S.left source.new) (S.faults source.old) (S.faults source.new) d.status d.text.items d.report) }
 {
     match read_file(alloc, source, name, SOURCE_BYTES) {
-        Ok(bytes) => bytes_due(alloc, bytes.as_slice(), task),
+        Ok(bytes) => bytes_due(rt, alloc, bytes.as_slice(), task, hook),
         Err(ReadEnd::Fault) => said(alloc, 10, b"read fault\n"),
         Err(ReadEnd::TooLong) => said(alloc, 13, b"too long\n"),
         Err(ReadEnd::NoMemory) => Err(NoMemory),
@@ -198,7 +237,14 @@ fn file_due<S: Source>(
 }
 
 // What is due for the source that a seed and a size make.
-fn made_due(alloc: Global, seed: u32, size: u32, task: &Task) -> Result<Due, NoMemory>
+fn made_due<R: Threads + Wait + Sync, H: Hook + Sync>(
+    rt: &R,
+    alloc: Global,
+    seed: u32,
+    size: u32,
+    task: &Task,
+    hook: &H,
+) -> Result<Due, NoMemory>
     requires task { IsTask task.now }
     requires seed { seed ≤ 2147483647 }
     requires size { (1 ≤ size) × (size ≤ 4096) }
@@ -209,7 +255,7 @@ fn made_due(alloc: Global, seed: u32, size: u32, task: &Task) -> Result<Due, NoM
     if bytes.len() > SOURCE_BYTES {
         return said(alloc, 13, b"too long\n");
     }
-    bytes_due(alloc, bytes.as_slice(), task)
+    bytes_due(rt, alloc, bytes.as_slice(), task, hook)
 }
 
 // The word of a number from 1.
@@ -221,22 +267,24 @@ fn word_at(words: &[String], number: u32) -> &str
 }
 
 // What is due for words that ask for a task, of the source that this input is. A made source leaves the files as they were.
-fn task_due<S: Source>(
+fn task_due<R: Threads + Wait + Sync, S: Source, H: Hook + Sync>(
+    rt: &R,
     alloc: Global,
     words: &[String],
     source: &mut S,
     input: Input,
     task: &Task,
+    hook: &H,
 ) -> Result<Due, NoMemory>
-    requires { AsksOf (words_in words.now) task.now input }
+    requires asks { AsksOf (words_in words.now) task.now input }
     ensures files { S.files source.new ≡ S.files source.old }
     ensures later { S.faults source.old ≤ S.faults source.new }
     ensures untouched { NamesNoFile (words_in words.now) → source.new ≡ source.old }
     ensures due { IfOk result (λ d. IsDue (words_in words.now) (S.files source.old) (S.left source.new) (S.faults source.old) (S.faults source.new) d.status d.text.items d.report) }
 {
     match input {
-        Input::File { word } => file_due(alloc, source, word_at(words, word), task),
-        Input::Made { seed, size } => made_due(alloc, seed, size, task),
+        Input::File { word } => file_due(rt, alloc, source, word_at(words, word), task, hook),
+        Input::Made { seed, size } => made_due(rt, alloc, seed, size, task, hook),
     }
 }
 
@@ -254,13 +302,15 @@ fn make_due(alloc: Global, seed: u32, size: u32) -> Result<Due, NoMemory>
 }
 
 // What is due for a command that the words mean.
-fn command_due<S: Source>(
+fn command_due<R: Threads + Wait + Sync, S: Source, H: Hook + Sync>(
+    rt: &R,
     alloc: Global,
     words: &[String],
     source: &mut S,
     command: Command,
+    hook: &H,
 ) -> Result<Due, NoMemory>
-    requires { Means (words_in words.now) command }
+    requires means { Means (words_in words.now) command }
     ensures files { S.files source.new ≡ S.files source.old }
     ensures later { S.faults source.old ≤ S.faults source.new }
     ensures untouched { NamesNoFile (words_in words.now) → source.new ≡ source.old }
@@ -273,20 +323,30 @@ fn command_due<S: Source>(
             options,
         } => {
             let task = Task::Run { options, fails };
-            task_due(alloc, words, source, input, &task)
+            task_due(rt, alloc, words, source, input, &task, hook)
         }
         Command::Check { word } => {
-            task_due(alloc, words, source, Input::File { word }, &Task::Check)
+            task_due(
+                rt,
+                alloc,
+                words,
+                source,
+                Input::File { word },
+                &Task::Check,
+                hook,
+            )
         }
         Command::Make { seed, size } => make_due(alloc, seed, size),
     }
 }
 
-/// What is due for the words over a source. Words that name no file leave the source as it was.
-pub fn what_is_due<S: Source>(
+/// What is due for the words over a source. Words that name no file leave the source as it was. A run on workers may wait for them, and calls the hook at each turn.
+pub fn what_is_due<R: Threads + Wait + Sync, S: Source, H: Hook + Sync>(
+    rt: &R,
     alloc: Global,
     words: &[String],
     source: &mut S,
+    hook: &H,
 ) -> Result<Due, NoMemory>
     ensures files { S.files source.new ≡ S.files source.old }
     ensures later { S.faults source.old ≤ S.faults source.new }
@@ -294,7 +354,7 @@ pub fn what_is_due<S: Source>(
     ensures due { IfOk result (λ d. IsDue (words_in words.now) (S.files source.old) (S.left source.new) (S.faults source.old) (S.faults source.new) d.status d.text.items d.report) }
 {
     match words_of(alloc, words) {
-        Ok(command) => command_due(alloc, words, source, command),
+        Ok(command) => command_due(rt, alloc, words, source, command, hook),
         Err(Refusal::Cause(usage)) => usage_due(alloc, usage.word),
         Err(Refusal::NoMemory) => Err(NoMemory),
     }

@@ -5,8 +5,10 @@ ghost use Rattle.caf_run.specs.Tasks as spec;
 
 use caf_base::limits::RECORDED_WORDS;
 use caf_base::listing::Listing;
-use caf_words::command::{FailAt, Options, Way};
+use caf_words::command as words;
+use caf_words::command::{FailAt, Options};
 use checked_run::running::Told;
+use full_report::way::Way;
 
 /// What is to be done with a source.
 #[derive(Drop)]
@@ -20,7 +22,7 @@ pub enum Task {
     },
 }
 
-/// What a run is told: the images, the limit and the order of the options, and the most words that an image may record.
+/// What a run is told: the images, the limit and the way of the options, and the most words that an image may record.
 pub fn told_of(options: Options) -> Told
     ensures { result ≡ spec.told_of options }
 {
@@ -28,15 +30,16 @@ pub fn told_of(options: Options) -> Told
         images: options.images,
         limit: options.steps,
         words: RECORDED_WORDS as u32,
-        seed: seed_of(options.way),
+        way: way_of(options.way, options.images),
     }
 }
 
-// The seed of the order in which the images take turns.
-fn seed_of(way: Way) -> u32
-    ensures { result ≡ spec.seed_of way }
+// How so many images take turns: of the workers there are no more than images.
+fn way_of(way: words::Way, images: u32) -> Way
+    ensures { result ≡ spec.way_of way images }
 {
     match way {
-        Way::Order(seed) => seed,
+        words::Way::Order(seed) => Way::Order(seed),
+        words::Way::Workers(workers) => Way::Workers(workers.min(images)),
     }
 }

@@ -8,9 +8,12 @@ ghost use Rattle.caf_words.specs.Words.{words_in};
 
 use crate::due::{Due, what_is_due};
 use crate::writing::write_all;
+use caf_base::hook::Hook;
 use caf_base::outside::{Sink, Source};
 use caf_report::report::Report;
 use std::alloc::Global;
+use std::sync::Wait;
+use std::thread::Threads;
 
 /// What a call answers: the exit status, and the report of a run where the status due is that of a run.
 #[derive(Drop)]
@@ -25,12 +28,15 @@ pub struct Done {
 /// 12 want of memory, 13 too long.
 ///
 /// Words that name no file leave the source as it was. Where the source tells its files and its count of faults doesn't rise in this call, the words and the file settle the status
-/// that is due; where the sink's doesn't rise either, that is the answer, or 12.
-pub fn caf<S: Source, K: Sink>(
+/// that is due; where the sink's doesn't rise either, that is the answer, or 12. A run without a stated order is on workers: the call may wait for them, and calls the hook at each
+/// turn at a memory or the board.
+pub fn caf<R: Threads + Wait + Sync, S: Source, K: Sink, H: Hook + Sync>(
+    rt: &R,
     alloc: Global,
     words: &Vec<String>,
     source: &mut S,
     sink: &mut K,
+    hook: &H,
 ) -> Done
     ensures files { S.files source.new ≡ S.files source.old }
     ensures untouched { NamesNoFile (words_in words.now.items) → source.new ≡ source.old }
@@ -40,7 +46,7 @@ pub fn caf<S: Source, K: Sink>(
     ensures complete { CompletenessClause (words_in words.now.items) (S.files source.old) (S.faults source.old) (S.faults source.new)
         (K.faults sink.old) (K.faults sink.new) result.status result.report }
 {
-    match what_is_due(alloc, words.as_slice(), source) {
+    match what_is_due(rt, alloc, words.as_slice(), source, hook) {
         Ok(
             Due {
                 status,

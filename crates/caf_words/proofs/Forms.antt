@@ -1,12 +1,12 @@
 -- The words of a run and of a check, one by one.
-use Rattle.std.proofs.Common.{◌≡◌, ◌≢◌, ◌⊎◌, ℕ, suc, ◌+◌, ◌≤◌, List, [], ◌∷◌, ◌++◌, length, get_or, refl, sym, ap, ◌∙◌, subst, inl, inr, arith, cond, eqb, false, String, Global}
-use Rattle.std.specs.Prelude.{Option, None, Some, codes, string_bytes}
+use Rattle.std.proofs.Common.{◌≡◌, ◌≢◌, ◌⊎◌, ℕ, suc, ◌+◌, ◌≤◌, List, [], ◌∷◌, ◌++◌, length, get_or, refl, sym, ap, ◌∙◌, subst, inl, inr, arith, cond, eqb, String, Global}
+use Rattle.std.specs.Prelude.{Some, codes, string_bytes}
 use Rattle.std.specs.Fmt.{decimal}
 use Rattle.std.proofs.lemmas.Fmt.{decimal_injective}
 use Rattle.caf_words.specs.Usages.{Word, Begins, UsageOf}
 use Rattle.caf_words.specs.Words.{words_in, Origin, IsFileName, IsFailure, IsOption, AreSeedAndSize, IsOrigin, IsRest, told, is_made}
 use Rattle.caf_words.specs.Words.Origin.{from_file, from_made}
-use Rattle.caf_words.specs.Words.IsOption.{images, order, steps, fail, trace, vars}
+use Rattle.caf_words.specs.Words.IsOption.{images, workers, order, steps, fail, trace, vars}
 use Rattle.caf_words.specs.Words.IsRest.{origin_last, option_next}
 use Rattle.caf_words.specs.Readings.{Rests, FileAlone, IsSize, SizeAlone, MadeAlone, OriginAlone, IsInputOf, key_word, IsNextKey, Flags, IsNoOption, BeginsNoOption, Gives, BehindKey}
 use Rattle.caf_words.specs.declared.options.Given.{Given}
@@ -26,10 +26,11 @@ abbrev letters : Word → ℕ
 letters word = get_or word 1 0 + get_or word 2 0
 
 abbrev key_told : Word → Key
-key_told word = cond (eqb (letters word) 110) keys.Images (cond (eqb (letters word) 156) keys.Order (cond (eqb (letters word) 160) keys.Steps keys.Fail))
+key_told word = cond (eqb (letters word) 110) keys.Images (cond (eqb (letters word) 119) keys.Workers (cond (eqb (letters word) 156) keys.Order (cond (eqb (letters word) 160) keys.Steps keys.Fail)))
 
 told_key : (k : Key) → key_told (key_word k) ≡ k
 told_key keys.Images = refl
+told_key keys.Workers = refl
 told_key keys.Order = refl
 told_key keys.Steps = refl
 told_key keys.Fail = refl
@@ -39,6 +40,7 @@ key_once k l e = sym (told_key k) ∙ ap key_told e ∙ told_key l
 
 key_other : (k : Key) → ((n : ℕ) → letters (key_word k) ≡ n → (n ≡ 154) ⊎ (n ≡ 161) ⊎ (n ≡ 163) → ⊥)
 key_other keys.Images n e odd = elim odd [ inl a ↦ omega arith | inr other ↦ elim other [ inl b ↦ omega arith | inr c ↦ omega arith ] ]
+key_other keys.Workers n e odd = elim odd [ inl a ↦ omega arith | inr other ↦ elim other [ inl b ↦ omega arith | inr c ↦ omega arith ] ]
 key_other keys.Order n e odd = elim odd [ inl a ↦ omega arith | inr other ↦ elim other [ inl b ↦ omega arith | inr c ↦ omega arith ] ]
 key_other keys.Steps n e odd = elim odd [ inl a ↦ omega arith | inr other ↦ elim other [ inl b ↦ omega arith | inr c ↦ omega arith ] ]
 key_other keys.Fail n e odd = elim odd [ inl a ↦ omega arith | inr other ↦ elim other [ inl b ↦ omega arith | inr c ↦ omega arith ] ]
@@ -62,6 +64,7 @@ BeginsOrigin word = IsFileName word ⊎ (word ≡ codes "--made")
 -- options begin with `-`, and are no file's name
 key_odd : (k : Key) → ¬ IsFileName (key_word k)
 key_odd keys.Images name = name refl
+key_odd keys.Workers name = name refl
 key_odd keys.Order name = name refl
 key_odd keys.Steps name = name refl
 key_odd keys.Fail name = name refl
@@ -240,7 +243,8 @@ pub data Form (g : Given) (words : List Word) (h : Given) (named : List FailAt) 
 
 pub form_of : (g h : Given) (words : List Word) (named : List FailAt) → IsOption g words h named → Form g words h named
 form_of g _ _ _ (images n free low high) = keyed keys.Images (codes "-n") (decimal n) refl (refl, free) (n, refl, low, high, refl, refl)
-form_of g _ _ _ (order s free high) = keyed keys.Order (codes "--order") (decimal s) refl (refl, free) (s, refl, high, refl, refl)
+form_of g _ _ _ (workers n free unordered low high) = keyed keys.Workers (codes "-w") (decimal n) refl (refl, (free, unordered)) (n, refl, low, high, refl, refl)
+form_of g _ _ _ (order s free no_workers high) = keyed keys.Order (codes "--order") (decimal s) refl (refl, (free, no_workers)) (s, refl, high, refl, refl)
 form_of g _ _ _ (steps n free low high) = keyed keys.Steps (codes "--steps") (decimal n) refl (refl, free) (n, refl, low, high, refl, refl)
 form_of g _ _ _ (fail word f is) = keyed keys.Fail (codes "--fail") word refl (refl, tt) (f, is, refl, refl)
 form_of g _ _ _ (trace free) = flagged (codes "--trace") refl (inl (refl, free, refl)) refl
@@ -248,7 +252,8 @@ form_of g _ _ _ (vars free) = flagged (codes "--vars") refl (inr (refl, free, re
 
 pub keyed_option : (g h : Given) (k : Key) (word value : Word) (named : List FailAt) → IsNextKey g word k → Gives g k value h named → IsOption g (word ∷ value ∷ []) h named
 keyed_option g h keys.Images word value named is (n, said, low, high, given, none) = rw (is.0, said, given, none) (images n is.1 low high)
-keyed_option g h keys.Order word value named is (s, said, high, given, none) = rw (is.0, said, given, none) (order s is.1 high)
+keyed_option g h keys.Workers word value named is (n, said, low, high, given, none) = rw (is.0, said, given, none) (workers n is.1.0 is.1.1 low high)
+keyed_option g h keys.Order word value named is (s, said, high, given, none) = rw (is.0, said, given, none) (order s is.1.0 is.1.1 high)
 keyed_option g h keys.Steps word value named is (n, said, low, high, given, none) = rw (is.0, said, given, none) (steps n is.1 low high)
 keyed_option g h keys.Fail word value named is (f, said, given, one) = rw (is.0, given, one) (fail value f said)
 
@@ -265,6 +270,9 @@ pub gives_once : (g : Given) (k : Key) (word : Word) (h i : Given) (named named'
 gives_once g keys.Images word h i named named' (m, first, low, high, is, none) (n, second, low', high', is', none') =
     let same : m ≡ n = decimal_injective m n (omega arith) (omega arith) (sym first ∙ second) in
     record { given = is ∙ ap (λ x. record g { images = Some x }) same ∙ sym is'; failures = none ∙ sym none' }
+gives_once g keys.Workers word h i named named' (m, first, low, high, is, none) (n, second, low', high', is', none') =
+    let same : m ≡ n = decimal_injective m n (omega arith) (omega arith) (sym first ∙ second) in
+    record { given = is ∙ ap (λ x. record g { workers = Some x }) same ∙ sym is'; failures = none ∙ sym none' }
 gives_once g keys.Order word h i named named' (m, first, high, is, none) (n, second, high', is', none') =
     let same : m ≡ n = decimal_injective m n (omega arith) (omega arith) (sym first ∙ second) in
     record { given = is ∙ ap (λ x. record g { order = Some x }) same ∙ sym is'; failures = none ∙ sym none' }
@@ -282,33 +290,22 @@ key_or_flag g h word k is flag = key_no_flag k word is.0 (flag_word g h word fla
 
 -- the rest of a run
 
+pub rests_from_origin : (g : Given) (words : List Word) → OriginAlone words → Rests g words
+rests_from_origin g words (origin, is) = (told g (is_made origin), [], origin, origin_last g words origin is)
+
 pub rests_begin : (g : Given) → Begins (Rests g) []
-rests_begin g = by_order g.order refl
-  where
-    by_order : (order : Option ℕ) → g.order ≡ order → Begins (Rests g) []
-    by_order (Some seed) e = (codes "a" ∷ [], (told g seed false, [], from_file (codes "a"), origin_last g seed (codes "a" ∷ []) (from_file (codes "a")) e (refl, a_is_name)))
-    by_order None e =
-        let h : Given = record g { order = Some 0 } in
-        let last : IsRest h (codes "a" ∷ []) (told h 0 false) [] (from_file (codes "a")) = origin_last h 0 (codes "a" ∷ []) (from_file (codes "a")) refl (refl, a_is_name) in (
-          codes "--order" ∷ decimal 0 ∷ codes "a" ∷ [],
-          (
-            told h 0 false,
-            [],
-            from_file (codes "a"),
-            option_next g h (codes "--order" ∷ decimal 0 ∷ []) [] (codes "a" ∷ []) (told h 0 false) [] (from_file (codes "a")) (order 0 e (omega arith)) last,
-          ),
-        )
+rests_begin g = (codes "a" ∷ [], rests_from_origin g (codes "a" ∷ []) (from_file (codes "a"), (refl, a_is_name)))
 
 -- the first word of the rest of a run is the key of an option that may come next, an option without a value, or says where the source comes from
 pub data First (g : Given) (word : Word) (rest : List Word) (o : Options) (fails : List FailAt) (origin : Origin) : Type 0 where
-  by_origin : (seed : ℕ) → g.order ≡ Some seed → o ≡ told g seed (is_made origin) → fails ≡ [] → IsOrigin (word ∷ rest) origin → First g word rest o fails origin
+  by_origin : o ≡ told g (is_made origin) → fails ≡ [] → IsOrigin (word ∷ rest) origin → First g word rest o fails origin
   by_key : (k : Key) (value : Word) (behind : List Word) (h : Given) (some more : List FailAt) → IsNextKey g word k → rest ≡ value ∷ behind → Gives g k value h some → IsRest h behind o more origin
       → fails ≡ some ++ more → First g word rest o fails origin
   by_flag : (h : Given) → Flags g word h → IsRest h rest o fails origin → First g word rest o fails origin
 
 pub first_is : (g : Given) (words : List Word) (o : Options) (fails : List FailAt) (origin : Origin) → IsRest g words o fails origin → (word : Word) (rest : List Word) → words ≡ word ∷ rest
     → First g word rest o fails origin
-first_is _ _ _ _ _ (origin_last g seed words origin ordered is) word rest e = by_origin seed ordered refl refl (subst (λ w. IsOrigin w origin) e is)
+first_is _ _ _ _ _ (origin_last g words origin is) word rest e = by_origin refl refl (subst (λ w. IsOrigin w origin) e is)
 first_is _ _ _ _ _ (option_next g h option some behind o more origin is next) word rest e = by_form (form_of g h option some is)
   where
     by_form : Form g option h some → First g word rest o (some ++ more) origin
@@ -322,7 +319,7 @@ first_is _ _ _ _ _ (option_next g h option some behind o more origin is next) wo
         by_flag h (rw (← same) flag) (rw (none, ← last) next)
 
 rests_none : (g : Given) (words : List Word) (o : Options) (fails : List FailAt) (origin : Origin) → IsRest g words o fails origin → words ≡ [] → ⊥
-rests_none _ _ _ _ _ (origin_last g seed words origin ordered is) e = origin_none (origin, subst (λ w. IsOrigin w origin) e is)
+rests_none _ _ _ _ _ (origin_last g words origin is) e = origin_none (origin, subst (λ w. IsOrigin w origin) e is)
 rests_none _ _ _ _ _ (option_next g h option some behind o more origin is next) e = by_form (form_of g h option some is)
   where
     by_form : Form g option h some → ⊥
@@ -332,30 +329,19 @@ rests_none _ _ _ _ _ (option_next g h option some behind o more origin is next) 
 rests_not_none : (g : Given) → Rests g [] → ⊥
 rests_not_none g r = rests_none g [] r.0 r.1 r.2 r.3 refl
 
-pub usage_rests_none : (g : Given) → UsageOf (Rests g) [] 1
-usage_rests_none g = usage_none (Rests g) (rests_begin g) (rests_not_none g)
-
--- where no option stands, the words say where the source comes from, and an order is given
-rests_origin : (g : Given) (word : Word) (rest : List Word) → IsNoOption g word → Rests g (word ∷ rest) → OriginAlone (word ∷ rest) × (g.order ≡ None → ⊥)
+-- where no option stands, the words say where the source comes from
+rests_origin : (g : Given) (word : Word) (rest : List Word) → IsNoOption g word → Rests g (word ∷ rest) → OriginAlone (word ∷ rest)
 rests_origin g word rest odd r = elim (first_is g (word ∷ rest) r.0 r.1 r.2 r.3 word rest refl) [
-  | by_origin seed ordered i none is ↦ ((r.2, is), λ free. cc (ordered, free))
+  | by_origin i none is ↦ (r.2, is)
   | by_key k value behind h some more is e gives next all ↦ absurd (odd.no_key k is)
   | by_flag h flag next ↦ absurd (odd.no_flag h flag)
 ]
 
-pub rests_from_origin : (g : Given) (seed : ℕ) (words : List Word) → g.order ≡ Some seed → OriginAlone words → Rests g words
-rests_from_origin g seed words ordered (origin, is) = (told g seed (is_made origin), [], origin, origin_last g seed words origin ordered is)
-
 -- what goes wrong where the words have to say where the source comes from, behind the options of a run
-pub usage_origin : (g : Given) (seed : ℕ) (words : List Word) (k : ℕ) → g.order ≡ Some seed → BeginsNoOption g words → UsageOf OriginAlone words k → UsageOf (Rests g) words k
-usage_origin g seed [] k ordered odd usage = usage_alike_none OriginAlone (Rests g) k origin_begins (rests_begin g) (rests_not_none g) usage
-usage_origin g seed (word ∷ words) k ordered odd usage =
-    usage_alike OriginAlone (Rests g) word words k origin_begins (rests_begin g) (λ rest origin. rests_from_origin g seed (word ∷ rest) ordered origin) (λ rest r. (rests_origin g word rest odd r).0) usage
-
--- where no order is given and no option stands
-pub usage_unordered : (g : Given) (words : List Word) → g.order ≡ None → BeginsNoOption g words → UsageOf (Rests g) words 1
-usage_unordered g [] unordered odd = usage_rests_none g
-usage_unordered g (word ∷ words) unordered odd = usage_first (Rests g) word words (rests_begin g) (λ rest r. (rests_origin g word rest odd r).1 unordered)
+pub usage_origin : (g : Given) (words : List Word) (k : ℕ) → BeginsNoOption g words → UsageOf OriginAlone words k → UsageOf (Rests g) words k
+usage_origin g [] k odd usage = usage_alike_none OriginAlone (Rests g) k origin_begins (rests_begin g) (rests_not_none g) usage
+usage_origin g (word ∷ words) k odd usage =
+    usage_alike OriginAlone (Rests g) word words k origin_begins (rests_begin g) (λ rest origin. rests_from_origin g (word ∷ rest) origin) (λ rest r. rests_origin g word rest odd r) usage
 
 -- an option without a value
 flag_rests : (g h : Given) (word : Word) (rest : List Word) → Flags g word h → Rests h rest → Rests g (word ∷ rest)
@@ -363,7 +349,7 @@ flag_rests g h word rest is (o, fails, origin, next) = (o, fails, origin, option
 
 rests_flag : (g h : Given) (word : Word) (rest : List Word) → Flags g word h → Rests g (word ∷ rest) → Rests h rest
 rests_flag g h word rest is r = elim (first_is g (word ∷ rest) r.0 r.1 r.2 r.3 word rest refl) [
-  | by_origin seed ordered i none named ↦ absurd (no_flag_origin g h word is (origin_named word rest r.2 named))
+  | by_origin i none named ↦ absurd (no_flag_origin g h word is (origin_named word rest r.2 named))
   | by_key k value behind i some more key e gives next all ↦ absurd (key_or_flag g h word k key is)
   | by_flag i flag next ↦ let same : h ≡ i = flag_once g h i word is flag in (r.0, r.1, r.2, rw same next)
 ]
@@ -378,7 +364,7 @@ rests_behind g k word rest is (value, behind, h, some, form, gives, (o, fails, o
 
 behind_rests : (g : Given) (k : Key) (word : Word) (rest : List Word) → IsNextKey g word k → Rests g (word ∷ rest) → BehindKey g k rest
 behind_rests g k word rest is r = elim (first_is g (word ∷ rest) r.0 r.1 r.2 r.3 word rest refl) [
-  | by_origin seed ordered i none named ↦ absurd (no_origin g word k is (origin_named word rest r.2 named))
+  | by_origin i none named ↦ absurd (no_origin g word k is (origin_named word rest r.2 named))
   | by_key l value behind h some more key e gives next all ↦
       let same : k ≡ l = key_same g word k l is key in
       (value, behind, h, some, e, rw same gives, (r.0, more, r.2, next))
@@ -387,6 +373,7 @@ behind_rests g k word rest is r = elim (first_is g (word ∷ rest) r.0 r.1 r.2 r
 
 behind_begins : (g : Given) (k : Key) → Begins (BehindKey g k) []
 behind_begins g keys.Images = let h : Given = record g { images = Some 1 } in let b = rests_begin h in (decimal 1 ∷ b.0, (decimal 1, b.0, h, [], refl, (1, refl, omega arith, omega arith, refl, refl), b.1))
+behind_begins g keys.Workers = let h : Given = record g { workers = Some 1 } in let b = rests_begin h in (decimal 1 ∷ b.0, (decimal 1, b.0, h, [], refl, (1, refl, omega arith, omega arith, refl, refl), b.1))
 behind_begins g keys.Order = let h : Given = record g { order = Some 0 } in let b = rests_begin h in (decimal 0 ∷ b.0, (decimal 0, b.0, h, [], refl, (0, refl, omega arith, refl, refl), b.1))
 behind_begins g keys.Steps = let h : Given = record g { steps = Some 1 } in let b = rests_begin h in (decimal 1 ∷ b.0, (decimal 1, b.0, h, [], refl, (1, refl, omega arith, omega arith, refl, refl), b.1))
 behind_begins g keys.Fail =

@@ -5,7 +5,7 @@ use Rattle.std.specs.List.{AllByRecursion}
 use Rattle.caf_words.specs.Usages.{Word}
 use Rattle.caf_words.specs.Words.{Origin, IsOption, AreSeedAndSize, IsOrigin, IsRest, IsRun, IsCheck, IsMake, IsInput, Means, nothing, told, is_made, given_or}
 use Rattle.caf_words.specs.Words.Origin.{from_file, from_made}
-use Rattle.caf_words.specs.Words.IsOption.{images, order, steps, fail, trace, vars}
+use Rattle.caf_words.specs.Words.IsOption.{images, workers, order, steps, fail, trace, vars}
 use Rattle.caf_words.specs.Words.IsRest.{origin_last, option_next}
 use Rattle.caf_words.specs.declared.options.Given.{Given}
 use Rattle.caf_words.specs.declared.command.FailAt.{FailAt}
@@ -25,19 +25,18 @@ pub record Same (o : Options) (fails : List FailAt) (origin : Origin) (o' : Opti
 -- the rest of a run means one thing
 one_rest : (g : Given) (words : List Word) (o : Options) (fails : List FailAt) (origin : Origin) → IsRest g words o fails origin → (o' : Options) (fails' : List FailAt) (origin' : Origin)
     → IsRest g words o' fails' origin' → Same o fails origin o' fails' origin'
-one_rest _ _ _ _ _ (origin_last g seed words origin ordered is) o' fails' origin' other =
+one_rest _ _ _ _ _ (origin_last g words origin is) o' fails' origin' other =
     let f = origin_first words origin is in
     elim (first_is g words o' fails' origin' other f.first f.behind f.form) [
-      | by_origin seed' ordered' i none is' ↦
-          let e : seed ≡ seed' = cc (ordered, ordered') in
+      | by_origin i none is' ↦
           let same : origin ≡ origin' = one_origin words origin origin' is (subst (λ w. IsOrigin w origin') (sym f.form) is') in
-          record { options = ap (λ n. told g n (is_made origin)) e ∙ ap (λ x. told g seed' (is_made x)) same ∙ sym i; failures = sym none; source = same }
+          record { options = ap (λ x. told g (is_made x)) same ∙ sym i; failures = sym none; source = same }
       | by_key k value behind h some more key e gives next all ↦ absurd (no_origin g f.first k key f.begins)
       | by_flag h flag next ↦ absurd (no_flag_origin g h f.first flag f.begins)
     ]
 one_rest _ _ _ _ _ (option_next g h option some behind o more origin is next) o' fails' origin' other = elim (form_of g h option some is) [
   | keyed k key value form is_key gives ↦ elim (first_is g (option ++ behind) o' fails' origin' other key (value ∷ behind) (rw form refl)) [
-    | by_origin seed ordered i none named ↦ absurd (no_origin g key k is_key (origin_named key (value ∷ behind) origin' named))
+    | by_origin i none named ↦ absurd (no_origin g key k is_key (origin_named key (value ∷ behind) origin' named))
     | by_key l value' behind' h' some' more' is_key' e gives' next' all ↦
         let same : k ≡ l = key_same g key k l is_key is_key' in
         let same_value : value ≡ value' = cc e in
@@ -48,7 +47,7 @@ one_rest _ _ _ _ _ (option_next g h option some behind o more origin is next) o'
     | by_flag h' flag next' ↦ absurd (key_or_flag g h' key k is_key flag)
   ]
   | flagged key form flag none ↦ elim (first_is g (option ++ behind) o' fails' origin' other key behind (rw form refl)) [
-    | by_origin seed ordered i no_fails named ↦ absurd (no_flag_origin g h key flag (origin_named key behind origin' named))
+    | by_origin i no_fails named ↦ absurd (no_flag_origin g h key flag (origin_named key behind origin' named))
     | by_key l value' behind' h' some' more' is_key' e gives' next' all ↦ absurd (key_or_flag g h key l is_key' flag)
     | by_flag h' flag' next' ↦
         let same : h ≡ h' = flag_once g h h' key flag flag' in
@@ -121,14 +120,15 @@ AreWithin g = IsWithin (given_or 4 g.images) (given_or 1000000 g.steps)
 
 option_within : (g h : Given) (words : List Word) (some : List FailAt) → IsOption g words h some → AreWithin g → AreWithin h
 option_within g _ _ _ (images n free low high) w = record { least_images = low; most_images = high; least_steps = w.least_steps; most_steps = w.most_steps }
-option_within g _ _ _ (order s free high) w = w
+option_within g _ _ _ (workers n free unordered low high) w = w
+option_within g _ _ _ (order s free no_workers high) w = w
 option_within g _ _ _ (steps n free low high) w = record { least_images = w.least_images; most_images = w.most_images; least_steps = low; most_steps = high }
 option_within g _ _ _ (fail word f is) w = w
 option_within g _ _ _ (trace free) w = w
 option_within g _ _ _ (vars free) w = w
 
 rest_within : (g : Given) (words : List Word) (o : Options) (fails : List FailAt) (origin : Origin) → IsRest g words o fails origin → AreWithin g → IsWithin o.images o.steps
-rest_within _ _ _ _ _ (origin_last g seed words origin ordered is) w = w
+rest_within _ _ _ _ _ (origin_last g words origin is) w = w
 rest_within _ _ _ _ _ (option_next g h option some behind o more origin is next) w = rest_within h behind o more origin next (option_within g h option some is w)
 
 pub run_within : (words : List Word) (o : Options) (fails : List FailAt) (origin : Origin) → IsRun words o fails origin → IsWithin o.images o.steps
@@ -141,14 +141,15 @@ IsOfImage f = (1 ≤ f.image) × (f.image ≤ 64)
 
 option_images : (g h : Given) (words : List Word) (some more : List FailAt) → IsOption g words h some → AllByRecursion IsOfImage more → AllByRecursion IsOfImage (some ++ more)
 option_images g _ _ _ more (images n free low high) all = all
-option_images g _ _ _ more (order s free high) all = all
+option_images g _ _ _ more (workers n free unordered low high) all = all
+option_images g _ _ _ more (order s free no_workers high) all = all
 option_images g _ _ _ more (steps n free low high) all = all
 option_images g _ _ _ more (fail word f is) all = ((is.least_image, is.most_image), all)
 option_images g _ _ _ more (trace free) all = all
 option_images g _ _ _ more (vars free) all = all
 
 rest_images : (g : Given) (words : List Word) (o : Options) (fails : List FailAt) (origin : Origin) → IsRest g words o fails origin → AllByRecursion IsOfImage fails
-rest_images _ _ _ _ _ (origin_last g seed words origin ordered is) = tt
+rest_images _ _ _ _ _ (origin_last g words origin is) = tt
 rest_images _ _ _ _ _ (option_next g h option some behind o more origin is next) = option_images g h option some more is (rest_images h behind o more origin next)
 
 pub run_images : (words : List Word) (o : Options) (fails : List FailAt) (origin : Origin) → IsRun words o fails origin → AllByRecursion IsOfImage fails
@@ -165,7 +166,7 @@ record IsLast (words : List Word) (file : Word) : Type 0 where
   pub last : slice_get words (length words - 1) ≡ Some file
 
 rest_last : (g : Given) (words : List Word) (o : Options) (fails : List FailAt) (origin : Origin) → IsRest g words o fails origin → (file : Word) → origin ≡ from_file file → IsLast words file
-rest_last _ _ _ _ _ (origin_last g seed words origin ordered is) file e =
+rest_last _ _ _ _ _ (origin_last g words origin is) file e =
     let named : IsOrigin words (from_file file) = subst (λ s. IsOrigin words s) e is in
     rw (named.0) (record { some = omega arith; last = refl })
 rest_last _ _ _ _ _ (option_next g h option some behind o more origin is next) file e =
@@ -190,7 +191,7 @@ origin_within words origin is seed size e = let made : IsOrigin words (from_made
 
 rest_made : (g : Given) (words : List Word) (o : Options) (fails : List FailAt) (origin : Origin) → IsRest g words o fails origin → (seed size : ℕ) → origin ≡ from_made seed size
     → (numbers : List Word) × AreSeedAndSize numbers seed size
-rest_made _ _ _ _ _ (origin_last g seed words origin ordered is) s z e = origin_within words origin is s z e
+rest_made _ _ _ _ _ (origin_last g words origin is) s z e = origin_within words origin is s z e
 rest_made _ _ _ _ _ (option_next g h option some behind o more origin is next) s z e = rest_made h behind o more origin next s z e
 
 pub run_made : (words : List Word) (o : Options) (fails : List FailAt) (seed size : ℕ) → IsRun words o fails (from_made seed size) → (numbers : List Word) × AreSeedAndSize numbers seed size

@@ -41,6 +41,7 @@ OriginAlone words = (origin : Origin) × IsOrigin words origin
 -- the word of an option with a value
 abbrev pub key_word : Key → Word
 key_word keys.Images = codes "-n"
+key_word keys.Workers = codes "-w"
 key_word keys.Order = codes "--order"
 key_word keys.Steps = codes "--steps"
 key_word keys.Fail = codes "--fail"
@@ -48,7 +49,8 @@ key_word keys.Fail = codes "--fail"
 -- the option may be given now
 abbrev pub IsFree : Given → Key → Type 0
 IsFree g keys.Images = g.images ≡ None
-IsFree g keys.Order = g.order ≡ None
+IsFree g keys.Workers = (g.workers ≡ None) × (g.order ≡ None)
+IsFree g keys.Order = (g.order ≡ None) × (g.workers ≡ None)
 IsFree g keys.Steps = g.steps ≡ None
 IsFree g keys.Fail = ⊤
 
@@ -68,6 +70,7 @@ pub record IsNoOption (g : Given) (word : Word) : Type 0 where
 -- a word gives an option its value; these options are given then, and these failures are named
 abbrev pub Gives : Given → Key → Word → Given → List FailAt → Type 0
 Gives g keys.Images word h named = (n : ℕ) × (word ≡ decimal n) × (1 ≤ n) × (n ≤ 64) × (h ≡ record g { images = Some n }) × (named ≡ [])
+Gives g keys.Workers word h named = (n : ℕ) × (word ≡ decimal n) × (1 ≤ n) × (n ≤ 64) × (h ≡ record g { workers = Some n }) × (named ≡ [])
 Gives g keys.Order word h named = (s : ℕ) × (word ≡ decimal s) × (s ≤ 2147483647) × (h ≡ record g { order = Some s }) × (named ≡ [])
 Gives g keys.Steps word h named = (n : ℕ) × (word ≡ decimal n) × (1 ≤ n) × (n ≤ 100000000) × (h ≡ record g { steps = Some n }) × (named ≡ [])
 Gives g keys.Fail word h named = (f : FailAt) × IsFailure word f × (h ≡ g) × (named ≡ f ∷ [])

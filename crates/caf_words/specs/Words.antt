@@ -14,7 +14,8 @@ use Rattle.caf_words.specs.declared.command.Command.{Command}
 use Rattle.caf_words.specs.declared.command.Command.TheVariants.{Run, Check, Make}
 use Rattle.caf_words.specs.declared.command.Input.{Input}
 use Rattle.caf_words.specs.declared.command.Input.TheVariants.{File, Made}
-use Rattle.caf_words.specs.declared.command.Way.TheVariants.{Order}
+use Rattle.caf_words.specs.declared.command.Way.{Way}
+use Rattle.caf_words.specs.declared.command.Way.TheVariants.{Order, Workers}
 
 -- the words of the program's texts
 abbrev pub words_in : List (String Global) → List Word
@@ -45,13 +46,14 @@ is_made (from_made seed size) = true
 
 -- no options yet
 abbrev pub nothing : Given
-nothing = record { images = None; order = None; steps = None; trace = false; vars = false }
+nothing = record { images = None; workers = None; order = None; steps = None; trace = false; vars = false }
 
--- One option that may come next, as its words; what is given with it, and the failures that it names. Each stands once at most, but --fail. Numbers are in decimal: without a
--- sign, and without a leading zero other than `0` itself.
+-- One option that may come next, as its words; what is given with it, and the failures that it names. Each stands once at most, but --fail, and -w and --order exclude each other.
+-- Numbers are in decimal: without a sign, and without a leading zero other than `0` itself.
 pub data IsOption (g : Given) : List Word → Given → List FailAt → Type 0 where
   images : (n : ℕ) → g.images ≡ None → 1 ≤ n → n ≤ 64 → IsOption g (codes "-n" ∷ decimal n ∷ []) (record g { images = Some n }) []
-  order : (s : ℕ) → g.order ≡ None → s ≤ 2147483647 → IsOption g (codes "--order" ∷ decimal s ∷ []) (record g { order = Some s }) []
+  workers : (n : ℕ) → g.workers ≡ None → g.order ≡ None → 1 ≤ n → n ≤ 64 → IsOption g (codes "-w" ∷ decimal n ∷ []) (record g { workers = Some n }) []
+  order : (s : ℕ) → g.order ≡ None → g.workers ≡ None → s ≤ 2147483647 → IsOption g (codes "--order" ∷ decimal s ∷ []) (record g { order = Some s }) []
   steps : (n : ℕ) → g.steps ≡ None → 1 ≤ n → n ≤ 100000000 → IsOption g (codes "--steps" ∷ decimal n ∷ []) (record g { steps = Some n }) []
   fail : (word : Word) (f : FailAt) → IsFailure word f → IsOption g (codes "--fail" ∷ word ∷ []) g (f ∷ [])
   trace : g.trace ≡ false → IsOption g (codes "--trace" ∷ []) (record g { trace = true }) []
@@ -62,9 +64,13 @@ abbrev pub given_or : ℕ → Option ℕ → ℕ
 given_or default None = default
 given_or default (Some n) = n
 
--- what a run is told by its options, in the order of a seed: 4 images and 1000000 statements where the words don't say it; and whether it is summed up
-abbrev pub told : Given → ℕ → Bool → Options
-told g seed summary = record { images = given_or 4 g.images; way = Order seed; steps = given_or 1000000 g.steps; trace = g.trace; vars = g.vars; summary = summary }
+-- how the images run: in the order that is given, or else on the workers, 4 where the words don't say it
+abbrev pub way_of : Given → Way
+way_of g = elim g.order [ Some seed ↦ Order seed | None ↦ Workers (given_or 4 g.workers) ]
+
+-- what a run is told by its options: 4 images and 1000000 statements where the words don't say it; and whether it is summed up
+abbrev pub told : Given → Bool → Options
+told g summary = record { images = given_or 4 g.images; way = way_of g; steps = given_or 1000000 g.steps; trace = g.trace; vars = g.vars; summary = summary }
 
 -- the words are SEED and SIZE, in decimal: 0 to 2147483647 and 1 to 4096
 pub record AreSeedAndSize (words : List Word) (seed size : ℕ) : Type 0 where
@@ -78,15 +84,15 @@ abbrev pub IsOrigin : List Word → Origin → Type 0
 IsOrigin words (from_file file) = (words ≡ file ∷ []) × IsFileName file
 IsOrigin words (from_made seed size) = (numbers : List Word) × (words ≡ codes "--made" ∷ numbers) × AreSeedAndSize numbers seed size
 
--- The words of a run behind `run` and the options that are given so far: further options in any order, among them --order, then FILE or `--made SEED SIZE`, which is summed up. The failures are
+-- The words of a run behind `run` and the options that are given so far: further options in any order, then FILE or `--made SEED SIZE`, which is summed up. The failures are
 -- those that these words name, in order.
 pub data IsRest : Given → List Word → Options → List FailAt → Origin → Type 0 where
-  origin_last : (g : Given) (seed : ℕ) (words : List Word) (origin : Origin) → g.order ≡ Some seed → IsOrigin words origin → IsRest g words (told g seed (is_made origin)) [] origin
+  origin_last : (g : Given) (words : List Word) (origin : Origin) → IsOrigin words origin → IsRest g words (told g (is_made origin)) [] origin
   option_next : (g h : Given) (option : List Word) (named : List FailAt) (rest : List Word) (o : Options) (fails : List FailAt) (origin : Origin) → IsOption g option h named → IsRest h rest o fails origin
       → IsRest g (option ++ rest) o (named ++ fails) origin
 
--- the words are `run OPTIONS FILE` or `run OPTIONS --made SEED SIZE`: -n N (1 to 64; 4 where it isn't given), --order SEED (0 to 2147483647), which has to be there, --steps N (1 to 100000000; 1000000
--- where it isn't given), --fail I@K, which may stand more than once, --trace and --vars
+-- the words are `run OPTIONS FILE` or `run OPTIONS --made SEED SIZE`: -n N (1 to 64; 4 where it isn't given), -w W (1 to 64; 4 where it isn't given) or --order SEED (0 to 2147483647) or neither,
+-- --steps N (1 to 100000000; 1000000 where it isn't given), --fail I@K, which may stand more than once, --trace and --vars
 pub record IsRun (words : List Word) (o : Options) (fails : List FailAt) (origin : Origin) : Type 0 where
   pub rest : List Word
   pub form : words ≡ codes "run" ∷ rest

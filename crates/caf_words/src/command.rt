@@ -31,11 +31,13 @@ pub enum Input {
     Made { seed: u32, size: u32 },
 }
 
-/// How the images take turns.
+/// How the images run.
 #[derive(Clone, Copy)]
 pub enum Way {
     /// In the order of this seed, from 0 to 2147483647.
     Order(u32),
+    /// On this many workers at most, from 1 to 64.
+    Workers(u32),
 }
 
 /// A failure: an image fails at an event of its own.

@@ -19,10 +19,17 @@ pub(crate) const GREATEST_SEED: u32 = 2_147_483_647;
 /// The number of images where the words don't say it.
 const DEFAULT_IMAGES: u32 = 4;
 
+/// The number of workers where the words say neither it nor an order.
+const DEFAULT_WORKERS: u32 = 4;
+
+/// The greatest number of workers that may be told.
+const GREATEST_WORKERS: u32 = 64;
+
 /// The options of a run that were given so far, each of which stands once at most.
 #[derive(Clone, Copy)]
 pub(crate) struct Given {
     pub images: Option<u32>,
+    pub workers: Option<u32>,
     pub order: Option<u32>,
     pub steps: Option<u32>,
     pub trace: bool,
@@ -33,6 +40,7 @@ pub(crate) struct Given {
 #[derive(Clone, Copy)]
 pub(crate) enum Key {
     Images,
+    Workers,
     Order,
     Steps,
     Fail,
@@ -66,6 +74,7 @@ impl Given {
     {
         Given {
             images: None,
+            workers: None,
             order: None,
             steps: None,
             trace: false,
@@ -73,17 +82,27 @@ impl Given {
         }
     }
 
-    /// What a run is told by its options, in the order of a seed, and whether it is summed up.
-    pub fn told(&self, seed: u32, summary: bool) -> Options
-        ensures { result ≡ spec.told self.now seed summary }
+    /// What a run is told by its options, and whether it is summed up.
+    pub fn told(&self, summary: bool) -> Options
+        ensures { result ≡ spec.told self.now summary }
     {
         Options {
             images: or_default(self.images, DEFAULT_IMAGES),
-            way: Way::Order(seed),
+            way: self.way(),
             steps: u64::from(or_default(self.steps, DEFAULT_STATEMENTS as u32)),
             trace: self.trace,
             vars: self.vars,
             summary,
+        }
+    }
+
+    // In the order that is given, or else on the workers.
+    fn way(&self) -> Way
+        ensures { result ≡ spec.way_of self.now }
+    {
+        match self.order {
+            Some(seed) => Way::Order(seed),
+            None => Way::Workers(or_default(self.workers, DEFAULT_WORKERS)),
         }
     }
 }
@@ -105,7 +124,8 @@ fn next_key(word: &str, given: Given) -> Option<Key>
 {
     match word {
         "-n" if given.images.is_none() => Some(Key::Images),
-        "--order" if given.order.is_none() => Some(Key::Order),
+        "-w" if given.workers.is_none() && given.order.is_none() => Some(Key::Workers),
+        "--order" if given.order.is_none() && given.workers.is_none() => Some(Key::Order),
         "--steps" if given.steps.is_none() => Some(Key::Steps),
         "--fail" => Some(Key::Fail),
         _ => None,
@@ -142,6 +162,7 @@ fn taken_with(key: Key, word: &str, given: Given) -> Option<Taken>
     };
     match key {
         Key::Images => taken.given.images = Some(number_between(word, 1, IMAGES)?),
+        Key::Workers => taken.given.workers = Some(number_between(word, 1, GREATEST_WORKERS)?),
         Key::Order => taken.given.order = Some(number_between(word, 0, GREATEST_SEED)?),
         Key::Steps => taken.given.steps = Some(number_between(word, 1, STATEMENTS as u32)?),
         Key::Fail => taken.fail = Some(failure_of(word)?),

@@ -33,9 +33,9 @@ struct Made {
 }
 
 /// The command that the words mean: `run OPTIONS FILE`, `run OPTIONS --made SEED SIZE`, `check FILE` or `make SEED SIZE`. OPTIONS are, in any order, `-n N`, with N from 1 to 64, 4 where it isn't given,
-/// `--order SEED`, with SEED from 0 to 2147483647, which has to be there, `--steps N`, with N from 1 to 100000000, 1000000 where it isn't given, `--trace`, `--vars`, and `--fail I@K`, with I from 1 to 64 and
-/// K from 1 to 1000000. Each stands once at most, but `--fail`. The SEED of a made source is from 0 to 2147483647, its SIZE from 1 to 4096. Numbers are decimal digits without a sign and without a
-/// leading zero other than `0` itself; FILE isn't empty and doesn't begin with `-`.
+/// `-w W`, with W from 1 to 64, 4 where neither it nor an order is given, `--order SEED`, with SEED from 0 to 2147483647, `--steps N`, with N from 1 to 100000000, 1000000 where it isn't given, `--trace`,
+/// `--vars`, and `--fail I@K`, with I from 1 to 64 and K from 1 to 1000000. Each stands once at most, but `--fail`; `-w` and `--order` don't stand together. The SEED of a made source is from 0 to
+/// 2147483647, its SIZE from 1 to 4096. Numbers are decimal digits without a sign and without a leading zero other than `0` itself; FILE isn't empty and doesn't begin with `-`.
 /// Other words have a usage number. Want of memory comes only where there are more words than a number can tell, or where valid words name failures.
 pub fn words_of(alloc: Global, words: &[String]) -> Result<Command, Refusal<Usage>>
     ensures means { IfOk result (Means (words_in words.now)) }
@@ -129,9 +129,6 @@ fn run_of(
     ensures means { IfOk result (EndsRun given (words_in words.now) (place + length words.now) fails) }
     ensures refused { IfErr result (IsMisread (Rests given) (λ rest. (fails ≡ None) × Rests given rest) (words_in words.now) place) }
 {
-    let Some(seed) = given.order else {
-        return Err(wrong_at(place));
-    };
     let input = match input_of(words, place) {
         Ok(input) => input,
         Err(refusal) => return Err(refusal),
@@ -140,7 +137,7 @@ fn run_of(
         Some(fails) => Ok(Command::Run {
             input,
             fails,
-            options: given.told(seed, is_made(input)),
+            options: given.told(is_made(input)),
         }),
         None => Err(Refusal::NoMemory),
     }

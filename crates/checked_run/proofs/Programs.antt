@@ -14,6 +14,7 @@ use Rattle.machine_runs.specs.Runs.{HasWalksOn}
 use Rattle.object_rules.specs.Cells.{Declared}
 use Rattle.object_rules.specs.MemoryRules.{has_first_values}
 use Rattle.final_values.specs.Listings.{listed_of}
+use Rattle.full_report.specs.Reports.{order_of}
 use Rattle.final_values.specs.declared.listing.Listed.{Listed}
 use Rattle.program_run.specs.Finals.{AreProgramFinals}
 use Rattle.program_run.specs.Reports.{IsProgramReport}
@@ -76,10 +77,10 @@ walks_of p w v limit n is same = subst (λ x. HasWalksOn p limit n x) (sym same)
 -- the report of each program whose walks the code has is the report of this one
 pub run_of : (p : Program) (told : Told) (fails_at : ℕ → ℕ) (v : Whole) (ds : List Declared) (report : Report) (names : List (List ℕ)) (ls : List Listed)
     → HasWalksOn p told.limit told.images v → ds ≡ coarrays_of p → names ≡ names_of p → ls ≡ listed_of p
-    → ((q : Program) → HasWalksOn q told.limit told.images v → IsProgramReport q told.limit ds told.images fails_at told.words told.seed report) → report.names ≡ names
+    → ((q : Program) → HasWalksOn q told.limit told.images v → IsProgramReport q told.limit ds told.images fails_at told.words (order_of told.way) report) → report.names ≡ names
     → ((q : Program) → HasWalksOn q told.limit told.images v → AreProgramFinals q told.limit ds told.images fails_at told.words ls report.trace.entries report.finals) → IsRunOf p told fails_at report
 run_of p told fails_at v ds report names ls walks same named listed is with_names finals = record {
-  run = subst (λ xs. IsProgramReport p told.limit xs told.images fails_at told.words told.seed report) same (is p walks);
+  run = subst (λ xs. IsProgramReport p told.limit xs told.images fails_at told.words (order_of told.way) report) same (is p walks);
   names = with_names ∙ named;
   finals =
       subst (λ xs. AreProgramFinals p told.limit xs told.images fails_at told.words (listed_of p) report.trace.entries report.finals) same

@@ -20,25 +20,28 @@ ghost use Rattle.checked_run.specs.Runnable.{CanRun, IsUnrunnable, lines_of};
 use crate::coarrays::{have_first_values, in_memories};
 use crate::names::names;
 use crate::runnable::{Unrunnable, runs};
+use caf_base::hook::Hook;
 use caf_base::refusal::{NoMemory, Refusal};
 use caf_report::report::Report;
 use checked_tree::program::Checked;
 use coarray_memory::coarray::Coarray;
 use code_maker::maker::make;
 use final_values::listing::listed_variables;
+use full_report::way::Way;
 use image_code::code::Code;
 use image_code::tables::Tables;
 use program_run::running::run_code;
 use std::alloc::Global;
-use std::sync::Arc;
+use std::sync::{Arc, Wait};
+use std::thread::Threads;
 
-/// What a run is told: on how many images, the most statements that an image counts, the most recorded words of an image, and the SEED of its order.
+/// What a run is told: on how many images, the most statements that an image counts, the most recorded words of an image, and how the images take turns.
 #[derive(Clone, Copy)]
 pub struct Told {
     pub images: u32,
     pub limit: u64,
     pub words: u32,
-    pub seed: u32,
+    pub way: Way,
 }
 
 // The code of an accepted program.
@@ -87,13 +90,15 @@ fn coarrays(alloc: Global, tables: &Tables) -> Result<Vec<Coarray>, Refusal<Unru
 }
 
 // The run of the code of a program, and its report.
-fn report(
+fn report<R: Threads + Wait + Sync, H: Hook + Sync>(
+    rt: &R,
     alloc: Global,
     checked: &Checked,
     code: Code,
     coarrays: &[Coarray],
     told: Told,
     fails: &[u32],
+    hook: &H,
 ) -> Result<Report, NoMemory>
     requires images { told.images ≤ 65536 }
     requires limit { told.limit ≤ 100000000 }
@@ -108,6 +113,7 @@ fn report(
     let names = names(alloc, checked)?;
     let shared = Arc::new(alloc, code)?;
     let report = run_code(
+        rt,
         alloc,
         shared,
         told.images,
@@ -115,21 +121,24 @@ fn report(
         coarrays,
         fails,
         told.words,
-        told.seed,
+        told.way,
         names,
         listed.as_slice(),
+        hook,
     )?;
     Ok(report)
 }
 
 /// The run of an accepted program on images, as it is told, and its report with the names of its coarrays and the final values of its main program's variables; or where the machine can't run it. An image's next
 /// statement above `told.limit` is its limit; image i fails at its event of the number that `fails` has for it, counted from 1 (0 or no number: it doesn't); with
-/// `told.words` recorded words or more an image's next step is the limit. Conditions: there are at most 65,536 images and 100,000,000 statements.
-pub fn run_checked(
+/// `told.words` recorded words or more an image's next step is the limit. On workers the call may wait for them. Conditions: there are at most 65,536 images and 100,000,000 statements.
+pub fn run_checked<R: Threads + Wait + Sync, H: Hook + Sync>(
+    rt: &R,
     alloc: Global,
     checked: &Checked,
     told: Told,
     fails: &[u32],
+    hook: &H,
 ) -> Result<Report, Refusal<Unrunnable>>
     requires images { told.images ≤ 65536 }
     requires limit { told.limit ≤ 100000000 }
@@ -142,6 +151,15 @@ pub fn run_checked(
 {
     let code = runnable(alloc, checked)?;
     let coarrays = coarrays(alloc, code.tables())?;
-    let report = report(alloc, checked, code, coarrays.as_slice(), told, fails)?;
+    let report = report(
+        rt,
+        alloc,
+        checked,
+        code,
+        coarrays.as_slice(),
+        told,
+        fails,
+        hook,
+    )?;
     Ok(report)
 }

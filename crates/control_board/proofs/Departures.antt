@@ -1,7 +1,7 @@
 -- What is known of an image that can leave a round.
-use Rattle.std.proofs.Common.{◌≡◌, ℕ, ◌-◌, ◌<◌, ◌≤◌, Bool, true, ◌&&◌, nat_le, List, length, ap, sym, ◌∙◌, arith, IsTrue}
+use Rattle.std.proofs.Common.{◌≡◌, ℕ, ◌-◌, ◌<◌, ◌≤◌, Bool, true, false, ◌&&◌, nat_le, List, inl, inr, refl, length, ap, sym, ◌∙◌, arith, IsTrue}
 use Rattle.std.specs.Prelude.{is_some, slice_get, Some}
-use Rattle.std.proofs.lemmas.Bool.{and_parts, leb-true}
+use Rattle.std.proofs.lemmas.Bool.{and_parts, leb-true, cases_Bool}
 use Rattle.caf_base.specs.declared.place.TeamNo.{TeamNo}
 use Rattle.caf_events.specs.declared.ask.Ask.TheVariants as asks
 use Rattle.caf_events.specs.declared.event.Entry.{Entry}
@@ -54,3 +54,16 @@ can_depart_law c n h p b i t r closed joined is =
     ∙ ap (λ ms. is_some (at_close ms t r (happened (class_of c) h))) (rounds_members n h p b c t x.0 low x.1)
     ∙ close_law (class_of c) t r (members_at (teams_after n h) t) h
     ∙ ap (λ z. z && is_some (closing (class_of c) t r (members_at (teams_after n h) t) h)) (sym joined)
+
+-- who has joined a round is a member, so that its count tells it
+pub joined_law : (m : Bool) (r a : ℕ) → (0 < a → m ≡ true) → (nat_le 1 r && nat_le r a) ≡ (m && nat_le 1 r && nat_le r a)
+joined_law true r a f = refl
+joined_law false r a f = elim (cases_Bool (nat_le 1 r && nat_le r a)) [
+  | inl y ↦ absurd (
+      let p = and_parts (nat_le 1 r) (nat_le r a) y in
+      let l = leb-true 1 r p.0 in
+      let q = leb-true r a p.1 in
+      let w : false ≡ true = f (omega arith) in
+      cc)
+  | inr z ↦ z
+]

@@ -1,21 +1,23 @@
 -- What the board keeps, after a step.
-use Rattle.std.proofs.Common.{◌≡◌, ℕ, zero, suc, ◌+◌, ◌-◌, ◌^◌, ◌<◌, ◌≤◌, Bool, true, false, ◌||◌, List, [], ◌∷◌, ◌++◌, inl, inr, length, map, replicate, refl, ap, sym, ◌∙◌, subst, arith, length-append, length-set}
+use Rattle.std.proofs.Common.{◌≡◌, ℕ, zero, suc, ◌+◌, ◌-◌, ◌^◌, ◌<◌, ◌≤◌, Bool, true, false, ◌||◌, cond, List, [], ◌∷◌, ◌++◌, inl, inr, length, map, replicate, refl, ap, sym, ◌∙◌, subst, arith, length-append, length-set}
 use Rattle.std.specs.Prelude.{Option, Some, None, slice_get, slice_index_or}
 use Rattle.std.specs.Global.{Vec}
-use Rattle.std.proofs.lemmas.Bool.{cases_lt}
+use Rattle.std.proofs.lemmas.Bool.{cases_lt, cases_Bool}
 use Rattle.std.proofs.lemmas.List.{append-nil, length-map}
 use Rattle.caf_base.specs.declared.place.ImageNo.{ImageNo}
 use Rattle.caf_events.specs.Histories.{last_stamp_of}
 use Rattle.caf_events.specs.declared.event.Entry.{Entry}
-use Rattle.object_rules.specs.Happenings.{control, collective, images, happens, happened, numbers_of}
-use Rattle.object_rules.specs.TeamRounds.{at_close}
+use Rattle.object_rules.specs.Happenings.{Happening, Class, control, collective, images, happens, happened, numbers_of}
+use Rattle.object_rules.specs.TeamRounds.{is_arrival, arrivals, at_close}
+use Rattle.object_rules.specs.ImagePairs.{names}
 use Rattle.object_rules.specs.Constructs.{construct_turn}
 use Rattle.object_rules.specs.BoardTeams.{Team, arrives_there, made_by, teams_after, members_at, members_there, closing}
 use Rattle.object_rules.specs.BoardRules.{is_image}
+use Rattle.object_rules.proofs.Growing.{arrivals_more}
 use Rattle.object_rules.proofs.MemoryGrowing.{construct_more}
 use Rattle.failure_status.specs.Endings.{Ended, ended_with}
 use Rattle.team_round.specs.TeamStates.{TeamState, joined_by, members_in, TellsAll, CanArrive, CanExpect, CanClose, CanEnd}
-use Rattle.team_round.proofs.Making.{teams_more, made_none}
+use Rattle.team_round.proofs.Making.{teams_more, made_none, happened_none, happened_some}
 use Rattle.team_round.proofs.Closings.{happened_by, closing_is}
 use Rattle.image_sync.specs.Holds.{CriticalsState, hold_in}
 use Rattle.image_sync.specs.PairStates.{row_of, TellsSyncs}
@@ -26,7 +28,7 @@ use Rattle.control_board.specs.declared.forming.BadRound.{BadRound}
 use Rattle.control_board.specs.declared.forming.Plan.{Plan}
 use Rattle.control_board.specs.declared.parts.Parts.{Parts}
 use Rattle.control_board.specs.Boards.{IsBoard, HasGrown, PlanFits, IsEnacted, class_of, rounds_in, brings, brought, values_in, values_of, table_of, all_made, are_images, images_of_teams, is_listed, was_bad, bad_now}
-use Rattle.control_board.proofs.Members.{at_place, numbers_images, image_within, rounds_count}
+use Rattle.control_board.proofs.Members.{at_place, numbers_images, image_within, member_range, rounds_count}
 use Rattle.control_board.proofs.Forms.{AreForms, forms_none}
 use Rattle.control_board.proofs.Made.{images_append, by_images}
 use Rattle.control_board.proofs.Bad.{bad_more, bad_none, none_closed}
@@ -62,6 +64,28 @@ map_append : {A B : Type 0} (f : A → B) (xs ys : List A) → map f (xs ++ ys) 
 map_append f [] ys = refl
 map_append f (x ∷ xs) ys = ap (λ l. f x ∷ l) (map_append f xs ys)
 
+-- who has joined a round of a team is a member, with one more entry
+module _ (n : ℕ) (h : List Entry) (e : Entry) (added : List Team) (now : teams_after n (h ++ e ∷ []) ≡ teams_after n h ++ added) where
+  still_there : (t i : ℕ) → names i (members_at (teams_after n h) t) ≡ true → names i (members_at (teams_after n (h ++ e ∷ [])) t) ≡ true
+  still_there t i m =
+      let r = member_range (teams_after n h) t i m in
+      ap (λ ts. names i (members_at ts t)) now ∙ ap (names i) (members_before (teams_after n h) added t r.1) ∙ m
+
+  joined_more : (c : Class) (t i : ℕ) → (0 < arrivals t i (happened c h) → names i (members_at (teams_after n h) t) ≡ true)
+      → (arrives_there t i (happens c e.image.0 e.event.line e.event.ask e.event.reply) ≡ true → names i (members_at (teams_after n h) t) ≡ true)
+      → 0 < arrivals t i (happened c (h ++ e ∷ [])) → names i (members_at (teams_after n (h ++ e ∷ [])) t) ≡ true
+  joined_more c t i before here some = still_there t i (by (happens c e.image.0 e.event.line e.event.ask e.event.reply) refl)
+    where
+      by : (o : Option Happening) → happens c e.image.0 e.event.line e.event.ask e.event.reply ≡ o → names i (members_at (teams_after n h) t) ≡ true
+      by None q = before (subst (λ hs. 0 < arrivals t i hs) (happened_none c h e q) some)
+      by (Some x) q = elim (cases_Bool (is_arrival t i x)) [
+        | inl y ↦ here (ap (arrives_there t i) q ∙ y)
+        | inr z ↦ before (
+            let s = subst (λ hs. 0 < arrivals t i hs) (happened_some c h e x q) some in
+            let w : arrivals t i (happened c h ++ x ∷ []) ≡ arrivals t i (happened c h) + 0 = arrivals_more t i (happened c h) x ∙ ap (λ b. arrivals t i (happened c h) + cond b 1 0) z in
+            omega arith)
+      ]
+
 -- what is kept goes with one more entry, and with the teams that it makes
 module _ (n : ℕ) (h : List Entry) (p q : Parts) (e : Entry) (added : List Team) (b : IsBoard n h p) (made : made_by 1 (teams_after n h) h e ≡ added) (late : last_stamp_of h < e.event.stamp) where
   teams_now : teams_after n (h ++ e ∷ []) ≡ teams_after n h ++ added
@@ -75,6 +99,7 @@ module _ (n : ℕ) (h : List Entry) (p q : Parts) (e : Entry) (added : List Team
     pub births : q.births.items ≡ p.births.items ++ map (λ (x : Team). x.round) added
     pub members : (c : Bool) → members_in (rounds_in q c).teams ≡ members_in (rounds_in p c).teams ++ images_of_teams added
     pub rounds : (c : Bool) → TellsAll n (rounds_in q c) (happened (class_of c) (h ++ e ∷ []))
+    pub joined : (c : Bool) (t i : ℕ) → arrives_there t i (happens (class_of c) e.image.0 e.event.line e.event.ask e.event.reply) ≡ true → names i (members_at (teams_after n h) t) ≡ true
     pub tables : length q.brought.items ≡ length p.brought.items + length added
     pub bringers : (t : ℕ) → 0 < t → t ≤ length q.brought.items → length (table_of q.brought.items t) ≡ n
     pub values : (t i : ℕ) → 0 < t → t ≤ length q.brought.items → 0 < i → i ≤ n → values_of (table_of q.brought.items t) i ≡ brought t i (h ++ e ∷ [])
@@ -93,6 +118,7 @@ module _ (n : ℕ) (h : List Entry) (p q : Parts) (e : Entry) (added : List Team
     members = λ c. a.members c ∙ ap (λ l. l ++ images_of_teams added) (b.members c) ∙ sym (map_append (λ (x : Team). images_from x.members) (teams_after n h) added) ∙ ap (map (λ (x : Team). images_from x.members)) (sym teams_now);
     within = ap (are_images n) teams_now ∙ images_append n (teams_after n h) added b.within (ap (are_images n) (sym made) ∙ by_images n 1 (teams_after n h) h e b.within);
     rounds = a.rounds;
+    joined = λ c t i. joined_more n h e added teams_now (class_of c) t i (b.joined c t i) (a.joined c t i);
     tables = a.tables ∙ ap (λ k. k + length added) b.tables ∙ sym (length-append (teams_after n h) added) ∙ ap length (sym teams_now);
     bringers = a.bringers;
     values = a.values;
@@ -116,8 +142,9 @@ module _ (n : ℕ) (h : List Entry) (p q : Parts) (e : Entry) (b : IsBoard n h p
       → q.forms ≡ p.forms → q.bad ≡ p.bad
       → TellsSyncs n q.pairs (happened images (h ++ e ∷ []))
       → ((c : ℕ) → hold_in q.criticals.constructs c ≡ construct_turn c (hold_in p.criticals.constructs c) e.image.0 e.event.ask)
+      → ((c : Bool) (t i : ℕ) → arrives_there t i (happens (class_of c) e.image.0 e.event.line e.event.ask e.event.reply) ≡ true → names i (members_at (teams_after n h) t) ≡ true)
       → IsBoard n (h ++ e ∷ []) q
-  kept same runs teams births members rounds count bringers values forms bad syncs turned =
+  kept same runs teams births members rounds count bringers values forms bad syncs turned joined =
       kept_made n h p q e [] b (made_none h e none 1 (teams_after n h)) late (record {
         same = same;
         runs = runs;
@@ -126,6 +153,7 @@ module _ (n : ℕ) (h : List Entry) (p q : Parts) (e : Entry) (b : IsBoard n h p
         births = ap (λ (v : Vec ℕ). v.items) births ∙ sym (append-nil p.births.items);
         members = λ c. members c ∙ sym (append-nil (members_in (rounds_in p c).teams));
         rounds = rounds;
+        joined = joined;
         tables = (let c = count in omega arith);
         bringers = λ t low high. bringers t low (subst (λ k. t ≤ k) count high);
         values = λ t i low high a c. values t i low (subst (λ k. t ≤ k) count high) a c;
@@ -176,6 +204,7 @@ pub record Middle (n : ℕ) (h : List Entry) (p m : Parts) (e : Entry) : Type 0 
   pub births : m.births ≡ p.births
   pub members : (c : Bool) → members_in (rounds_in m c).teams ≡ members_in (rounds_in p c).teams
   pub rounds : (c : Bool) → TellsAll n (rounds_in m c) (happened (class_of c) (h ++ e ∷ []))
+  pub joined : (c : Bool) (t i : ℕ) → arrives_there t i (happens (class_of c) e.image.0 e.event.line e.event.ask e.event.reply) ≡ true → names i (members_at (teams_after n h) t) ≡ true
   pub tables : m.brought ≡ p.brought
   pub no_value : (t i : ℕ) → brings t i e ≡ None
   pub forms : AreForms m.forms.items (h ++ e ∷ [])
@@ -248,6 +277,7 @@ module _ (n : ℕ) (h : List Entry) (p m q : Parts) (e : Entry) (plan : Plan) (b
         (
         let r : m.control.images ≡ n = mid.runs false ∙ b.runs false in
         subst (λ k. TellsAll k q.control (happened control (h ++ e ∷ []))) (to.control.images ∙ r) (to.control.told (happened control (h ++ e ∷ [])) (subst (λ k. TellsAll k m.control (happened control (h ++ e ∷ []))) (sym r) (mid.rounds false))));
+    joined = mid.joined;
     tables = count_now;
     bringers = λ t low high. in_turn t (length (table_of q.brought.items t) ≡ n) (λ l. ap length (old_table t low l) ∙ b.bringers t low l) (λ g. ap length (new_table t g high) ∙ none_length n no_values);
     values = λ t i low high a c. in_turn t (values_of (table_of q.brought.items t) i ≡ brought t i (h ++ e ∷ []))
@@ -353,6 +383,7 @@ room_made n h p q b g = record {
   members = λ c. g.members c ∙ b.members c;
   within = b.within;
   rounds = λ c. g.rounds c n (happened (class_of c) h) (b.rounds c);
+  joined = b.joined;
   tables = tables_same q.brought.items p.brought.items g.tables ∙ b.tables;
   bringers = λ t low high. bringers_same (table_of q.brought.items t) (table_of p.brought.items t) (table_values q.brought.items p.brought.items (t - 1) g.tables) ∙ b.bringers t low (subst (λ k. t ≤ k) (tables_same q.brought.items p.brought.items g.tables) high);
   values = λ t i low high a c. ap (λ vs. slice_index_or vs (i - 1) []) (table_values q.brought.items p.brought.items (t - 1) g.tables) ∙ b.values t i low (subst (λ k. t ≤ k) (tables_same q.brought.items p.brought.items g.tables) high) a c;

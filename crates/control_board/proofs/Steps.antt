@@ -1,7 +1,7 @@
-use Rattle.std.proofs.Common.{◌≡◌, ℕ, suc, ◌+◌, ◌-◌, ◌<◌, ◌≤◌, Bool, true, false, ◌&&◌, ◌||◌, List, [], ◌∷◌, ◌++◌, inl, inr, length, refl, ap, sym, ◌∙◌, subst, arith, IsTrue}
+use Rattle.std.proofs.Common.{◌≡◌, ℕ, suc, ◌+◌, ◌-◌, ◌<◌, ◌≤◌, Bool, true, false, ◌&&◌, ◌||◌, nat_eq, List, [], ◌∷◌, ◌++◌, inl, inr, length, refl, ap, sym, ◌∙◌, subst, arith, IsTrue}
 use Rattle.std.specs.Prelude.{Option, Some, None, slice_index_or}
 use Rattle.std.specs.Global.{Vec}
-use Rattle.std.proofs.lemmas.Bool.{and_parts, cases_Bool, cases_eq}
+use Rattle.std.proofs.lemmas.Bool.{and_parts, cases_Bool, cases_eq, eqb-true}
 use Rattle.caf_base.specs.declared.place.ImageNo.{ImageNo}
 use Rattle.caf_base.specs.declared.place.TeamNo.{TeamNo}
 use Rattle.caf_base.specs.declared.value.Kind.{Kind}
@@ -10,14 +10,16 @@ use Rattle.caf_events.specs.Histories.{last_stamp_of}
 use Rattle.caf_events.specs.declared.ask.Ask.{Ask}
 use Rattle.caf_events.specs.declared.ask.Ask.TheVariants as asks
 use Rattle.caf_events.specs.declared.reply.Reply.{Reply}
+use Rattle.caf_events.specs.declared.reply.Reply.TheVariants as replies
 use Rattle.caf_events.specs.declared.round.Arriving.{Arriving}
 use Rattle.caf_events.specs.declared.round.GatherOp.{GatherOp}
 use Rattle.caf_events.specs.declared.round.RoundKind.{RoundKind}
 use Rattle.caf_events.specs.declared.round.RoundKind.TheVariants as kinds
 use Rattle.caf_events.specs.declared.event.Entry.{Entry}
 use Rattle.object_rules.specs.Kinds.{same_kind}
-use Rattle.object_rules.specs.Happenings.{Happening, arrives, pairs, control, collective, images, happens, happened, kind_of, numbers_of}
+use Rattle.object_rules.specs.Happenings.{Happening, arrives, pairs, control, collective, images, joining, happens, happened, kind_of, numbers_of}
 use Rattle.object_rules.specs.TeamRounds.{is_arrival, arrivals, Opening, opening_of}
+use Rattle.object_rules.specs.ImagePairs.{names}
 use Rattle.object_rules.specs.Constructs.{Hold, construct_turn}
 use Rattle.object_rules.specs.BoardTeams.{arrives_there, teams_after, members_at}
 use Rattle.object_rules.specs.BoardRules.{is_image, fits_board, can_come, board_ready, board_reply}
@@ -48,6 +50,23 @@ ready_parts n h i a r =
     let f = and_parts (is_image n i) (fits_board n h i a) q.0 in
     (f.0, f.1, q.1)
 
+-- ---- who arrives is a member
+joins : (r : Reply) (x : Happening) (t m : ℕ) → arrives_there t m (joining r x) ≡ true → is_arrival t m x ≡ true
+joins (replies.Round k) x t m y = y
+joins r x t m y = absurd (let w : false ≡ true = y in cc)
+
+same_member : (n : ℕ) (h : List Entry) (u i t m : ℕ) → names i (members_at (teams_after n h) u) ≡ true → (nat_eq u t && nat_eq i m) ≡ true → names m (members_at (teams_after n h) t) ≡ true
+same_member n h u i t m f y =
+    let p = and_parts (nat_eq u t) (nat_eq i m) y in
+    ap (λ k. names k (members_at (teams_after n h) t)) (sym (eqb-true i m p.1)) ∙ ap (λ k. names i (members_at (teams_after n h) k)) (sym (eqb-true u t p.0)) ∙ f
+
+arrivers : (n : ℕ) (h : List Entry) (i : ℕ) (a : Ask) (r : Reply) (line : ℕ) (c : Bool) (t m : ℕ) → fits_board n h i a ≡ true → arrives_there t m (happens (class_of c) i line a r) ≡ true → names m (members_at (teams_after n h) t) ≡ true
+arrivers n h i (asks.Arrive team arriving) r line false t m fits y = same_member n h team.0 i t m fits (joins r (arrives team.0 i (kind_of arriving) line) t m y)
+arrivers n h i (asks.Gather team op root kind values) r line true t m fits y =
+    same_member n h team.0 i t m (gather_member n h i team op root kind values fits) (joins r (arrives team.0 i (kinds.Collective op root kind (length values)) line) t m y)
+arrivers n h i a r line true t m fits y = absurd (let w : false ≡ true = y in cc)
+arrivers n h i a r line false t m fits y = absurd (let w : false ≡ true = y in cc)
+
 -- the entry of a step, whatever its reply
 abbrev pub entry_by : ImageNo → Ask → Reply → ℕ → ℕ → Entry
 entry_by i a r stamp line = record { image = i; event = record { ask = a; reply = r; stamp = stamp; line = line } }
@@ -74,6 +93,7 @@ module _ (p q : Parts) (i : ImageNo) (a : Ask) (line : ℕ) where
   steps_by quiet runs members rounds count bringers values syncs turned n h stamp b ready planned late =
       kept n h p q (due n h i a stamp line) b (quiet.none (board_reply n h i.0 a)) late quiet.same runs (ap (λ (x : TeamsState). x.teams) quiet.teams) quiet.births members (λ c. rounds c n h stamp (b.rounds c)) count (bringers n h b ready)
       (values n h stamp b ready) quiet.forms quiet.bad (syncs n h stamp b.syncs) turned
+      (λ c t m. arrivers n h i.0 a (board_reply n h i.0 a) line c t m (ready_parts n h i.0 a ready).1)
 
   -- it is nothing to rounds, brings nothing, or is nothing to pairs
   pub rounds_stay : (c : Bool) → ((r : Reply) → happens (class_of c) i.0 line a r ≡ None) → rounds_in q c ≡ rounds_in p c → (n : ℕ) (h : List Entry) (stamp : ℕ) → TellsAll n (rounds_in p c) (happened (class_of c) h)
@@ -191,6 +211,7 @@ module _ (p m q : Parts) (i : ImageNo) (team : TeamNo) (arriving : Arriving) (li
       members = both _ (ap (λ (x : RoundsState). members_in x.teams) s.others) s.members;
       rounds = both _ (rounds_stay p m i (asks.Arrive team arriving) line true (λ r. refl) s.others n h stamp (b.rounds true))
           (subst (TellsAll n m.control) (sym (happened_arrival h (entry_by i (asks.Arrive team arriving) (board_reply n h i.0 (asks.Arrive team arriving)) stamp line) team arriving a refl (sym (reply_is s n h b)))) (s.told n (happened control h) (b.rounds false)));
+      joined = λ c t k. arrivers n h i.0 (asks.Arrive team arriving) (board_reply n h i.0 (asks.Arrive team arriving)) line c t k (ready_parts n h i.0 (asks.Arrive team arriving) ready).1;
       tables = s.tables;
       no_value = λ t j. refl;
       forms = forms_by a refl;
@@ -231,6 +252,7 @@ module _ (p m q : Parts) (i : ImageNo) (a : Ask) (failed : Bool) (line : ℕ) wh
     births = s.births;
     members = s.members;
     rounds = both _ (rounds_hear p m i a line true (end_of i.0 failed) (s.round true) s.others n h stamp (b.rounds true)) (rounds_hear p m i a line false (end_of i.0 failed) (s.round false) s.rounds n h stamp (b.rounds false));
+    joined = λ c t k y. absurd (let w : false ≡ true = sym (ap (arrives_there t k) (s.round c (board_reply n h i.0 a)) ∙ end_arrives t k i.0 failed) ∙ y in cc);
     tables = s.tables;
     no_value = λ t j. s.no_value (board_reply n h i.0 a) t j stamp;
     forms = subst (λ (v : Vec Given). AreForms v.items (h ++ entry_by i a (board_reply n h i.0 a) stamp line ∷ [])) (sym s.forms)

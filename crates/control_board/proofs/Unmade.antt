@@ -1,4 +1,4 @@
--- A round that isn't one of FORM TEAM makes no team.
+-- A round that isn't one of FORM TEAM makes no team, and doesn't close with a bad argument.
 use Rattle.std.proofs.Common.{◌≡◌, ℕ, suc, ◌+◌, ◌<◌, Bool, true, false, ◌&&◌, ◌||◌, nat_eq, cond, List, [], ◌∷◌, ◌++◌, inl, inr, refl, ap, sym, ◌∙◌, arith, append_assoc}
 use Rattle.std.specs.Prelude.{Option, Some, None, map, filter}
 use Rattle.std.specs.List.{list_any, range_with_len}
@@ -6,11 +6,12 @@ use Rattle.std.proofs.lemmas.Bool.{cases_Bool, ne_eqb, and_parts, eqb-true}
 use Rattle.std.proofs.lemmas.List.Elements.{filter_map-append}
 use Rattle.caf_events.specs.declared.event.Entry.{Entry}
 use Rattle.object_rules.specs.Happenings.{Happening, control, happens, happened}
-use Rattle.object_rules.specs.TeamRounds.{Opening, joins_round, opening_of, missed_by}
+use Rattle.object_rules.specs.TeamRounds.{Opening, has_closed, joins_round, opening_of, missed_by}
 use Rattle.object_rules.specs.FormedTeams.{Members, formed}
-use Rattle.object_rules.specs.BoardTeams.{Team, is_form, teams_made, closes_now, most_joined, form_args, round_of, made_in_rounds, made_in_team, made_by, teams_from, teams_after, made_teams}
-use Rattle.control_board.specs.Boards.{team_with}
+use Rattle.object_rules.specs.BoardTeams.{Team, is_form, closing, teams_made, closes_now, most_joined, form_args, round_of, made_in_rounds, made_in_team, made_by, teams_from, teams_after, made_teams}
+use Rattle.control_board.specs.Boards.{team_with, was_bad}
 use Rattle.control_board.proofs.Collecting.{told_stays}
+use Rattle.control_board.proofs.Rounds.{front_holds}
 
 -- the team was made by this round of this team
 abbrev is_of : ℕ → ℕ → Team → Bool
@@ -92,3 +93,14 @@ module _ (t r : ℕ) where
       let z : nat_eq 0 t ≡ false = ne_eqb 0 t (λ q. absurd (omega arith)) in
       let first : ((nat_eq 0 t && nat_eq 0 r) || false) ≡ false = rw z refl in
       sym (none_told t r 1 (teams_after n h) (from_entries _ [] h first other))
+
+  -- it didn't close with a bad argument
+  pub not_bad : (ms : List ℕ) (h : List Entry) → IsOther h → was_bad t r ms (closing control t r ms h) ≡ false
+  not_bad ms h other = by (closing control t r ms h) refl
+    where
+      by : (o : Option (List Entry)) → closing control t r ms h ≡ o → was_bad t r ms o ≡ false
+      by None q = refl
+      by (Some f) q =
+          let c = front_holds (λ g. has_closed ms t r (happened control g)) [] h f q in
+          let o : is_form (opening_of t r (happened control f)) ≡ false = before_too f c.1 (ap (λ g. is_form (opening_of t r (happened control g))) c.2 ∙ other) in
+          rw o refl

@@ -191,6 +191,7 @@ pub record IsBoard (n : ℕ) (h : List Entry) (p : Parts) : Type 0 where
   pub members : (c : Bool) → members_in (rounds_in p c).teams ≡ map (λ (x : Team). images_from x.members) (teams_after n h)
   pub within : are_images n (teams_after n h) ≡ true
   pub rounds : (c : Bool) → TellsAll n (rounds_in p c) (happened (class_of c) h)
+  pub joined : (c : Bool) (t i : ℕ) → 0 < arrivals t i (happened (class_of c) h) → names i (members_at (teams_after n h) t) ≡ true
   pub tables : length p.brought.items ≡ length (teams_after n h)
   pub bringers : (t : ℕ) → 0 < t → t ≤ length p.brought.items → length (table_of p.brought.items t) ≡ n
   pub values : (t i : ℕ) → 0 < t → t ≤ length p.brought.items → 0 < i → i ≤ n → values_of (table_of p.brought.items t) i ≡ brought t i h

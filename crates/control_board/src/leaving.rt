@@ -10,10 +10,10 @@ ghost use Rattle.team_round.specs.TeamStates.{TeamState, TellsAll};
 ghost use Rattle.object_rules.specs.BoardRules.{is_image, has_joined as joined_by_rules, board_ready, board_reply};
 ghost use Rattle.object_rules.specs.BoardTeams.{teams_after, members_at, closing, made_teams};
 ghost use Rattle.team_tree.specs.KnownTeams.{team_of};
-ghost use Rattle.control_board.specs.Boards.{IsBoard, IsKept, AreRounds, Comes, class_of, rounds_in};
+ghost use Rattle.control_board.specs.Boards.{IsBoard, IsKept, AreRounds, Comes, class_of, rounds_in, is_listed};
 
 use crate::forming::is_bad;
-use crate::parts::{Parts, is_member};
+use crate::parts::{Parts, has_team};
 use crate::planning::is_form_round;
 use caf_base::listing::Listing;
 use caf_base::place::{ImageNo, TeamNo};
@@ -31,7 +31,7 @@ fn has_come(rounds: &Rounds, image: ImageNo, team: TeamNo, round: u64) -> bool
     round >= 1 && round <= rounds.joined(team, image)
 }
 
-// Whether the image has joined this round of the team, of which it is a member.
+// Whether the image has joined this round of the team: then it is a member, which isn't looked up again.
 pub(crate) fn has_joined(
     parts: &Parts,
     rounds: &Rounds,
@@ -43,7 +43,7 @@ pub(crate) fn has_joined(
     requires image { IsTrue (is_image parts.now.images image.0) }
     ensures { (n : ℕ) (h : List Entry) (c : Bool) → IsBoard n h parts.now → rounds.now ≡ rounds_in parts.now c → result ≡ joined_by_rules (class_of c) n h image.0 team.0 round }
 {
-    is_member(parts, team, image) && has_come(rounds, image, team, round)
+    has_team(&parts.teams, team) && has_come(rounds, image, team, round)
 }
 
 // Whether the image can leave the round of these rounds: it has joined it, and the round has closed.
@@ -109,6 +109,16 @@ fn teams_made(
     }
 }
 
+// Whether the round closed with a bad argument: one that isn't of FORM TEAM didn't, so that other departures don't go over those that did.
+fn has_bad_argument(parts: &Parts, team: TeamNo, round: u64) -> bool
+    requires kept { IsKept parts.now }
+    requires team { (0 < team.0) × (team.0 ≤ length parts.now.control.teams) }
+    requires round { 0 < round }
+    ensures { result ≡ is_listed parts.now.bad.items team.0 round }
+{
+    is_form_round(parts, team, round) && is_bad(&parts.bad, team, round)
+}
+
 // The reply to a departure.
 pub(crate) fn left(
     alloc: Global,
@@ -125,7 +135,7 @@ pub(crate) fn left(
     Ok(Reply::Left {
         status: parts
             .control
-            .result(team, round, is_bad(&parts.bad, team, round)),
+            .result(team, round, has_bad_argument(parts, team, round)),
         teams,
     })
 }

@@ -85,7 +85,7 @@ pub(crate) fn has_image(images: u32, image: ImageNo) -> bool
 }
 
 // Whether there is this team.
-fn has_team(teams: &Teams, team: TeamNo) -> bool
+pub(crate) fn has_team(teams: &Teams, team: TeamNo) -> bool
     ensures { result ≡ is_image (length teams.now.teams) team.0 }
 {
     team.0 >= 1 && team.0 as usize <= teams.len()

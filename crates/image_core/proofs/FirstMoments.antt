@@ -1,12 +1,12 @@
 -- The parts before the first step, of machines, memories and a board.
-use Rattle.std.proofs.Common.{◌≡◌, ℕ, zero, suc, ◌+◌, ◌<◌, ◌≤◌, ◌^◌, List, [], ◌∷◌, length, refl, ap, sym, ◌∙◌, subst, arith}
+use Rattle.std.proofs.Common.{◌≡◌, ℕ, zero, suc, ◌<◌, ◌≤◌, ◌^◌, List, [], ◌∷◌, length, refl, ap, sym, ◌∙◌, subst, arith}
 use Rattle.std.specs.Prelude.{map, replicate}
 use Rattle.caf_events.specs.Histories.{last_stamp_of}
 use Rattle.caf_events.specs.declared.event.Event.{Event}
 use Rattle.caf_events.specs.declared.event.Entry.{Entry}
 use Rattle.caf_events.specs.declared.object.Object as object
 use Rattle.caf_events.specs.declared.walker.Walker as walker
-use Rattle.core_runs.specs.Lists.{list_at, last_of}
+use Rattle.core_runs.specs.Lists.{last_of}
 use Rattle.core_runs.specs.Beginnings.{Beginning}
 use Rattle.core_runs.specs.Kept.{IsKept}
 use Rattle.core_runs.specs.Moments.{Moment, rules}

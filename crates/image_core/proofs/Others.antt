@@ -18,7 +18,7 @@ use Rattle.image_core.specs.declared.parts.PartsOf.{PartsOf}
 use Rattle.image_core.specs.declared.prepared.Prepared.{Prepared}
 use Rattle.image_core.specs.declared.prepared.Prepared.TheVariants as prepareds
 use Rattle.image_core.specs.Prepared.{move_of, AsksAt, IsServed, place_aside}
-use Rattle.image_core.specs.Parts.{IsServedThere, IsSetAside, IsPreparedRun, IsPrepared, IsElsewhere, KeepsOthers}
+use Rattle.image_core.specs.Parts.{IsServedThere, IsSetAside, IsPrepared, KeepsOthers}
 
 -- where the step of one is at the place of the other's next ask, it is at no object
 at_one_place : {C : Type 0} (mv : Move C Ask Reply) (p q : Place) → AsksAt q mv → ((a : Ask) → AsksNext mv a → p ≡ place_of a → p ≡ places.Own) → p ≡ q → q ≡ places.Own

@@ -57,6 +57,11 @@ over_now (goes c) h = absurd h
 over_now (asks a l k) h = absurd (cc)
 over_now over h = tt
 
+over_asks : {C : Type 0} (m : Move C Ask Reply) (a : Ask) → IsOver m → AsksNext m a → ⊥
+over_asks (goes c) a h k = h
+over_asks (asks x l n) a h k = h
+over_asks over a h k = k
+
 not_over : {C : Type 0} (q : Place) (m : Move C Ask Reply) → AsksAt q m → IsOver m → ⊥
 not_over q (goes c) a h = a
 not_over q (asks x l k) a h = h
@@ -116,6 +121,17 @@ module _ {M O B : Type 0} (walks : walker.Ghosts M) (memory : object.Ghosts O) (
 
   pub ready_is : (q : Place) (a : Ask) → AsksAt q (move_of walks r) → AsksNext (move_of walks r) a → can_step R now (suc k) ≡ ready_there R now (suc k) a q
   ready_is q a h n = can_is ∙ can_asked R now (suc k) (move_of walks r) a n ∙ ap (ready_there R now (suc k) a) (asked_at q (move_of walks r) a h n)
+
+  stands_at : (c : walks.Config) → item_at now.configs (suc k) ≡ Some c → c ≡ walks.config r.machine
+  stands_at c at = let there = map_get (λ (x : ImageRun M). walks.config x.machine) p.images.items k r image_in run_is in cc
+
+  -- where the image asks next
+  pub next_at : (q : Place) → AsksAt q (move_of walks r) → (c : walks.Config) → item_at now.configs (suc k) ≡ Some c → (a : Ask) → AsksNext (walks.step c) a → place_of a ≡ q
+  next_at q h c at a asked = asked_at q (move_of walks r) a h (subst (λ d. AsksNext (walks.step d) a) (stands_at c at) asked)
+
+  -- an image that has ended asks nothing
+  pub never_asks : IsOver (move_of walks r) → (c : walks.Config) → item_at now.configs (suc k) ≡ Some c → (a : Ask) → AsksNext (walks.step c) a → ⊥
+  never_asks h c at a asked = over_asks (move_of walks r) a h (subst (λ d. AsksNext (walks.step d) a) (stands_at c at) asked)
 
   pub own_can : (a : Ask) → AsksAt places.Own (move_of walks r) → AsksNext (move_of walks r) a → true ≡ can_step R now (suc k)
   own_can a h n = sym (ready_is places.Own a h n)

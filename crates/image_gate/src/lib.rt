@@ -1,10 +1,10 @@
 //! The gates of a run: one round each memory and one round the board, and one image's passes for all of them.
 //! It stands on `turn_gate`; the workers stand on it.
-//! Its main contract is that of `Fabric::turn`: one turn at the gate that the ask names, and nothing else of the passes changes.
+//! Its main contract is that of `Gates::turn`: one turn at the gate that the ask names, and nothing else of the passes changes.
 #![tactic(auto)]
 
 mod closing;
 pub mod fabric;
+pub mod gates;
 mod opening;
 pub mod passes;
-pub mod places;

@@ -4,3 +4,4 @@ pub mod Steps
 pub mod Sizes
 pub mod Walking
 pub mod Bare
+pub mod Hurry

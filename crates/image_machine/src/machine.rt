@@ -1,6 +1,6 @@
 //! The machine of an image, at its next ask or at its end.
 
-ghost use Rattle.std.specs.Prelude.{◌≡◌, ◌≤◌, ◌<◌, ◌*◌, ◌^◌, ℕ, None, Some, length, map, slice_get, sum_by, IfOk, IfSome, IfNone};
+ghost use Rattle.std.specs.Prelude.{◌≡◌, ◌≤◌, ◌<◌, ◌*◌, ◌^◌, ℕ, [], None, Some, length, map, slice_get, sum_by, IfOk, IfSome, IfNone};
 ghost use Rattle.std.specs.Arc.{arc_value};
 ghost use Rattle.trace_theory.specs.Machines.{go, goes, Rests};
 ghost use Rattle.caf_events.specs.Walkers.{IsAtAsk, AsksNext, NextIs};
@@ -14,6 +14,7 @@ ghost use Rattle.image_state.specs.declared.state.Rooms.{Rooms};
 ghost use Rattle.image_machine.specs.Engine.{start_of, bare, kept_of};
 ghost use Rattle.coarray_tables.specs.Start.{AreFew, first_own, own_size};
 ghost use Rattle.image_machine.specs.Walk.{ArePlain, HasRoom, IsWell, machine_step, Stood, Answered};
+ghost use Rattle.quick_code.specs.Quick.{Covers};
 ghost use Rattle.image_state.specs.Kept.{table_of};
 ghost use Rattle.team_tables.specs.Tables as teams;
 
@@ -28,6 +29,8 @@ use caf_events::walker::{Next, Walker};
 use image_code::code::Code;
 use image_code::step::Step;
 use image_state::state::{ImageState, Rooms};
+use image_stores::numbers::Numbers;
+use quick_code::quick::{Quick, quick_code};
 use std::alloc::Global;
 use std::marker::Model;
 use std::sync::Arc;
@@ -38,9 +41,13 @@ pub struct Machine {
     alloc: Global,
     engine: Engine,
     stand: Went,
+    quick: Vec<Quick>,
+    stack: Numbers,
 }
 
 impl Model for Machine {
+    ghost use Rattle.std.specs.Prelude.{◌≡◌, ◌≤◌, [], length};
+    ghost use Rattle.quick_code.specs.Quick.{Covers};
     ghost use Rattle.image_machine.specs.Engine.{Engine};
     ghost use Rattle.image_machine.specs.Walk.{IsWell, Stood};
 
@@ -48,7 +55,7 @@ impl Model for Machine {
 
     ghost view = { λ m. m.engine };
 
-    ghost invariant = { λ m. IsWell m.engine × Stood m.engine m.stand };
+    ghost invariant = { λ m. IsWell m.engine × Stood m.engine m.stand × Covers m.engine.code.program.steps m.quick.items × (length m.quick.items ≤ 4294967295) × (m.stack.values ≡ []) × (m.stack.size ≤ m.engine.rooms.numbers) };
 }
 
 impl Machine {
@@ -70,13 +77,17 @@ impl Machine {
         ensures rests { IfOk result (λ m. Rests (machine_step (bare m))) }
     {
         let rooms = rooms(&code)?;
+        let quick = quick_of(alloc, &code)?;
+        let mut stack = quick_stack(alloc, rooms.numbers)?;
         let image = ImageState::new(alloc, code, rooms, me, n)?;
         let mut engine = Engine::new(alloc, image, limit)?;
-        let stand = engine.run();
+        let stand = engine.run(quick.as_slice(), &mut stack, alloc);
         Ok(Machine {
             alloc,
             engine,
             stand,
+            quick,
+            stack,
         })
     }
 
@@ -137,7 +148,9 @@ impl Walker for Machine {
     #[tactic(auto, using(crate::proofs::Bare::bare_at, crate::proofs::Bare::bare_rests))]
     fn give(&mut self, event: &Event) {
         take(&mut self.engine, self.stand, event, self.alloc);
-        self.stand = self.engine.run();
+        self.stand = self
+            .engine
+            .run(self.quick.as_slice(), &mut self.stack, self.alloc);
     }
 }
 
@@ -200,6 +213,28 @@ fn hear(engine: &mut Engine, stand: Went, reply: &Reply)
         Went::Asks(ask) => engine.answer(ask, reply),
         Went::Over | Went::On => unreachable!(),
     }
+}
+
+/// The most numbers on the stack of quick steps.
+const MOST_NUMBERS: usize = 64;
+
+/// A stack for quick steps, which has no more room than the image's.
+fn quick_stack(alloc: Global, numbers: usize) -> Result<Numbers, NoMemory>
+    ensures empty { IfOk result (λ s. s.values ≡ []) }
+    ensures room { IfOk result (λ s. s.size ≤ numbers) }
+{
+    let size = numbers.min(MOST_NUMBERS);
+    Ok(Numbers::new(vec![in alloc; 0i64; size]?))
+}
+
+/// The quick code of a code.
+fn quick_of(alloc: Global, code: &Code) -> Result<Vec<Quick>, NoMemory>
+    ensures covers { IfOk result (λ qs. Covers code.now.program.steps qs.items) }
+    ensures few { IfOk result (λ qs. length qs.items ≤ 4294967295) }
+{
+    let length = code.length();
+    prove!(length <= 4294967295);
+    quick_code(alloc, code.steps())
 }
 
 /// Room for the stacks of all bodies, and for a frame.

@@ -4,9 +4,9 @@ ghost use Rattle.std.specs.Prelude.{◌≡◌, ◌<◌, ◌≤◌, ◌-◌, ◌^
 ghost use Rattle.std.specs.List.{list_any, range_with_len};
 ghost use Rattle.object_rules.specs.Happenings.{numbers_of};
 ghost use Rattle.failure_status.specs.Endings.{AreWithin, flag_of};
-ghost use Rattle.image_sync.specs.PairStates.{row_of, names_in, has_partner_in, is_missed_in, is_lost_in, status_in_pairs, tried_row, AreSquare, AreCounted, AreTriedTo, Begins};
+ghost use Rattle.image_sync.specs.PairStates.{row_of, names_in, is_missed_in, is_lost_in, status_in_pairs, tried_row, AreSquare, AreCounted, AreTriedTo, Begins};
 
-use crate::row::{Row, count_of, is_paired, names_other};
+use crate::row::{Row, has_partner, is_paired, names_other};
 use caf_base::place::ImageNo;
 use failure_status::endings::Endings;
 use failure_status::status::status_of;
@@ -20,8 +20,7 @@ fn is_missed(rows: &Vec<Row>, endings: &Endings, image: ImageNo, other: ImageNo)
     ensures { result ≡ is_missed_in rows.now.items endings.now image.0 other.0 }
 {
     names_other(rows, image, other)
-        && (endings.has_stopped(other)
-            && count_of(rows, image, other) > count_of(rows, other, image))
+        && (endings.has_stopped(other) && !has_partner(rows, image, other))
 }
 
 // Whether it names the other one, which has failed.

@@ -1,6 +1,6 @@
 -- The report of a run is that of its trace.
-use Rattle.std.proofs.Common.{◌≡◌, ℕ, zero, suc, ◌+◌, ◌<◌, ◌≤◌, Bool, false, List, [], ◌∷◌, inl, inr, length, refl, ap, sym, ◌∙◌, subst, arith}
-use Rattle.std.specs.Prelude.{Option, Some, None, Ok, map, slice_get, nat_eq, MatchOption, IfSome, IfNone}
+use Rattle.std.proofs.Common.{◌≡◌, ℕ, zero, suc, ◌+◌, ◌<◌, ◌≤◌, Bool, false, List, [], ◌∷◌, ◌++◌, IsTrue, ◌↔◌, true, inl, inr, length, refl, ap, sym, ◌∙◌, subst, arith}
+use Rattle.std.specs.Prelude.{Option, Some, None, map, slice_get, slice_index_or, nat_eq, MatchOption, IfSome, IfNone}
 use Rattle.std.specs.List.{filter, range_with_len}
 use Rattle.std.proofs.lemmas.Bool.{cases_Bool, cases_lt}
 use Rattle.caf_base.specs.declared.refusal.NoMemory.{NoMemory}
@@ -9,25 +9,26 @@ use Rattle.caf_events.specs.declared.event.Trace.{Trace}
 use Rattle.caf_events.specs.Events.{EndsRun}
 use Rattle.caf_events.specs.Walkers.{AsksNext, IsAtLine}
 use Rattle.trace_theory.specs.Entries.{Each}
-use Rattle.trace_theory.proofs.Filters.{of_inside, each_filter}
+use Rattle.trace_theory.proofs.Filters.{each_filter}
 use Rattle.trace_theory.proofs.Snocs.{each_at}
-use Rattle.core_runs.specs.Lists.{image_of}
-use Rattle.core_runs.specs.Moments.{Rules, Moment, item_at, can_step}
-use Rattle.core_runs.specs.Beginnings.{Beginning, IsImage, IsFirst}
-use Rattle.core_runs.specs.CoreRuns.{of_image, IsCoreRun}
+use Rattle.caf_events.specs.declared.event.Event.{Event}
+use Rattle.core_runs.specs.Lists.{image_of, entry, list_at}
+use Rattle.core_runs.specs.Moments.{Rules, Moment, Steps, item_at, can_step}
+use Rattle.core_runs.specs.Beginnings.{Beginning, IsImage}
+use Rattle.core_runs.specs.CoreRuns.{IsCoreRun}
 use Rattle.core_runs.specs.Kept.{IsKept}
 use Rattle.core_runs.specs.Lawful.{IsLawfulTrace, made_memory}
-use Rattle.core_runs.specs.Orders.{candidates, EndsAtLast, IsWhole, IsOrderTrace}
+use Rattle.core_runs.specs.Orders.{Chooser, Ordered, candidates, EndsAtLast, IsWhole, IsOrderTrace}
 use Rattle.core_runs.specs.Traces.{IsTraceOf}
 use Rattle.core_runs.specs.Waits.{IsWaiting}
 use Rattle.core_runs.proofs.Lanes.{is_image}
-use Rattle.core_runs.proofs.OrderTraces.{order_trace, order_same}
+use Rattle.core_runs.proofs.Numbered.{item_within, index_same}
+use Rattle.core_runs.proofs.Weaves.{map_append, with_length}
 use Rattle.core_runs.proofs.Waits.{waiting, stopped}
 use Rattle.image_core.specs.declared.choices.RunEnd.{RunEnd}
 use Rattle.image_core.specs.declared.choices.RunEnd.TheVariants.{Ending, AllOver, AllWait}
-use Rattle.image_core.specs.declared.choices.Choices.{Choices}
 use Rattle.image_core.specs.Choosing.{choosing}
-use Rattle.image_core.specs.Orders.{EndIs, IsOrderRun}
+use Rattle.image_core.specs.Orders.{EndIs}
 use Rattle.object_rules.specs.Cells.{Declared}
 use Rattle.order_theory.specs.Races.{NoRace}
 use Rattle.order_axioms.specs.FirstRaces.{HasNoRace, Allowed}
@@ -42,7 +43,7 @@ use Rattle.caf_report.specs.declared.report.Race.{Race}
 use Rattle.caf_report.specs.declared.report.Report.{Report}
 use Rattle.caf_report.specs.declared.report.Waiting.{Waiting}
 use Rattle.caf_report.specs.Ends.{EndsAt, HasNoEnding, IsEndOf, IsPlain}
-use Rattle.order_report.specs.Reports.{choices_of, before_race, AreHeld, AreWaiting, IsRace, IsRunEnd, IsReportEnd, IsOrderReport, EndByThemselves}
+use Rattle.order_report.specs.Reports.{choices_of, before_race, AreHeld, AreWaiting, IsRace, IsRunEnd, IsReportEnd, IsRunReport, EndByThemselves, HasEnding, GoesNoFurther}
 
 -- an ordered run that was answered is whole
 pub whole_of : {C M B : Type 0} (r : Rules C M B) (m : Moment C M B) (xs : List Entry) (end : RunEnd) → EndIs r m xs end → IsWhole r xs m
@@ -75,12 +76,64 @@ no_ending t h = none_at t.entries (λ k x at ends. h k (ends_at k x at ends))
     ends_at : (k : ℕ) (x : Entry) → slice_get t.entries k ≡ Some x → EndsRun x.event → EndsAt t k
     ends_at k x at ends = rw at ends
 
--- a trace without an ending event is that of steps of which none ends the run
-ends_nowhere : (t : Trace) (xs : List Entry) → ((i : ℕ) → of_image i t.entries ≡ of_image i xs) → HasNoEnding t → EndsAtLast xs → ⊥
-ends_nowhere t xs same none (before, last, all, rest, ends) =
-    each_at (λ x. EndsRun x.event → ⊥) (of_image (image_of last) before) [] last
-    (subst (Each (λ x. EndsRun x.event → ⊥)) (same (image_of last) ∙ ap (of_image (image_of last)) all ∙ of_inside image_of before [] last) (each_filter (λ x. EndsRun x.event → ⊥) (λ x. nat_eq (image_of x) (image_of last)) t.entries (no_ending t none)))
-    ends
+-- a trace without an ending event is that of images of which none ends the run with its last event
+ends_nowhere : (ls : List (List Event)) (t : Trace) → IsTraceOf ls t.entries → HasEnding ls → HasNoEnding t → ⊥
+ends_nowhere ls t trace e none =
+    each_at (λ x. EndsRun x.event → ⊥) (map (entry e.image) e.before) [] (entry e.image e.last)
+    (subst (Each (λ x. EndsRun x.event → ⊥)) (trace.images e.image ∙ ap (map (entry e.image)) e.form ∙ map_append (entry e.image) e.before (e.last ∷ [])) (each_filter (λ x. EndsRun x.event → ⊥) (λ x. nat_eq (image_of x) e.image) t.entries (no_ending t none)))
+    e.ends
+
+has_last : {A : Type 0} (x : A) (xs : List A) → (before : List A) × (last : A) × (x ∷ xs ≡ before ++ last ∷ [])
+has_last x [] = ([], x, refl)
+has_last x (y ∷ xs) = let r = has_last y xs in (x ∷ r.0, r.1, ap (λ l. x ∷ l) r.2)
+
+-- an image of which it is told that its last event ends the run
+pub ending_here : (ls : List (List Event)) (k : ℕ) (events : List Event) → slice_index_or ls k [] ≡ events → (told : Bool) → ((es : List Event) (e : Event) → events ≡ es ++ e ∷ [] → (IsTrue told ↔ EndsRun e)) → (events ≡ [] → told ≡ false) → told ≡ true → HasEnding ls
+ending_here ls k [] at told last none is = absurd (let n = none refl in cc)
+ending_here ls k (x ∷ xs) at told last none is =
+    let l = has_last x xs in
+    record { image = suc k; before = l.0; last = l.1; form = at ∙ l.2; ends = (last l.0 l.1 l.2).0 is }
+
+-- the one step that ends a run ends it
+ends_one : (x : Entry) → EndsAtLast (x ∷ []) → EndsRun x.event
+ends_one x ([], last, all, rest, ends) = (let e : last ≡ x = cc in subst (λ (y : Entry). EndsRun y.event) e ends)
+ends_one x (z ∷ [], last, all, rest, ends) = absurd (cc)
+ends_one x (z ∷ y ∷ ys, last, all, rest, ends) = absurd (cc)
+
+ends_behind : (x y : Entry) (ys : List Entry) → EndsAtLast (x ∷ y ∷ ys) → EndsAtLast (y ∷ ys)
+ends_behind x y ys ([], last, all, rest, ends) = absurd (cc)
+ends_behind x y ys (z ∷ zs, last, all, rest, ends) = (zs, last, (let e : y ∷ ys ≡ zs ++ last ∷ [] = cc in e), rest.1, ends)
+
+-- a step that ends the run stands last in its image's list
+step_ending : {C M B : Type 0} (r : Rules C M B) (m m' : Moment C M B) (x : Entry) → length m.events ≡ length m.configs → Steps r m x.image.0 x.event m' → EndsRun x.event → HasEnding m'.events
+step_ending r m m' x as_many step ends = by_number x.image.0 refl
+  where
+    by_number : (n : ℕ) → x.image.0 ≡ n → HasEnding m'.events
+    by_number zero e = absurd (let y = subst (λ n. Steps r m n x.event m') e step in let z = y.stands in cc)
+    by_number (suc k) e =
+        let stands = subst (λ n. Steps r m n x.event m') e step in
+        let within = item_within m.configs k stands.from stands.stands in
+        record {
+          image = suc k;
+          before = list_at m.events (suc k);
+          last = x.event;
+          form = ap (λ ls. list_at ls (suc k)) stands.events ∙ index_same m.events k (list_at m.events (suc k) ++ x.event ∷ []) [] (omega arith);
+          ends = ends;
+        }
+
+ending_last : {C M B S : Type 0} (r : Rules C M B) (ch : Chooser S) (s : S) (m : Moment C M B) (xs : List Entry) (s' : S) (m' : Moment C M B) → Ordered r ch s m xs s' m' → EndsAtLast xs → length m.events ≡ length m.configs → HasEnding m'.events
+ending_last r ch s m [] s' m' o ([], last, all, rest, ends) as_many = absurd (cc)
+ending_last r ch s m [] s' m' o (z ∷ zs, last, all, rest, ends) as_many = absurd (cc)
+ending_last r ch s m (x ∷ []) s' m' (p, next, step, rest) at as_many = subst (λ v. HasEnding v.events) (sym rest.1) (step_ending r m next x as_many step (ends_one x at))
+ending_last r ch s m (x ∷ y ∷ ys) s' m' (p, next, step, rest) at as_many =
+    let a = ap length step.events ∙ with_length m.events x.image.0 (list_at m.events x.image.0 ++ x.event ∷ []) in
+    let b = ap length step.configs ∙ with_length m.configs x.image.0 step.to in
+    ending_last r ch (ch.after s (candidates r m)) next (y ∷ ys) s' m' rest (ends_behind x y ys at) (a ∙ as_many ∙ sym b)
+
+-- where an ordered run has come to an end, the run goes no further
+pub no_further : {C M B S : Type 0} (r : Rules C M B) (ch : Chooser S) (s : S) (m : Moment C M B) (xs : List Entry) (s' : S) (m' : Moment C M B) → Ordered r ch s m xs s' m' → IsWhole r xs m' → length m.events ≡ length m.configs → GoesNoFurther r m'
+no_further r ch s m xs s' m' ordered (inl at) as_many = inl (ending_last r ch s m xs s' m' ordered at as_many)
+no_further r ch s m xs s' m' ordered (inr (rest, stuck)) as_many = inr stuck
 
 module _ {C M B : Type 0} (r : Rules C M B) (b : Beginning C M B) (m : Moment C M B) (t : Trace) (h : IsKept r b m) (trace : IsTraceOf m.events t.entries) (enders : EndByThemselves r b) (stuck : candidates r m ≡ []) where
   each_waits : (ws : List Waiting) → Each (λ w. (c : C) × (item_at m.configs w.image.0 ≡ Some c) × AsksNext (r.step c) w.ask × IsAtLine (r.step c) w.line) ws → Each (λ w. IsWaiting r b t.entries w.image.0 w.line w.ask) ws
@@ -99,11 +152,11 @@ module _ {C M B : Type 0} (r : Rules C M B) (b : Beginning C M B) (m : Moment C 
     ]);
   }
 
--- the end of a report of a whole run with the images that haven't ended is that of the run
-pub run_end : {C M B : Type 0} (r : Rules C M B) (b : Beginning C M B) (m : Moment C M B) (t : Trace) (xs : List Entry) (ws : List Waiting) (end : End) → IsKept r b m → IsTraceOf m.events t.entries → EndByThemselves r b → ((i : ℕ) → of_image i t.entries ≡ of_image i xs)
-    → IsWhole r xs m → AreHeld r.step m.configs (length m.configs) ws → IsEndOf t ws end → IsRunEnd r b t end
-run_end r b m t xs ws end kept trace enders same (inl at_last) held is = record { ended = is.ended; open_end = λ none. absurd (ends_nowhere t xs same none at_last) }
-run_end r b m t xs ws end kept trace enders same (inr (rest, stuck)) held is = record { ended = is.ended; open_end = λ none. (ws, held_wait r b m t kept trace enders stuck ws held, is.open_end none) }
+-- the end of a report of a run that goes no further, with the images that haven't ended, is that of the run
+pub run_end : {C M B : Type 0} (r : Rules C M B) (b : Beginning C M B) (m : Moment C M B) (t : Trace) (ws : List Waiting) (end : End) → IsKept r b m → IsTraceOf m.events t.entries → EndByThemselves r b
+    → GoesNoFurther r m → AreHeld r.step m.configs (length m.configs) ws → IsEndOf t ws end → IsRunEnd r b t end
+run_end r b m t ws end kept trace enders (inl ending) held is = record { ended = is.ended; open_end = λ none. absurd (ends_nowhere m.events t trace ending none) }
+run_end r b m t ws end kept trace enders (inr stuck) held is = record { ended = is.ended; open_end = λ none. (ws, held_wait r b m t kept trace enders stuck ws held, is.open_end none) }
 
 -- the end of a report is the race that was found; where none was, that of the run
 end_of : {C M B : Type 0} (n : ℕ) (r : Rules C M B) (b : Beginning C M B) (t : Trace) (race : Option Race) (end : End) → MatchOption race (HasNoRace (edges n) touches t.entries) (IsRace n t)
@@ -141,22 +194,19 @@ run_end_of n r b t (ends.Clash k) plain is = is.1
 run_end_of n r b t (ends.Limit k) plain is = is.1
 run_end_of n r b t (ends.Stuck ws) plain is = is.1
 
--- the report of the moment to which an ordered run leads from the first one
-pub report_of : {C M B : Type 0} (r : Rules C M B) (b : Beginning C M B) (coarrays : List Declared) (seed : ℕ) (m m' : Moment C M B) (s s' : Choices) (end : RunEnd) (t : Trace) (ws : List Waiting) (race : Option Race) (report : Report)
-    → IsFirst r b m → EndByThemselves r b → s ≡ choices_of seed → (run : IsOrderRun {E = NoMemory} r s m s' m' (Ok end))
-    → IsKept r b m' → IsTraceOf m'.events t.entries → IsCoreRun r b t.entries → AreHeld r.step m'.configs (length m'.configs) ws → IsLawfulTrace coarrays b.images t.entries
+-- the report of a moment from which the run goes no further
+pub report_at : {C M B : Type 0} (r : Rules C M B) (b : Beginning C M B) (coarrays : List Declared) (m : Moment C M B) (t : Trace) (ws : List Waiting) (race : Option Race) (report : Report)
+    → EndByThemselves r b → GoesNoFurther r m
+    → IsKept r b m → IsTraceOf m.events t.entries → IsCoreRun r b t.entries → AreHeld r.step m.configs (length m.configs) ws → IsLawfulTrace coarrays b.images t.entries
     → MatchOption race (HasNoRace (edges b.images) touches t.entries) (IsRace b.images t)
-    → report.images ≡ b.images → report.trace ≡ t → IfSome race (λ x. report.end ≡ ends.Raced x) → IfNone race (IsPlain report.end) → IfNone race (IsEndOf t ws report.end) → IsOrderReport r b coarrays seed report
-report_of r b coarrays seed m m' s s' end t ws race report first enders seeded run kept trace core held lawful found images traced raced plain ended =
-    let whole = whole_of r m' run.steps end run.so in
-    let ordered = order_trace r b choosing s m run.steps s' m' t.entries first run.ordered whole trace in
-    let same = order_same r b choosing s m run.steps s' m' t.entries first run.ordered trace in
-    let without : IfNone race (IsRunEnd r b t report.end) = none_then race (λ is. run_end r b m' t run.steps ws report.end kept trace enders same whole held is) ended in
+    → report.images ≡ b.images → report.trace ≡ t → IfSome race (λ x. report.end ≡ ends.Raced x) → IfNone race (IsPlain report.end) → IfNone race (IsEndOf t ws report.end) → IsRunReport r b coarrays None report
+report_at r b coarrays m t ws race report enders over kept trace core held lawful found images traced raced plain ended =
+    let without : IfNone race (IsRunEnd r b t report.end) = none_then race (λ is. run_end r b m t ws report.end kept trace enders over held is) ended in
     let is_end : IsReportEnd b.images r b t report.end = end_of b.images r b t race report.end found raced plain without in
     record {
       images = images;
       core = subst (λ v. IsCoreRun r b v.entries) (sym traced) core;
-      ordered = subst (λ v. IsOrderTrace r b choosing (choices_of seed) v.entries) (sym traced) (subst (λ v. IsOrderTrace r b choosing v t.entries) seeded ordered);
+      ordered = λ seed e. absurd (cc);
       end = subst (λ v. IsReportEnd b.images r b v report.end) (sym traced) is_end;
       allowed = subst (λ v. Allowed (edges b.images) (accesses (made_memory coarrays)) v.entries (before_race v report.end)) (sym traced)
           (allowed coarrays b.images t.entries lawful (before_race t report.end) (clean b.images r b t report.end is_end));
@@ -165,3 +215,13 @@ report_of r b coarrays seed m m' s s' end t ws race report first enders seeded r
     none_then : {X Y : Type 0} (o : Option Race) → (X → Y) → IfNone o X → IfNone o Y
     none_then None f h = f h
     none_then (Some x) f h = h
+
+-- and it is that of the order in which the run was made
+pub with_order : {C M B : Type 0} (r : Rules C M B) (b : Beginning C M B) (coarrays : List Declared) (seed : ℕ) (report : Report) → IsRunReport r b coarrays None report → IsOrderTrace r b choosing (choices_of seed) report.trace.entries → IsRunReport r b coarrays (Some seed) report
+with_order r b coarrays seed report h ordered = record {
+  images = h.images;
+  core = h.core;
+  ordered = λ k e. (let same : seed ≡ k = cc in subst (λ n. IsOrderTrace r b choosing (choices_of n) report.trace.entries) same ordered);
+  end = h.end;
+  allowed = h.allowed;
+}

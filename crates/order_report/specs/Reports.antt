@@ -1,10 +1,12 @@
--- The report of an ordered run: its trace is a core run and that of the ordered run, its end is that of the trace, a race first, and up to the race each reference
+-- The report of a run: its trace is a core run, and that of the ordered run where there is an order; its end is that of the trace, a race first, and up to the race each reference
 -- gives the last definition in segment order.
-use Rattle.std.specs.Prelude.{ℕ, zero, suc, ◌≡◌, ◌<◌, ◌≤◌, ◌⊎◌, List, [], ◌∷◌, length, Some}
+use Rattle.std.specs.Prelude.{ℕ, zero, suc, ◌≡◌, ◌<◌, ◌≤◌, ◌⊎◌, List, [], ◌∷◌, ◌++◌, length, Option, Some}
 use Rattle.caf_events.specs.declared.ask.Ask.{Ask}
 use Rattle.caf_events.specs.declared.reply.Reply.{Reply}
 use Rattle.caf_events.specs.declared.event.Entry.{Entry}
+use Rattle.caf_events.specs.declared.event.Event.{Event}
 use Rattle.caf_events.specs.declared.event.Trace.{Trace}
+use Rattle.caf_events.specs.Events.{EndsRun}
 use Rattle.caf_events.specs.Walkers.{AsksNext, IsAtLine, IsOver}
 use Rattle.trace_theory.specs.Entries.{Each, Rises, last_or}
 use Rattle.trace_theory.specs.Machines.{Move}
@@ -14,7 +16,8 @@ use Rattle.core_runs.specs.CoreRuns.{IsCoreRun}
 use Rattle.core_runs.specs.Kept.{IsKept}
 use Rattle.core_runs.specs.Moments.{Rules, Moment, item_at}
 use Rattle.core_runs.specs.Lawful.{IsLawfulTrace, made_memory}
-use Rattle.core_runs.specs.Orders.{IsOrderTrace}
+use Rattle.core_runs.specs.Lists.{list_at}
+use Rattle.core_runs.specs.Orders.{IsOrderTrace, candidates}
 use Rattle.core_runs.specs.Sequences.{EndsByItself}
 use Rattle.core_runs.specs.Traces.{IsTraceOf}
 use Rattle.core_runs.specs.Waits.{HasEndedIn, IsWaiting}
@@ -71,12 +74,12 @@ abbrev pub before_race : Trace → End → ℕ
 before_race t (ends.Raced x) = x.second
 before_race t end = length t.entries
 
--- the report of the ordered run that begins so, over these coarrays and by the choices of a SEED (that its trace is a core run follows from the order, by
--- law_order_core; it is said for the reader)
-pub record IsOrderReport {C M B : Type 0} (r : Rules C M B) (b : Beginning C M B) (coarrays : List Declared) (seed : ℕ) (report : Report) : Type 0 where
+-- The report of a run that begins so, over these coarrays: its trace is a core run, and that of the order of a SEED where there is one (that it is a core run follows from an order, by
+-- law_order_core; it is said for the reader); its end is that of the trace, and up to the first race each reference gives the last definition.
+pub record IsRunReport {C M B : Type 0} (r : Rules C M B) (b : Beginning C M B) (coarrays : List Declared) (order : Option ℕ) (report : Report) : Type 0 where
   pub images : report.images ≡ b.images
   pub core : IsCoreRun r b report.trace.entries
-  pub ordered : IsOrderTrace r b choosing (choices_of seed) report.trace.entries
+  pub ordered : (seed : ℕ) → order ≡ Some seed → IsOrderTrace r b choosing (choices_of seed) report.trace.entries
   pub end : IsReportEnd b.images r b report.trace report.end
   pub allowed : Allowed (edges b.images) (accesses (made_memory coarrays)) report.trace.entries (before_race report.trace report.end)
 
@@ -84,6 +87,18 @@ pub record IsOrderReport {C M B : Type 0} (r : Rules C M B) (b : Beginning C M B
 pub record IsEndMoment {C M B : Type 0} (r : Rules C M B) (b : Beginning C M B) (t : List Entry) (m : Moment C M B) : Type 0 where
   pub kept : IsKept r b m
   pub trace : IsTraceOf m.events t
+
+-- an image's last event ends the run
+pub record HasEnding (lists : List (List Event)) : Type 0 where
+  pub image : ℕ
+  pub before : List Event
+  pub last : Event
+  pub form : list_at lists image ≡ before ++ last ∷ []
+  pub ends : EndsRun last
+
+-- a run goes no further from a moment: a step ended it, or no image can step
+abbrev pub GoesNoFurther : {C M B : Type 0} → Rules C M B → Moment C M B → Type 0
+GoesNoFurther r m = HasEnding m.events ⊎ (candidates r m ≡ [])
 
 -- every core run that begins so is a lawful trace over these coarrays
 abbrev pub AreLawful : {C M B : Type 0} → Rules C M B → Beginning C M B → List Declared → Type 0

@@ -1,7 +1,7 @@
-//! The ordered run of parts that are given, and its report: the run by the choices of a SEED, its trace, the first race of that, and its end.
-//! It stands on `image_core`, which makes the run, on `race_search`, which finds the race, and on `caf_report`; `full_report`,
+//! The end of a run of parts that are given, and its report: the whole run by the choices of a SEED, or what others have left of it by rotation; its trace, the first race of that, and its end.
+//! It stands on `image_core`, which makes the steps, on `race_search`, which finds the race, and on `caf_report`; `full_report`,
 //! the report of a run over all objects, stands on it.
-//! Its main contract is that of `report::report_order`: the report is that of the run (`IsOrderReport`): its trace is a core run and that of the order, it tells a
+//! Its main contract is that of `report::report_order` and `report::report_rest`: the report is that of the run (`IsRunReport`): its trace is a core run, and that of the order where there is one, it tells a
 //! race exactly where the trace has one, and up to it each reference is justified by segment order.
 #![tactic(auto)]
 

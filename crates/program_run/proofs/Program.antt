@@ -1,6 +1,6 @@
 -- The report of a run of machines whose code has the walks of a program is that of a run of the program.
 use Rattle.std.proofs.Common.{◌≡◌, ℕ, List, length, refl, sym, subst}
-use Rattle.std.specs.Prelude.{map}
+use Rattle.std.specs.Prelude.{map, Option}
 use Rattle.caf_events.specs.declared.event.Entry.{Entry}
 use Rattle.object_rules.specs.Cells.{Declared, MadeMemory}
 use Rattle.core_runs.specs.Moments.{Moment}
@@ -38,11 +38,11 @@ module _ (p : checked.Program) (w : Whole) (limit : ℕ) (rooms : ℕ → Rooms)
   pub machines_end : ImagesEnd machine_step hears coarrays n (λ i. start_of w limit (rooms i) i n) fails_at words
   machines_end i in_run = machine_ends p w limit (rooms i) i n (h i in_run) (fails_at i) words
 
-  pub program_report : (seed : ℕ) (report : Report) → IsImagesReport machine_step hears coarrays n (λ i. start_of w limit (rooms i) i n) fails_at words seed report → IsProgramReport p limit coarrays n fails_at words seed report
-  program_report seed report is = record {
+  pub program_report : (order : Option ℕ) (report : Report) → IsImagesReport machine_step hears coarrays n (λ i. start_of w limit (rooms i) i n) fails_at words order report → IsProgramReport p limit coarrays n fails_at words order report
+  program_report order report is = record {
     images = is.images;
     core = core_onward hears p w limit rooms coarrays n fails_at words h report.trace.entries is.core;
-    ordered = order_onward hears p w limit rooms coarrays n fails_at words h Choices choosing (choices_of seed) report.trace.entries is.ordered;
+    ordered = λ seed e. order_onward hears p w limit rooms coarrays n fails_at words h Choices choosing (choices_of seed) report.trace.entries (is.ordered seed e);
     end =
         report_end_too (lane_rules machine_step hears) (program_rules p limit) (machines_begin w limit rooms coarrays n fails_at words) (program_begins p coarrays n fails_at words) report.trace (λ i in_run. in_run)
         (λ i line ask waits. waits_onward hears p w limit rooms coarrays n fails_at words h report.trace.entries is.core i line ask waits) n report.end is.end;
@@ -61,19 +61,19 @@ module _ (w : Whole) (limit n : ℕ) (xs : List Engine) (count : length xs ≡ n
       (record { come = have_come w limit n xs begun; fit = machine_fit hears p w limit (rooms_of w limit n xs begun) coarrays n fails_at words h (λ m is. hears_due machine_step hears (λ c a reply asked any. tt) m) })
 
   -- so the report of their run is that of the program
-  pub run_report : (seed : ℕ) (report : Report)
+  pub run_report : (order : Option ℕ) (report : Report)
       → ((start : ℕ → Engine) → RunsFrom machine_step hears coarrays (length xs) start fails_at words (map bare xs) → ImagesEnd machine_step hears coarrays (length xs) start fails_at words
-      → IsImagesReport machine_step hears coarrays (length xs) start fails_at words seed report)
-      → (p : checked.Program) → HasWalksOn p limit n w → IsProgramReport p limit coarrays n fails_at words seed report
-  run_report seed report is p h =
-      program_report p w limit (rooms_of w limit n xs begun) coarrays n fails_at words h seed report
-      (subst (λ k. IsImagesReport machine_step hears coarrays k first fails_at words seed report) count
+      → IsImagesReport machine_step hears coarrays (length xs) start fails_at words order report)
+      → (p : checked.Program) → HasWalksOn p limit n w → IsProgramReport p limit coarrays n fails_at words order report
+  run_report order report is p h =
+      program_report p w limit (rooms_of w limit n xs begun) coarrays n fails_at words h order report
+      (subst (λ k. IsImagesReport machine_step hears coarrays k first fails_at words order report) count
       (is first (machines_run p h) (subst (λ k. ImagesEnd machine_step hears coarrays k first fails_at words) (sym count) (machines_end p w limit (rooms_of w limit n xs begun) coarrays n fails_at words h))))
 
 -- other final values change nothing of what a report is
-pub with_finals : (p : checked.Program) (limit : ℕ) (coarrays : List Declared) (n : ℕ) (fails_at : ℕ → ℕ) (words seed : ℕ) (report : Report) (fs : List Final) → IsProgramReport p limit coarrays n fails_at words seed report
-    → IsProgramReport p limit coarrays n fails_at words seed (record report { finals = fs })
-with_finals p limit coarrays n fails_at words seed report fs is = record { images = is.images; core = is.core; ordered = is.ordered; end = is.end; allowed = is.allowed }
+pub with_finals : (p : checked.Program) (limit : ℕ) (coarrays : List Declared) (n : ℕ) (fails_at : ℕ → ℕ) (words : ℕ) (order : Option ℕ) (report : Report) (fs : List Final) → IsProgramReport p limit coarrays n fails_at words order report
+    → IsProgramReport p limit coarrays n fails_at words order (record report { finals = fs })
+with_finals p limit coarrays n fails_at words order report fs is = record { images = is.images; core = is.core; ordered = is.ordered; end = is.end; allowed = is.allowed }
 
 -- the final values that are read of the parts at the end of such a run are the program's
 module _ (w : Whole) (limit n : ℕ) (xs : List Engine) (count : length xs ≡ n) (begun : EachAt (HasBegun w limit n) xs) (coarrays : List Declared) (fails_at : ℕ → ℕ) (words : ℕ) (t : List Entry) (m : Moment (OnLane Engine) MadeMemory ℕ)

@@ -4,7 +4,7 @@ use Rattle.caf_run.proofs.WhatIsDue.{whole_source, if_ok_map}
 use Rattle.caf_run.proofs.due.made_due.Goals as goal
 
 pub returns : goal.returns
-returns c =
+returns g c =
     if_ok_map c.bytes_due.result _ _
     (λ d b files left faults faults'. whole_source files (from_made c.args.seed c.args.size) c.args.task.now left faults faults' c.as_slice.result.now d.status d.text.items d.report
     (c.as_slice.ensures.value ∙ c.in_ok-bytes.ensures)

@@ -5,7 +5,7 @@ use Rattle.caf_run.proofs.WhatIsDue.{if_ok_map}
 use Rattle.caf_run.proofs.due.run_due.Goals as goal
 
 pub returns-in-Ok : goal.returns-in-Ok
-returns-in-Ok c =
+returns-in-Ok g c =
     if_ok_map c.report_due.result _ _
     (λ d told x accepts. run_tree x (typed.program c.args.checked.now) c.args.options c.args.fails.now c.in_ok-events.events.items c.in-Ok.report d.status d.text.items d.report accepts
     c.in_ok-events.ensures (rw (c.told_of.ensures, c.as_slice.ensures.value) at c.in-Ok.ensures.report) c.in-Ok.ensures.status told.0 (told.1 c.args.fails.now))
@@ -13,7 +13,7 @@ returns-in-Ok c =
 
 -- each accepted program can be run
 pub unreachable-requires : goal.unreachable-requires
-unreachable-requires c =
+unreachable-requires g c =
     let accepted = c.requires.accepted in
     let refused = rw (c.in-Err-Cause.field-0-is) at c.in-Err-Cause.ensures.refused in
     refused.cannot (can_run accepted.0 (typed.program c.args.checked.now) accepted.1)

@@ -7,14 +7,14 @@ use Rattle.checked_run.proofs.Programs.{run_of, walks_of}
 use Rattle.checked_run.proofs.running.report.Goals as goal
 
 pub run_code-requires-clause-program : goal.run_code-requires-clause-program
-run_code-requires-clause-program c =
+run_code-requires-clause-program g c κs within =
     let p = program c.args.checked.now in (
       p,
       walks_of p c.args.code (arc_value c.in_ok-shared.shared) c.args.told.limit c.args.told.images c.requires.code c.in_ok-shared.ensures.ok,
     )
 
 pub returns-clause-report : goal.returns-clause-report
-returns-clause-report c =
+returns-clause-report g c =
     let p = program c.args.checked.now in
     let w = arc_value c.in_ok-shared.shared in
     let done = c.in_ok-report.ensures in

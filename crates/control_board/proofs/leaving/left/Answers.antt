@@ -16,6 +16,18 @@ teams_made-requires-clause-team c =
 pub teams_made-requires-clause-round : goal.teams_made-requires-clause-round
 teams_made-requires-clause-round c = (joined_parts c.requires.images c.requires.history c.args.image.0 c.args.team c.args.round c.requires.ready).1
 
+pub has_bad_argument-requires-clause-kept : goal.has_bad_argument-requires-clause-kept
+has_bad_argument-requires-clause-kept c = record { images = c.requires.images; history = c.requires.history; board = c.requires.board }
+
+pub has_bad_argument-requires-clause-team : goal.has_bad_argument-requires-clause-team
+has_bad_argument-requires-clause-team c =
+    let j = joined_parts c.requires.images c.requires.history c.args.image.0 c.args.team c.args.round c.requires.ready in
+    let t = member_there c.requires.images c.requires.history c.args.parts.now c.requires.board false c.args.team.0 c.args.image.0 j.0 in
+    (t.0, t.1)
+
+pub has_bad_argument-requires-clause-round : goal.has_bad_argument-requires-clause-round
+has_bad_argument-requires-clause-round c = (joined_parts c.requires.images c.requires.history c.args.image.0 c.args.team c.args.round c.requires.ready).1
+
 pub result-requires-clause-team : goal.result-requires-clause-team
 result-requires-clause-team c =
     let j = joined_parts c.requires.images c.requires.history c.args.image.0 c.args.team c.args.round c.requires.ready in
@@ -41,6 +53,6 @@ returns c n h b ready =
     let m = rounds_members n h c.args.parts.now b false c.args.team.0 x.0 low x.1 in
     let e : to_z w32 (of_z w32 c.result.result) ≡ c.result.result = search rules in
     ap (λ s. replies.Left s c.in_ok-teams.teams) e
-    ∙ left_law n h c.args.parts.now b c.args.team.0 c.args.round low j.1 c.result.result c.is_bad.result c.in_ok-teams.teams j.2
-    (λ f close. c.result.ensures n (happened control h) f x.0 (b.rounds false) x.1 (ap (λ ms. at_close ms c.args.team.0 c.args.round (happened control h)) m ∙ close) ∙ ap (λ ms. result_of (missed_by ms f) c.is_bad.result) m)
-    c.is_bad.ensures (c.in_ok-teams.ensures n h b)
+    ∙ left_law n h c.args.parts.now b c.args.team.0 c.args.round low j.1 c.result.result c.has_bad_argument.result c.in_ok-teams.teams j.2
+    (λ f close. c.result.ensures n (happened control h) f x.0 (b.rounds false) x.1 (ap (λ ms. at_close ms c.args.team.0 c.args.round (happened control h)) m ∙ close) ∙ ap (λ ms. result_of (missed_by ms f) c.has_bad_argument.result) m)
+    c.has_bad_argument.ensures (c.in_ok-teams.ensures n h b)

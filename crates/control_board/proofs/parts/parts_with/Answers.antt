@@ -19,6 +19,7 @@ returns c = record {
   members = both _ (ap members_in c.requires.collective.teams) (ap members_in c.requires.control.teams);
   within = first_members c.args.n;
   rounds = both _ c.requires.collective.told c.requires.control.told;
+  joined = λ k t i some. absurd (omega arith);
   tables = ap length c.in_ok-brought.ensures;
   bringers = λ t low high. ap (λ ts. length (table_of ts t)) c.in_ok-brought.ensures ∙ ap length (first_table (replicate c.args.n no_values) t low (subst (λ ts. t ≤ length ts) c.in_ok-brought.ensures high)) ∙ length_none c.args.n;
   values = λ t i low high first last. ap (λ ts. values_of (table_of ts t) i) c.in_ok-brought.ensures ∙ ap (λ bs. values_of bs i) (first_table (replicate c.args.n no_values) t low (subst (λ ts. t ≤ length ts) c.in_ok-brought.ensures high)) ∙ values_none c.args.n (i - 1);

@@ -1,5 +1,4 @@
 use Rattle.std.proofs.Common.{◌≡◌, [], ◌++◌, map}
-use Rattle.image_core.specs.declared.run.ImageRun.{ImageRun}
 use Rattle.image_core.specs.Parts.{EachAt, AreNumbered}
 use Rattle.image_core.proofs.beginning.fresh_images.Given as goal
 

@@ -2,4 +2,4 @@ use Rattle.image_turns.specs.Turns.{StaysOn}
 use Rattle.image_turns.proofs.turns.run_image.Given as goal
 
 abbrev pub invariant-loop : goal.invariant-loop
-invariant-loop g l = StaysOn g.M.Walker l.fabric.board l.fabric.memories.items l.initial.run l.initial.passes l.run l.passes
+invariant-loop g l = StaysOn g.M.Walker l.gates.board l.gates.memories.items l.initial.run l.initial.passes l.run l.passes

@@ -1,42 +1,41 @@
-use Rattle.std.proofs.Common.{◌≡◌, length, map, sym, subst, arith}
-use Rattle.std.specs.Prelude.{MatchOption}
-use Rattle.caf_events.specs.declared.event.Trace.{Trace}
+use Rattle.std.proofs.Common.{◌≡◌, sym, ◌∙◌, subst}
 use Rattle.core_runs.specs.Moments.{rules}
-use Rattle.core_runs.specs.Traces.{IsTraceOf}
-use Rattle.image_core.specs.Parts.{event_lists, moment}
+use Rattle.core_runs.specs.Orders.{IsOrderTrace}
+use Rattle.core_runs.proofs.OrderTraces.{order_trace}
+use Rattle.image_core.specs.declared.run.ImageRun.{ImageRun}
+use Rattle.image_core.specs.Choosing.{choosing}
+use Rattle.image_core.specs.Parts.{moment}
 use Rattle.image_core.proofs.Slices.{map_length}
-use Rattle.order_axioms.specs.FirstRaces.{HasNoRace}
-use Rattle.order_axioms.specs.Touching.{touches}
-use Rattle.order_axioms.specs.Views.{edges}
-use Rattle.order_report.specs.Reports.{AreHeld, IsRace}
-use Rattle.order_report.proofs.Runs.{report_of}
+use Rattle.order_report.proofs.Runs.{whole_of, no_further, with_order}
 use Rattle.order_report.proofs.report.report_order.Goals as goal
+
+pub report_here-requires-clause-lawful : goal.report_here-requires-clause-lawful
+report_here-requires-clause-lawful g c = let h = c.requires.lawful in (h.0, h.1, c.in_ok-run_order.ensures.kept h.0 h.2, h.3)
+
+pub report_here-requires-clause-over : goal.report_here-requires-clause-over
+report_here-requires-clause-over g c =
+    let r = rules g.M.Walker g.O.Object g.B.Object in
+    let before = moment g.M.Walker g.O.Object g.B.Object c.args.parts.now in
+    let behind = moment g.M.Walker g.O.Object g.B.Object c.run_order.new.self in
+    let many = map_length (λ (x : ImageRun g.row.M.Denot). g.M.Walker.config x.machine) c.args.parts.now.images.items in
+    let lists = map_length (λ (x : ImageRun g.row.M.Denot). x.events.items) c.args.parts.now.images.items in
+    let run = c.in_ok-run_order.ensures.run in
+    let whole = whole_of r behind run.steps c.in_ok-run_order.field-0 run.so in
+    no_further r choosing c.choices_of_seed-choices.result before run.steps c.run_order.new.choices behind run.ordered whole (lists ∙ sym many)
 
 pub returns-clause-report : goal.returns-clause-report
 returns-clause-report g c b coarrays first kept enders lawful =
     let r = rules g.M.Walker g.O.Object g.B.Object in
-    let before = c.args.parts.now in
-    let behind = c.run_order.new.self in
-    let t = c.in_ok-trace.trace in
-    let race = c.in_ok-race.race in
-    let ws = c.in_ok-held.held in
+    let before = moment g.M.Walker g.O.Object g.B.Object c.args.parts.now in
+    let behind = moment g.M.Walker g.O.Object g.B.Object c.run_order.new.self in
+    let many = map_length (λ (x : ImageRun g.row.M.Denot). g.M.Walker.config x.machine) c.args.parts.now.images.items in
+    let lists = map_length (λ (x : ImageRun g.row.M.Denot). x.events.items) c.args.parts.now.images.items in
+    let run = c.in_ok-run_order.ensures.run in
+    let whole = whole_of r behind run.steps c.in_ok-run_order.field-0 run.so in
     let kept_on = c.in_ok-run_order.ensures.kept b kept in
-    let core = c.in_ok-trace.ensures.core b kept_on in
-    let sized = c.len-n.ensures in
-    let counted = kept.count in
-    let told = c.with_race.ensures.images in
-    let many = map_length (λ x. g.M.Walker.config x.machine) before.images.items in
-    let same : c.len-n.result ≡ b.images = omega arith in
-    let images : c.with_race.result.images ≡ b.images = omega arith in
-    let still = map_length (λ x. g.M.Walker.config x.machine) behind.images.items in
-    let held = subst (λ k. AreHeld g.M.Walker.step (map (λ x. g.M.Walker.config x.machine) behind.images.items) k ws) (sym still) c.in_ok-held.ensures in
-    let found = subst (λ k. MatchOption race (HasNoRace (edges k) touches t.entries) (IsRace k t)) same c.in_ok-race.ensures.race in
-    report_of r b coarrays c.args.seed (moment g.M.Walker g.O.Object g.B.Object before) (moment g.M.Walker g.O.Object g.B.Object behind) c.choices_of_seed-choices.result c.run_order.new.choices c.in_ok-run_order.field-0 t ws race c.with_race.result
-    first enders c.choices_of_seed-choices.ensures c.in_ok-run_order.ensures.run kept_on c.in_ok-trace.ensures.trace core held (lawful t.entries core) found
-    images c.with_race.ensures.trace c.with_race.ensures.raced c.with_race.ensures.plain c.with_race.ensures.end
+    let report = c.in_ok-report.report in
+    let ordered = order_trace r b choosing c.choices_of_seed-choices.result before run.steps c.run_order.new.choices behind report.trace.entries first run.ordered whole (c.in_ok-report.ensures.at_end b kept_on).trace in
+    with_order r b coarrays c.args.seed report (c.in_ok-report.ensures.report b coarrays kept_on enders lawful) (subst (λ v. IsOrderTrace r b choosing v report.trace.entries) c.choices_of_seed-choices.ensures ordered)
 
 pub returns-clause-at_end : goal.returns-clause-at_end
-returns-clause-at_end g c b kept = record {
-  kept = c.in_ok-run_order.ensures.kept b kept;
-  trace = subst (λ (t : Trace). IsTraceOf (event_lists c.run_order.new.self.images.items) t.entries) (sym c.with_race.ensures.trace) c.in_ok-trace.ensures.trace;
-}
+returns-clause-at_end g c b kept = c.in_ok-report.ensures.at_end b (c.in_ok-run_order.ensures.kept b kept)

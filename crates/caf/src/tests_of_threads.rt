@@ -1,0 +1,170 @@
+//! Runs on workers, through the top call: that images run at once and that each memory has a gate of its own, which no contract says, and worked rows that end alike in every order.
+//! A hook waits for what another worker does at most so long; what didn't come in that time is a miss.
+
+ghost use Rattle.std.specs.Prelude.{◌≤◌};
+
+use crate::tests::{NEIGHBOUR, RING, WHOLE, says, source_of, words_of};
+use caf_base::hook::{Hook, HookStep};
+use caf_base::place::Place;
+use caf_io::mem_sink::MemSink;
+use caf_run::top::caf;
+use crossbeam_utils::Backoff;
+use std::alloc::Global;
+use std::process::Abort;
+use std::sync::Wait;
+use std::sync::atomic::{AtomicU64, Ordering};
+use std::thread::Threads;
+
+/// How often a hook looks at most for what it waits for.
+const LOOKS: u32 = 2_000_000;
+
+/// Each of two images defines its own coarray.
+const WRITERS: &[u8] = b"integer :: x[*]\nx = this_image()\nsync all\nprint *, x\nend\n";
+
+// Whether a word comes to hold another number than 0 and this one.
+fn comes(word: &AtomicU64, mine: u64) -> bool {
+    let backoff = Backoff::new();
+    for _ in 0..LOOKS {
+        let seen = word.load(Ordering::SeqCst);
+        if seen != 0 && seen != mine {
+            return true;
+        }
+        backoff.snooze();
+    }
+    false
+}
+
+// Notes a miss where what was waited for hasn't come.
+fn note(missed: &AtomicU64, came: bool) {
+    if !came {
+        missed.store(1, Ordering::SeqCst);
+    }
+}
+
+/// Ahead of each turn at the memory of image 1 or 2 it waits until another worker is ahead of one at the other's.
+#[derive(Drop)]
+struct Meeting {
+    /// The worker that came to the memory of image 1, counted from 1.
+    first: AtomicU64,
+    second: AtomicU64,
+    missed: AtomicU64,
+}
+
+impl Hook for Meeting {
+    /// Waits ahead of a turn at one of the two memories.
+    fn at(&self, worker: u32, place: Place, step: HookStep) {
+        let HookStep::Before = step else {
+            return;
+        };
+        let mine = u64::from(worker) + 1;
+        match place {
+            Place::Memory(owner) if owner.0 == 1 => {
+                self.first.store(mine, Ordering::SeqCst);
+                note(&self.missed, comes(&self.second, mine));
+            }
+            Place::Memory(owner) if owner.0 == 2 => {
+                self.second.store(mine, Ordering::SeqCst);
+                note(&self.missed, comes(&self.first, mine));
+            }
+            Place::Memory(_) | Place::Board | Place::Own => {}
+        }
+    }
+}
+
+/// Whoever has the memory of image 1 in hand waits until a turn at that of image 2 is over, and that turn until the other has it in hand.
+#[derive(Drop)]
+struct Crossing {
+    held: AtomicU64,
+    passed: AtomicU64,
+    missed: AtomicU64,
+}
+
+impl Hook for Crossing {
+    /// Waits ahead of a turn at the second memory, and within one at the first.
+    fn at(&self, _worker: u32, place: Place, step: HookStep) {
+        let Place::Memory(owner) = place else {
+            return;
+        };
+        match step {
+            HookStep::Before if owner.0 == 2 => note(&self.missed, comes(&self.held, 0)),
+            HookStep::Holding if owner.0 == 1 => {
+                self.held.store(1, Ordering::SeqCst);
+                note(&self.missed, comes(&self.passed, 0));
+            }
+            HookStep::After if owner.0 == 2 => self.passed.store(1, Ordering::SeqCst),
+            HookStep::Before | HookStep::Holding | HookStep::After => {}
+        }
+    }
+}
+
+// The two writers on two workers, with this hook, end as in every order.
+fn writes<R: Abort + Threads + Wait + Sync, H: Hook + Sync>(rt: &R, alloc: Global, hook: &H) {
+    let words = words_of(rt, alloc, &["run", "-n", "2", "-w", "2", "a.f90"]);
+    let mut source = source_of(rt, alloc, WRITERS, WHOLE);
+    let mut sink = MemSink::new(alloc, Vec::new(alloc), 4096, 4096).expect(rt, "memory");
+    let done = caf(rt, alloc, &words, &mut source, &mut sink, hook);
+    assert!(rt;
+        sink.bytes() == b"1: 1\n2: 2\n".as_slice(),
+        "each image prints its own"
+    );
+    assert!(rt; done.status == 0, "and both end");
+    drop(done);
+}
+
+#[test]
+fn writes_of_two_images_overlap(rt: HostRuntime) {
+    let hook = Meeting {
+        first: AtomicU64::new(0),
+        second: AtomicU64::new(0),
+        missed: AtomicU64::new(0),
+    };
+    writes(&rt, rt.alloc(), &hook);
+    assert!(&rt; hook.missed.load(Ordering::SeqCst) == 0, "no miss");
+}
+
+#[test]
+fn no_lock_round_both_memories(rt: HostRuntime) {
+    let hook = Crossing {
+        held: AtomicU64::new(0),
+        passed: AtomicU64::new(0),
+        missed: AtomicU64::new(0),
+    };
+    writes(&rt, rt.alloc(), &hook);
+    assert!(&rt; hook.missed.load(Ordering::SeqCst) == 0, "no miss");
+}
+
+#[test]
+fn rows_on_workers(rt: HostRuntime) {
+    let ring = ["run", "-n", "8", "-w", "4", "a.f90"];
+    says(
+        &rt,
+        rt.alloc(),
+        &ring,
+        RING,
+        WHOLE,
+        0,
+        "1: 850500 32004000\n",
+    );
+    for workers in ["1", "2", "4", "64"] {
+        let words = ["run", "-w", workers, "a.f90"];
+        says(&rt, rt.alloc(), &words, NEIGHBOUR, WHOLE, 0, "1: 4\n");
+    }
+    let words = ["run", "-n", "1", "a.f90"];
+    says(&rt, rt.alloc(), &words, b"end\n", WHOLE, 0, "");
+}
+
+// An error stop, and images that wait for ever, are told as in an ordered run.
+#[test]
+fn ends_on_workers(rt: HostRuntime) {
+    let words = ["run", "-n", "2", "-w", "2", "a.f90"];
+    let stop = b"if (this_image() == 2) error stop 7\nend\n";
+    says(
+        &rt,
+        rt.alloc(),
+        &words,
+        stop,
+        WHOLE,
+        4,
+        "error stop image 2 line 1 code 7\n",
+    );
+}
