@@ -60,12 +60,12 @@ pub record RefusalClause (words : List Word) (files : Option Files) (status : �
 pub record AcceptanceClause (words : List Word) (files : Option Files) (status : ℕ) : Type 0 where
   pub accepted : IsRunStatus status → ((bytes : List ℕ) × HasSourceBytes words files bytes × IsAccepted bytes) ⊎ MakesSome words
 
--- the report is that of a run of the checked program as the words tell it: on their images, with their failures and limits, in the order of their SEED or on their workers
+-- the report is that of a run of the checked program as the words tell it: on their images, with their failures and limits, and where they give a SEED in its order
 abbrev pub IsToldRun : typed.Program → Options → List FailAt → Report → Type 0
 IsToldRun p o fails r = IsRunOf p (told_of o) (first_failure fails) r
 
 -- Run: with a report, the source's bytes stand for a checked program, and the report is of its run as the words tell it. So a race is told exactly where the run's trace has
--- one, and up to it each reference gives the last definition in segment order (`IsRunReport`: `end`, `allowed`).
+-- one, and up to it each reference that isn't atomic gives the last definition in segment order (`IsRunReport`: `end`, `allowed`).
 abbrev pub RunClause : List Word → Option Files → Option Report → Type 0
 RunClause words files None = Unit {0}
 RunClause words files (Some r) = (o : Options) × (fails : List FailAt) × (origin : Origin) × (bytes : List ℕ) × (p : typed.Program) × IsRun words o fails origin × IsSourceIfTold files origin bytes

@@ -49,7 +49,7 @@ abbrev pub way_of : words.Way → ℕ → Way
 way_of (told.Order seed) images = Order seed
 way_of (told.Workers workers) images = Workers (min workers images)
 
--- what a run is told: the images, the limit and the way of the options; an image records 262,144 words at most
+-- what a run is told: the images, the limit and the way of the options; the limit of an image's recorded words is 262,144
 abbrev pub told_of : Options → Told
 told_of o = record { images = o.images; limit = o.steps; words = 262144; way = way_of o.way o.images }
 

@@ -22,7 +22,7 @@ pub enum Task {
     },
 }
 
-/// What a run is told: the images, the limit and the way of the options, and the most words that an image may record.
+/// What a run is told: the images, the limit and the way of the options, and the limit of an image's recorded words.
 pub fn told_of(options: Options) -> Told
     ensures { result ≡ spec.told_of options }
 {

@@ -27,8 +27,8 @@ pub struct Done {
 /// program breaks no rule, of `make` that the source is made, 2 usage, 3 refused, 4 error stop, 5 race, 6 stuck, 7 limit, 8 run fault, 9 clash, 10 read fault, 11 write fault,
 /// 12 want of memory, 13 too long.
 ///
-/// Words that name no file leave the source as it was. Where the source tells its files and its count of faults doesn't rise in this call, the words and the file settle the status
-/// that is due; where the sink's doesn't rise either, that is the answer, or 12. A run without a stated order is on workers: the call may wait for them, and calls the hook at each
+/// Words that name no file leave the source as it was. Where the source tells its files and its count of faults doesn't rise in this call, the words and the file settle whether the status
+/// that is due is 3, 13 or that of what the words ask for; where the sink's doesn't rise either, that is the answer, or 12. A run without a stated order is on workers: the call may wait for them, and calls the hook at each
 /// turn at a memory or the board.
 pub fn caf<R: Threads + Wait + Sync, S: Source, K: Sink, H: Hook + Sync>(
     rt: &R,

@@ -41,8 +41,8 @@ run_status (ends.RunFault k) = inr (omega arith, omega arith)
 run_status (ends.Clash k) = inr (omega arith, omega arith)
 
 unrunnable : (p : Program) (line : ℕ) → IsUnrunnableCode (lines_of p) (tables_of p) line → IsUnrunnable p line
-unrunnable p line (inl x) = record { cannot = λ r. x.0 r.begins; place = inl x.1 }
-unrunnable p line (inr x) = record { cannot = λ r. x.1.undone (r.does x.0 x.1.it x.1.there); place = inr x }
+unrunnable p line (inl x) = record { cannot = λ r. x.0 r.begins; place = inl (inl x) }
+unrunnable p line (inr x) = record { cannot = λ r. x.1.undone (r.does x.0 x.1.it x.1.there); place = inl (inr x) }
 
 -- what is known of code is known of the program that was made into it
 module _ (p : Program) (w : Whole) (is : IsCodeOf p w) where
@@ -59,13 +59,9 @@ module _ (p : Program) (w : Whole) (is : IsCodeOf p w) where
   coarrays_too t same ds e = e ∙ ap (λ x. map in_memory x.coarrays) (same ∙ is.tables)
 
   pub valueless : (t : Tables) → t ≡ w.program.tables → (line : ℕ) → (line ≡ 0) × (list_all has_first_values (map in_memory t.coarrays) ≡ false) → IsUnrunnable p line
-  valueless t same line x = record {
-    cannot = λ r. (
-        let yes : list_all has_first_values (coarrays_of p) ≡ true = r.values in
-        let no' : list_all has_first_values (coarrays_of p) ≡ false = subst (λ y. list_all has_first_values (map in_memory y.coarrays) ≡ false) (same ∙ is.tables) x.1 in
-        absurd (cc));
-    place = inl x.0;
-  }
+  valueless t same line x =
+      let missing : list_all has_first_values (coarrays_of p) ≡ false = subst (λ y. list_all has_first_values (map in_memory y.coarrays) ≡ false) (same ∙ is.tables) x.1 in
+      record { cannot = λ r. (let yes : list_all has_first_values (coarrays_of p) ≡ true = r.values in absurd (cc)); place = inr (missing, x.0) }
 
 pub can_run : (p : Program) → DoesAll (lines_of p) → CanBegin (tables_of p) → (ds : List Declared) → ds ≡ coarrays_of p → list_all has_first_values ds ≡ true → CanRun p
 can_run p does begins ds same values = record { does = does; begins = begins; values = subst (λ xs. list_all has_first_values xs ≡ true) same values }

@@ -1,5 +1,5 @@
 -- Which programs the machine can run.
-use Rattle.std.specs.Prelude.{ℕ, ◌≡◌, ◌⊎◌, true, List}
+use Rattle.std.specs.Prelude.{ℕ, ◌≡◌, ◌⊎◌, true, false, List}
 use Rattle.std.specs.List.{list_all}
 use Rattle.walk_theory.specs.Code.{Line}
 use Rattle.walk_theory.specs.Made.{program_code}
@@ -9,7 +9,7 @@ use Rattle.object_rules.specs.MemoryRules.{has_first_values}
 use Rattle.tree_meaning.specs.Forms.{bodies}
 use Rattle.program_tables.specs.Tables.{tables_of}
 use Rattle.checked_run.specs.Coarrays.{coarrays_of}
-use Rattle.checked_run.specs.Doing.{CanBegin, DoesAll, IsUndone}
+use Rattle.checked_run.specs.Doing.{CanBegin, DoesAll, IsUnrunnableCode}
 
 -- the lines of its code
 abbrev pub lines_of : Program → List (Line Act)
@@ -21,7 +21,7 @@ pub record CanRun (p : Program) : Type 0 where
   pub begins : CanBegin (tables_of p)
   pub values : list_all has_first_values (coarrays_of p) ≡ true
 
--- it can't. This is the line of an instruction that it doesn't do, or 0 where it can't begin or a first value is missing
+-- it can't. This is the line of an instruction that it doesn't do, or 0: where it can't begin, or a first value is missing
 pub record IsUnrunnable (p : Program) (line : ℕ) : Type 0 where
   pub cannot : CanRun p → ⊥
-  pub place : (line ≡ 0) ⊎ ((place : ℕ) × IsUndone (lines_of p) place line)
+  pub place : IsUnrunnableCode (lines_of p) (tables_of p) line ⊎ ((list_all has_first_values (coarrays_of p) ≡ false) × (line ≡ 0))

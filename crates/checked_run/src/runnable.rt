@@ -15,7 +15,7 @@ use coarray_tables::fits::are_fit;
 use image_code::code::Code;
 use image_code::step::{AskStep, Step};
 
-/// The machine can't run a program: the line of a step of its code that it doesn't do, or 0 where it can't begin with its coarrays.
+/// The machine can't run a program: the line of a step of its code that it doesn't do, or 0 where it can't begin with its coarrays or a static coarray has no first values.
 #[derive(Clone, Copy)]
 pub struct Unrunnable {
     pub line: u32,

@@ -35,7 +35,7 @@ use std::alloc::Global;
 use std::sync::{Arc, Wait};
 use std::thread::Threads;
 
-/// What a run is told: on how many images, the most statements that an image counts, the most recorded words of an image, and how the images take turns.
+/// What a run is told: on how many images, the most statements that an image counts, the limit of an image's recorded words, and how the images take turns.
 #[derive(Clone, Copy)]
 pub struct Told {
     pub images: u32,

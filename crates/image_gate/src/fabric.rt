@@ -31,7 +31,7 @@ pub struct Fabric<O: Object, B: Object> {
 
 impl<O: Object, B: Object> Fabric<O, B> {
     /// Gates round the memories of images 1 to their number and round the board, and for each of these images its passes. On refusal the
-    /// objects are given up. Condition: none of them has an entry.
+    /// objects are given up. Conditions: there are fewer than 2 ** 31 memories, and none of the objects has an entry.
     pub fn new(
         alloc: Global,
         memories: Vec<O>,

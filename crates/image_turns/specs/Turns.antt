@@ -1,5 +1,5 @@
 -- What holds of an image that makes its steps at the gates of a run, whatever the other images do meanwhile.
-use Rattle.std.specs.Prelude.{ℕ, suc, ◌≡◌, ◌+◌, ◌<◌, ◌≤◌, ◌⊎◌, List, [], ◌∷◌, ◌++◌, length, map}
+use Rattle.std.specs.Prelude.{ℕ, suc, ◌≡◌, ◌+◌, ◌<◌, ◌≤◌, ◌⊎◌, Bool, true, false, List, [], ◌∷◌, ◌++◌, length, map}
 use Rattle.trace_theory.specs.Entries.{Each}
 use Rattle.trace_theory.specs.Machines.{Move, WalkTo, Rests}
 use Rattle.caf_base.specs.declared.place.Place.TheVariants.{Own}
@@ -69,6 +69,11 @@ pub record StaysOn {M O B : Type 0} (walks : walker.Ghosts M) (board : Opened B)
 pub record MadeNone {M : Type 0} (walks : walker.Ghosts M) (r r' : ImageRun M) : Type 0 where
   pub machine : walks.config r'.machine ≡ walks.config r.machine
   pub events : r'.events.items ≡ r.events.items
+
+-- whether an image made a step, told by its events
+pub record HasMade (before after : List Event) (made : Bool) : Type 0 where
+  pub some : made ≡ true → length before < length after
+  pub none : made ≡ false → after ≡ before
 
 -- no step was made, or one that the image makes by itself
 abbrev pub MadeAlone : {M : Type 0} (walks : walker.Ghosts M) → ImageRun M → ImageRun M → Type 0

@@ -8,7 +8,7 @@ ghost use Rattle.caf_base.specs.declared.place.Place.TheVariants as places;
 ghost use Rattle.image_core.specs.Prepared.{move_of, AsksAt};
 ghost use Rattle.image_gate.specs.Fabrics.{IsPlaceOf};
 ghost use Rattle.core_runs.specs.Lists.{last_of};
-ghost use Rattle.image_turns.specs.Turns.{HearsEvery, ArePassesOf, StaysOn, MadeNone, MadeAlone};
+ghost use Rattle.image_turns.specs.Turns.{HasMade, HearsEvery, ArePassesOf, StaysOn, MadeNone, MadeAlone};
 ghost use Rattle.image_turns.specs.Waits.{Waits};
 
 use caf_base::hook::Hook;
@@ -30,6 +30,7 @@ fn step_alone<M: Walker>(run: &mut ImageRun<M>) -> Result<bool, NoMemory>
     requires hears { HearsEvery M.step M.hears }
     ensures image { run.new.image ≡ run.old.image }
     ensures alone { MadeAlone M.Walker run.old run.new }
+    ensures tells { IfOk result (HasMade run.old.events.items run.new.events.items) }
     ensures waits { IfOk result (λ made. made ≡ false → MadeNone M.Walker run.old run.new × (2 ^ 62 ≤ last_of run.new.events.items)) }
 {
     if run.last_stamp() >= LAST_STAMP {
@@ -54,6 +55,7 @@ fn step_at_gate<R: Wait, M: Walker, O: Object, B: Object, H: Hook>(
     requires place { (ask : Ask) → AsksNext (move_of M.Walker run.old) ask → IsPlaceOf (length gates.now.memories.items) (place_of ask) }
     requires hears { HearsEvery M.step M.hears }
     ensures stays { StaysOn M.Walker gates.now.board gates.now.memories.items run.old passes.old run.new passes.new }
+    ensures tells { IfOk result (HasMade run.old.events.items run.new.events.items) }
     ensures waits { IfOk result (λ made. made ≡ false → Waits O.Object B.Object gates.now.board gates.now.memories.items M.Walker run.new passes.new) }
 {
     let line = run.line();
@@ -91,6 +93,7 @@ pub fn advance<R: Wait, M: Walker, O: Object, B: Object, H: Hook>(
     requires passes { ArePassesOf gates.now.board gates.now.memories.items run.old passes.old }
     requires hears { HearsEvery M.step M.hears }
     ensures stays { StaysOn M.Walker gates.now.board gates.now.memories.items run.old passes.old run.new passes.new }
+    ensures tells { IfOk result (HasMade run.old.events.items run.new.events.items) }
     ensures waits { IfOk result (λ made. made ≡ false → Waits O.Object B.Object gates.now.board gates.now.memories.items M.Walker run.new passes.new) }
 {
     match run.want() {
@@ -116,6 +119,7 @@ pub fn run_image<R: Wait, M: Walker, O: Object, B: Object, H: Hook>(
     requires passes { ArePassesOf gates.now.board gates.now.memories.items run.old passes.old }
     requires hears { HearsEvery M.step M.hears }
     ensures stays { StaysOn M.Walker gates.now.board gates.now.memories.items run.old passes.old run.new passes.new }
+    ensures tells { IfOk result (HasMade run.old.events.items run.new.events.items) }
     ensures waits { IfOk result (λ _. Waits O.Object B.Object gates.now.board gates.now.memories.items M.Walker run.new passes.new) }
 {
     let mut moved = false;

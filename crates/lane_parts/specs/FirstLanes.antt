@@ -11,7 +11,7 @@ use Rattle.image_lanes.specs.Lanes.{OnLane, lane_start}
 abbrev pub fails_at : List ℕ → ℕ → ℕ
 fails_at fails i = unwrap_or (item_at fails i) 0
 
--- the lanes of the images from number i on, over these configurations, with so many recorded words at most
+-- the lanes of the images from number i on, over these configurations, each with its limit at so many recorded words
 abbrev pub first_lanes : {C : Type 0} → (ℕ → ℕ) → ℕ → ℕ → List C → List (OnLane C)
 first_lanes fails words i [] = []
 first_lanes fails words i (c ∷ cs) = lane_start i (fails i) words c ∷ first_lanes fails words (i + 1) cs

@@ -1,5 +1,5 @@
 -- The report of a run: its trace is a core run, and that of the ordered run where there is an order; its end is that of the trace, a race first, and up to the race each reference
--- gives the last definition in segment order.
+-- that isn't atomic gives the last definition in segment order.
 use Rattle.std.specs.Prelude.{ℕ, zero, suc, ◌≡◌, ◌<◌, ◌≤◌, ◌⊎◌, List, [], ◌∷◌, ◌++◌, length, Option, Some}
 use Rattle.caf_events.specs.declared.ask.Ask.{Ask}
 use Rattle.caf_events.specs.declared.reply.Reply.{Reply}
@@ -75,7 +75,7 @@ before_race t (ends.Raced x) = x.second
 before_race t end = length t.entries
 
 -- The report of a run that begins so, over these coarrays: its trace is a core run, and that of the order of a SEED where there is one (that it is a core run follows from an order, by
--- law_order_core; it is said for the reader); its end is that of the trace, and up to the first race each reference gives the last definition.
+-- law_order_core; it is said for the reader); its end is that of the trace, and up to the first race each reference that isn't atomic gives the last definition.
 pub record IsRunReport {C M B : Type 0} (r : Rules C M B) (b : Beginning C M B) (coarrays : List Declared) (order : Option ℕ) (report : Report) : Type 0 where
   pub images : report.images ≡ b.images
   pub core : IsCoreRun r b report.trace.entries

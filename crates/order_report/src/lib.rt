@@ -2,7 +2,7 @@
 //! It stands on `image_core`, which makes the steps, on `race_search`, which finds the race, and on `caf_report`; `full_report`,
 //! the report of a run over all objects, stands on it.
 //! Its main contract is that of `report::report_order` and `report::report_rest`: the report is that of the run (`IsRunReport`): its trace is a core run, and that of the order where there is one, it tells a
-//! race exactly where the trace has one, and up to it each reference is justified by segment order.
+//! race exactly where the trace has one, and up to it each reference that isn't atomic is justified by segment order.
 #![tactic(auto)]
 
 mod race;

@@ -1,5 +1,5 @@
 -- The machines of code before their first step, and the code that they run.
-use Rattle.std.specs.Prelude.{ℕ, suc, ◌≡◌, ◌≤◌, map, sum_by}
+use Rattle.std.specs.Prelude.{ℕ, suc, ◌≡◌, ◌≤◌, List, Option, None, Some, map, slice_index_or, sum_by}
 use Rattle.trace_theory.specs.Machines.{go, goes, Rests}
 use Rattle.caf_events.specs.declared.reply.Reply.{Reply}
 use Rattle.image_code.specs.Code.{Whole}
@@ -23,3 +23,7 @@ hears e reply = Unit {0}
 pub record HasBegun (w : Whole) (limit n k : ℕ) (e : Engine) : Type 0 where
   pub starts : (rooms : Rooms) × (steps : ℕ) × (go machine_step steps (start_of w limit rooms (suc k) n) ≡ goes (bare e))
   pub rests : Rests (machine_step (bare e))
+
+-- what stands in a slot has this at its place; a slot may be empty
+abbrev pub EachWhereThere : {A : Type 0} → (ℕ → A → Type 0) → List (Option A) → Type 0
+EachWhereThere {A} P slots = (k : ℕ) (x : A) → slice_index_or slots k None ≡ Some x → P k x

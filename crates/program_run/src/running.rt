@@ -15,7 +15,7 @@ ghost use Rattle.program_run.specs.Finals.{AreProgramFinals};
 ghost use Rattle.program_run.specs.Machines.{IsRunnable};
 ghost use Rattle.program_run.specs.Reports.{IsProgramReport};
 
-use crate::machines::machines;
+use crate::machines::first_machines;
 use caf_base::hook::Hook;
 use caf_base::listing::{Listing, Text};
 use caf_base::refusal::NoMemory;
@@ -78,7 +78,7 @@ pub fn run_code<R: Threads + Wait + Sync, H: Hook + Sync>(
     ensures finals { IfOk result (λ report. (p : checked.Program) → HasWalksOn p limit n (arc_value code)
         → AreProgramFinals p limit (map declared_of coarrays.now) n (fails_at fails.now) words listed.now report.trace.entries report.finals) }
 {
-    let machines = machines(alloc, &code, n, limit)?;
+    let machines = first_machines(rt, alloc, &code, n, limit, way)?;
     let ran = run_images(
         rt, alloc, machines, coarrays, fails, words, way, names, hook,
     )?;
