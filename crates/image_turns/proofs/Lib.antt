@@ -1,3 +1,4 @@
 pub mod Linking
 pub mod Staying
 pub mod Waiting
+pub mod Telling
