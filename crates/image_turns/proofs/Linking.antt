@@ -1,6 +1,5 @@
 -- One turn of an image at a gate, and one step by itself, keep its events linked with what it has seen.
-use Rattle.std.proofs.Common.{◌≡◌, ℕ, zero, suc, ◌+◌, ◌-◌, ◌<◌, ◌≤◌, max, Bool, List, [], ◌∷◌, ◌++◌, ◌⊎◌, inl, inr, length, map, set, refl, ap, sym, ◌∙◌, subst, arith, length-set}
-use mathlib.Core.Option.{some-injective, some-ne-none}
+use Rattle.std.proofs.Common.{◌≡◌, ℕ, suc, ◌+◌, ◌-◌, max, Bool, List, [], ◌∷◌, ◌++◌, inl, inr, length, set, refl, ap, sym, ◌∙◌, subst, arith, length-set}
 use Rattle.atomic_table.proofs.Lists.{at_set}
 use Rattle.caf_base.specs.declared.place.Place.{Place}
 use Rattle.caf_base.specs.declared.place.Place.TheVariants as places
@@ -11,7 +10,7 @@ use Rattle.caf_events.specs.declared.event.Event.{Event}
 use Rattle.caf_events.specs.declared.object.Object as objects
 use Rattle.caf_events.specs.Asks.{place_of, object_of}
 use Rattle.caf_events.specs.Histories.{last_stamp_of}
-use Rattle.trace_theory.specs.Entries.{of, Each, last_or}
+use Rattle.trace_theory.specs.Entries.{of, last_or}
 use Rattle.core_runs.specs.Lists.{image_of, key_of, stamp_of, entry, last_of}
 use Rattle.core_runs.proofs.Weaves.{map_append}
 use Rattle.turn_gate.specs.Gates.{At, StartsWith}
@@ -22,7 +21,7 @@ use Rattle.turn_gate.specs.declared.turn.Turn.{Turn}
 use Rattle.turn_gate.specs.declared.turn.Turn.TheVariants.{Done, NotYet, Full, NoMemory}
 use Rattle.turn_gate.proofs.Lists.{last_same}
 use Rattle.image_gate.specs.declared.passes.Passes.{Passes}
-use Rattle.image_gate.specs.Fabrics.{IsPlaceOf, TurnsHere, TurnsAtMemory, TurnsAt}
+use Rattle.image_gate.specs.Fabrics.{IsPlaceOf, TurnsAtMemory, TurnsAt}
 use Rattle.image_gate.proofs.Rows.{is_there}
 use Rattle.image_links.specs.Links.{OfImage, Linked}
 use Rattle.image_links.proofs.Links.{looks_more, made_here, made_elsewhere, image_more}

@@ -1,6 +1,5 @@
 -- An image's steps keep what holds of it.
-use Rattle.std.proofs.Common.{◌≡◌, ℕ, suc, ◌+◌, ◌<◌, ◌≤◌, List, [], ◌∷◌, ◌++◌, ◌⊎◌, inl, inr, length, map, refl, ap, sym, ◌∙◌, subst, arith, length-append}
-use Rattle.trace_theory.specs.Entries.{Each}
+use Rattle.std.proofs.Common.{◌≡◌, ℕ, suc, ◌<◌, List, [], ◌∷◌, ◌++◌, inl, inr, length, map, refl, ap, sym, ◌∙◌, subst, arith, length-append}
 use Rattle.trace_theory.specs.Machines.{Move, goes, asks, over, WalkTo, Rests}
 use Rattle.trace_theory.proofs.Snocs.{each_last}
 use Rattle.caf_base.specs.declared.place.Place.{Place}
@@ -21,7 +20,7 @@ use Rattle.image_core.specs.declared.run.ImageRun.{ImageRun}
 use Rattle.image_core.specs.Prepared.{move_of, AsksAt, StepsAlone}
 use Rattle.turn_gate.specs.Passes.{Opened}
 use Rattle.turn_gate.specs.declared.turn.Turn.{Turn}
-use Rattle.turn_gate.specs.declared.turn.Turn.TheVariants.{Done, NotYet, Full, NoMemory}
+use Rattle.turn_gate.specs.declared.turn.Turn.TheVariants.{Done}
 use Rattle.image_gate.specs.declared.passes.Passes.{Passes}
 use Rattle.image_gate.specs.Fabrics.{AreOf, IsPlaceOf, TurnsAt}
 use Rattle.image_turns.specs.Turns.{HasWalked, AreLinked, GoesOn, ArePassesOf, StaysOn, MadeNone, MadeAlone, passes_of}

@@ -1,5 +1,5 @@
 -- Whether an image made a step, told by its events.
-use Rattle.std.proofs.Common.{◌≡◌, ◌∙◌, ◌<◌, ap, arith, refl, Bool, true, false, List, [], ◌∷◌, ◌++◌, length, length-append}
+use Rattle.std.proofs.Common.{ap, arith, refl, Bool, true, false, List, length}
 use Rattle.caf_events.specs.declared.event.Event.{Event}
 use Rattle.image_turns.specs.Turns.{HasMade}
 

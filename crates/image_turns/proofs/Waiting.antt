@@ -1,12 +1,11 @@
 -- An image that made no step at its turn waits.
-use Rattle.std.proofs.Common.{◌≡◌, ℕ, ◌-◌, ◌<◌, ◌≤◌, ◌^◌, ◌⊎◌, inl, inr, false, List, length, arith, ap, sym, ◌∙◌, subst, refl}
+use Rattle.std.proofs.Common.{◌≡◌, ℕ, ◌-◌, ◌≤◌, ◌^◌, inl, inr, false, List, length, arith, ap, sym, ◌∙◌, subst, refl}
 use mathlib.Core.Option.{some-injective}
 use Rattle.atomic_table.proofs.Lists.{at_set}
 use Rattle.caf_base.specs.declared.place.Place.{Place}
 use Rattle.caf_base.specs.declared.place.Place.TheVariants as places
 use Rattle.caf_events.specs.declared.ask.Ask.{Ask}
 use Rattle.caf_events.specs.declared.event.Entry.{Entry}
-use Rattle.caf_events.specs.declared.event.Event.{Event}
 use Rattle.caf_events.specs.declared.object.Object as objects
 use Rattle.caf_events.specs.declared.walker.Walker as walker
 use Rattle.caf_events.specs.Asks.{place_of}
@@ -20,7 +19,6 @@ use Rattle.image_core.specs.Prepared.{move_of, AsksAt}
 use Rattle.turn_gate.specs.Gates.{At}
 use Rattle.turn_gate.specs.Known.{Known}
 use Rattle.turn_gate.specs.Passes.{Opened}
-use Rattle.turn_gate.specs.Turns.{Tells}
 use Rattle.turn_gate.specs.declared.turn.Turn.{Turn}
 use Rattle.turn_gate.specs.declared.turn.Turn.TheVariants.{Done, NotYet, Full, NoMemory}
 use Rattle.image_gate.specs.declared.passes.Passes.{Passes}

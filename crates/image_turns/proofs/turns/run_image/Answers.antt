@@ -1,7 +1,7 @@
 use Rattle.std.proofs.Common.{subst}
 use Rattle.image_turns.specs.Turns.{HasMade}
 use Rattle.image_turns.proofs.Staying.{stays_both}
-use Rattle.image_turns.proofs.Telling.{made_more, made_still}
+use Rattle.image_turns.proofs.Telling.{made_more}
 use Rattle.image_turns.proofs.turns.run_image.Goals as goal
 
 pub returns-in_err-advance-clause-stays : goal.returns-in_err-advance-clause-stays
