@@ -24,7 +24,9 @@ use Rattle.object_rules.specs.Kinds.{same_op, same_value_kind}
 use Rattle.object_rules.specs.BoardTeams.{teams_after, members_at, round_of}
 use Rattle.object_rules.specs.BoardRules.{is_image, is_gathered, is_root, fits_board, board_ready, board_reply, gathered, parts_of}
 use Rattle.answer_laws.proofs.Served.{Turn, turn_at}
-use Rattle.answer_laws.proofs.Arrivals.{Alike, InRound, in_round, joins_next, joined_image, gathers_there, NthAt, nth_at, nth_there}
+use Rattle.team_laws.proofs.Arrivals.{joined_image, NthAt, nth_at}
+use Rattle.answer_laws.proofs.RoundKinds.{Alike, InRound, in_round, joins_next}
+use Rattle.answer_laws.proofs.CollectiveArrivals.{gathers_there, nth_there}
 use Rattle.answer_laws.proofs.FoldedValues.{AreOfKind}
 
 same_op_is : (a b : GatherOp) → same_op a b ≡ true → a ≡ b

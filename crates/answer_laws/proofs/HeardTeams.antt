@@ -24,12 +24,13 @@ use Rattle.object_rules.specs.Cells.{Declared}
 use Rattle.core_runs.specs.Lists.{said}
 use Rattle.core_runs.specs.CoreRuns.{of_image, at_board, said_by}
 use Rattle.core_runs.specs.Lawful.{IsLawfulTrace}
-use Rattle.answer_laws.proofs.Lists.{each_split}
+use Rattle.team_laws.proofs.Lists.{each_split}
 use Rattle.answer_laws.proofs.Served.{board_turn, board_split}
 use Rattle.answer_laws.proofs.Elsewhere.{memory_answered, own_answered}
 use Rattle.answer_laws.proofs.Statuses.{joined}
-use Rattle.answer_laws.proofs.Teams.{teams_stay}
-use Rattle.answer_laws.proofs.ToldTeams.{TellsTeams, all_made_told, tells_stays}
+use Rattle.team_laws.proofs.Teams.{teams_stay}
+use Rattle.team_laws.proofs.NamedTeams.{all_named}
+use Rattle.answer_laws.proofs.KnownTeams.{TellsTeams, tells_stays}
 
 module _ (ts : List Team) where
   arrival_tells : (class : Class) (h : List Entry) (i team : ℕ) (kind : RoundKind) → TellsTeams ts (arrival_reply class h i team kind)
@@ -46,7 +47,7 @@ module _ (ts : List Team) where
 module _ (n : ℕ) (h : List Entry) where
   leave_tells : (team round : ℕ) (f : Option (List Entry)) → TellsTeams (teams_after n h) (leave_reply n h team round f)
   leave_tells team round None = tt
-  leave_tells team round (Some f) = all_made_told (teams_after n h) team round
+  leave_tells team round (Some f) = all_named (teams_after n h) team round
 
   take_tells : (team round : ℕ) (f : Option (List Entry)) → TellsTeams (teams_after n h) (take_reply n h team round f)
   take_tells team round None = tt

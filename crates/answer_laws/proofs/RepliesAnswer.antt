@@ -24,7 +24,7 @@ use Rattle.answer_laws.specs.Told.{knows_team, knows_team_of, IsTold, AllTold}
 use Rattle.answer_laws.proofs.Splits.{heard_at}
 use Rattle.answer_laws.proofs.Served.{board_turn}
 use Rattle.answer_laws.proofs.Elsewhere.{memory_answered, own_answered}
-use Rattle.answer_laws.proofs.ToldTeams.{told_members}
+use Rattle.answer_laws.proofs.KnownTeams.{told_members}
 use Rattle.answer_laws.proofs.HeardTeams.{heard_teams}
 use Rattle.answer_laws.proofs.BoardAnswers.{board_answers}
 use Rattle.answer_laws.proofs.Joined.{Joined, joined_before}

@@ -10,6 +10,12 @@ use Rattle.trace_theory.specs.Machines.{Said}
 use Rattle.core_runs.specs.Lists.{image_of, said}
 use Rattle.core_runs.specs.CoreRuns.{of_image, said_by}
 
+split_behind : {E : Type 0} (x : E) (xs before after : List E) (e : E) → xs ≡ before ++ e ∷ after → x ∷ xs ≡ (x ∷ before) ++ e ∷ after
+split_behind x xs before after e h = ap (λ z. x ∷ z) h
+
+same_heads : {E : Type 0} (x y : E) (xs ys : List E) → x ≡ y → xs ≡ ys → x ∷ xs ≡ y ∷ ys
+same_heads x y xs ys e h = ap (λ z. x ∷ z) h ∙ ap (λ z. z ∷ ys) e
+
 module _ {E : Type 0} (p : E → Bool) where
   -- an item that passes a test, with what passes before it
   record Passed (xs before after : List E) (e : E) : Type 0 where
@@ -29,17 +35,17 @@ module _ {E : Type 0} (p : E → Bool) where
         record { front = []; back = xs; split = ap (λ z. z ∷ xs) w; kept = refl; passes = ap p (sym w) ∙ t })
     | inr f ↦ (
         let r = split_filter xs [] after e (rw f at h) in
-        record { front = x ∷ r.front; back = r.back; split = ap (λ z. x ∷ z) r.split; kept = rw f r.kept; passes = r.passes })
+        record { front = x ∷ r.front; back = r.back; split = split_behind x xs r.front r.back e r.split; kept = rw f r.kept; passes = r.passes })
   ]
   split_filter (x ∷ xs) (b ∷ bs) after e h = elim (cases_Bool (p x)) [
     | inl t ↦ (
         let q : x ∷ filter p xs ≡ b ∷ bs ++ e ∷ after = rw t at h in
         let w : x ≡ b = cc in
         let r = split_filter xs bs after e (cc) in
-        record { front = x ∷ r.front; back = r.back; split = ap (λ z. x ∷ z) r.split; kept = rw t (ap (λ z. x ∷ z) r.kept ∙ ap (λ z. z ∷ bs) w); passes = r.passes })
+        record { front = x ∷ r.front; back = r.back; split = split_behind x xs r.front r.back e r.split; kept = rw t (same_heads x b (filter p r.front) bs w r.kept); passes = r.passes })
     | inr f ↦ (
         let r = split_filter xs (b ∷ bs) after e (rw f at h) in
-        record { front = x ∷ r.front; back = r.back; split = ap (λ z. x ∷ z) r.split; kept = rw f r.kept; passes = r.passes })
+        record { front = x ∷ r.front; back = r.back; split = split_behind x xs r.front r.back e r.split; kept = rw f r.kept; passes = r.passes })
   ]
 
 module _ {A B : Type 0} (f : A → B) where
@@ -58,7 +64,7 @@ module _ {A B : Type 0} (f : A → B) where
   split_map (x ∷ xs) (b ∷ bs) after e h =
       let r = split_map xs bs after e (cc) in
       let w : f x ≡ b = cc in
-      record { front = x ∷ r.front; item = r.item; back = r.back; split = ap (λ z. x ∷ z) r.split; kept = ap (λ z. f x ∷ z) r.kept ∙ ap (λ z. z ∷ bs) w; is = r.is }
+      record { front = x ∷ r.front; item = r.item; back = r.back; split = split_behind x xs r.front r.back r.item r.split; kept = same_heads (f x) b (map f r.front) bs w r.kept; is = r.is }
 
 -- the entry of an event that image i heard after these
 pub record Heard (i : ℕ) (t : List Entry) (before : List (Said Ask Reply)) (e : Said Ask Reply) : Type 0 where

@@ -7,7 +7,7 @@ use Rattle.caf_events.specs.declared.reply.Reply.{Reply}
 use Rattle.caf_events.specs.declared.reply.Reply.TheVariants as replies
 use Rattle.caf_events.specs.declared.round.RoundKind.{RoundKind}
 use Rattle.object_rules.specs.Happenings.{Happening, has_stopped, has_failed}
-use Rattle.object_rules.specs.TeamRounds.{Opening, Missed, status_of, result_of}
+use Rattle.object_rules.specs.TeamRounds.{Opening, status_of}
 use Rattle.object_rules.specs.ImagePairs.{has_partner, last_named}
 use Rattle.object_rules.specs.Constructs.{Hold, free, held, left_by}
 use Rattle.object_rules.specs.Kinds.{same_kind}
@@ -36,13 +36,3 @@ enter_is (left_by j) = refl
 pub image_is : (hs : List Happening) (m : Option ℕ) → is_one_of (pos 0 ∷ pos 6000 ∷ pos 6001 ∷ []) (image_status hs m) ≡ true
 image_is hs None = refl
 image_is hs (Some m) = status_is (has_stopped m hs) (has_failed m hs)
-
--- the statuses of a closed round
-pub result_is : (m : Missed) (bad : Bool) → is_one_of (pos 0 ∷ pos 6000 ∷ pos 6001 ∷ pos 6006 ∷ []) (result_of m bad) ≡ true
-result_is m bad = by m.stopped m.failed bad
-  where
-    by : (stopped failed b : Bool) → is_one_of (pos 0 ∷ pos 6000 ∷ pos 6001 ∷ pos 6006 ∷ []) (cond stopped (pos 6000) (cond failed (pos 6001) (cond b (pos 6006) (pos 0)))) ≡ true
-    by true failed b = refl
-    by false true b = refl
-    by false false true = refl
-    by false false false = refl

@@ -27,10 +27,10 @@ use Rattle.object_rules.specs.BoardTeams.{teams_after, members_at, closing, roun
 use Rattle.object_rules.specs.BoardRules.{is_image, is_root, fits_board, can_come, has_joined, board_ready, board_reply, take_reply, taken_by, collective_result, collected, or_none, parts_of}
 use Rattle.object_rules.specs.Answering.{answers, fits_gather, fits_last, is_one_of, last_event}
 use Rattle.object_rules.specs.Cells.{Declared}
-use Rattle.answer_laws.proofs.Lists.{each_get, slice_there, some_there}
-use Rattle.answer_laws.proofs.Teams.{members_stay, teams_stay}
-use Rattle.answer_laws.proofs.Rounds.{happened_append, closing_is, opening_stays}
-use Rattle.answer_laws.proofs.Openings.{closed_opens}
+use Rattle.team_laws.proofs.Lists.{each_get, slice_there, some_there}
+use Rattle.team_laws.proofs.Teams.{members_stay, teams_stay}
+use Rattle.team_laws.proofs.Rounds.{happened_append, closing_is, opening_stays}
+use Rattle.team_laws.proofs.Openings.{closed_opens}
 use Rattle.answer_laws.proofs.FoldedValues.{AreOfKind, folded_kind}
 use Rattle.answer_laws.proofs.GatheredParts.{GatherTurn, gather_turn, alike_is, member_fits, root_fits, some_opening, all_parts}
 use Rattle.answer_laws.proofs.Joined.{Joined, GatheredAt, gathered_at}

@@ -31,7 +31,7 @@ knows_team_of heard ask = true
 abbrev pub IsTold : List (Said Ask Reply) → Ask → Type 0
 IsTold before ask = IsTrue (knows_team_of before ask)
 
--- so does each ask of a list, after what the image said and heard before it
+-- each ask of a list names no team but one that the image was told before it
 abbrev pub AllTold : List (Said Ask Reply) → List (Said Ask Reply) → Type 0
 AllTold before [] = Unit {0}
 AllTold before (e ∷ es) = IsTold before e.ask × AllTold (before ++ e ∷ []) es

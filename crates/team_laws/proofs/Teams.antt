@@ -6,7 +6,7 @@ use Rattle.std.proofs.lemmas.Bool.{ne_eqb}
 use Rattle.caf_events.specs.declared.event.Entry.{Entry}
 use Rattle.object_rules.specs.ImagePairs.{names}
 use Rattle.object_rules.specs.BoardTeams.{Team, made_by, teams_from, teams_after, members_there, members_at}
-use Rattle.answer_laws.proofs.Lists.{get_front}
+use Rattle.team_laws.proofs.Lists.{get_front}
 
 teams_from_grow : (ts : List Team) (before es : List Entry) → (new : List Team) × (teams_from ts before es ≡ ts ++ new)
 teams_from_grow ts before [] = ([], sym (append-nil ts))

@@ -11,9 +11,9 @@ use Rattle.object_rules.specs.Happenings.{control, happened}
 use Rattle.object_rules.specs.TeamRounds.{has_closed, opening_of, missed_by}
 use Rattle.object_rules.specs.FormedTeams.{Members, formed}
 use Rattle.object_rules.specs.BoardTeams.{Team, round_of, form_args, closing, is_form, teams_made, most_joined, closes_now, made_in_rounds, made_in_team, made_by, teams_after}
-use Rattle.answer_laws.proofs.Lists.{grown, get_front, filter_mapped, filter_unmapped}
-use Rattle.answer_laws.proofs.Teams.{teams_more}
-use Rattle.answer_laws.proofs.Rounds.{closed_now, closing_stays, closing_here}
+use Rattle.team_laws.proofs.Lists.{grown, get_front, filter_mapped, filter_unmapped}
+use Rattle.team_laws.proofs.Teams.{teams_more}
+use Rattle.team_laws.proofs.Rounds.{closed_now, closing_stays, closing_here}
 
 -- the team is one that this round made
 abbrev pub is_of_round : ℕ → ℕ → Team → Bool

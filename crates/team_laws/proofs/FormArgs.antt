@@ -11,10 +11,10 @@ use Rattle.object_rules.specs.Happenings.{control, happened}
 use Rattle.object_rules.specs.TeamRounds.{opening_of, missed_by}
 use Rattle.object_rules.specs.FormedTeams.{FormArg, Members, formed, numbers_given, teams_of, is_bad_form}
 use Rattle.object_rules.specs.BoardTeams.{Team, nth_arrival, round_of, form_arg, form_args, is_form, teams_made}
-use Rattle.answer_laws.proofs.Lists.{each_mapped}
-use Rattle.answer_laws.proofs.Times.{times, times_append}
-use Rattle.answer_laws.proofs.Formed.{givers, images_of, formed_times}
-use Rattle.answer_laws.proofs.Arrivals.{joined_image, nth_at}
+use Rattle.team_laws.proofs.Lists.{each_mapped}
+use Rattle.team_laws.proofs.Times.{times, times_append}
+use Rattle.team_laws.proofs.Formed.{givers, images_of, formed_times}
+use Rattle.team_laws.proofs.Arrivals.{joined_image, nth_at}
 
 form_image : (i : ℕ) (a : Ask) (x : FormArg) → form_arg i a ≡ Some x → x.image ≡ i
 form_image i (asks.Arrive t (arrivings.Form number new_index)) x e = cc

@@ -14,12 +14,11 @@ use Rattle.object_rules.specs.FormedTeams.{FormArg, Members, numbers_given, team
 use Rattle.object_rules.specs.BoardTeams.{Team, made_teams, teams_made, is_form, is_form_kind, round_of, form_args}
 use Rattle.object_rules.specs.BoardRules.{all_differ, control_result}
 use Rattle.object_rules.specs.Answering.{all_members, are_teams, is_one_of}
-use Rattle.answer_laws.proofs.Times.{times, all_differ_by, all_named_by}
-use Rattle.answer_laws.proofs.ToldTeams.{numbers_back}
-use Rattle.answer_laws.proofs.Formed.{images_of, has_members, formed_there}
-use Rattle.answer_laws.proofs.FormArgs.{formed_few}
-use Rattle.answer_laws.proofs.MadeTeams.{is_of_round, of_round}
-use Rattle.answer_laws.proofs.Statuses.{result_is}
+use Rattle.team_laws.proofs.Times.{times, all_differ_by, all_named_by}
+use Rattle.team_laws.proofs.NamedTeams.{numbers_back}
+use Rattle.team_laws.proofs.Formed.{images_of, has_members, formed_there}
+use Rattle.team_laws.proofs.FormArgs.{formed_few}
+use Rattle.team_laws.proofs.MadeTeams.{is_of_round, of_round}
 
 -- the members of all these teams
 abbrev members_of_all : List Team → List ℕ
@@ -48,12 +47,22 @@ module _ (team round : ℕ) where
     | inr f ↦ rw f (told_sizes (suc t) xs)
   ]
 
-  pub told_none : (t : ℕ) (xs : List Team) → of_round team round xs ≡ [] → length (made_teams team round t xs) ≡ 0
+  pub told_none : (t : ℕ) (xs : List Team) → of_round team round xs ≡ [] → made_teams team round t xs ≡ []
   told_none t [] h = refl
   told_none t (x ∷ xs) h = elim (cases_Bool (is_of_round team round x)) [
     | inl y ↦ absurd (let w : x ∷ of_round team round xs ≡ [] = rw y at h in cc)
     | inr f ↦ rw f (told_none (suc t) xs (rw f at h))
   ]
+
+-- the statuses of a closed round
+result_is : (m : Missed) (bad : Bool) → is_one_of (pos 0 ∷ pos 6000 ∷ pos 6001 ∷ pos 6006 ∷ []) (result_of m bad) ≡ true
+result_is m bad = by m.stopped m.failed bad
+  where
+    by : (stopped failed b : Bool) → is_one_of (pos 0 ∷ pos 6000 ∷ pos 6001 ∷ pos 6006 ∷ []) (cond stopped (pos 6000) (cond failed (pos 6001) (cond b (pos 6006) (pos 0)))) ≡ true
+    by true failed b = refl
+    by false true b = refl
+    by false false true = refl
+    by false false false = refl
 
 module _ (team round : ℕ) (ms : List ℕ) (f : List Entry) where
   abbrev missed : Missed
@@ -62,7 +71,7 @@ module _ (team round : ℕ) (ms : List ℕ) (f : List Entry) where
   abbrev args : List FormArg
   args = form_args (round_of control team round ms f)
 
-  abbrev as_team : Members → Team
+  abbrev pub as_team : Members → Team
   as_team x = record { parent = team; round = round; number = x.number; members = x.images }
 
   as_members : (xs : List Members) → members_of_all (map as_team xs) ≡ images_of xs
@@ -87,7 +96,7 @@ module _ (team round : ℕ) (ms : List ℕ) (f : List Entry) where
     | inr n ↦ inl (rw n refl)
   ]
 
-  forms_made : Forms → teams_made team round ms f ≡ map as_team (teams_of (numbers_given args) args)
+  pub forms_made : Forms → teams_made team round ms f ≡ map as_team (teams_of (numbers_given args) args)
   forms_made h = rw (h.form, h.good) refl
 
   -- each team has a member, they are members of the parent, and none stands twice

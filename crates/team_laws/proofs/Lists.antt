@@ -1,5 +1,5 @@
 -- Lists: what holds of each item, of some item, and of each front.
-use Rattle.std.proofs.Common.{◌≡◌, ℕ, zero, suc, ◌<◌, ◌≤◌, Bool, true, false, List, [], ◌∷◌, ◌++◌, inl, inr, length, refl, ap, sym, subst, arith, append_assoc}
+use Rattle.std.proofs.Common.{◌≡◌, ℕ, zero, suc, ◌<◌, ◌≤◌, Bool, true, false, List, [], ◌∷◌, ◌++◌, ◌⊎◌, inl, inr, length, refl, ap, sym, subst, arith, append_assoc}
 use Rattle.std.specs.Prelude.{map, Some, slice_get}
 use Rattle.std.specs.List.{list_any, list_all, filter}
 use Rattle.std.proofs.lemmas.List.{append-nil}
@@ -38,6 +38,18 @@ each_get P [] k x h e = absurd (cc)
 each_get P (y ∷ ys) zero x h e = let w : y ≡ x = cc in subst P w h.0
 each_get P (y ∷ ys) (suc k) x h e = each_get P ys k x h.1 e
 
+pub each_from : {A : Type 0} (P : A → Type 0) (xs : List A) → ((k : ℕ) (x : A) → slice_get xs k ≡ Some x → P x) → Each P xs
+each_from P [] at = tt
+each_from P (x ∷ xs) at = (at 0 x refl, each_from P xs (λ k y e. at (suc k) y e))
+
+pub each_by : {A : Type 0} (P Q : A → Type 0) → ((x : A) → P x → Q x) → (xs : List A) → Each P xs → Each Q xs
+each_by P Q k [] h = tt
+each_by P Q k (x ∷ xs) h = (k x h.0, each_by P Q k xs h.1)
+
+pub each_true : {A : Type 0} (p : A → Bool) (xs : List A) → list_all p xs ≡ true → Each (λ x. p x ≡ true) xs
+each_true p [] h = tt
+each_true p (x ∷ xs) h = let r = and_parts (p x) (list_all p xs) h in (r.0, each_true p xs r.1)
+
 -- what is true of each item by what stands before and behind it
 pub each_split : {E : Type 0} (P : E → Type 0) (xs : List E) → ((before after : List E) (x : E) → xs ≡ before ++ x ∷ after → P x) → Each P xs
 each_split P [] at = tt
@@ -52,6 +64,20 @@ pub get_front : {A : Type 0} (xs ys : List A) (k : ℕ) (x : A) → slice_get xs
 get_front [] ys k x h = absurd (cc)
 get_front (z ∷ zs) ys zero x h = h
 get_front (z ∷ zs) ys (suc k) x h = get_front zs ys k x h
+
+pub get_low : {A : Type 0} (xs : List A) (k : ℕ) (x : A) → slice_get xs k ≡ Some x → k < length xs
+get_low [] k x h = absurd (cc)
+get_low (z ∷ zs) zero x h = omega arith
+get_low (z ∷ zs) (suc k) x h = let r = get_low zs k x h in omega arith
+
+-- an item of two lists is one of the first, at its place, or one of the second
+pub get_either : {A : Type 0} (xs ys : List A) (k : ℕ) (x : A) → slice_get (xs ++ ys) k ≡ Some x → (slice_get xs k ≡ Some x) ⊎ ((j : ℕ) × (slice_get ys j ≡ Some x) × (length xs ≤ k))
+get_either [] ys k x h = inr (k, h, omega arith)
+get_either (z ∷ zs) ys zero x h = inl h
+get_either (z ∷ zs) ys (suc k) x h = elim (get_either zs ys k x h) [
+  | inl old ↦ inl old
+  | inr new ↦ (let le = new.2 in inr (new.0, new.1, omega arith))
+]
 
 pub slice_there : {A : Type 0} (xs : List A) (k : ℕ) → k < length xs → (x : A) × (slice_get xs k ≡ Some x)
 slice_there [] k lt = absurd (omega arith)

@@ -4,10 +4,10 @@ use Rattle.std.specs.Prelude.{Some, slice_get}
 use Rattle.caf_events.specs.declared.event.Entry.{Entry}
 use Rattle.trace_theory.specs.Entries.{Each}
 use Rattle.object_rules.specs.BoardTeams.{Team, teams_made, made_in_rounds, made_in_team, made_by, teams_after}
-use Rattle.answer_laws.proofs.Times.{times, range_once}
-use Rattle.answer_laws.proofs.Teams.{teams_more}
-use Rattle.answer_laws.proofs.Lists.{grown, each_append, each_get}
-use Rattle.answer_laws.proofs.FormArgs.{made_few}
+use Rattle.team_laws.proofs.Times.{times, range_once}
+use Rattle.team_laws.proofs.Teams.{teams_more}
+use Rattle.team_laws.proofs.Lists.{grown, each_append, each_get}
+use Rattle.team_laws.proofs.FormArgs.{made_few}
 
 each_le : (m bound : ℕ) (xs : List Team) → bound ≤ 1 → Each (λ (x : Team). times m x.members ≤ bound) xs → Each (λ (x : Team). times m x.members ≤ 1) xs
 each_le m bound [] le h = tt

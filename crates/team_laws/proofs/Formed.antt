@@ -7,8 +7,8 @@ use Rattle.std.proofs.lemmas.List.{length-map}
 use Rattle.std.proofs.lemmas.Bool.{cases_Bool, and_from, le-leb}
 use Rattle.std.proofs.lemmas.Bool.Decides.{Decides-int_eq}
 use Rattle.object_rules.specs.FormedTeams.{FormArg, Members, put_by, sorted_by, numbers_given, group_of, members_of, teams_of}
-use Rattle.answer_laws.proofs.Times.{times, times_append}
-use Rattle.answer_laws.proofs.Given.{Distinct, AllGiven, given_distinct, all_given}
+use Rattle.team_laws.proofs.Times.{times, times_append}
+use Rattle.team_laws.proofs.Given.{Distinct, AllGiven, given_distinct, all_given}
 
 -- the images of these arguments, and of these teams
 abbrev pub givers : List FormArg → List ℕ

@@ -7,7 +7,7 @@ use Rattle.object_rules.specs.Scans.{or_else}
 use Rattle.object_rules.specs.Happenings.{Happening, arrives, has_ended}
 use Rattle.object_rules.specs.TeamRounds.{is_arrival, arrivals, has_arrived, has_closed, Opening, joins_round, opening_of}
 use Rattle.object_rules.proofs.Growing.{opening_more, arrivals_more}
-use Rattle.answer_laws.proofs.Lists.{grown, any_there}
+use Rattle.team_laws.proofs.Lists.{grown, any_there}
 
 opens_by : (t m round : ℕ) (hs : List Happening) (x : Happening) → is_arrival t m x ≡ true → suc (arrivals t m hs) ≡ round → (o : Opening) × (joins_round t round hs x ≡ Some o)
 opens_by t m round hs (arrives u i k l) is due =

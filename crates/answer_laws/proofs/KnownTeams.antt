@@ -1,6 +1,6 @@
 -- The teams that an image was told have the members at the board that the reply named, from then on.
-use Rattle.std.proofs.Common.{◌≡◌, ℕ, suc, ◌+◌, Bool, true, false, ◌&&◌, ◌||◌, cond, List, [], ◌∷◌, ◌++◌, ◌⊎◌, inl, inr, refl, ap, sym, ◌∙◌, arith}
-use Rattle.std.specs.Prelude.{nat_eq, map, Some, slice_get}
+use Rattle.std.proofs.Common.{◌≡◌, ℕ, Bool, true, ◌||◌, List, [], ◌∷◌, ◌++◌, ◌⊎◌, inl, inr, ap, sym, ◌∙◌}
+use Rattle.std.specs.Prelude.{nat_eq, slice_get}
 use Rattle.std.specs.List.{list_any, range_with_len}
 use Rattle.std.proofs.lemmas.Bool.{cases_Bool}
 use Rattle.std.proofs.lemmas.Bool.Decides.{eqb_tells}
@@ -12,30 +12,23 @@ use Rattle.caf_events.specs.declared.event.Entry.{Entry}
 use Rattle.trace_theory.specs.Entries.{Each}
 use Rattle.trace_theory.specs.Machines.{Said}
 use Rattle.object_rules.specs.Happenings.{numbers_of}
-use Rattle.object_rules.specs.BoardTeams.{Team, teams_after, members_at, told_team, made_teams}
+use Rattle.object_rules.specs.BoardTeams.{Team, teams_after, members_at}
 use Rattle.object_rules.specs.Answering.{members_in, members_by, members_from, members_told}
-use Rattle.answer_laws.proofs.Lists.{get_front}
+use Rattle.team_laws.proofs.Lists.{get_front}
+use Rattle.team_laws.specs.Named.{IsNamed}
 use Rattle.answer_laws.specs.Told.{names_team, knows_team}
-use Rattle.answer_laws.proofs.Teams.{members_of_team, teams_stay}
+use Rattle.team_laws.proofs.Teams.{members_of_team, teams_stay}
 
--- the team that a reply names is there, with these members
-pub record IsAt (ts : List Team) (x : FormedTeam) : Type 0 where
-  pub place : ℕ
-  pub number : x.team.0 ≡ suc place
-  pub team : Team
-  pub there : slice_get ts place ≡ Some team
-  pub members : numbers_of x.members ≡ team.members
-
--- so are all teams of a reply
+-- all teams of a reply are named as they are
 abbrev pub TellsTeams : List Team → Reply → Type 0
-TellsTeams ts (replies.Left status teams) = Each (IsAt ts) teams
+TellsTeams ts (replies.Left status teams) = Each (IsNamed ts) teams
 TellsTeams ts reply = Unit {0}
 
 -- they stay when teams are added
-at_stays : (ts new : List Team) (x : FormedTeam) → IsAt ts x → IsAt (ts ++ new) x
-at_stays ts new x h = record { place = h.place; number = h.number; team = h.team; there = get_front ts new h.place h.team h.there; members = h.members }
+at_stays : (ts new : List Team) (x : FormedTeam) → IsNamed ts x → IsNamed (ts ++ new) x
+at_stays ts new x h = record { place = h.place; own_number = h.own_number; team = h.team; there = get_front ts new h.place h.team h.there; team_number = h.team_number; members = h.members }
 
-all_stay : (ts new : List Team) (xs : List FormedTeam) → Each (IsAt ts) xs → Each (IsAt (ts ++ new)) xs
+all_stay : (ts new : List Team) (xs : List FormedTeam) → Each (IsNamed ts) xs → Each (IsNamed (ts ++ new)) xs
 all_stay ts new [] h = tt
 all_stay ts new (x ∷ xs) h = (at_stays ts new x h.0, all_stay ts new xs h.1)
 
@@ -43,32 +36,14 @@ pub tells_stays : (ts new : List Team) (r : Reply) → TellsTeams ts r → Tells
 tells_stays ts new (replies.Left status teams) h = all_stay ts new teams h
 tells_stays ts new r h = tt
 
--- the numbers of images that a reply names
-pub numbers_back : (ms : List ℕ) → numbers_of (map (λ i. record { 0 = i }) ms) ≡ ms
-numbers_back [] = refl
-numbers_back (m ∷ ms) = ap (λ z. m ∷ z) (numbers_back ms)
-
--- the teams that a round made are told as they are
-made_told : (ts : List Team) (team round t : ℕ) (xs : List Team) → ((k : ℕ) (x : Team) → slice_get xs k ≡ Some x → (j : ℕ) × (t + k ≡ suc j) × (slice_get ts j ≡ Some x)) → Each (IsAt ts) (made_teams team round t xs)
-made_told ts team round t [] at = tt
-made_told ts team round t (x ∷ xs) at =
-    let rest = made_told ts team round (suc t) xs (λ k y h. (let r = at (suc k) y h in let e = r.1 in (r.0, omega arith, r.2))) in
-    let here = at 0 x refl in
-    let e = here.1 in
-    let first : IsAt ts (told_team t x) = record { place = here.0; number = omega arith; team = x; there = here.2; members = numbers_back x.members } in
-    elim (nat_eq x.parent team && nat_eq x.round round) as (λ b. Each (IsAt ts) (cond b (told_team t x ∷ []) [] ++ made_teams team round (suc t) xs)) [ true ↦ (first, rest) | false ↦ rest ]
-
-pub all_made_told : (ts : List Team) (team round : ℕ) → Each (IsAt ts) (made_teams team round 1 ts)
-all_made_told ts team round = made_told ts team round 1 ts (λ k x h. (k, omega arith, h))
-
 module _ (ts : List Team) (t : ℕ) where
   -- the members of the last of them
-  in_right : (xs : List FormedTeam) → Each (IsAt ts) xs → (ms : List ℕ) → (ms ≡ members_at ts t) ⊎ (list_any (λ (x : FormedTeam). nat_eq x.team.0 t) xs ≡ true) → members_in ms t xs ≡ members_at ts t
+  in_right : (xs : List FormedTeam) → Each (IsNamed ts) xs → (ms : List ℕ) → (ms ≡ members_at ts t) ⊎ (list_any (λ (x : FormedTeam). nat_eq x.team.0 t) xs ≡ true) → members_in ms t xs ≡ members_at ts t
   in_right [] h ms (inl e) = e
   in_right [] h ms (inr a) = absurd (cc)
   in_right (x ∷ xs) h ms d = elim (eqb_tells x.team.0 t) [
     | inl y ↦ (
-        let e : numbers_of x.members ≡ members_at ts t = h.0.members ∙ sym (members_of_team ts h.0.place h.0.team h.0.there) ∙ ap (members_at ts) (sym h.0.number ∙ y.1) in
+        let e : numbers_of x.members ≡ members_at ts t = h.0.members ∙ sym (members_of_team ts h.0.place h.0.team h.0.there) ∙ ap (members_at ts) (sym h.0.own_number ∙ y.1) in
         rw y.0 (in_right xs h.1 (numbers_of x.members) (inl e)))
     | inr f ↦ rw f.0 (in_right xs h.1 ms (rw f.0 at d))
   ]

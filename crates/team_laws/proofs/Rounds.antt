@@ -11,7 +11,7 @@ use Rattle.object_rules.specs.Happenings.{Happening, Class, happened, is_stop, i
 use Rattle.object_rules.specs.TeamRounds.{arrivals, has_arrived, has_closed, Opening, joins_round, opening_of}
 use Rattle.object_rules.specs.BoardTeams.{closing}
 use Rattle.object_rules.proofs.Growing.{opening_more, first_front_more}
-use Rattle.answer_laws.proofs.Lists.{grown, any_by, all_by}
+use Rattle.team_laws.proofs.Lists.{grown, any_by, all_by}
 
 pub happened_append : (class : Class) (h g : List Entry) → happened class (h ++ g) ≡ happened class h ++ happened class g
 happened_append class h g = filter_map-append _ h g
