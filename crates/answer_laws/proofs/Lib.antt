@@ -1,0 +1,17 @@
+pub mod Splits
+pub mod Served
+pub mod Elsewhere
+pub mod Statuses
+pub mod KnownTeams
+pub mod Indices
+pub mod HeardTeams
+pub mod BoardAnswers
+pub mod RepliesAnswer
+pub mod Joined
+pub mod RoundKinds
+pub mod LeaveAnswers
+pub mod FoldedValues
+pub mod CollectiveArrivals
+pub mod GatheredParts
+pub mod TakeAnswers
+pub mod ToldRows

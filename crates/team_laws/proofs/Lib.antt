@@ -1,0 +1,15 @@
+pub mod Lists
+pub mod Teams
+pub mod Times
+pub mod Given
+pub mod Formed
+pub mod Rounds
+pub mod Openings
+pub mod Arrivals
+pub mod FormArgs
+pub mod MadeTeams
+pub mod OnceMembers
+pub mod NamedTeams
+pub mod Departures
+pub mod Parents
+pub mod ToldTeams
