@@ -1,9 +1,9 @@
-use Rattle.std.proofs.Common.{◌≡◌, ◌∷◌, [], suc, ap, sym, subst, length, length-append, arith}
+use Rattle.std.proofs.Common.{rules, ◌≡◌, ◌∷◌, [], suc, ap, sym, subst, length, length-append, arith}
 use Rattle.std.specs.Arc.{arc_value}
 use Rattle.image_core.specs.Parts.{EachAt}
 use Rattle.image_core.proofs.Beginnings.{each_more}
 use Rattle.program_run.specs.Machines.{HasBegun}
-use Rattle.program_run.proofs.Slots.{EachFrom, in_first, in_rest}
+use Rattle.program_run.proofs.Slots.{EachFrom, in_first, in_rest, none_yet}
 use Rattle.program_run.proofs.machines.taken.Goals as goal
 
 pub loop-slot-preserved : goal.loop-slot-preserved
@@ -25,3 +25,10 @@ loop-slot-preserved c =
       made = subst (EachAt begun) (sym c.in_ok-push.ensures.items) (each_more begun so_far here inv.made (in_first begun (length so_far) c.in-Some.slot here rest c.in-Some-slot.is left));
       left = in_rest begun (length so_far) (length c.push.new.self.items) c.in-Some.slot rest longer left;
     }
+
+pub loop-slot-init : goal.loop-slot-init
+loop-slot-init c =
+    let begun = HasBegun (arc_value c.args.code.now) c.args.limit c.args.n in
+    let same : c.into_iter-slot-iterator.result.rest.items ≡ c.args.slots.items = search rules in
+    let first = none_yet begun c.in_ok-machines.machines.items c.into_iter-slot-iterator.result.rest.items c.args.slots.items c.in_ok-machines.ensures.items same c.requires in
+    record { count = first.0; made = first.1; left = first.2 }
