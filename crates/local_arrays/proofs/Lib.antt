@@ -2,3 +2,4 @@ pub mod RowLaws
 pub mod FrameLaws
 pub mod FirstLaws
 pub mod CoreLaws
+pub mod OffsetLaws

@@ -1,13 +1,13 @@
 //! The arrays of all frames.
 
-ghost use Rattle.std.specs.Prelude.{◌≡◌, ◌<◌, ◌≤◌, ◌+◌, ◌^◌, ◌∷◌, [], map, reverse, drop, length, replicate, is_some, Some, None, IfOk, IfErr, OnOk, OnErr, IfSome, IfNone};
+ghost use Rattle.std.specs.Prelude.{◌≡◌, ◌<◌, ◌≤◌, ◌+◌, ◌^◌, ◌∷◌, [], map, reverse, drop, length, replicate, is_some, Some, None, IfOk, IfErr, OnOk, OnErr, IfSome, IfNone, IsTrue, IsFalse, Option};
 ghost use Rattle.walk_theory.specs.Terms.{found, at_fault};
 ghost use Rattle.image_acts.specs.Core.{Local};
 ghost use Rattle.image_acts.specs.Frames.{cells_in_frames, local_size, pairs_in, zeros_in, room_for_arrays};
-ghost use Rattle.image_acts.specs.Places.{place_in, offsets, subscripts_in, digits};
+ghost use Rattle.image_acts.specs.Places.{place_in, offsets, single, subscripts_in, digits};
 ghost use Rattle.array_places.specs.Sections.{numbers_of};
 ghost use Rattle.image_code.specs.Table.{scope_of};
-ghost use Rattle.local_arrays.specs.Arrays.{bounds_in, from_one, place_found, elements_of, loaded, overwritten, refilled, HasCells};
+ghost use Rattle.local_arrays.specs.Arrays.{bounds_in, from_one, place_found, elements_of, loaded, overwritten, refilled, HasCells, HasNewElement, IsElement};
 ghost use Rattle.local_arrays.specs.Frames.{Framed, first_array, array_of, with_array, count_of, base_of};
 ghost use Rattle.image_acts.specs.Operate.Variables.{elements_there};
 
@@ -86,6 +86,56 @@ impl Arrays {
         match slot(scope, x, self.base, self.main, self.row.len()) {
             None => Err(NOT_ALLOCATED),
             Some(k) => self.row.store(k, offset, value),
+        }
+    }
+
+    /// The element of an array of rank one by its subscript (ISO/IEC 1539-1:2018, 9.5.3.2); None says that it isn't found at once, and the ordinary way tells
+    /// what it is: an array of another rank or one that isn't allocated, or a subscript outside its bounds.
+    #[inline(always)]
+    pub fn element_by_one(&self, scope: Scope, x: u32, subscript: i64) -> Option<i64>
+        ensures { IfSome result (IsElement (array_of (scope_of scope) x self.now.frames) (single subscript ∷ [])) }
+    {
+        match slot(scope, x, self.base, self.main, self.row.len()) {
+            None => None,
+            Some(k) => self.row.element_by_one(k, subscript),
+        }
+    }
+
+    /// The element of an array of rank two by its row and its column (ISO/IEC 1539-1:2018, 9.5.3.2); None says that it isn't found at once, and the ordinary
+    /// way tells what it is: an array of another rank or one that isn't allocated, or a subscript outside its bounds.
+    #[inline(always)]
+    pub fn element_by_two(&self, scope: Scope, x: u32, row: i64, column: i64) -> Option<i64>
+        ensures { IfSome result (IsElement (array_of (scope_of scope) x self.now.frames) (single row ∷ single column ∷ [])) }
+    {
+        match slot(scope, x, self.base, self.main, self.row.len()) {
+            None => None,
+            Some(k) => self.row.element_by_two(k, row, column),
+        }
+    }
+
+    /// Gives the element of an array of rank one by its subscript a value (ISO/IEC 1539-1:2018, 9.5.3.2); false says that it isn't found at once, nothing is
+    /// changed, and the ordinary way tells what it is: an array of another rank or one that isn't allocated, or a subscript outside its bounds.
+    #[inline(always)]
+    pub fn put_by_one(&mut self, scope: Scope, x: u32, subscript: i64, value: i64) -> bool
+        ensures put { IsTrue result → (b : Option Local) × HasNewElement (array_of (scope_of scope) x self.old.frames) (single subscript ∷ []) value b × (self.new ≡ record self.old { frames = with_array (scope_of scope) x b self.old.frames }) }
+        ensures kept { IsFalse result → self.new ≡ self.old }
+    {
+        match slot(scope, x, self.base, self.main, self.row.len()) {
+            None => false,
+            Some(k) => self.row.put_by_one(k, subscript, value),
+        }
+    }
+
+    /// Gives the element of an array of rank two by its row and its column a value (ISO/IEC 1539-1:2018, 9.5.3.2); false says that it isn't found at once,
+    /// nothing is changed, and the ordinary way tells what it is: an array of another rank or one that isn't allocated, or a subscript outside its bounds.
+    #[inline(always)]
+    pub fn put_by_two(&mut self, scope: Scope, x: u32, row: i64, column: i64, value: i64) -> bool
+        ensures put { IsTrue result → (b : Option Local) × HasNewElement (array_of (scope_of scope) x self.old.frames) (single row ∷ single column ∷ []) value b × (self.new ≡ record self.old { frames = with_array (scope_of scope) x b self.old.frames }) }
+        ensures kept { IsFalse result → self.new ≡ self.old }
+    {
+        match slot(scope, x, self.base, self.main, self.row.len()) {
+            None => false,
+            Some(k) => self.row.put_by_two(k, row, column, value),
         }
     }
 

@@ -9,5 +9,6 @@ pub mod arrays;
 pub mod bounds;
 mod first;
 pub mod laws;
+mod offsets;
 pub mod row;
 mod slot;

@@ -5,9 +5,9 @@ ghost use Rattle.caf_base.specs.Arithmetic.{natural};
 ghost use Rattle.walk_theory.specs.Terms.{found, at_fault};
 ghost use Rattle.image_acts.specs.Core.{Local};
 ghost use Rattle.image_acts.specs.Frames.{cells_in_arrays, local_size, pairs_in, zeros_in};
-ghost use Rattle.image_acts.specs.Places.{place_in, offsets, cells_of, with_elements_at, subscripts_in, digits};
+ghost use Rattle.image_acts.specs.Places.{place_in, offsets, cells_of, with_elements_at, single, subscripts_in, digits};
 ghost use Rattle.array_places.specs.Sections.{numbers_of};
-ghost use Rattle.local_arrays.specs.Arrays.{array_at, from_one, bounds_in, place_found, elements_of, loaded, overwritten, refilled, HasCells};
+ghost use Rattle.local_arrays.specs.Arrays.{array_at, from_one, bounds_in, place_found, elements_of, loaded, overwritten, refilled, HasCells, HasNewElement, IsElement, StandsAt};
 ghost use Rattle.local_arrays.specs.Rows.{Rowed, Fit, IsSpot, exchanged, locals_of, pairs_of, local_with, placed, total_size, IsWell};
 
 use crate::bounds::{Bounds, ROOM, bounds_of};
@@ -59,6 +59,7 @@ impl Row {
     }
 
     /// How many arrays there are.
+    #[inline(always)]
     #[tactic(auto, using(crate::proofs::RowLaws::locals_long))]
     pub fn len(&self) -> usize
         ensures { result ≡ length self.now.arrays }
@@ -256,6 +257,102 @@ impl Row {
         Ok(())
     }
 
+    /// Gives an element of an array a value, and tells whether it is there; else nothing is changed.
+    #[inline(always)]
+    fn store_at(&mut self, k: usize, offset: i64, value: i64) -> bool
+        requires { k < length self.old.arrays }
+        ensures there { IsTrue result → HasCells (array_at k self.old.arrays) (place_in (offset ∷ [])) }
+        ensures put { IsTrue result → self.new ≡ record { arrays = slice_set self.old.arrays k (overwritten (place_in (offset ∷ [])) (value ∷ []) (array_at k self.old.arrays)); most = self.old.most; size = self.old.size } }
+        ensures kept { IsFalse result → self.new ≡ self.old }
+    {
+        match self.store(k, &offset, &value) {
+            Err(_) => false,
+            Ok(()) => true,
+        }
+    }
+
+    /// The offset of an element of an array by one subscript, where it is found at once.
+    #[inline(always)]
+    #[tactic(auto, using(crate::proofs::RowLaws::locals_long))]
+    fn offset_by_one(&self, k: usize, subscript: i64) -> Option<i64>
+        requires { k < length self.now.arrays }
+        ensures { IfSome result (StandsAt (array_at k self.now.arrays) (single subscript ∷ [])) }
+    {
+        match &info_of(&self.infos, k).bounds {
+            None => None,
+            Some(bounds) => bounds.offset_by_one(subscript),
+        }
+    }
+
+    /// The offset of an element of an array by its row and its column, where it is found at once.
+    #[inline(always)]
+    #[tactic(auto, using(crate::proofs::RowLaws::locals_long))]
+    fn offset_by_two(&self, k: usize, row: i64, column: i64) -> Option<i64>
+        requires { k < length self.now.arrays }
+        ensures { IfSome result (StandsAt (array_at k self.now.arrays) (single row ∷ single column ∷ [])) }
+    {
+        match &info_of(&self.infos, k).bounds {
+            None => None,
+            Some(bounds) => bounds.offset_by_two(row, column),
+        }
+    }
+
+    /// The element of an array of rank one by its subscript (ISO/IEC 1539-1:2018, 9.5.3.2); None says that it isn't found at once, and the ordinary way tells
+    /// what it is: an array of another rank or one that isn't allocated, or a subscript outside its bounds.
+    #[inline(always)]
+    pub fn element_by_one(&self, k: usize, subscript: i64) -> Option<i64>
+        requires { k < length self.now.arrays }
+        ensures { IfSome result (IsElement (array_at k self.now.arrays) (single subscript ∷ [])) }
+    {
+        let offset = self.offset_by_one(k, subscript)?;
+        match self.element(k, &offset) {
+            Err(_) => None,
+            Ok(value) => Some(value),
+        }
+    }
+
+    /// The element of an array of rank two by its row and its column (ISO/IEC 1539-1:2018, 9.5.3.2); None says that it isn't found at once, and the ordinary
+    /// way tells what it is: an array of another rank or one that isn't allocated, or a subscript outside its bounds.
+    #[inline(always)]
+    pub fn element_by_two(&self, k: usize, row: i64, column: i64) -> Option<i64>
+        requires { k < length self.now.arrays }
+        ensures { IfSome result (IsElement (array_at k self.now.arrays) (single row ∷ single column ∷ [])) }
+    {
+        let offset = self.offset_by_two(k, row, column)?;
+        match self.element(k, &offset) {
+            Err(_) => None,
+            Ok(value) => Some(value),
+        }
+    }
+
+    /// Gives the element of an array of rank one by its subscript a value (ISO/IEC 1539-1:2018, 9.5.3.2); false says that it isn't found at once, nothing is
+    /// changed, and the ordinary way tells what it is: an array of another rank or one that isn't allocated, or a subscript outside its bounds.
+    #[inline(always)]
+    pub fn put_by_one(&mut self, k: usize, subscript: i64, value: i64) -> bool
+        requires { k < length self.old.arrays }
+        ensures put { IsTrue result → (b : Option Local) × HasNewElement (array_at k self.old.arrays) (single subscript ∷ []) value b × (self.new ≡ record { arrays = slice_set self.old.arrays k b; most = self.old.most; size = self.old.size }) }
+        ensures kept { IsFalse result → self.new ≡ self.old }
+    {
+        match self.offset_by_one(k, subscript) {
+            None => false,
+            Some(offset) => self.store_at(k, offset, value),
+        }
+    }
+
+    /// Gives the element of an array of rank two by its row and its column a value (ISO/IEC 1539-1:2018, 9.5.3.2); false says that it isn't found at once,
+    /// nothing is changed, and the ordinary way tells what it is: an array of another rank or one that isn't allocated, or a subscript outside its bounds.
+    #[inline(always)]
+    pub fn put_by_two(&mut self, k: usize, row: i64, column: i64, value: i64) -> bool
+        requires { k < length self.old.arrays }
+        ensures put { IsTrue result → (b : Option Local) × HasNewElement (array_at k self.old.arrays) (single row ∷ single column ∷ []) value b × (self.new ≡ record { arrays = slice_set self.old.arrays k b; most = self.old.most; size = self.old.size }) }
+        ensures kept { IsFalse result → self.new ≡ self.old }
+    {
+        match self.offset_by_two(k, row, column) {
+            None => false,
+            Some(offset) => self.store_at(k, offset, value),
+        }
+    }
+
     /// Gives each cell of a place of an array one value.
     #[tactic(auto, using(crate::proofs::RowLaws::locals_long))]
     pub fn fill(&mut self, k: usize, place: &[i64], value: &i64)
@@ -360,6 +457,7 @@ fn info_at(infos: &[Info], k: usize) -> Info
 }
 
 /// The same behind a reference.
+#[inline(always)]
 fn info_of(infos: &[Info], k: usize) -> &Info
     requires { k < length infos.now }
     ensures { slice_get infos.now k ≡ Some result.now }
