@@ -1,6 +1,6 @@
 -- The local arrays of a core that is kept, and what a change of them makes of it.
 use Rattle.std.proofs.Common.{◌≡◌, ℕ, suc, ◌+◌, ◌*◌, ◌<◌, ◌≤◌, List, length, refl, ap, sym, ◌∙◌, subst, arith}
-use Rattle.std.specs.Prelude.{Option, Result, Ok, Err, OnOk, OnErr}
+use Rattle.std.specs.Prelude.{Bool, true, false, IsTrue, IsFalse, Option, Result, Ok, Err, OnOk, OnErr}
 use Rattle.std.specs.Arc.{arc_value}
 use Rattle.image_acts.specs.Acts as a
 use Rattle.image_acts.specs.Core.{Local}
@@ -65,6 +65,11 @@ module _ (i : Inside) (m : Kept) (view : the_view i ≡ m) (invariant : the_inva
   pub invariant_tried : {X E : Type 0} (r : Result X E) (s : a.Scope) (x : ℕ) (v : Option Local) (g : Framed) → OnOk r (g ≡ record i.locals { frames = with_array s x v i.locals.frames }) → OnErr r (g ≡ i.locals) → the_invariant (record i { locals = g })
   invariant_tried (Ok y) s x v g e k = invariant_put s x v g e
   invariant_tried (Err n) s x v g e k = subst (λ (f : Framed). the_invariant (record i { locals = f })) (sym k) invariant
+
+  -- the same where a truth value tells whether there is another array
+  pub invariant_told : (r : Bool) (s : a.Scope) (x : ℕ) (P : Option Local → Type 0) (g : Framed) → (IsTrue r → (v : Option Local) × P v × (g ≡ record i.locals { frames = with_array s x v i.locals.frames })) → (IsFalse r → g ≡ i.locals) → the_invariant (record i { locals = g })
+  invariant_told true s x P g e k = (let p = e refl in invariant_put s x p.0 g p.2)
+  invariant_told false s x P g e k = subst (λ (f : Framed). the_invariant (record i { locals = f })) (sym (k refl)) invariant
 
   -- the room for it
   pub fits : {X E : Type 0} (r : Result X E) (s : a.Scope) (x : ℕ) (v : Option Local) → OnOk r (cells_in_frames (with_array s x v i.locals.frames) ≤ i.locals.size) → OnOk r (cells_in_frames (with_array s x v (arrays_of_frames m.core)) ≤ m.core.array_room)

@@ -1,14 +1,14 @@
 //! The local arrays of all frames.
 
-ghost use Rattle.std.specs.Prelude.{◌≡◌, ◌<◌, ◌≤◌, ◌+◌, ◌^◌, ◌∷◌, ℤ, List, [], is_some, length, pos, replicate, take, true, Some, None, OnOk, OnErr, IfErr};
+ghost use Rattle.std.specs.Prelude.{◌≡◌, ◌<◌, ◌≤◌, ◌+◌, ◌^◌, ◌∷◌, ℤ, List, [], is_some, length, pos, replicate, take, true, Option, Some, None, OnOk, OnErr, IfErr, IsTrue, IsFalse};
 ghost use Rattle.walk_theory.specs.Terms.{found, at_fault};
 ghost use Rattle.image_acts.specs.Core.{Local, elements_in, with_array};
 ghost use Rattle.image_acts.specs.Frames.{array_in, arrays_of_frames, cells_in_frames, local_size, pairs_in, with_array_in, zeros_in};
-ghost use Rattle.image_acts.specs.Places.{cells_of, elements_at, extents_of, offsets, place_in};
+ghost use Rattle.image_acts.specs.Places.{cells_of, elements_at, extents_of, offsets, place_in, single};
 ghost use Rattle.image_code.specs.Table.{scope_of};
 ghost use Rattle.array_values.specs.Extents.{listed};
 ghost use Rattle.array_values.specs.Values.{elements_on_top};
-ghost use Rattle.local_arrays.specs.Arrays.{HasCells, from_one, loaded, overwritten, refilled};
+ghost use Rattle.local_arrays.specs.Arrays.{HasCells, HasNewElement, from_one, loaded, overwritten, refilled};
 ghost use Rattle.local_arrays.specs.Frames as framed;
 ghost use Rattle.image_state.specs.Acting.{with_core};
 ghost use Rattle.image_state.specs.Kept.{framed_of};
@@ -23,6 +23,7 @@ use local_arrays::arrays::Arrays;
 
 impl ImageState {
     /// The local arrays of all frames.
+    #[inline(always)]
     pub fn locals(&self) -> &Arrays
         ensures { result.now ≡ framed_of self.now }
     {
@@ -46,6 +47,7 @@ impl ImageState {
     }
 
     /// Gives an element of a local array a value; else the run fault NotAllocated or Shape, and nothing is changed.
+    #[inline(always)]
     pub fn store_element(
         &mut self,
         scope: Scope,
@@ -59,6 +61,26 @@ impl ImageState {
         ensures kept { OnErr result (self.new ≡ self.old) }
     {
         self.locals.store(scope, x, offset, value)
+    }
+
+    /// Gives the element of a local array of rank one by its subscript a value (ISO/IEC 1539-1:2018, 9.5.3.2); false says that it isn't found at once, nothing
+    /// is changed, and the ordinary way tells what it is: an array of another rank or one that isn't allocated, or a subscript outside its bounds.
+    #[inline(always)]
+    pub fn put_by_one(&mut self, scope: Scope, x: u32, subscript: i64, value: i64) -> bool
+        ensures put { IsTrue result → (b : Option Local) × HasNewElement (array_in (scope_of scope) x self.old.core) (single subscript ∷ []) value b × (self.new ≡ with_core self.old (with_array_in (scope_of scope) x b self.old.core)) }
+        ensures kept { IsFalse result → self.new ≡ self.old }
+    {
+        self.locals.put_by_one(scope, x, subscript, value)
+    }
+
+    /// Gives the element of a local array of rank two by its row and its column a value (ISO/IEC 1539-1:2018, 9.5.3.2); false says that it isn't found at once,
+    /// nothing is changed, and the ordinary way tells what it is: an array of another rank or one that isn't allocated, or a subscript outside its bounds.
+    #[inline(always)]
+    pub fn put_by_two(&mut self, scope: Scope, x: u32, row: i64, column: i64, value: i64) -> bool
+        ensures put { IsTrue result → (b : Option Local) × HasNewElement (array_in (scope_of scope) x self.old.core) (single row ∷ single column ∷ []) value b × (self.new ≡ with_core self.old (with_array_in (scope_of scope) x b self.old.core)) }
+        ensures kept { IsFalse result → self.new ≡ self.old }
+    {
+        self.locals.put_by_two(scope, x, row, column, value)
     }
 
     /// Gives each cell of a place of a local array one value.
