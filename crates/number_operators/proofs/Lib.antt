@@ -1,2 +1,3 @@
 mod KindLaws
 mod PowerLaws
+mod PowersOfTwo
