@@ -3,3 +3,4 @@ pub mod FrameLaws
 pub mod FirstLaws
 pub mod CoreLaws
 pub mod OffsetLaws
+pub mod ReachLaws

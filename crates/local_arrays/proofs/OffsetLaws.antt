@@ -1,19 +1,17 @@
 -- The offset of an element by one or two subscripts, in bounds in which 64 bits hold each place.
-use Rattle.std.proofs.Common.{◌≡◌, ◌+◌, ◌*◌, ◌<◌, ◌≤◌, ◌^◌, ℕ, ℤ, pos, ◌+ℤ◌, ◌-ℤ◌, ◌*ℤ◌, ◌≤ℤ◌, true, List, [], ◌∷◌, ap, sym, subst, ◌∙◌, arith, w64, to_z, of_z}
-use Rattle.std.specs.Prelude.{int_le, nat_lt, unsigned_abs, max, FitsSigned, Option, IfSome}
-use Rattle.std.proofs.lemmas.Bool.{and_parts, lt-ltb, ltb-true}
+use Rattle.std.proofs.Common.{◌≡◌, ◌+◌, ◌*◌, ◌<◌, ◌≤◌, ◌^◌, ℕ, ℤ, pos, ◌+ℤ◌, ◌-ℤ◌, ◌*ℤ◌, ◌≤ℤ◌, true, [], ◌∷◌, ap, sym, subst, ◌∙◌, arith, w64, to_z, of_z}
+use Rattle.std.specs.Prelude.{int_le, unsigned_abs, nat_abs, max, FitsSigned}
+use Rattle.std.proofs.lemmas.Bool.{and_parts, lt-ltb}
 use Rattle.std.proofs.lemmas.Float.{T_from_true}
 use Rattle.std.specs.Int.Signed.{le_z_yes}
 use Rattle.std.proofs.lemmas.Int.{ints, to_z-of_z}
 use Rattle.std.proofs.lemmas.Nat.{mul-le}
 use Rattle.caf_base.specs.Arithmetic.{is_within}
-use Rattle.coarray_types.specs.Places.{extent_of}
+use Rattle.coarray_types.specs.Places.{extent_of, size_of}
 use Rattle.walk_theory.specs.Terms.{found}
-use Rattle.image_acts.specs.Frames.{pairs_in}
-use Rattle.image_acts.specs.Places.{Subscript, place_within, single, spread_of}
+use Rattle.image_acts.specs.Places.{place_within, single, spread_of}
 use Rattle.array_places.specs.Sections.{numbers_of}
-use Rattle.local_arrays.specs.declared.bounds.Bounds.{Bounds}
-use Rattle.local_arrays.specs.Rows.{pairs_of, AreBounds}
+use Rattle.local_arrays.specs.Rows.{IsOffset}
 
 between : (l u v : ℤ) → is_within l u v ≡ true → (l ≤ℤ v) × (v ≤ℤ u)
 between l u v h = (let p = and_parts (int_le l v) (int_le v u) h in (le_z_yes (T_from_true (int_le l v) p.0), le_z_yes (T_from_true (int_le v u) p.1)))
@@ -53,11 +51,18 @@ module _ (l u s : ℤ) (h : is_within l u s ≡ true) (n : spread_of ((l, u) ∷
   pub distance_fits : FitsSigned w64 (s -ℤ l)
   distance_fits = (let r = reach l u s h in fits (s -ℤ l) (unsigned_abs (s -ℤ l)) (steps l u s h) (omega arith))
 
-  pub one_place : (o : ℤ) → o ≡ s -ℤ l → numbers_of (place_within ((l, u) ∷ []) (single s ∷ [])) ≡ found (o ∷ [])
+  one_place : (o : ℤ) → o ≡ s -ℤ l → numbers_of (place_within ((l, u) ∷ []) (single s ∷ [])) ≡ found (o ∷ [])
   one_place o e = rw (lt-ltb (max 1 (extent_of (l, u)) * 1) 9223372036854775808 n, h) (ap (λ t. found (t ∷ [])) (start_is ∙ sym e))
     where
       start_is : (pos 1 *ℤ (s -ℤ l)) +ℤ pos 0 ≡ s -ℤ l
       start_is = omega (arith, ints)
+
+  pub one_offset : (z : ℤ) → z ≡ s -ℤ l → IsOffset ((l, u) ∷ []) (single s ∷ []) (nat_abs z)
+  one_offset z e =
+      let r = reach l u s h in
+      let x = extent_is l u (ordered l u s h) in
+      let d = steps l u s h in
+      subst (λ (y : ℤ). IsOffset ((l, u) ∷ []) (single s ∷ []) (nat_abs y)) (sym (e ∙ d)) (record { stands = one_place (pos (unsigned_abs (s -ℤ l))) (sym d); inside = omega arith })
 
 -- two subscripts
 module _ (l u m v s t : ℤ) (in_rows : is_within l u s ≡ true) (in_columns : is_within m v t ≡ true) (n : spread_of ((l, u) ∷ (m, v) ∷ []) < 2 ^ 63) where
@@ -126,7 +131,7 @@ module _ (l u m v s t : ℤ) (in_rows : is_within l u s ≡ true) (in_columns : 
   cells : pos (1 * extent_of (l, u)) ≡ (u -ℤ l) +ℤ pos 1
   cells = (let o = ordered l u s in_rows in let e = extent_is l u o in omega (arith, ints, o))
 
-  pub two_place : (o : ℤ) → o ≡ (((u -ℤ l) +ℤ pos 1) *ℤ (t -ℤ m)) +ℤ (s -ℤ l) → numbers_of (place_within ((l, u) ∷ (m, v) ∷ []) (single s ∷ single t ∷ [])) ≡ found (o ∷ [])
+  two_place : (o : ℤ) → o ≡ (((u -ℤ l) +ℤ pos 1) *ℤ (t -ℤ m)) +ℤ (s -ℤ l) → numbers_of (place_within ((l, u) ∷ (m, v) ∷ []) (single s ∷ single t ∷ [])) ≡ found (o ∷ [])
   two_place o e = rw (lt-ltb (max 1 (extent_of (l, u)) * (max 1 (extent_of (m, v)) * 1)) 9223372036854775808 n, in_rows, in_columns) (ap (λ z. found (z ∷ [])) (start_is ∙ sym e))
     where
       moved : (x : ℤ) → (pos 1 *ℤ (s -ℤ l)) +ℤ (x +ℤ pos 0) ≡ x +ℤ (s -ℤ l)
@@ -135,13 +140,27 @@ module _ (l u m v s t : ℤ) (in_rows : is_within l u s ≡ true) (in_columns : 
       start_is : (pos 1 *ℤ (s -ℤ l)) +ℤ ((pos (1 * extent_of (l, u)) *ℤ (t -ℤ m)) +ℤ pos 0) ≡ (((u -ℤ l) +ℤ pos 1) *ℤ (t -ℤ m)) +ℤ (s -ℤ l)
       start_is = ap (λ z. (pos 1 *ℤ (s -ℤ l)) +ℤ ((z *ℤ (t -ℤ m)) +ℤ pos 0)) cells ∙ moved (((u -ℤ l) +ℤ pos 1) *ℤ (t -ℤ m))
 
--- bounds that are kept, in which 64 bits hold each place
-pub few_places : (b : Bounds) (ns : List ℤ) → AreBounds b → b.has_places ≡ true → pairs_in ns ≡ pairs_of b → spread_of (pairs_in ns) < 2 ^ 63
-few_places b ns a h e = ltb-true (spread_of (pairs_in ns)) 9223372036854775808 (ap (λ ps. nat_lt (spread_of ps) 9223372036854775808) e ∙ sym a.noted ∙ h)
+  -- the cells before the element, as a number
+  offset_is : (((u -ℤ l) +ℤ pos 1) *ℤ (t -ℤ m)) +ℤ (s -ℤ l) ≡ pos ((height * columns) + rows)
+  offset_is = ap (λ z. z +ℤ (s -ℤ l)) product_is ∙ ap (λ z. pos (height * columns) +ℤ z) (steps l u s in_rows)
 
-pub in_bounds : (b : Bounds) (ns ms : List ℤ) (ss : List Subscript) (o : Option ℤ) → pairs_in ns ≡ pairs_of b → ns ≡ ms → IfSome o (λ z. numbers_of (place_within (pairs_in ms) ss) ≡ found (z ∷ []))
-    → IfSome o (λ z. numbers_of (place_within (pairs_of b) ss) ≡ found (z ∷ []))
-in_bounds b ns ms ss o e f h = subst (λ ps. IfSome o (λ z. numbers_of (place_within ps ss) ≡ found (z ∷ []))) (sym (ap pairs_in f) ∙ e) h
+  size_is : size_of ((l, u) ∷ (m, v) ∷ []) ≡ height * width
+  size_is =
+      let a = extent_is l u (ordered l u s in_rows) in
+      let b = extent_is m v (ordered m v t in_columns) in
+      let c : extent_of (l, u) ≡ height = omega arith in
+      let d : extent_of (m, v) * 1 ≡ width = omega arith in
+      ap (λ n. n * (extent_of (m, v) * 1)) c ∙ ap (λ n. height * n) d
 
-pub few_of_four : (b : Bounds) (ns : List ℤ) (l u m v : ℤ) → AreBounds b → b.has_places ≡ true → pairs_in ns ≡ pairs_of b → ns ≡ l ∷ u ∷ m ∷ v ∷ [] → spread_of ((l, u) ∷ (m, v) ∷ []) < 2 ^ 63
-few_of_four b ns l u m v a h e f = subst (λ ms. spread_of (pairs_in ms) < 2 ^ 63) f (few_places b ns a h e)
+  pub two_offset : (z : ℤ) → z ≡ (((u -ℤ l) +ℤ pos 1) *ℤ (t -ℤ m)) +ℤ (s -ℤ l) → IsOffset ((l, u) ∷ (m, v) ∷ []) (single s ∷ single t ∷ []) (nat_abs z)
+  two_offset z e =
+      let y = size_is in
+      let b = before in
+      let r = row_reach in
+      subst (λ (y : ℤ). IsOffset ((l, u) ∷ (m, v) ∷ []) (single s ∷ single t ∷ []) (nat_abs y)) (sym (e ∙ offset_is)) (record { stands = two_place (pos ((height * columns) + rows)) (sym offset_is); inside = omega arith })
+
+  pub two_least : (z : ℤ) → z ≡ (((u -ℤ l) +ℤ pos 1) *ℤ (t -ℤ m)) +ℤ (s -ℤ l) → pos 0 ≤ℤ z
+  two_least z e = (let d = e ∙ offset_is in omega (arith, ints, d))
+
+  pub two_small : (z : ℤ) → z ≡ (((u -ℤ l) +ℤ pos 1) *ℤ (t -ℤ m)) +ℤ (s -ℤ l) → nat_abs z < 9223372036854775808
+  two_small z e = rw (e ∙ offset_is) (let b = before in let f = few in let r = row_reach in omega arith)

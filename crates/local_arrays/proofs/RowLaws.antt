@@ -13,9 +13,10 @@ use Rattle.image_acts.specs.Frames.{cells_in_arrays, local_size, zeros_in}
 use Rattle.image_acts.specs.Places.{Place, place_in, cells_of, offsets, elements_at, with_elements_at}
 use Rattle.image_acts.specs.Operate.Variables.{elements_there}
 use Rattle.local_arrays.specs.declared.bounds.Bounds.{Bounds}
+use Rattle.local_arrays.specs.declared.reach.Reach.TheVariants as reaches
 use Rattle.local_arrays.specs.declared.row.Info.{Info}
 use Rattle.local_arrays.specs.Arrays.{array_at, values_of, loaded, overwritten, refilled, HasCells}
-use Rattle.local_arrays.specs.Rows.{Rowed, IsSpot, exchanged, locals_of, local_with, pairs_of, total_size, placed, AreBounds, IsWell, AreWell, Fit}
+use Rattle.local_arrays.specs.Rows.{Rowed, IsSpot, exchanged, locals_of, local_with, pairs_of, total_size, placed, AreBounds, IsWell, HasReach, AreWell, Fit}
 
 pub locals_long : (cells : List ℤ) (is : List Info) → length (locals_of cells is) ≡ length is
 locals_long cells [] = refl
@@ -37,7 +38,7 @@ cells_all cells [] w e = e
 cells_all cells (i ∷ is) w e =
     let s = sum_by-cons local_size (local_with i.bounds (take i.size cells)) (locals_of (drop i.size cells) is) in
     let a = size_is i.bounds i.size (take i.size cells) w.0 (taken_long i.size (total_size is) cells e) in
-    let b = cells_all (drop i.size cells) is w.1 (dropped_long i.size (total_size is) cells e) in
+    let b = cells_all (drop i.size cells) is w.2 (dropped_long i.size (total_size is) cells e) in
     let d = dropped_long i.size (total_size is) cells e in
     omega arith
 
@@ -99,7 +100,12 @@ found_at cells is k i f e =
 pub well_at : (is : List Info) (k : ℕ) (i : Info) → AreWell is → slice_get is k ≡ Some i → IsWell i.bounds i.size
 well_at [] k i w e = absurd (cc)
 well_at (j ∷ is) zero i w e = (let a : j ≡ i = cc in subst (λ (x : Info). IsWell x.bounds x.size) a w.0)
-well_at (j ∷ is) (suc k) i w e = well_at is k i w.1 e
+well_at (j ∷ is) (suc k) i w e = well_at is k i w.2 e
+
+pub reach_at : (is : List Info) (k : ℕ) (i : Info) → AreWell is → slice_get is k ≡ Some i → HasReach i
+reach_at [] k i w e = absurd (cc)
+reach_at (j ∷ is) zero i w e = (let a : j ≡ i = cc in subst HasReach a w.1)
+reach_at (j ∷ is) (suc k) i w e = reach_at is k i w.2 e
 
 -- other cells in the place of those of one array
 front_is : (n : ℕ) (xs ys : List ℤ) → n ≡ length xs → take n (xs ++ ys) ≡ xs
@@ -174,12 +180,12 @@ total_append : (is : List Info) (i : Info) → total_size (is ++ i ∷ []) ≡ t
 total_append [] i = omega arith
 total_append (j ∷ is) i = (let h = total_append is i in omega arith)
 
-well_append : (is : List Info) (i : Info) → AreWell is → IsWell i.bounds i.size → AreWell (is ++ i ∷ [])
-well_append [] i w v = (v, tt)
-well_append (j ∷ is) i w v = (w.0, well_append is i w.1 v)
+well_append : (is : List Info) (i : Info) → AreWell is → IsWell i.bounds i.size → HasReach i → AreWell (is ++ i ∷ [])
+well_append [] i w v r = (v, r, tt)
+well_append (j ∷ is) i w v r = (w.0, w.1, well_append is i w.2 v r)
 
 abbrev pub none_at : ℕ → Info
-none_at s = record { bounds = None; start = s; size = 0 }
+none_at s = record { reach = reaches.Other; bounds = None; start = s; size = 0 }
 
 pub pushed_fit : (cells : List ℤ) (is js : List Info) → Fit cells is → js ≡ is ++ none_at (length cells) ∷ [] → Fit cells js
 pushed_fit cells is js f e =
@@ -189,7 +195,7 @@ pushed_fit cells is js f e =
     subst (Fit cells) (sym e) (record {
       placed = sym (placed_append 0 is (none_at (length cells)) ∙ ap (λ xs. xs ++ none_at (0 + total_size is) ∷ []) (sym f.placed) ∙ ap (λ n. is ++ none_at n ∷ []) z);
       full = omega arith;
-      well = well_append is (none_at (length cells)) f.well refl;
+      well = well_append is (none_at (length cells)) f.well refl tt;
       small = f.small;
     })
 
@@ -228,7 +234,7 @@ kept_placed s (i ∷ is) (suc n) = ap (λ xs. record i { start = s } ∷ xs) (ke
 kept_well : (is : List Info) (n : ℕ) → AreWell is → AreWell (take n is)
 kept_well is zero w = tt
 kept_well [] (suc n) w = tt
-kept_well (i ∷ is) (suc n) w = (w.0, kept_well is n w.1)
+kept_well (i ∷ is) (suc n) w = (w.0, w.1, kept_well is n w.2)
 
 pub kept_fit : (cells : List ℤ) (is : List Info) (n : ℕ) → Fit cells is → Fit (take (total_size (take n is)) cells) (take n is)
 kept_fit cells is n f =
@@ -458,17 +464,17 @@ placed_total s (i ∷ is) = ap (λ n. i.size + n) (placed_total (s + i.size) is)
 
 placed_well : (s : ℕ) (is : List Info) → AreWell is → AreWell (placed s is)
 placed_well s [] w = tt
-placed_well s (i ∷ is) w = (w.0, placed_well (s + i.size) is w.1)
+placed_well s (i ∷ is) w = (w.0, w.1, placed_well (s + i.size) is w.2)
 
 set_total : (is : List Info) (k : ℕ) (i j : Info) → slice_get is k ≡ Some i → total_size (slice_set is k j) + i.size ≡ total_size is + j.size
 set_total [] k i j e = absurd (cc)
 set_total (m ∷ is) zero i j e = (let a : m ≡ i = cc in let b = ap (λ (x : Info). x.size) a in omega arith)
 set_total (m ∷ is) (suc k) i j e = (let h = set_total is k i j e in omega arith)
 
-set_well : (is : List Info) (k : ℕ) (j : Info) → AreWell is → IsWell j.bounds j.size → AreWell (slice_set is k j)
-set_well [] k j w v = tt
-set_well (m ∷ is) zero j w v = (v, w.1)
-set_well (m ∷ is) (suc k) j w v = (w.0, set_well is k j w.1 v)
+set_well : (is : List Info) (k : ℕ) (j : Info) → AreWell is → IsWell j.bounds j.size → HasReach j → AreWell (slice_set is k j)
+set_well [] k j w v r = tt
+set_well (m ∷ is) zero j w v r = (v, r, w.2)
+set_well (m ∷ is) (suc k) j w v r = (w.0, w.1, set_well is k j w.2 v r)
 
 pub drop_total : (is : List Info) (k : ℕ) → total_size (drop k is) ≤ total_size is
 drop_total is zero = omega arith
@@ -479,9 +485,9 @@ pub reset_placed : (is js : List Info) (k : ℕ) (i j : Info) → is ≡ placed 
     → js ≡ take (k + 1) (slice_set is k j) ++ placed (j.start + j.size) (drop (k + 1) (slice_set is k j)) → js ≡ placed 0 (slice_set is k j)
 reset_placed is js k i j p e h w = w ∙ placed_set 0 is k i j p e h
 
-pub reset_fit : (cells cells' : List ℤ) (is js : List Info) (k : ℕ) (i j : Info) → Fit cells is → slice_get is k ≡ Some i → IsWell j.bounds j.size
+pub reset_fit : (cells cells' : List ℤ) (is js : List Info) (k : ℕ) (i j : Info) → Fit cells is → slice_get is k ≡ Some i → IsWell j.bounds j.size → HasReach j
     → cells' ≡ exchanged i.start i.size (replicate j.size (pos 0)) cells → js ≡ placed 0 (slice_set is k j) → length cells' < 4294967296 → Fit cells' js
-reset_fit cells cells' is js k i j f e v c w s =
+reset_fit cells cells' is js k i j f e v r c w s =
     let x = exchanged_long i.start i.size (replicate j.size (pos 0)) cells (within cells is k i f e) in
     let z = length-replicate j.size (pos 0) in
     let y = ap length c in
@@ -491,7 +497,7 @@ reset_fit cells cells' is js k i j f e v c w s =
     record {
       placed = w ∙ sym (placed_twice 0 (slice_set is k j)) ∙ ap (placed 0) (sym w);
       full = omega arith;
-      well = subst AreWell (sym w) (placed_well 0 (slice_set is k j) (set_well is k j f.well v));
+      well = subst AreWell (sym w) (placed_well 0 (slice_set is k j) (set_well is k j f.well v r));
       small = s;
     }
 
@@ -614,7 +620,7 @@ removed_fit cells cells' is js k i f e c w =
     let x = exchanged_long i.start i.size [] cells (within cells is k i f e) in
     let y = ap length c in
     let s = f.small in
-    reset_fit cells cells' is js k i (none_at i.start) f e refl c w (omega arith)
+    reset_fit cells cells' is js k i (none_at i.start) f e refl tt c w (omega arith)
 
 pub removed_view : (cells cells' : List ℤ) (is js : List Info) (k : ℕ) (i : Info) → Fit cells is → slice_get is k ≡ Some i → cells' ≡ take i.start cells ++ drop (i.start + i.size) cells
     → js ≡ placed 0 (slice_set is k (none_at i.start)) → locals_of cells' js ≡ slice_set (locals_of cells is) k None

@@ -1,14 +1,13 @@
 //! The bounds of an array, kept in room of their own.
 
-ghost use Rattle.std.specs.Prelude.{◌≡◌, ◌≤◌, ◌^◌, ◌<◌, ◌∷◌, [], take, length, nat_lt, IfOk, IfErr, IfSome, IsTrue};
+ghost use Rattle.std.specs.Prelude.{◌≡◌, ◌≤◌, ◌^◌, ◌<◌, take, length, nat_lt, IfOk, IfErr, IsTrue};
 ghost use Rattle.image_acts.specs.Frames.{pairs_in};
 ghost use Rattle.image_acts.specs.Places.{spread_of};
 ghost use Rattle.local_arrays.specs.Rows.{pairs_of, AreBounds};
 ghost use Rattle.walk_theory.specs.Terms.{found, at_fault};
-ghost use Rattle.image_acts.specs.Places.{place_within, single, subscripts_in, digits};
+ghost use Rattle.image_acts.specs.Places.{place_within, subscripts_in, digits};
 ghost use Rattle.array_places.specs.Sections.{numbers_of};
 
-use crate::offsets::{four, offset_of_one, offset_of_two};
 use array_places::list::PlaceNumbers;
 use array_places::section::{has_places, place_of};
 
@@ -60,39 +59,5 @@ impl Bounds {
             return Err(ROOM);
         }
         place_of(self.as_slice(), form, numbers)
-    }
-
-    /// The offset of an element by one subscript, in bounds of one dimension (ISO/IEC 1539-1:2018, 9.5.3.2); None says that it isn't found at once, and
-    /// `place` tells what it is: bounds of another rank, a subscript outside them, or bounds too far apart for places of 64 bits.
-    #[inline(always)]
-    #[tactic(auto, using(crate::proofs::OffsetLaws::few_places, crate::proofs::OffsetLaws::in_bounds))]
-    pub fn offset_by_one(&self, subscript: i64) -> Option<i64>
-        requires { AreBounds self.now }
-        ensures { IfSome result (λ o. numbers_of (place_within (pairs_of self.now) (single subscript ∷ [])) ≡ found (o ∷ [])) }
-    {
-        if !self.has_places {
-            return None;
-        }
-        match self.as_slice() {
-            [lower, upper] => offset_of_one(*lower, *upper, subscript),
-            _ => None,
-        }
-    }
-
-    /// The offset of an element by its row and its column, in bounds of two dimensions (ISO/IEC 1539-1:2018, 9.5.3.2); None says that it isn't found at
-    /// once, and `place` tells what it is: bounds of another rank, a subscript outside them, or bounds too far apart for places of 64 bits.
-    #[inline(always)]
-    #[tactic(auto, using(crate::proofs::OffsetLaws::few_of_four, crate::proofs::OffsetLaws::in_bounds))]
-    pub fn offset_by_two(&self, row: i64, column: i64) -> Option<i64>
-        requires { AreBounds self.now }
-        ensures { IfSome result (λ o. numbers_of (place_within (pairs_of self.now) (single row ∷ single column ∷ [])) ≡ found (o ∷ [])) }
-    {
-        if !self.has_places {
-            return None;
-        }
-        match four(self.as_slice()) {
-            None => None,
-            Some((low, high, left, right)) => offset_of_two(low, high, left, right, row, column),
-        }
     }
 }

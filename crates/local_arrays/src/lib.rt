@@ -10,5 +10,6 @@ pub mod bounds;
 mod first;
 pub mod laws;
 mod offsets;
+mod reach;
 pub mod row;
 mod slot;

@@ -1,16 +1,18 @@
 //! Arrays in one row of cells, kept dense.
 
-ghost use Rattle.std.specs.Prelude.{◌≡◌, ◌<◌, ◌≤◌, ◌+◌, ◌^◌, ◌∷◌, ◌++◌, [], ⊤, pos, take, drop, length, vec_capacity, slice_get, slice_set, replicate, is_some, Some, None, Option, ◌-◌, min, IsTrue, IsFalse, IfOk, IfErr, OnOk, OnErr, IfSome, IfNone};
+ghost use Rattle.std.specs.Prelude.{◌≡◌, ◌<◌, ◌≤◌, ◌+◌, ◌^◌, ◌∷◌, ◌++◌, [], ⊤, pos, take, drop, length, vec_capacity, slice_get, slice_index_or, slice_set, replicate, is_some, Some, None, Option, ◌-◌, min, IsTrue, IsFalse, IfOk, IfErr, OnOk, OnErr, IfSome, IfNone};
 ghost use Rattle.caf_base.specs.Arithmetic.{natural};
 ghost use Rattle.walk_theory.specs.Terms.{found, at_fault};
 ghost use Rattle.image_acts.specs.Core.{Local};
 ghost use Rattle.image_acts.specs.Frames.{cells_in_arrays, local_size, pairs_in, zeros_in};
 ghost use Rattle.image_acts.specs.Places.{place_in, offsets, cells_of, with_elements_at, single, subscripts_in, digits};
 ghost use Rattle.array_places.specs.Sections.{numbers_of};
-ghost use Rattle.local_arrays.specs.Arrays.{array_at, from_one, bounds_in, place_found, elements_of, loaded, overwritten, refilled, HasCells, HasNewElement, IsElement, StandsAt};
-ghost use Rattle.local_arrays.specs.Rows.{Rowed, Fit, IsSpot, exchanged, locals_of, pairs_of, local_with, placed, total_size, IsWell};
+ghost use Rattle.local_arrays.specs.Arrays.{array_at, from_one, bounds_in, place_found, elements_of, loaded, overwritten, refilled, HasCells, HasNewElement, IsElement};
+ghost use Rattle.local_arrays.specs.Rows.{Rowed, Fit, IsCell, IsSpot, exchanged, locals_of, pairs_of, local_with, placed, total_size, IsWell};
 
 use crate::bounds::{Bounds, ROOM, bounds_of};
+use crate::offsets::{offset_of_one, offset_of_two};
+use crate::reach::{Reach, reach_of};
 use array_places::bounds::cells_between;
 use array_places::elements::{fill, put};
 use array_places::list::PlaceNumbers;
@@ -22,9 +24,10 @@ pub(crate) const NOT_ALLOCATED: u32 = 6;
 
 pub(crate) const SHAPE: u32 = 12;
 
-/// An array: its bounds, where it is there; where its cells begin, and how many it has.
+/// An array: how its elements are found at once; its bounds, where it is there; where its cells begin, and how many it has.
 #[derive(Clone, Copy)]
 pub struct Info {
+    pub(crate) reach: Reach,
     pub(crate) bounds: Option<Bounds>,
     pub(crate) start: usize,
     pub(crate) size: usize,
@@ -93,6 +96,7 @@ impl Row {
     {
         let start = self.cells.len();
         self.infos.push_reserved(Info {
+            reach: Reach::Other,
             bounds: None,
             start,
             size: 0,
@@ -132,6 +136,7 @@ impl Row {
             &mut self.infos,
             k,
             Info {
+                reach: Reach::Other,
                 bounds: None,
                 start,
                 size: 0,
@@ -257,99 +262,63 @@ impl Row {
         Ok(())
     }
 
-    /// Gives an element of an array a value, and tells whether it is there; else nothing is changed.
-    #[inline(always)]
-    fn store_at(&mut self, k: usize, offset: i64, value: i64) -> bool
-        requires { k < length self.old.arrays }
-        ensures there { IsTrue result → HasCells (array_at k self.old.arrays) (place_in (offset ∷ [])) }
-        ensures put { IsTrue result → self.new ≡ record { arrays = slice_set self.old.arrays k (overwritten (place_in (offset ∷ [])) (value ∷ []) (array_at k self.old.arrays)); most = self.old.most; size = self.old.size } }
-        ensures kept { IsFalse result → self.new ≡ self.old }
-    {
-        match self.store(k, &offset, &value) {
-            Err(_) => false,
-            Ok(()) => true,
-        }
-    }
-
-    /// The offset of an element of an array by one subscript, where it is found at once.
-    #[inline(always)]
-    #[tactic(auto, using(crate::proofs::RowLaws::locals_long))]
-    fn offset_by_one(&self, k: usize, subscript: i64) -> Option<i64>
-        requires { k < length self.now.arrays }
-        ensures { IfSome result (StandsAt (array_at k self.now.arrays) (single subscript ∷ [])) }
-    {
-        match &info_of(&self.infos, k).bounds {
-            None => None,
-            Some(bounds) => bounds.offset_by_one(subscript),
-        }
-    }
-
-    /// The offset of an element of an array by its row and its column, where it is found at once.
-    #[inline(always)]
-    #[tactic(auto, using(crate::proofs::RowLaws::locals_long))]
-    fn offset_by_two(&self, k: usize, row: i64, column: i64) -> Option<i64>
-        requires { k < length self.now.arrays }
-        ensures { IfSome result (StandsAt (array_at k self.now.arrays) (single row ∷ single column ∷ [])) }
-    {
-        match &info_of(&self.infos, k).bounds {
-            None => None,
-            Some(bounds) => bounds.offset_by_two(row, column),
-        }
-    }
-
     /// The element of an array of rank one by its subscript (ISO/IEC 1539-1:2018, 9.5.3.2); None says that it isn't found at once, and the ordinary way tells
     /// what it is: an array of another rank or one that isn't allocated, or a subscript outside its bounds.
     #[inline(always)]
+    #[tactic(auto, using(crate::proofs::RowLaws::locals_long))]
     pub fn element_by_one(&self, k: usize, subscript: i64) -> Option<i64>
         requires { k < length self.now.arrays }
         ensures { IfSome result (IsElement (array_at k self.now.arrays) (single subscript ∷ [])) }
     {
-        let offset = self.offset_by_one(k, subscript)?;
-        match self.element(k, &offset) {
-            Err(_) => None,
-            Ok(value) => Some(value),
-        }
+        let at = cell_by_one(&self.cells, &self.infos, k, subscript)?;
+        Some(read(&self.cells, at))
     }
 
     /// The element of an array of rank two by its row and its column (ISO/IEC 1539-1:2018, 9.5.3.2); None says that it isn't found at once, and the ordinary
     /// way tells what it is: an array of another rank or one that isn't allocated, or a subscript outside its bounds.
     #[inline(always)]
+    #[tactic(auto, using(crate::proofs::RowLaws::locals_long))]
     pub fn element_by_two(&self, k: usize, row: i64, column: i64) -> Option<i64>
         requires { k < length self.now.arrays }
         ensures { IfSome result (IsElement (array_at k self.now.arrays) (single row ∷ single column ∷ [])) }
     {
-        let offset = self.offset_by_two(k, row, column)?;
-        match self.element(k, &offset) {
-            Err(_) => None,
-            Ok(value) => Some(value),
-        }
+        let at = cell_by_two(&self.cells, &self.infos, k, row, column)?;
+        Some(read(&self.cells, at))
     }
 
     /// Gives the element of an array of rank one by its subscript a value (ISO/IEC 1539-1:2018, 9.5.3.2); false says that it isn't found at once, nothing is
     /// changed, and the ordinary way tells what it is: an array of another rank or one that isn't allocated, or a subscript outside its bounds.
     #[inline(always)]
+    #[tactic(auto, using(crate::proofs::RowLaws::locals_long))]
     pub fn put_by_one(&mut self, k: usize, subscript: i64, value: i64) -> bool
         requires { k < length self.old.arrays }
         ensures put { IsTrue result → (b : Option Local) × HasNewElement (array_at k self.old.arrays) (single subscript ∷ []) value b × (self.new ≡ record { arrays = slice_set self.old.arrays k b; most = self.old.most; size = self.old.size }) }
         ensures kept { IsFalse result → self.new ≡ self.old }
     {
-        match self.offset_by_one(k, subscript) {
+        match cell_by_one(&self.cells, &self.infos, k, subscript) {
             None => false,
-            Some(offset) => self.store_at(k, offset, value),
+            Some(at) => {
+                write(&mut self.cells, at, &value);
+                true
+            }
         }
     }
 
     /// Gives the element of an array of rank two by its row and its column a value (ISO/IEC 1539-1:2018, 9.5.3.2); false says that it isn't found at once,
     /// nothing is changed, and the ordinary way tells what it is: an array of another rank or one that isn't allocated, or a subscript outside its bounds.
     #[inline(always)]
+    #[tactic(auto, using(crate::proofs::RowLaws::locals_long))]
     pub fn put_by_two(&mut self, k: usize, row: i64, column: i64, value: i64) -> bool
         requires { k < length self.old.arrays }
         ensures put { IsTrue result → (b : Option Local) × HasNewElement (array_at k self.old.arrays) (single row ∷ single column ∷ []) value b × (self.new ≡ record { arrays = slice_set self.old.arrays k b; most = self.old.most; size = self.old.size }) }
         ensures kept { IsFalse result → self.new ≡ self.old }
     {
-        match self.offset_by_two(k, row, column) {
+        match cell_by_two(&self.cells, &self.infos, k, row, column) {
             None => false,
-            Some(offset) => self.store_at(k, offset, value),
+            Some(at) => {
+                write(&mut self.cells, at, &value);
+                true
+            }
         }
     }
 
@@ -385,11 +354,13 @@ impl Row {
     {
         let info = info_at(&self.infos, k);
         let start = info.start;
+        let reach = reach_of(&bounds, n);
         gap(&mut self.cells, start, info.size, n);
         set_info(
             &mut self.infos,
             k,
             Info {
+                reach,
                 bounds,
                 start,
                 size: n,
@@ -495,6 +466,47 @@ fn spot(cells: &[i64], infos: &[Info], k: usize, offset: &i64) -> Result<usize, 
     Ok(info.start + at)
 }
 
+/// The cell of an element of an array by one subscript, where it is found at once.
+#[inline(always)]
+fn cell_by_one(cells: &[i64], infos: &[Info], k: usize, subscript: i64) -> Option<usize>
+    requires fit { Fit cells.now infos.now }
+    requires number { k < length infos.now }
+    ensures { IfSome result (IsCell cells.now infos.now k (single subscript ∷ [])) }
+{
+    let _cells = cells;
+    let info = info_of(infos, k);
+    match info.reach {
+        Reach::One { lower, upper } => {
+            let offset = offset_of_one(lower, upper, subscript)?;
+            Some(info.start + offset)
+        }
+        _ => None,
+    }
+}
+
+/// The cell of an element of an array by its row and its column, where it is found at once.
+#[inline(always)]
+fn cell_by_two(cells: &[i64], infos: &[Info], k: usize, row: i64, column: i64) -> Option<usize>
+    requires fit { Fit cells.now infos.now }
+    requires number { k < length infos.now }
+    ensures { IfSome result (IsCell cells.now infos.now k (single row ∷ single column ∷ [])) }
+{
+    let _cells = cells;
+    let info = info_of(infos, k);
+    match info.reach {
+        Reach::Two {
+            low,
+            high,
+            left,
+            right,
+        } => {
+            let offset = offset_of_two(low, high, left, right, row, column)?;
+            Some(info.start + offset)
+        }
+        _ => None,
+    }
+}
+
 /// A number, or 0 for one below 0.
 #[inline(always)]
 fn natural(v: &i64) -> usize
@@ -559,6 +571,15 @@ fn copy_part(cells: &mut Vec<i64>, start: usize, values: &[i64])
     ensures capacity { vec_capacity cells.new ≡ vec_capacity cells.old }
 {
     cells[start..start + values.len()].copy_from_slice(values);
+}
+
+/// Reads one cell.
+#[inline(always)]
+fn read(cells: &[i64], at: usize) -> i64
+    requires { at < length cells.now }
+    ensures { result ≡ slice_index_or cells.now at (pos 0) }
+{
+    cells[at]
 }
 
 /// Writes one cell.
@@ -641,6 +662,7 @@ fn place_behind(infos: &mut Vec<Info>, from: usize, start: usize)
             infos,
             k,
             Info {
+                reach: info.reach,
                 bounds: info.bounds,
                 start: at,
                 size: info.size,

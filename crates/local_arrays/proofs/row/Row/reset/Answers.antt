@@ -31,7 +31,7 @@ pub place_behind-requires-clause-within : goal.place_behind-requires-clause-with
 place_behind-requires-clause-within c =
     let l = locals_long c.self.inside.cells.items c.self.inside.infos.items in
     let v = ap (λ (r : Rowed). length r.arrays) c.self.view_is in
-    let w = ap length c.set_info.ensures.items ∙ length-set c.self.inside.infos.items c.args.k (record { bounds = c.args.bounds; start = c.info_at-info.result.start; size = c.args.n }) in
+    let w = ap length c.set_info.ensures.items ∙ length-set c.self.inside.infos.items c.args.k (record { reach = c.reach_of-reach.result; bounds = c.args.bounds; start = c.info_at-info.result.start; size = c.args.n }) in
     let n = c.requires.number in
     omega arith
 
@@ -42,7 +42,7 @@ place_behind-requires-clause-small c =
     let q = subst (λ (r : Rowed). cells_in_arrays (slice_set r.arrays c.args.k (local_with c.args.bounds (replicate c.args.n (pos 0)))) ≤ r.size) (sym c.self.view_is) c.requires.room in
     let r = reset_room c.self.inside.cells.items c.self.inside.infos.items c.args.k c.info_at-info.result c.args.bounds c.args.n _ c.self.invariant.0 e c.requires.well q in
     let s = c.self.invariant.1 in
-    let j : Info = record { bounds = c.args.bounds; start = c.info_at-info.result.start; size = c.args.n } in
+    let j : Info = record { reach = c.reach_of-reach.result; bounds = c.args.bounds; start = c.info_at-info.result.start; size = c.args.n } in
     let t = left_turn c.self.inside.infos.items c.args.k c.info_at-info.result j e in
     let u = ap (λ (xs : List Info). total_size (drop (c.args.k + 1) xs)) c.set_info.ensures.items in
     let d = drop_total c.self.inside.infos.items c.args.k in
@@ -55,8 +55,8 @@ invariant_of-self c =
     let q = subst (λ (r : Rowed). cells_in_arrays (slice_set r.arrays c.args.k (local_with c.args.bounds (replicate c.args.n (pos 0)))) ≤ r.size) (sym c.self.view_is) c.requires.room in
     let r = reset_room c.self.inside.cells.items c.self.inside.infos.items c.args.k c.info_at-info.result c.args.bounds c.args.n _ c.self.invariant.0 e c.requires.well q in
     let w = within c.self.inside.cells.items c.self.inside.infos.items c.args.k c.info_at-info.result c.self.invariant.0 e in
-    let j : Info = record { bounds = c.args.bounds; start = c.info_at-info.result.start; size = c.args.n } in (
-      reset_fit c.self.inside.cells.items c.gap.new.cells.items c.self.inside.infos.items c.place_behind.new.infos.items c.args.k c.info_at-info.result j c.self.invariant.0 e c.requires.well c.gap.ensures.items
+    let j : Info = record { reach = c.reach_of-reach.result; bounds = c.args.bounds; start = c.info_at-info.result.start; size = c.args.n } in (
+      reset_fit c.self.inside.cells.items c.gap.new.cells.items c.self.inside.infos.items c.place_behind.new.infos.items c.args.k c.info_at-info.result j c.self.invariant.0 e c.requires.well c.reach_of-reach.ensures c.gap.ensures.items
           (reset_placed c.self.inside.infos.items c.place_behind.new.infos.items c.args.k c.info_at-info.result j c.self.invariant.0.placed e refl (placed_from c.self.inside.infos.items c.set_info.new.infos.items c.place_behind.new.infos.items c.args.k j c.set_info.ensures.items c.place_behind.ensures.items))
           (reset_small c.self.inside.cells.items c.gap.new.cells.items c.info_at-info.result.start c.info_at-info.result.size c.args.n _ w c.gap.ensures.items r c.self.invariant.1),
       subst (λ (n : ℕ). n < 4294967296) (sym c.gap.ensures.capacity) c.self.invariant.1,
@@ -65,7 +65,7 @@ invariant_of-self c =
 pub returns : goal.returns
 returns c =
     let e : slice_get c.self.inside.infos.items c.args.k ≡ Some c.info_at-info.result = ap (λ (xs : List Info). slice_get xs c.args.k) (sym c.deref.ensures.value) ∙ c.info_at-info.ensures in
-    let j : Info = record { bounds = c.args.bounds; start = c.info_at-info.result.start; size = c.args.n } in
+    let j : Info = record { reach = c.reach_of-reach.result; bounds = c.args.bounds; start = c.info_at-info.result.start; size = c.args.n } in
     same_rowed _ _ _ _ _ _ (reset_view c.self.inside.cells.items c.gap.new.cells.items c.self.inside.infos.items c.place_behind.new.infos.items c.args.k c.info_at-info.result j c.self.invariant.0 e c.gap.ensures.items
     (reset_placed c.self.inside.infos.items c.place_behind.new.infos.items c.args.k c.info_at-info.result j c.self.invariant.0.placed e refl (placed_from c.self.inside.infos.items c.set_info.new.infos.items c.place_behind.new.infos.items c.args.k j c.set_info.ensures.items c.place_behind.ensures.items)))
     (c.place_behind.ensures.capacity ∙ c.set_info.ensures.capacity) c.gap.ensures.capacity
