@@ -1,18 +1,14 @@
 -- How the elements of an array are found at once.
-use Rattle.std.proofs.Common.{◌≡◌, ◌∙◌, ◌+◌, ◌<◌, ℕ, ℤ, pos, List, ◌∷◌, [], length, refl, ap, sym, subst, arith, true, min, slice_set, slice_index_or}
-use Rattle.std.specs.Prelude.{slice_get, nat_lt, Option, Some}
-use Rattle.std.proofs.lemmas.Bool.{ltb-true}
-use Rattle.coarray_types.specs.Places.{size_of}
+use Rattle.std.proofs.Common.{◌≡◌, ◌+◌, ◌<◌, ℕ, ℤ, pos, List, ◌∷◌, [], length, refl, sym, subst, arith, slice_set, slice_index_or}
+use Rattle.std.specs.Prelude.{slice_get, Option, Some}
 use Rattle.walk_theory.specs.Terms.{found}
 use Rattle.image_acts.specs.Core.{Local}
-use Rattle.image_acts.specs.Frames.{pairs_in}
-use Rattle.image_acts.specs.Places.{Subscript, place_in, place_within, offsets, spread_of}
+use Rattle.image_acts.specs.Places.{Subscript, place_in, place_within}
 use Rattle.array_places.specs.Sections.{numbers_of}
-use Rattle.local_arrays.specs.declared.bounds.Bounds.{Bounds}
 use Rattle.local_arrays.specs.declared.reach.Reach.{Reach}
 use Rattle.local_arrays.specs.declared.row.Info.{Info}
 use Rattle.local_arrays.specs.Arrays.{array_at, overwritten, HasNewElement, IsElement, StandsAt}
-use Rattle.local_arrays.specs.Rows.{Rowed, Fit, IsCell, IsOffset, IsReach, Reaches, AreBounds, locals_of, pairs_of}
+use Rattle.local_arrays.specs.Rows.{Rowed, Fit, IsCell, IsOffset, IsReach, Reaches, locals_of}
 use Rattle.local_arrays.proofs.RowLaws.{element_there, over_fit, over_view, reach_at, same_rowed, spot_has, spot_within, spot_written, there_local, within}
 
 -- what is noted of an array
