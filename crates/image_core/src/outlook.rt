@@ -85,8 +85,8 @@ impl Outlook {
         }
     }
 
-    // It isn't known any more whether this image can step, and whether those can that are filed at a place.
-    pub(crate) fn forget(&mut self, image: ImageNo, place: Place)
+    // It isn't known any more whether this image can step, and it isn't filed at a place any more.
+    pub(crate) fn forget_image(&mut self, image: ImageNo, place: Place)
         requires well { IsWell self.old }
         requires image { (0 < image.0) × (image.0 ≤ self.old.images) }
         ensures well { IsWell self.new }
@@ -95,13 +95,26 @@ impl Outlook {
         ensures files { length self.new.filed.items ≡ length self.old.filed.items }
         ensures stale { has self.new.stale.words.items image.0 ≡ true }
         ensures kept { (j : ℕ) → has self.old.stale.words.items j ≡ true → has self.new.stale.words.items j ≡ true }
-        ensures forgotten { IsForgotten self.new place }
         ensures filed { (j : ℕ) → (j ≡ image.0 → ⊥) → (q : Place) → IsFiled self.old.filed.items q j → IsFiled self.new.filed.items q j }
     {
         self.stale.insert(image.0);
         if let Some(file) = self.file_of(place) {
-            self.stale.insert_all(&self.filed[file]);
             self.filed[file].remove(image.0);
+        }
+    }
+
+    // It isn't known any more whether those images can step that are filed at a place.
+    pub(crate) fn forget_place(&mut self, place: Place)
+        requires { IsWell self.old }
+        ensures well { IsWell self.new }
+        ensures images { self.new.images ≡ self.old.images }
+        ensures can { self.new.can ≡ self.old.can }
+        ensures filed { self.new.filed ≡ self.old.filed }
+        ensures kept { (j : ℕ) → has self.old.stale.words.items j ≡ true → has self.new.stale.words.items j ≡ true }
+        ensures forgotten { IsForgotten self.new place }
+    {
+        if let Some(file) = self.file_of(place) {
+            self.stale.insert_all(&self.filed[file]);
         }
     }
 
