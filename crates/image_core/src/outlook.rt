@@ -220,8 +220,8 @@ impl Outlook {
         ensures it { result ≡ slice_index (filter (has self.now.can.words.items) (numbers_to self.now.images)) place }
         ensures can { has self.now.can.words.items result ≡ true }
     {
-        let mut left = place;
-        let mut from = 1;
+        let (first, mut left) = self.can.byte_of(place);
+        let mut from = first.max(1);
         while let Some(image) = self.can.next(from) {
             if left == 0 {
                 return image;
