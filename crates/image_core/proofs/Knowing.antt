@@ -19,7 +19,7 @@ use Rattle.core_runs.proofs.Elsewhere.{ready_elsewhere}
 use Rattle.core_runs.proofs.Numbered.{get_other}
 use Rattle.image_core.specs.declared.outlook.Outlook.{Outlook}
 use Rattle.image_core.specs.ImageSets.{has}
-use Rattle.image_core.specs.Outlooks.{IsFileOf, IsFiled, IsForgotten, IsWell, Knows, filed_at}
+use Rattle.image_core.specs.Outlooks.{IsFileOf, IsFiled, IsForgotten, IsWell, Knows, LeavesOthers, filed_at}
 use Rattle.image_core.specs.Choosing.{by_number}
 use Rattle.image_core.proofs.Counting.{same_in}
 
@@ -50,6 +50,10 @@ or_false false b h = (refl, h)
 not_both : (b : Bool) → b ≡ true → b ≡ false → ⊥
 not_both b t f = cc
 
+-- an image that is in a set isn't one that isn't in it
+pub other_fresh : (words : List ℕ) (i j : ℕ) → has words i ≡ true → has words j ≡ false → j ≡ i → ⊥
+other_fresh words i j t f e = not_both _ t (subst (λ n. has words n ≡ false) e f)
+
 module _ {C M B : Type 0} (r : Rules C M B) (m : Moment C M B) (o : Outlook) (knows : Knows r m o) where
   -- what was found out of one image
   module _ (o' : Outlook) (image : ℕ) (place : Place) (well : IsWell o') (images : o'.images ≡ o.images) (files : length o'.filed.items ≡ length o.filed.items)
@@ -78,15 +82,12 @@ module _ {C M B : Type 0} (r : Rules C M B) (m : Moment C M B) (o : Outlook) (kn
       filed = filed_now;
     }
 
-  -- what was known before of an image and those that are filed at a place was forgotten
-  module _ (o' : Outlook) (image : ℕ) (well : IsWell o') (images : o'.images ≡ o.images) (can : o'.can ≡ o.can) (files : length o'.filed.items ≡ length o.filed.items)
-      (stale : has o'.stale.words.items image ≡ true) (kept : (j : ℕ) → has o.stale.words.items j ≡ true → has o'.stale.words.items j ≡ true)
-      (filed : (j : ℕ) → (j ≡ image → ⊥) → (q : Place) → IsFiled o.filed.items q j → IsFiled o'.filed.items q j) where
+  -- of some images it was forgotten what was known; the others are filed as before
+  module _ (o' : Outlook) (well : IsWell o') (images : o'.images ≡ o.images) (can : o'.can ≡ o.can) (files : length o'.filed.items ≡ length o.filed.items)
+      (kept : (j : ℕ) → has o.stale.words.items j ≡ true → has o'.stale.words.items j ≡ true)
+      (filed : (j : ℕ) → has o'.stale.words.items j ≡ false → (q : Place) → IsFiled o.filed.items q j → IsFiled o'.filed.items q j) where
     before : (j : ℕ) → has o'.stale.words.items j ≡ false → has o.stale.words.items j ≡ false
     before j f = elim (cases_Bool (has o.stale.words.items j)) [ inl t ↦ absurd (not_both _ (kept j t) f) | inr g ↦ g ]
-
-    other : (j : ℕ) → has o'.stale.words.items j ≡ false → j ≡ image → ⊥
-    other j f e = not_both _ stale (subst (λ n. has o'.stale.words.items n ≡ false) e f)
 
     pub forgot : Knows r m o'
     forgot = record {
@@ -94,7 +95,7 @@ module _ {C M B : Type 0} (r : Rules C M B) (m : Moment C M B) (o : Outlook) (kn
       images = images ∙ knows.images;
       files = files ∙ knows.files;
       known = λ j f. ap (λ s. has s.words.items j) can ∙ knows.known j (before j f);
-      filed = λ j f c at a asked. filed j (other j f) (place_of a) (knows.filed j (before j f) c at a asked);
+      filed = λ j f c at a asked. filed j f (place_of a) (knows.filed j (before j f) c at a asked);
     }
 
   -- where nothing is stale the set has the candidates
@@ -115,60 +116,73 @@ module _ {C M B : Type 0} (r : Rules C M B) (m : Moment C M B) (o : Outlook) (kn
   pub not_open : (i : ℕ) → (has o.can.words.items i || has o.stale.words.items i) ≡ false → can_step r m i ≡ false
   not_open i h = let both = or_false (has o.can.words.items i) (has o.stale.words.items i) h in sym (knows.known i both.1) ∙ both.0
 
-  -- a step was made at a place of which all was forgotten
-  module _ (m' : Moment C M B) (i : ℕ) (e : Event) (place : Place) (s : Steps r m i e m') (at_place : place_of e.ask ≡ place) (stale : has o.stale.words.items i ≡ true) (forgotten : IsForgotten o place) where
+  -- a step was made of an image of which it isn't known whether it can step
+  module _ (m' : Moment C M B) (i : ℕ) (e : Event) (s : Steps r m i e m') (stale : has o.stale.words.items i ≡ true) where
     module _ (j : ℕ) (fresh : has o.stale.words.items j ≡ false) where
       apart : j ≡ i → ⊥
-      apart e = not_both _ stale (subst (λ n. has o.stale.words.items n ≡ false) e fresh)
+      apart = other_fresh o.stale.words.items i j stale fresh
 
       stands : item_at m'.configs j ≡ item_at m.configs j
       stands = ap (λ cs. item_at cs j) s.configs ∙ item_other m.configs i j s.to apart
 
-      -- it isn't filed at the step's place
-      not_there : (k : ℕ) → IsFileOf (length o.filed.items) place k → has (filed_at o.filed.items k) j ≡ true → ⊥
-      not_there k file there = not_both _ (forgotten k file j there) fresh
+    -- where each image that isn't stale finds its ask as ready as before
+    module _ (ready : (j : ℕ) → has o.stale.words.items j ≡ false → (p : Place) → IsFiled o.filed.items p j → (a : Ask) → ready_there r m' j a p ≡ ready_there r m j a p) where
+      module _ (j : ℕ) (fresh : has o.stale.words.items j ≡ false) where
+        can_move_still : (v : Move C Ask Reply) → ((a : Ask) → AsksNext v a → IsFiled o.filed.items (place_of a) j) → can_move r m' j v ≡ can_move r m j v
+        can_move_still (goes c) filed = refl
+        can_move_still (asks a l k) filed = ready j fresh (place_of a) (filed a refl) a
+        can_move_still over filed = refl
 
-      ready_at : (q p : Place) → place_of e.ask ≡ q → place ≡ q → IsFiled o.filed.items p j → (a : Ask) → ready_there r m' j a p ≡ ready_there r m j a p
-      ready_at q places.Own h t filed a = refl
-      ready_at places.Own places.Board h t filed a = ready_elsewhere r m m' i e s j a places.Board (λ x. absurd (let z : places.Board ≡ places.Own = x ∙ h in cc))
-      ready_at (places.Memory owner) places.Board h t filed a = ready_elsewhere r m m' i e s j a places.Board (λ x. absurd (let z : places.Board ≡ places.Memory owner = x ∙ h in cc))
-      ready_at places.Board places.Board h t filed a =
-          let file : IsFileOf (length o.filed.items) places.Board 0 = (refl, (let l = knows.files in omega arith)) in
-          absurd (not_there 0 (subst (λ q. IsFileOf (length o.filed.items) q 0) (sym t) file) (filed 0 file))
-      ready_at places.Own (places.Memory owner) h t filed a = ready_elsewhere r m m' i e s j a (places.Memory owner) (λ x. absurd (let z : places.Memory owner ≡ places.Own = x ∙ h in cc))
-      ready_at places.Board (places.Memory owner) h t filed a = ready_elsewhere r m m' i e s j a (places.Memory owner) (λ x. absurd (let z : places.Memory owner ≡ places.Board = x ∙ h in cc))
-      ready_at (places.Memory other) (places.Memory owner) h t filed a = elim (cases_eq owner.0 other.0) [
-        | inr n ↦ ready_elsewhere r m m' i e s j a (places.Memory owner) (λ x. absurd (let z : places.Memory owner ≡ places.Memory other = x ∙ h in n (cc)))
-        | inl same ↦ elim (cases_lt owner.0 (length o.filed.items)) [
-          | inl there ↦ (
-              let file : IsFileOf (length o.filed.items) (places.Memory owner) owner.0 = (refl, there) in
-              let at : IsFileOf (length o.filed.items) (places.Memory other) owner.0 = (same, subst (λ n. n < length o.filed.items) same there) in
-              absurd (not_there owner.0 (subst (λ q. IsFileOf (length o.filed.items) q owner.0) (sym t) at) (filed owner.0 file)))
-          | inr past ↦ (
-              let l = knows.files in
-              let none = item_past m.memories owner.0 (omega arith) in
-              let none' = ap (λ ms. item_at ms owner.0) s.memories ∙ none in
-              ap (memory_ready_at r (list_at m'.histories owner.0) j a) none' ∙ sym (ap (memory_ready_at r (list_at m.histories owner.0) j a) none))
+        can_from : (x : Option C) → ((c : C) → x ≡ Some c → (a : Ask) → AsksNext (r.step c) a → IsFiled o.filed.items (place_of a) j) → can_move_from r m' j x ≡ can_move_from r m j x
+        can_from None filed = refl
+        can_from (Some c) filed = can_move_still (r.step c) (filed c refl)
+
+        still : can_step r m' j ≡ can_step r m j
+        still = ap (can_move_from r m' j) (stands j fresh) ∙ can_from (item_at m.configs j) (knows.filed j fresh)
+
+      knows_still : Knows r m' o
+      knows_still = record {
+        well = knows.well;
+        images = knows.images ∙ sym (ap length s.configs ∙ length_with m.configs i s.to);
+        files = knows.files ∙ ap (λ n. n + 1) (sym (ap length s.memories));
+        known = λ j fresh. knows.known j fresh ∙ sym (still j fresh);
+        filed = λ j fresh c at a asked. knows.filed j fresh c (sym (stands j fresh) ∙ at) a asked;
+      }
+
+    -- at a place of which all was forgotten
+    module _ (place : Place) (at_place : place_of e.ask ≡ place) (forgotten : IsForgotten o place) where
+      module _ (j : ℕ) (fresh : has o.stale.words.items j ≡ false) where
+        -- it isn't filed at the step's place
+        not_there : (k : ℕ) → IsFileOf (length o.filed.items) place k → has (filed_at o.filed.items k) j ≡ true → ⊥
+        not_there k file there = not_both _ (forgotten k file j there) fresh
+
+        ready_at : (q p : Place) → place_of e.ask ≡ q → place ≡ q → IsFiled o.filed.items p j → (a : Ask) → ready_there r m' j a p ≡ ready_there r m j a p
+        ready_at q places.Own h t filed a = refl
+        ready_at places.Own places.Board h t filed a = ready_elsewhere r m m' i e s j a places.Board (λ x. absurd (let z : places.Board ≡ places.Own = x ∙ h in cc))
+        ready_at (places.Memory owner) places.Board h t filed a = ready_elsewhere r m m' i e s j a places.Board (λ x. absurd (let z : places.Board ≡ places.Memory owner = x ∙ h in cc))
+        ready_at places.Board places.Board h t filed a =
+            let file : IsFileOf (length o.filed.items) places.Board 0 = (refl, (let l = knows.files in omega arith)) in
+            absurd (not_there 0 (subst (λ q. IsFileOf (length o.filed.items) q 0) (sym t) file) (filed 0 file))
+        ready_at places.Own (places.Memory owner) h t filed a = ready_elsewhere r m m' i e s j a (places.Memory owner) (λ x. absurd (let z : places.Memory owner ≡ places.Own = x ∙ h in cc))
+        ready_at places.Board (places.Memory owner) h t filed a = ready_elsewhere r m m' i e s j a (places.Memory owner) (λ x. absurd (let z : places.Memory owner ≡ places.Board = x ∙ h in cc))
+        ready_at (places.Memory other) (places.Memory owner) h t filed a = elim (cases_eq owner.0 other.0) [
+          | inr n ↦ ready_elsewhere r m m' i e s j a (places.Memory owner) (λ x. absurd (let z : places.Memory owner ≡ places.Memory other = x ∙ h in n (cc)))
+          | inl same ↦ elim (cases_lt owner.0 (length o.filed.items)) [
+            | inl there ↦ (
+                let file : IsFileOf (length o.filed.items) (places.Memory owner) owner.0 = (refl, there) in
+                let at : IsFileOf (length o.filed.items) (places.Memory other) owner.0 = (same, subst (λ n. n < length o.filed.items) same there) in
+                absurd (not_there owner.0 (subst (λ q. IsFileOf (length o.filed.items) q owner.0) (sym t) at) (filed owner.0 file)))
+            | inr past ↦ (
+                let l = knows.files in
+                let none = item_past m.memories owner.0 (omega arith) in
+                let none' = ap (λ ms. item_at ms owner.0) s.memories ∙ none in
+                ap (memory_ready_at r (list_at m'.histories owner.0) j a) none' ∙ sym (ap (memory_ready_at r (list_at m.histories owner.0) j a) none))
+          ]
         ]
-      ]
 
-      can_move_still : (v : Move C Ask Reply) → ((a : Ask) → AsksNext v a → IsFiled o.filed.items (place_of a) j) → can_move r m' j v ≡ can_move r m j v
-      can_move_still (goes c) filed = refl
-      can_move_still (asks a l k) filed = ready_at place (place_of a) at_place refl (filed a refl) a
-      can_move_still over filed = refl
+      pub stepped : Knows r m' o
+      stepped = knows_still (λ j fresh p. ready_at j fresh place p at_place refl)
 
-      can_from : (x : Option C) → ((c : C) → x ≡ Some c → (a : Ask) → AsksNext (r.step c) a → IsFiled o.filed.items (place_of a) j) → can_move_from r m' j x ≡ can_move_from r m j x
-      can_from None filed = refl
-      can_from (Some c) filed = can_move_still (r.step c) (filed c refl)
-
-      still : can_step r m' j ≡ can_step r m j
-      still = ap (can_move_from r m' j) stands ∙ can_from (item_at m.configs j) (knows.filed j fresh)
-
-    pub stepped : Knows r m' o
-    stepped = record {
-      well = knows.well;
-      images = knows.images ∙ sym (ap length s.configs ∙ length_with m.configs i s.to);
-      files = knows.files ∙ ap (λ n. n + 1) (sym (ap length s.memories));
-      known = λ j fresh. knows.known j fresh ∙ sym (still j fresh);
-      filed = λ j fresh c at a asked. knows.filed j fresh c (sym (stands j fresh) ∙ at) a asked;
-    }
+    -- that left all other images' asks as ready as they were
+    pub stepped_beside : (place : Place) → place_of e.ask ≡ place → LeavesOthers r i place m' → Knows r m' o
+    stepped_beside place at_place leaves = knows_still (λ j fresh p filed a. leaves m e s at_place j (apart j fresh) a p)

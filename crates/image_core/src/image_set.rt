@@ -1,6 +1,7 @@
 //! Sets of images, a bit for each image.
 
-ghost use Rattle.std.specs.Prelude.{◌≡◌, ◌<◌, ◌≤◌, ◌*◌, ◌^◌, ◌/◌, ◌+◌, ℕ, length, IfOk, true, false, ◌||◌};
+ghost use Rattle.std.specs.Prelude.{◌≡◌, ◌<◌, ◌≤◌, ◌*◌, ◌^◌, ◌/◌, ◌%◌, ◌+◌, ◌-◌, ℕ, length, IfOk, true, false, ◌||◌};
+ghost use Rattle.std.specs.List.{filter, range_with_len};
 ghost use Rattle.image_core.specs.ImageSets.{has, IsLeastFrom};
 
 use caf_base::refusal::NoMemory;
@@ -59,6 +60,33 @@ impl ImageSet {
         for k in 0..self.words.len() {
             self.words[k] |= more.words[k];
         }
+    }
+
+    // How many of the eight numbers from one on, whose bits are a byte of a word, are in the set.
+    fn byte_count(&self, from: u32) -> u32
+        requires within { from < 64 * length self.now.words.items }
+        requires whole { from % 8 ≡ 0 }
+        ensures { result ≡ length (filter (has self.now.words.items) (range_with_len from 8)) }
+    {
+        ((self.words[(from / 64) as usize] >> (from % 64)) % 256).count_ones()
+    }
+
+    // The first number of the byte in which the number stands that is at a place of the set, and how many of the byte stand before that.
+    pub(crate) fn byte_of(&self, place: u32) -> (u32, u32)
+        requires { 64 * length self.now.words.items < 2 ^ 32 - 64 }
+        ensures { result.1 + length (filter (has self.now.words.items) (range_with_len 0 result.0)) ≡ place }
+    {
+        let mut from = 0;
+        let mut left = place;
+        while ((from / 64) as usize) < self.words.len() {
+            let count = self.byte_count(from);
+            if left < count {
+                break;
+            }
+            left -= count;
+            from += 8;
+        }
+        (from, left)
     }
 
     // The least image of the set from a number on.

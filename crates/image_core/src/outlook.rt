@@ -85,8 +85,8 @@ impl Outlook {
         }
     }
 
-    // It isn't known any more whether this image can step, and whether those can that are filed at a place.
-    pub(crate) fn forget(&mut self, image: ImageNo, place: Place)
+    // It isn't known any more whether this image can step, and it isn't filed at a place any more.
+    pub(crate) fn forget_image(&mut self, image: ImageNo, place: Place)
         requires well { IsWell self.old }
         requires image { (0 < image.0) × (image.0 ≤ self.old.images) }
         ensures well { IsWell self.new }
@@ -95,13 +95,26 @@ impl Outlook {
         ensures files { length self.new.filed.items ≡ length self.old.filed.items }
         ensures stale { has self.new.stale.words.items image.0 ≡ true }
         ensures kept { (j : ℕ) → has self.old.stale.words.items j ≡ true → has self.new.stale.words.items j ≡ true }
-        ensures forgotten { IsForgotten self.new place }
         ensures filed { (j : ℕ) → (j ≡ image.0 → ⊥) → (q : Place) → IsFiled self.old.filed.items q j → IsFiled self.new.filed.items q j }
     {
         self.stale.insert(image.0);
         if let Some(file) = self.file_of(place) {
-            self.stale.insert_all(&self.filed[file]);
             self.filed[file].remove(image.0);
+        }
+    }
+
+    // It isn't known any more whether those images can step that are filed at a place.
+    pub(crate) fn forget_place(&mut self, place: Place)
+        requires { IsWell self.old }
+        ensures well { IsWell self.new }
+        ensures images { self.new.images ≡ self.old.images }
+        ensures can { self.new.can ≡ self.old.can }
+        ensures filed { self.new.filed ≡ self.old.filed }
+        ensures kept { (j : ℕ) → has self.old.stale.words.items j ≡ true → has self.new.stale.words.items j ≡ true }
+        ensures forgotten { IsForgotten self.new place }
+    {
+        if let Some(file) = self.file_of(place) {
+            self.stale.insert_all(&self.filed[file]);
         }
     }
 
@@ -207,8 +220,8 @@ impl Outlook {
         ensures it { result ≡ slice_index (filter (has self.now.can.words.items) (numbers_to self.now.images)) place }
         ensures can { has self.now.can.words.items result ≡ true }
     {
-        let mut left = place;
-        let mut from = 1;
+        let (first, mut left) = self.can.byte_of(place);
+        let mut from = first.max(1);
         while let Some(image) = self.can.next(from) {
             if left == 0 {
                 return image;

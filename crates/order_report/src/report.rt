@@ -18,6 +18,7 @@ use caf_events::walker::Walker;
 use caf_report::report::Report;
 use image_core::choices::Choices;
 use image_core::parts::PartsOf;
+use inert_steps::inert::Inert;
 use std::alloc::Global;
 
 // The report of a run whose parts go no further, with these names of the coarrays.
@@ -50,7 +51,7 @@ fn report_here<M: Walker, O: Object, B: Object>(
 
 /// The run of these parts from before their first step, in the order of a SEED, and its report with these names of the coarrays. Condition: the traces of a run of which
 /// the parts are a moment are lawful for some coarrays.
-pub fn report_order<M: Walker, O: Object, B: Object>(
+pub fn report_order<M: Walker, O: Object, B: Inert>(
     alloc: Global,
     parts: &mut PartsOf<M, O, B>,
     seed: u32,
@@ -92,7 +93,7 @@ fn has_ended<M: Walker, O, B>(parts: &PartsOf<M, O, B>) -> bool
 }
 
 // The run from where the parts are to its end: by rotation, where no step has ended it.
-fn finish<M: Walker, O: Object, B: Object>(parts: &mut PartsOf<M, O, B>) -> Result<(), NoMemory>
+fn finish<M: Walker, O: Object, B: Inert>(parts: &mut PartsOf<M, O, B>) -> Result<(), NoMemory>
     requires sound { AreSound M.Walker O.Object B.Object parts.old }
     ensures sound { AreSound M.Walker O.Object B.Object parts.new }
     ensures kept { (b : Beginning M.Config O.Made B.Made) → IsKept (rules M.Walker O.Object B.Object) b (moment M.Walker O.Object B.Object parts.old)
@@ -108,7 +109,7 @@ fn finish<M: Walker, O: Object, B: Object>(parts: &mut PartsOf<M, O, B>) -> Resu
 
 /// The end of the run of these parts from where they are, by rotation where no step has ended it, and its report with these names of the coarrays. Condition: the traces of a run of
 /// which the parts are a moment are lawful for some coarrays.
-pub fn report_rest<M: Walker, O: Object, B: Object>(
+pub fn report_rest<M: Walker, O: Object, B: Inert>(
     alloc: Global,
     parts: &mut PartsOf<M, O, B>,
     names: Listing<Text>,

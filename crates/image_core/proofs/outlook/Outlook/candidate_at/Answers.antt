@@ -1,7 +1,19 @@
-use Rattle.std.proofs.Common.{arith}
+use Rattle.std.proofs.Common.{◌≡◌, ◌-◌, inl, inr, length, false, ap, arith}
+use Rattle.std.proofs.lemmas.Bool.{cases_Bool}
+use Rattle.std.specs.List.{filter, range_with_len}
 use Rattle.image_core.specs.ImageSets.{has}
+use Rattle.image_core.proofs.Bytes.{without_zero}
 use Rattle.image_core.proofs.Counting.{counted_next, none_from, stands_next}
 use Rattle.image_core.proofs.outlook.Outlook.candidate_at.Goals as goal
+
+pub loop-image-init : goal.loop-image-init
+loop-image-init c =
+    let well = c.requires.well in
+    let none : has c.args.self.now.can.words.items 0 ≡ false = elim (cases_Bool (has c.args.self.now.can.words.items 0)) [ inl t ↦ absurd (let low = (well.can_within 0 t).0 in omega arith) | inr f ↦ f ] in
+    let same = ap length (without_zero (has c.args.self.now.can.words.items) c.byte_of-first.result.0 none) in
+    let there = ap (λ k. length (filter (has c.args.self.now.can.words.items) (range_with_len 1 (k - 1)))) c.max-from.ensures in
+    let counted = c.byte_of-first.ensures in
+    record { low = omega arith; counted = omega arith }
 
 pub returns-then-left-eq0-clause-it : goal.returns-then-left-eq0-clause-it
 returns-then-left-eq0-clause-it c =
