@@ -1,6 +1,6 @@
 //! Whether the last step at the board leaves every other image's asks as ready as they were.
 
-ghost use Rattle.std.specs.Prelude.{◌≡◌, not, ℕ, List, false, MatchOption};
+ghost use Rattle.std.specs.Prelude.{◌≡◌, ℕ, List};
 ghost use Rattle.caf_events.specs.declared.ask.Ask.TheVariants as asks;
 ghost use Rattle.caf_events.specs.declared.event.Entry.{Entry};
 ghost use Rattle.object_rules.specs.BoardRules.{board_ready};
