@@ -2,6 +2,7 @@
 
 ghost use Rattle.std.specs.Prelude.{◌≡◌, [], IfOk};
 
+use crate::inert::is_inert;
 use crate::parts::{Parts, new_parts};
 use crate::ready::is_ready;
 use crate::reply::reply;
@@ -12,6 +13,7 @@ use caf_events::ask::Ask;
 use caf_events::event::Event;
 use caf_events::history::History;
 use caf_events::object::{Object, Spare};
+use inert_steps::inert::Inert;
 use std::alloc::Global;
 use std::marker::Model;
 
@@ -82,5 +84,11 @@ impl Object for Board {
     fn apply(&mut self, image: ImageNo, ask: Ask, spare: Spare, line: u32, after: u64) -> Event {
         step(&mut self.parts, image, ask, line);
         self.history.append(image, spare, line, after)
+    }
+}
+
+impl Inert for Board {
+    fn is_inert(&self, image: ImageNo, event: &Event) -> bool {
+        is_inert(self.alloc, &self.parts, image, event)
     }
 }

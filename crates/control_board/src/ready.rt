@@ -24,7 +24,7 @@ use collectives::pair::fits;
 use image_sync::criticals::Criticals;
 
 // Whether the image can leave the round of an image control statement.
-fn can_leave(parts: &Parts, image: ImageNo, team: TeamNo, round: u64) -> bool
+pub(crate) fn can_leave(parts: &Parts, image: ImageNo, team: TeamNo, round: u64) -> bool
     requires kept { IsKept parts.now }
     requires image { IsTrue (is_image parts.now.images image.0) }
     ensures { (n : ℕ) (h : List Entry) → IsBoard n h parts.now
@@ -34,7 +34,7 @@ fn can_leave(parts: &Parts, image: ImageNo, team: TeamNo, round: u64) -> bool
 }
 
 // Whether the image can leave a collective subroutine.
-fn can_take(parts: &Parts, image: ImageNo, team: TeamNo, round: u64) -> bool
+pub(crate) fn can_take(parts: &Parts, image: ImageNo, team: TeamNo, round: u64) -> bool
     requires kept { IsKept parts.now }
     requires image { IsTrue (is_image parts.now.images image.0) }
     ensures { (n : ℕ) (h : List Entry) → IsBoard n h parts.now

@@ -1,0 +1,5 @@
+pub mod Quiet
+pub mod Silence
+pub mod Arrivals
+pub mod Joining
+pub mod Steps
