@@ -83,7 +83,7 @@ impl Event {
         ensures { IsTrue result ↔ EndsRun self.now }
     {
         match self.told.kept() {
-            Kept::Boxed(whole) => ends_by(&whole.ask, &whole.reply),
+            Kept::Shared(whole) => ends_by(&whole.ask, &whole.reply),
             _ => false,
         }
     }
@@ -95,9 +95,18 @@ impl Event {
         ensures { result ≡ recorded_words self.now }
     {
         match self.told.kept() {
-            Kept::ReadCell { .. } | Kept::WriteCell { .. } => 5,
-            Kept::Joined { .. } | Kept::Departed { .. } => 4,
-            Kept::Boxed(whole) => words_of(&whole.ask, &whole.reply),
+            Kept::ReadCell { .. }
+            | Kept::WriteCell { .. }
+            | Kept::Gathered { .. }
+            | Kept::Taken { .. } => 5,
+            Kept::Joined { .. }
+            | Kept::Departed { .. }
+            | Kept::Signaled { .. }
+            | Kept::Waited { .. }
+            | Kept::Unpaired { .. }
+            | Kept::Entered { .. }
+            | Kept::Exited { .. } => 4,
+            Kept::Shared(whole) => words_of(&whole.ask, &whole.reply),
         }
     }
 }

@@ -2,7 +2,7 @@
 
 ghost use Rattle.std.specs.Prelude.{◌≡◌, [], IfOk, IfSome, MatchOption};
 ghost use Rattle.std.specs.Cow.{cow_value};
-ghost use Rattle.caf_events.specs.Exchanges.{whole_of};
+ghost use Rattle.caf_events.specs.Exchanges.{asked_by, whole_of};
 ghost use Rattle.caf_events.specs.Events.{EndsBy, IsPrint};
 ghost use Rattle.caf_events.specs.declared.ask.Ask.TheVariants as asks;
 ghost use Rattle.caf_events.specs.declared.reply.Reply.TheVariants as replies;
@@ -10,17 +10,18 @@ ghost use Rattle.caf_events.specs.declared.reply.Reply.TheVariants as replies;
 use crate::ask::Ask;
 use crate::event::ends_by;
 use crate::reply::Reply;
-use crate::round::Arriving;
+use crate::round::{Arriving, GatherOp};
 use caf_base::copying::TryCopy;
 use caf_base::few::Few;
 use caf_base::listing::Listing;
 use caf_base::place::{ImageNo, TeamNo};
 use caf_base::refusal::NoMemory;
 use caf_base::span::{Dims, Span};
-use caf_base::value::Value;
+use caf_base::value::{Kind, Value};
 use std::alloc::Global;
 use std::borrow::Cow;
 use std::marker::Model;
+use std::sync::Arc;
 
 /// An ask and its reply.
 #[derive(Drop)]
@@ -29,7 +30,17 @@ pub struct Whole {
     pub reply: Reply,
 }
 
-// The exchanges of one cell and of SYNC ALL in place, and the others in a box.
+// What is asked of a lock or an event variable that has a status for its reply (11.6.7, 11.6.10).
+#[derive(Clone, Copy)]
+pub(crate) enum Signal {
+    Lock,
+    TryLock,
+    Unlock,
+    Post,
+}
+
+// The exchanges of one cell, of SYNC ALL, of a lock or an event variable, of a collective subroutine over one integer, of the end of SYNC IMAGES and of CRITICAL in place; the
+// others are shared by all that keep the same one.
 #[derive(Drop)]
 pub(crate) enum Kept {
     ReadCell {
@@ -53,7 +64,45 @@ pub(crate) enum Kept {
         round: u64,
         status: i32,
     },
-    Boxed(Box<Whole>),
+    Signaled {
+        signal: Signal,
+        owner: ImageNo,
+        coarray: u32,
+        start: u32,
+        status: i32,
+    },
+    Waited {
+        owner: ImageNo,
+        coarray: u32,
+        start: u32,
+        threshold: u64,
+        status: i32,
+    },
+    Gathered {
+        op: GatherOp,
+        kind: Kind,
+        team: TeamNo,
+        root: u32,
+        number: i64,
+        round: u64,
+    },
+    Taken {
+        team: TeamNo,
+        round: u64,
+        status: i32,
+        number: i64,
+    },
+    Unpaired {
+        status: i32,
+    },
+    Entered {
+        construct: u32,
+        status: i32,
+    },
+    Exited {
+        construct: u32,
+    },
+    Shared(Arc<Whole>),
 }
 
 /// An ask with its reply. In a contract it is these two.
@@ -101,7 +150,100 @@ fn kept_write(owner: ImageNo, span: &Span, values: &[Value]) -> Option<Kept>
     }
 }
 
-// What is kept in place of an ask and its reply; None where they are kept in a box.
+// The ask of a lock or an event variable.
+fn signal_ask(signal: Signal, owner: ImageNo, span: Span) -> Ask
+    ensures { result ≡ asked_by signal owner span }
+{
+    match signal {
+        Signal::Lock => Ask::Lock { owner, span },
+        Signal::TryLock => Ask::TryLock { owner, span },
+        Signal::Unlock => Ask::Unlock { owner, span },
+        Signal::Post => Ask::Post { owner, span },
+    }
+}
+
+// The exchange of a lock or an event variable, where its reply is a status.
+fn kept_signal(signal: Signal, owner: ImageNo, span: &Span, reply: &Reply) -> Option<Kept>
+    ensures { IfSome result (λ k. whole_of k ≡ record { ask = asked_by signal owner span.now; reply = reply.now }) }
+{
+    match reply {
+        Reply::Number { status } if span.dims.is_empty() => Some(Kept::Signaled {
+            signal,
+            owner,
+            coarray: span.coarray,
+            start: span.start,
+            status: *status,
+        }),
+        _ => None,
+    }
+}
+
+// The exchange of an EVENT WAIT, where its reply is a status.
+fn kept_wait(owner: ImageNo, span: &Span, threshold: u64, reply: &Reply) -> Option<Kept>
+    ensures { IfSome result (λ k. whole_of k ≡ record { ask = asks.Wait owner span.now threshold; reply = reply.now }) }
+{
+    match reply {
+        Reply::Number { status } if span.dims.is_empty() => Some(Kept::Waited {
+            owner,
+            coarray: span.coarray,
+            start: span.start,
+            threshold,
+            status: *status,
+        }),
+        _ => None,
+    }
+}
+
+// The exchange of an arrival at a collective subroutine with one integer, where it joined a round.
+fn kept_gather(
+    team: TeamNo,
+    op: GatherOp,
+    root: u32,
+    kind: Kind,
+    values: &[Value],
+    reply: &Reply,
+) -> Option<Kept>
+    ensures { IfSome result (λ k. whole_of k ≡ record { ask = asks.Gather team op root kind values.now; reply = reply.now }) }
+{
+    match (values, reply) {
+        ([Value::Int(number)], Reply::Round { round }) => Some(Kept::Gathered {
+            team,
+            op,
+            root,
+            kind,
+            number: *number,
+            round: *round,
+        }),
+        _ => None,
+    }
+}
+
+// The exchange of a departure from a collective subroutine, where it brings one integer.
+fn kept_take(team: TeamNo, round: u64, status: i32, values: &[Value]) -> Option<Kept>
+    ensures { IfSome result (λ k. whole_of k ≡ record { ask = asks.Take team round; reply = replies.Taken status values.now }) }
+{
+    match values {
+        [Value::Int(number)] => Some(Kept::Taken {
+            team,
+            round,
+            status,
+            number: *number,
+        }),
+        _ => None,
+    }
+}
+
+// What is kept in place of an ask with the reply that there is nothing to tell, at a construct.
+fn kept_exit(construct: u32, reply: &Reply) -> Option<Kept>
+    ensures { IfSome result (λ k. whole_of k ≡ record { ask = asks.Exit construct; reply = reply.now }) }
+{
+    match reply {
+        Reply::Done => Some(Kept::Exited { construct }),
+        _ => None,
+    }
+}
+
+// What is kept in place of an ask and its reply; None where they are shared.
 fn in_place(ask: &Ask, reply: &Reply) -> Option<Kept>
     ensures { IfSome result (λ k. whole_of k ≡ record { ask = ask.now; reply = reply.now }) }
 {
@@ -136,12 +278,44 @@ fn in_place(ask: &Ask, reply: &Reply) -> Option<Kept>
                 status: *status,
             })
         }
+        (Ask::Lock { owner, span }, _) => kept_signal(Signal::Lock, *owner, span, reply),
+        (Ask::TryLock { owner, span }, _) => kept_signal(Signal::TryLock, *owner, span, reply),
+        (Ask::Unlock { owner, span }, _) => kept_signal(Signal::Unlock, *owner, span, reply),
+        (Ask::Post { owner, span }, _) => kept_signal(Signal::Post, *owner, span, reply),
+        (
+            Ask::Wait {
+                owner,
+                span,
+                threshold,
+            },
+            _,
+        ) => kept_wait(*owner, span, *threshold, reply),
+        (
+            Ask::Gather {
+                team,
+                op,
+                root,
+                kind,
+                values,
+            },
+            _,
+        ) => kept_gather(*team, *op, *root, *kind, values.as_slice(), reply),
+        (Ask::Take { team, round }, Reply::Taken { status, values }) => {
+            kept_take(*team, *round, *status, values.as_slice())
+        }
+        (Ask::Unpair, Reply::Number { status }) => Some(Kept::Unpaired { status: *status }),
+        (Ask::Enter { construct }, Reply::Number { status }) => Some(Kept::Entered {
+            construct: *construct,
+            status: *status,
+        }),
+        (Ask::Exit { construct }, _) => kept_exit(*construct, reply),
         _ => None,
     }
 }
 
 impl Exchange {
-    /// The exchange of this ask with this reply. One of a cell and one of SYNC ALL take no memory.
+    /// The exchange of this ask with this reply. One of a cell, of SYNC ALL, of a lock or an event variable, of a collective subroutine over one integer, of
+    /// the end of SYNC IMAGES or of CRITICAL takes no memory.
     pub fn new(alloc: Global, ask: &Ask, reply: &Reply) -> Result<Exchange, NoMemory>
         ensures { IfOk result (λ e. e ≡ record { ask = ask.now; reply = reply.now }) }
     {
@@ -153,7 +327,7 @@ impl Exchange {
                     reply: reply.copy()?,
                 };
                 Ok(Exchange {
-                    kept: Kept::Boxed(Box::new(alloc, whole)?),
+                    kept: Kept::Shared(Arc::new(alloc, whole)?),
                 })
             }
         }
@@ -191,7 +365,50 @@ impl Exchange {
                 team: *team,
                 round: *round,
             }),
-            Kept::Boxed(whole) => Cow::Borrowed(&whole.ask),
+            Kept::Signaled {
+                signal,
+                owner,
+                coarray,
+                start,
+                ..
+            } => Cow::Owned(signal_ask(*signal, *owner, cell(alloc, *coarray, *start))),
+            Kept::Waited {
+                owner,
+                coarray,
+                start,
+                threshold,
+                ..
+            } => Cow::Owned(Ask::Wait {
+                owner: *owner,
+                span: cell(alloc, *coarray, *start),
+                threshold: *threshold,
+            }),
+            Kept::Gathered {
+                team,
+                op,
+                root,
+                kind,
+                number,
+                ..
+            } => Cow::Owned(Ask::Gather {
+                team: *team,
+                op: *op,
+                root: *root,
+                kind: *kind,
+                values: Few::of_one(Value::Int(*number)),
+            }),
+            Kept::Taken { team, round, .. } => Cow::Owned(Ask::Take {
+                team: *team,
+                round: *round,
+            }),
+            Kept::Unpaired { .. } => Cow::Owned(Ask::Unpair),
+            Kept::Entered { construct, .. } => Cow::Owned(Ask::Enter {
+                construct: *construct,
+            }),
+            Kept::Exited { construct } => Cow::Owned(Ask::Exit {
+                construct: *construct,
+            }),
+            Kept::Shared(whole) => Cow::Borrowed(&whole.ask),
         }
     }
 
@@ -209,7 +426,17 @@ impl Exchange {
                 status: *status,
                 teams: Listing::new(alloc),
             }),
-            Kept::Boxed(whole) => Cow::Borrowed(&whole.reply),
+            Kept::Signaled { status, .. }
+            | Kept::Waited { status, .. }
+            | Kept::Unpaired { status }
+            | Kept::Entered { status, .. } => Cow::Owned(Reply::Number { status: *status }),
+            Kept::Gathered { round, .. } => Cow::Owned(Reply::Round { round: *round }),
+            Kept::Taken { status, number, .. } => Cow::Owned(Reply::Taken {
+                status: *status,
+                values: Few::of_one(Value::Int(*number)),
+            }),
+            Kept::Exited { .. } => Cow::Owned(Reply::Done),
+            Kept::Shared(whole) => Cow::Borrowed(&whole.reply),
         }
     }
 
@@ -218,7 +445,7 @@ impl Exchange {
         ensures { MatchOption result (¬ EndsBy self.now.ask self.now.reply) (λ w. w.now ≡ self.now) }
     {
         match &self.kept {
-            Kept::Boxed(whole) if ends_by(&whole.ask, &whole.reply) => Some(whole),
+            Kept::Shared(whole) if ends_by(&whole.ask, &whole.reply) => Some(whole),
             _ => None,
         }
     }
@@ -228,7 +455,7 @@ impl Exchange {
         ensures { MatchOption result (¬ IsPrint self.now.ask) (λ t. self.now.ask ≡ asks.Print t.now) }
     {
         match &self.kept {
-            Kept::Boxed(whole) => match &whole.ask {
+            Kept::Shared(whole) => match &whole.ask {
                 Ask::Print { text } => Some(text.as_slice()),
                 _ => None,
             },
@@ -301,14 +528,83 @@ impl TryCopy for Exchange {
                     status: *status,
                 },
             }),
-            Kept::Boxed(whole) => {
-                let alloc = *Box::allocator(whole);
-                let ask = whole.ask.copy()?;
-                let reply = whole.reply.copy()?;
-                Ok(Exchange {
-                    kept: Kept::Boxed(Box::new(alloc, Whole { ask, reply })?),
-                })
-            }
+            Kept::Signaled {
+                signal,
+                owner,
+                coarray,
+                start,
+                status,
+            } => Ok(Exchange {
+                kept: Kept::Signaled {
+                    signal: *signal,
+                    owner: *owner,
+                    coarray: *coarray,
+                    start: *start,
+                    status: *status,
+                },
+            }),
+            Kept::Waited {
+                owner,
+                coarray,
+                start,
+                threshold,
+                status,
+            } => Ok(Exchange {
+                kept: Kept::Waited {
+                    owner: *owner,
+                    coarray: *coarray,
+                    start: *start,
+                    threshold: *threshold,
+                    status: *status,
+                },
+            }),
+            Kept::Gathered {
+                team,
+                op,
+                root,
+                kind,
+                number,
+                round,
+            } => Ok(Exchange {
+                kept: Kept::Gathered {
+                    team: *team,
+                    op: *op,
+                    root: *root,
+                    kind: *kind,
+                    number: *number,
+                    round: *round,
+                },
+            }),
+            Kept::Taken {
+                team,
+                round,
+                status,
+                number,
+            } => Ok(Exchange {
+                kept: Kept::Taken {
+                    team: *team,
+                    round: *round,
+                    status: *status,
+                    number: *number,
+                },
+            }),
+            Kept::Unpaired { status } => Ok(Exchange {
+                kept: Kept::Unpaired { status: *status },
+            }),
+            Kept::Entered { construct, status } => Ok(Exchange {
+                kept: Kept::Entered {
+                    construct: *construct,
+                    status: *status,
+                },
+            }),
+            Kept::Exited { construct } => Ok(Exchange {
+                kept: Kept::Exited {
+                    construct: *construct,
+                },
+            }),
+            Kept::Shared(whole) => Ok(Exchange {
+                kept: Kept::Shared(whole.clone()?),
+            }),
         }
     }
 }

@@ -3,13 +3,14 @@
 ghost use Rattle.std.specs.Prelude.{◌≡◌, ◌||◌, [], map, IfOk};
 ghost use Rattle.object_rules.specs.Cells.{size_after, value_after, is_mark};
 ghost use Rattle.object_rules.specs.MemoryRules.{value_there};
-ghost use Rattle.coarray_memory.specs.Memories.{stored_at, fits_now, comes_now, reply_now, items_of, store_of, declared_of, first_of, AreDeclared};
+ghost use Rattle.coarray_memory.specs.Memories.{stored_at, fits_now, comes_now, reply_now, store_of, declared_of, first_of, AreDeclared};
 
 use crate::coarray::{Coarray, Declarations};
 use crate::prepare::{Prepared, dead_reply_of, first_cells, reply_of, section_of};
 use crate::store::{
     Store, act, event_can_come, has_event, has_place, is_locked, is_there, size_of, value_of,
 };
+use caf_base::few::Few;
 use caf_base::place::ImageNo;
 use caf_base::refusal::NoMemory;
 use caf_base::value::Value;
@@ -97,9 +98,9 @@ fn reply(
     marked: bool,
     image: ImageNo,
     ask: &Ask,
-    cells: &Option<Vec<usize>>,
+    cells: &Option<Few<usize>>,
 ) -> Result<Reply, NoMemory>
-    ensures { IfOk result (λ r. r ≡ reply_now marked (stored_at stores.now.items) image.0 ask.now (items_of cells.now)) }
+    ensures { IfOk result (λ r. r ≡ reply_now marked (stored_at stores.now.items) image.0 ask.now cells.now) }
 {
     if marked {
         if let Some(dead) = dead_reply_of(ask) {

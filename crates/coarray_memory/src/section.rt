@@ -1,12 +1,13 @@
 //! The cells of a span, where the coarray has them.
 
-ghost use Rattle.std.specs.Prelude.{◌≡◌, ◌<◌, ◌≤◌, ◌+ℤ◌, ℕ, ℤ, pos, true, [], length, get_or, nat_eq, nat_le, Some, option_map, IfOk};
+ghost use Rattle.std.specs.Prelude.{◌≡◌, ◌<◌, ◌≤◌, ◌+ℤ◌, ℕ, ℤ, pos, true, [], length, get_or, nat_eq, nat_le, Some, IfOk};
 ghost use Rattle.std.specs.List.{list_all};
 ghost use Rattle.caf_base.specs.Spans.{offsets_of, offsets_from, row_of, rows_of};
 ghost use Rattle.coarray_memory.specs.Stores.{signed};
 ghost use Rattle.object_rules.specs.SpanTests.{is_cell_offset, is_span};
 ghost use Rattle.coarray_memory.specs.Sections.{cell_in, cells_in, put_front, found_if, row_from, is_between, IsCount};
 
+use caf_base::few::Few;
 use caf_base::refusal::NoMemory;
 use caf_base::span::Span;
 use std::alloc::Global;
@@ -16,8 +17,8 @@ pub fn section_within(
     alloc: Global,
     span: &Span,
     size: usize,
-) -> Result<Option<Vec<usize>>, NoMemory>
-    ensures { IfOk result (λ r. option_map (λ v. v.items) r ≡ cells_in size (offsets_of span.now)) }
+) -> Result<Option<Few<usize>>, NoMemory>
+    ensures { IfOk result (λ r. r ≡ cells_in size (offsets_of span.now)) }
 {
     cells_from(alloc, span.start as usize, span.dims.as_slice(), size)
 }
@@ -28,14 +29,14 @@ fn cells_from(
     start: usize,
     dims: &[(u32, i32)],
     size: usize,
-) -> Result<Option<Vec<usize>>, NoMemory>
-    ensures { IfOk result (λ r. option_map (λ v. v.items) r ≡ cells_in size (offsets_from (pos start) dims.now)) }
+) -> Result<Option<Few<usize>>, NoMemory>
+    ensures { IfOk result (λ r. r ≡ cells_in size (offsets_from (pos start) dims.now)) }
 {
     let [(count, step), dims @ ..] = dims else {
-        return one_cell(alloc, start, size);
+        return Ok(one_cell(start, size));
     };
     if *count == 0 {
-        return Ok(Some(Vec::new(alloc)));
+        return Ok(Some(Few::new(alloc)));
     }
     let Some(firsts) = cells_from(alloc, start, dims, size)? else {
         return Ok(None);
@@ -43,16 +44,14 @@ fn cells_from(
     rows(alloc, *count, *step, firsts.as_slice(), size)
 }
 
-// The one cell.
-fn one_cell(alloc: Global, start: usize, size: usize) -> Result<Option<Vec<usize>>, NoMemory>
-    ensures { IfOk result (λ r. option_map (λ v. v.items) r ≡ cells_in size (offsets_from (pos start) [])) }
+// The one cell. It takes no memory.
+fn one_cell(start: usize, size: usize) -> Option<Few<usize>>
+    ensures { result ≡ cells_in size (offsets_from (pos start) []) }
 {
     if start < size {
-        let mut one = Vec::new(alloc);
-        one.push(start)?;
-        Ok(Some(one))
+        Some(Few::of_one(start))
     } else {
-        Ok(None)
+        None
     }
 }
 
@@ -63,9 +62,9 @@ fn rows(
     step: i32,
     firsts: &[usize],
     size: usize,
-) -> Result<Option<Vec<usize>>, NoMemory>
+) -> Result<Option<Few<usize>>, NoMemory>
     requires { (k : ℕ) → k < length firsts.now → get_or firsts.now k 0 < size }
-    ensures { IfOk result (λ r. option_map (λ v. v.items) r ≡ cells_in size (rows_of count step (signed firsts.now))) }
+    ensures { IfOk result (λ r. r ≡ cells_in size (rows_of count step (signed firsts.now))) }
 {
     let mut cells = Vec::new(alloc);
     for first in firsts {
@@ -73,7 +72,7 @@ fn rows(
             return Ok(None);
         }
     }
-    Ok(Some(cells))
+    Ok(Some(Few::from_vec(cells)))
 }
 
 // Appends a row of cells, and says whether all of them are there.

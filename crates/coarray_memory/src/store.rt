@@ -5,7 +5,7 @@ ghost use Rattle.caf_base.specs.declared.value.Value.TheVariants as values;
 ghost use Rattle.object_rules.specs.MemoryRules as rules;
 ghost use Rattle.event_lock.specs.LockCells.{lock_ready, event_ready, IsLockAsk, IsEventAsk};
 ghost use Rattle.coarray_memory.specs.Stores.{AreOffsets};
-ghost use Rattle.coarray_memory.specs.Memories.{store_of, stored_at, size_in, value_in, lock_in, event_in, total_of, lock_waits, values_told, read_told, items_of, lock_told, event_told, lock_done, event_done, value_done, written_done, event_few, can_wait, FitsStore, CanAct, plan_of, done_at};
+ghost use Rattle.coarray_memory.specs.Memories.{store_of, stored_at, size_in, value_in, lock_in, event_in, total_of, lock_waits, values_told, read_told, lock_told, event_told, lock_done, event_done, value_done, written_done, event_few, can_wait, FitsStore, CanAct, plan_of, done_at};
 
 use crate::cells::write_cells;
 use crate::prepare::Prepared;
@@ -182,8 +182,18 @@ pub fn value_reply(stores: &Vec<Store>, span: &Span, op: AtomicOp, x: Value, y: 
     }
 }
 
-// The values at these offsets.
+// The values at these offsets. One takes no memory.
 fn read_cells(alloc: Global, cells: &[Value], offsets: &[usize]) -> Result<Few<Value>, NoMemory>
+    ensures { IfOk result (λ l. l ≡ values_told cells.now offsets.now) }
+{
+    match offsets {
+        [offset] => Ok(Few::of_one(value_at(cells, *offset))),
+        _ => list_cells(alloc, cells, offsets),
+    }
+}
+
+// The same, in a list.
+fn list_cells(alloc: Global, cells: &[Value], offsets: &[usize]) -> Result<Few<Value>, NoMemory>
     ensures { IfOk result (λ l. l ≡ values_told cells.now offsets.now) }
 {
     let mut values = Vec::new(alloc);
@@ -209,9 +219,9 @@ pub fn read_reply(
     alloc: Global,
     stores: &Vec<Store>,
     span: &Span,
-    cells: &Option<Vec<usize>>,
+    cells: &Option<Few<usize>>,
 ) -> Result<Reply, NoMemory>
-    ensures { IfOk result (λ r. r ≡ read_told (stored_at stores.now.items span.now.coarray) (items_of cells.now)) }
+    ensures { IfOk result (λ r. r ≡ read_told (stored_at stores.now.items span.now.coarray) cells.now) }
 {
     let Some(offsets) = cells else {
         return Ok(Reply::Absent);

@@ -15,7 +15,7 @@ use Rattle.image_core.specs.declared.run.ImageRun.{ImageRun}
 use Rattle.image_core.specs.declared.parts.PartsOf.{PartsOf}
 use Rattle.image_core.specs.Parts.{moment, first_moment, total, event_lists, steps_made, EachAt, AreNumbered, IsBounded, AreSound}
 use Rattle.image_core.proofs.Beginnings.{all_empty}
-use Rattle.image_core.proofs.Slices.{map_length}
+use Rattle.run_outlook.proofs.Slices.{map_length}
 
 none_made : (n : ℕ) → total (λ (es : List Event). length es) (replicate n []) ≡ 0
 none_made zero = refl

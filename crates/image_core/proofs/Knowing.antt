@@ -1,5 +1,5 @@
 -- What is known of who can step, as more becomes known and as a step is made.
-use Rattle.std.proofs.Common.{◌≡◌, ℕ, zero, suc, ◌+◌, ◌<◌, List, [], ◌∷◌, inl, inr, length, refl, ap, sym, ◌∙◌, subst, arith, Bool, true, false, length-set}
+use Rattle.std.proofs.Common.{◌≡◌, ℕ, zero, suc, ◌+◌, ◌<◌, List, [], ◌∷◌, inl, inr, length, refl, ap, sym, ◌∙◌, subst, arith, Bool, true, false}
 use Rattle.std.specs.Prelude.{◌||◌, ◌%◌, slice_index, Option, Some, None}
 use Rattle.std.specs.List.{filter}
 use Rattle.std.proofs.lemmas.Bool.{cases_eq, cases_lt, cases_Bool}
@@ -13,24 +13,18 @@ use Rattle.caf_events.specs.Walkers.{AsksNext}
 use Rattle.trace_theory.specs.Machines.{Move, goes, asks, over}
 use Rattle.core_runs.specs.Beginnings.{numbers_to}
 use Rattle.core_runs.specs.Lists.{list_at}
-use Rattle.core_runs.specs.Moments.{Rules, Moment, item_at, with_item, ready_there, memory_ready_at, can_move, can_move_from, can_step, Steps}
+use Rattle.core_runs.specs.Moments.{Rules, Moment, item_at, ready_there, memory_ready_at, can_move, can_move_from, can_step, Steps}
 use Rattle.core_runs.specs.Orders.{candidates}
 use Rattle.core_runs.proofs.Elsewhere.{ready_elsewhere}
-use Rattle.core_runs.proofs.Numbered.{get_other}
-use Rattle.image_core.specs.declared.outlook.Outlook.{Outlook}
-use Rattle.image_core.specs.ImageSets.{has}
-use Rattle.image_core.specs.Outlooks.{IsFileOf, IsFiled, IsForgotten, IsWell, Knows, LeavesOthers, filed_at}
+use Rattle.run_outlook.specs.declared.next_asks.NextAsks.{NextAsks}
+use Rattle.run_outlook.specs.declared.outlook.Outlook.{Outlook}
+use Rattle.run_outlook.specs.ImageSets.{has}
+use Rattle.image_core.specs.NextAsks.{AreNextAsks, AsksNextAt}
+use Rattle.run_outlook.specs.Outlooks.{IsFileOf, IsFiled, IsForgotten, IsWell, filed_at}
+use Rattle.image_core.specs.Outlooks.{Knows, LeavesOthers}
 use Rattle.image_core.specs.Choosing.{by_number}
-use Rattle.image_core.proofs.Counting.{same_in}
-
-item_other : {A : Type 0} (xs : List A) (i j : ℕ) (x : A) → (j ≡ i → ⊥) → item_at (with_item xs i x) j ≡ item_at xs j
-item_other xs zero j x n = refl
-item_other xs (suc k) zero x n = refl
-item_other xs (suc k) (suc j) x n = get_other xs k j x (λ e. n (ap suc (sym e)))
-
-length_with : {A : Type 0} (xs : List A) (n : ℕ) (x : A) → length (with_item xs n x) ≡ length xs
-length_with xs zero x = refl
-length_with xs (suc k) x = length-set xs k x
+use Rattle.run_outlook.proofs.Counting.{same_in}
+use Rattle.image_core.proofs.NextAsks.{item_other, length_with}
 
 item_past : {A : Type 0} (xs : List A) (n : ℕ) → length xs < n → item_at xs n ≡ None
 item_past xs zero h = refl
@@ -54,13 +48,40 @@ not_both b t f = cc
 pub other_fresh : (words : List ℕ) (i j : ℕ) → has words i ≡ true → has words j ≡ false → j ≡ i → ⊥
 other_fresh words i j t f e = not_both _ t (subst (λ n. has words n ≡ false) e f)
 
+-- the same outlook with other asks kept
+abbrev pub with_asks : Outlook → NextAsks → Outlook
+with_asks o next = record { images = o.images; can = o.can; count = o.count; stale = o.stale; filed = o.filed; asks = next }
+
+still_well : (o : Outlook) (next : NextAsks) → IsWell o → IsWell (with_asks o next)
+still_well o next well = record {
+  few = well.few;
+  can = well.can;
+  stale = well.stale;
+  filed = well.filed;
+  can_within = well.can_within;
+  stale_within = well.stale_within;
+  filed_within = well.filed_within;
+  counted = well.counted;
+}
+
 module _ {C M B : Type 0} (r : Rules C M B) (m : Moment C M B) (o : Outlook) (knows : Knows r m o) where
+  -- other asks are kept
+  pub reasked : (next : NextAsks) → AreNextAsks r m next.kept.items → Knows r m (with_asks o next)
+  reasked next asked = record {
+    well = still_well o next knows.well;
+    images = knows.images;
+    files = knows.files;
+    asked = asked;
+    known = knows.known;
+    filed = knows.filed;
+  }
+
   -- what was found out of one image
   module _ (o' : Outlook) (image : ℕ) (place : Place) (well : IsWell o') (images : o'.images ≡ o.images) (files : length o'.filed.items ≡ length o.filed.items)
       (here : has o'.can.words.items image ≡ can_step r m image) (others : (j : ℕ) → (j ≡ image → ⊥) → has o'.can.words.items j ≡ has o.can.words.items j)
       (stale : (j : ℕ) → (j ≡ image → ⊥) → has o'.stale.words.items j ≡ has o.stale.words.items j)
       (filed_here : IsFiled o'.filed.items place image) (filed : (j : ℕ) (q : Place) → IsFiled o.filed.items q j → IsFiled o'.filed.items q j)
-      (asks_there : (c : C) → item_at m.configs image ≡ Some c → (a : Ask) → AsksNext (r.step c) a → place_of a ≡ place) where
+      (asks_there : AsksNextAt r m image place) (asked : AreNextAsks r m o'.asks.kept.items) where
     known_now : (i : ℕ) → has o'.stale.words.items i ≡ false → has o'.can.words.items i ≡ can_step r m i
     known_now i f = elim (cases_eq i image) [
       | inl e ↦ subst (λ n. has o'.can.words.items n ≡ can_step r m n) (sym e) here
@@ -78,12 +99,13 @@ module _ {C M B : Type 0} (r : Rules C M B) (m : Moment C M B) (o : Outlook) (kn
       well = well;
       images = images ∙ knows.images;
       files = files ∙ knows.files;
+      asked = asked;
       known = known_now;
       filed = filed_now;
     }
 
   -- of some images it was forgotten what was known; the others are filed as before
-  module _ (o' : Outlook) (well : IsWell o') (images : o'.images ≡ o.images) (can : o'.can ≡ o.can) (files : length o'.filed.items ≡ length o.filed.items)
+  module _ (o' : Outlook) (well : IsWell o') (images : o'.images ≡ o.images) (can : o'.can ≡ o.can) (same_asks : o'.asks ≡ o.asks) (files : length o'.filed.items ≡ length o.filed.items)
       (kept : (j : ℕ) → has o.stale.words.items j ≡ true → has o'.stale.words.items j ≡ true)
       (filed : (j : ℕ) → has o'.stale.words.items j ≡ false → (q : Place) → IsFiled o.filed.items q j → IsFiled o'.filed.items q j) where
     before : (j : ℕ) → has o'.stale.words.items j ≡ false → has o.stale.words.items j ≡ false
@@ -94,6 +116,7 @@ module _ {C M B : Type 0} (r : Rules C M B) (m : Moment C M B) (o : Outlook) (kn
       well = well;
       images = images ∙ knows.images;
       files = files ∙ knows.files;
+      asked = subst (λ v. AreNextAsks r m v.kept.items) (sym same_asks) knows.asked;
       known = λ j f. ap (λ s. has s.words.items j) can ∙ knows.known j (before j f);
       filed = λ j f c at a asked. filed j f (place_of a) (knows.filed j (before j f) c at a asked);
     }
@@ -116,14 +139,29 @@ module _ {C M B : Type 0} (r : Rules C M B) (m : Moment C M B) (o : Outlook) (kn
   pub not_open : (i : ℕ) → (has o.can.words.items i || has o.stale.words.items i) ≡ false → can_step r m i ≡ false
   not_open i h = let both = or_false (has o.can.words.items i) (has o.stale.words.items i) h in sym (knows.known i both.1) ∙ both.0
 
-  -- a step was made of an image of which it isn't known whether it can step
-  module _ (m' : Moment C M B) (i : ℕ) (e : Event) (s : Steps r m i e m') (stale : has o.stale.words.items i ≡ true) where
+  -- a step was made of an image of which it isn't known whether it can step, and of which no ask is kept
+  module _ (m' : Moment C M B) (i : ℕ) (e : Event) (s : Steps r m i e m') (stale : has o.stale.words.items i ≡ true) (taken : item_at o.asks.kept.items i ≡ Some None) where
+    as_many : length m.configs ≡ length m'.configs
+    as_many = sym (ap length s.configs ∙ length_with m.configs i s.to)
+
+    stands_apart : (j : ℕ) → (j ≡ i → ⊥) → item_at m'.configs j ≡ item_at m.configs j
+    stands_apart j apart = ap (λ cs. item_at cs j) s.configs ∙ item_other m.configs i j s.to apart
+
+    not_kept : (j : ℕ) (a : Ask) → item_at o.asks.kept.items j ≡ Some (Some a) → j ≡ i → ⊥
+    not_kept j a kept same = let one = subst (λ n. item_at o.asks.kept.items n ≡ Some (Some a)) same kept in cc
+
+    asked_still : AreNextAsks r m' o.asks.kept.items
+    asked_still = record {
+      count = knows.asked.count ∙ as_many;
+      each = λ j a kept c at. knows.asked.each j a kept c (sym (stands_apart j (not_kept j a kept)) ∙ at);
+    }
+
     module _ (j : ℕ) (fresh : has o.stale.words.items j ≡ false) where
       apart : j ≡ i → ⊥
       apart = other_fresh o.stale.words.items i j stale fresh
 
       stands : item_at m'.configs j ≡ item_at m.configs j
-      stands = ap (λ cs. item_at cs j) s.configs ∙ item_other m.configs i j s.to apart
+      stands = stands_apart j apart
 
     -- where each image that isn't stale finds its ask as ready as before
     module _ (ready : (j : ℕ) → has o.stale.words.items j ≡ false → (p : Place) → IsFiled o.filed.items p j → (a : Ask) → ready_there r m' j a p ≡ ready_there r m j a p) where
@@ -143,8 +181,9 @@ module _ {C M B : Type 0} (r : Rules C M B) (m : Moment C M B) (o : Outlook) (kn
       knows_still : Knows r m' o
       knows_still = record {
         well = knows.well;
-        images = knows.images ∙ sym (ap length s.configs ∙ length_with m.configs i s.to);
+        images = knows.images ∙ as_many;
         files = knows.files ∙ ap (λ n. n + 1) (sym (ap length s.memories));
+        asked = asked_still;
         known = λ j fresh. knows.known j fresh ∙ sym (still j fresh);
         filed = λ j fresh c at a asked. knows.filed j fresh c (sym (stands j fresh) ∙ at) a asked;
       }

@@ -25,7 +25,7 @@ use Rattle.core_runs.specs.Moments.{Rules, Moment, item_at, ready_there, memory_
 use Rattle.image_core.specs.Prepared.{move_of, HasRoom, AsksAt, IsServedNext}
 use Rattle.core_runs.specs.Moments.{rules}
 use Rattle.image_core.specs.Parts.{moment, event_lists, IsPreparedRun, IsSetAside, IsServedThere}
-use Rattle.image_core.proofs.Slices.{map_index, map_get, map_length, map_same, index_set}
+use Rattle.run_outlook.proofs.Slices.{map_index, map_get, map_length, map_same, index_set}
 
 abbrev build : {C M B : Type 0} → List C → List (List Event) → List M → List (List Entry) → B → List Entry → Moment C M B
 build cs es ms hs b h = record { configs = cs; events = es; memories = ms; histories = hs; board = b; board_history = h }
@@ -45,6 +45,11 @@ pub asked_at : {C : Type 0} (q : Place) (m : Move C Ask Reply) (a : Ask) → Ask
 asked_at q (goes c) a h k = absurd h
 asked_at q (asks x l n) a h k = ap place_of k ∙ h
 asked_at q over a h k = absurd h
+
+pub asks_at : {C : Type 0} (q : Place) (m : Move C Ask Reply) (a : Ask) → AsksNext m a → place_of a ≡ q → AsksAt q m
+asks_at q (goes c) a k h = absurd k
+asks_at q (asks x l n) a k h = ap place_of (sym k) ∙ h
+asks_at q over a k h = absurd k
 
 -- what a machine tells of its next move
 pub at_place : {C : Type 0} (m : Move C Ask Reply) (q : Place) → NextIs m (nexts.Ask q) → AsksAt q m
@@ -107,7 +112,7 @@ module _ {M O B : Type 0} (walks : walker.Ghosts M) (memory : object.Ghosts O) (
       (ap event_lists s ∙ map_same (λ (x : ImageRun M). x.events.items) p.images.items k r r' image_in run_is e)
       m h b t
 
-  can_is : can_step R now (suc k) ≡ can_move R now (suc k) (move_of walks r)
+  pub can_is : can_step R now (suc k) ≡ can_move R now (suc k) (move_of walks r)
   can_is = ap (can_move_from R now (suc k)) (map_get (λ (x : ImageRun M). walks.config x.machine) p.images.items k r image_in run_is)
 
   ended_is : HasEnded R now (suc k) ≡ IsOver (move_of walks r)
@@ -122,7 +127,7 @@ module _ {M O B : Type 0} (walks : walker.Ghosts M) (memory : object.Ghosts O) (
   pub ready_is : (q : Place) (a : Ask) → AsksAt q (move_of walks r) → AsksNext (move_of walks r) a → can_step R now (suc k) ≡ ready_there R now (suc k) a q
   ready_is q a h n = can_is ∙ can_asked R now (suc k) (move_of walks r) a n ∙ ap (ready_there R now (suc k) a) (asked_at q (move_of walks r) a h n)
 
-  stands_at : (c : walks.Config) → item_at now.configs (suc k) ≡ Some c → c ≡ walks.config r.machine
+  pub stands_at : (c : walks.Config) → item_at now.configs (suc k) ≡ Some c → c ≡ walks.config r.machine
   stands_at c at = let there = map_get (λ (x : ImageRun M). walks.config x.machine) p.images.items k r image_in run_is in cc
 
   -- where the image asks next

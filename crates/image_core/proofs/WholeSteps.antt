@@ -24,7 +24,7 @@ use Rattle.image_core.specs.declared.prepared.Prepared.TheVariants as prepareds
 use Rattle.image_core.specs.Prepared.{move_of, StepsAt, IsServedNext, IsOwnNext, place_aside}
 use Rattle.core_runs.specs.Moments.{rules}
 use Rattle.image_core.specs.Parts.{moment, event_lists, IsSetAside, IsServedThere}
-use Rattle.image_core.proofs.Slices.{map_set, map_index, map_get, map_same}
+use Rattle.run_outlook.proofs.Slices.{map_set, map_index, map_get, map_same}
 
 module _ {M O B : Type 0} (walks : walker.Ghosts M) (memory : object.Ghosts O) (control : object.Ghosts B)
     (p : PartsOf M O B) (i : ℕ) (move : Move walks.Config Ask Reply) where

@@ -89,9 +89,6 @@ impl<M: Walker> ImageRun<M> {
     {
         self.machine.give(&event);
         self.last = event.stamp();
-        match self.events.push(event) {
-            Ok(()) => {}
-            Err(_) => unreachable!(),
-        }
+        self.events.push_reserved(event);
     }
 }

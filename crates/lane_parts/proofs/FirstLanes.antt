@@ -5,7 +5,7 @@ use Rattle.caf_events.specs.declared.ask.Ask.{Ask}
 use Rattle.caf_events.specs.declared.reply.Reply.{Reply}
 use Rattle.trace_theory.specs.Machines.{Move}
 use Rattle.image_core.specs.Parts.{total}
-use Rattle.image_core.proofs.Slices.{map_length}
+use Rattle.run_outlook.proofs.Slices.{map_length}
 use Rattle.image_lanes.specs.Lanes.{OnLane, lane_start, lane_left}
 use Rattle.image_lanes.proofs.LaneLaws.{few_at_first}
 use Rattle.lane_parts.specs.FirstLanes.{first_lanes}

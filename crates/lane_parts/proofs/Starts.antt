@@ -6,7 +6,7 @@ use Rattle.trace_theory.specs.Machines.{go, goes, Rests}
 use Rattle.core_runs.specs.Moments.{Rules}
 use Rattle.core_runs.specs.Beginnings.{IsFirst, numbers_to}
 use Rattle.image_core.specs.Parts.{first_moment}
-use Rattle.image_core.proofs.Slices.{map_length}
+use Rattle.run_outlook.proofs.Slices.{map_length}
 use Rattle.caf_events.specs.declared.ask.Ask.{Ask}
 use Rattle.caf_events.specs.declared.reply.Reply.{Reply}
 use Rattle.trace_theory.specs.Machines.{Move}

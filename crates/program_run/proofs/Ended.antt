@@ -26,7 +26,7 @@ use Rattle.core_runs.proofs.Numbered.{item_within}
 use Rattle.coarray_memory.specs.Memories.{MemoryState}
 use Rattle.image_core.specs.Parts.{AreNumbered}
 use Rattle.image_core.specs.declared.run.ImageRun.{ImageRun}
-use Rattle.image_core.proofs.Slices.{map_length}
+use Rattle.run_outlook.proofs.Slices.{map_length}
 use Rattle.image_lanes.specs.declared.lane.Lane.{Lane}
 use Rattle.image_lanes.specs.Holds.{course_of}
 use Rattle.image_lanes.specs.Lanes.{OnLane, is_failure, lane_step}

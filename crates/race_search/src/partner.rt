@@ -4,7 +4,7 @@ ghost use Rattle.std.specs.Prelude.{◌≡◌, ◌<◌, ℕ, List, ◌∷◌, �
 ghost use Rattle.caf_events.specs.declared.event.Entry.{Entry};
 ghost use Rattle.race_watch.specs.ActParts.{as_cell};
 ghost use Rattle.race_watch.specs.Recorded.{FitsRun, IsRecorded};
-ghost use Rattle.race_watch.specs.Marked.{Touching};
+ghost use Rattle.race_watch.specs.Marked.{Touching, TouchesAll};
 ghost use Rattle.race_search.specs.Known.{Fits, AllFit, AllNoted};
 ghost use Rattle.race_search.specs.Partners.{Apart, RacesWith, LeastShared, NoneBelow, IsPartner};
 
@@ -51,32 +51,30 @@ fn is_apart(
 
 // The least cell that x shares with e, where the two are a race.
 fn race_cell(
-    alloc: Global,
     n: u32,
     again: &Recorder,
     b: &[Entry],
     x: &Entry,
+    other: &Option<Touch>,
     s: &Recorder,
     g: &[Entry],
     e: &Entry,
     touch: &Touch,
-) -> Result<Option<CellName>, NoMemory>
+) -> Option<CellName>
     requires there { FitsRun n b.now x.now × IsRecorded n b.now again.now }
     requires here { FitsRun n g.now e.now × IsRecorded n g.now s.now }
     requires within { (h : List Entry) × (g.now ≡ b.now ++ x.now ∷ h) }
+    requires other { TouchesAll n b.now x.now other.now }
     requires touch { Touching n g.now e.now touch.now }
-    ensures { IfOk result (λ o. MatchOption o (RacesWith n b.now x.now g.now e.now → ⊥) (λ c. RacesWith n b.now x.now g.now e.now × LeastShared b.now x.now g.now e.now (as_cell c))) }
+    ensures { MatchOption result (RacesWith n b.now x.now g.now e.now → ⊥) (λ c. RacesWith n b.now x.now g.now e.now × LeastShared b.now x.now g.now e.now (as_cell c)) }
 {
     if x.image.0 == e.image.0 {
-        return Ok(None);
+        return None;
     }
     if !is_apart(n, again, b, x, s, g, e) {
-        return Ok(None);
+        return None;
     }
-    let other = again.touch_of(alloc, n, b, x)?;
-    let cell = shared(n, b, x, &other, g, e, touch);
-    drop(other);
-    Ok(cell)
+    shared(n, b, x, other, g, e, touch)
 }
 
 // The first entry that is a race with e, which touches these cells: the entries are recorded once more, for the clock of each where it stands.
@@ -98,33 +96,35 @@ fn scan(
     for at in 0..before.len() {
         let b = &before[..at];
         let x = &before[at];
-        if let Some(cell) = race_cell(alloc, n, &again.recorder, b, x, s, before, e, touch)? {
+        let other = again.recorder.touch_of(alloc, n, b, x)?;
+        if let Some(cell) = race_cell(n, &again.recorder, b, x, &other, s, before, e, touch) {
+            drop(other);
             return Ok(Some(Partner { at, cell }));
         }
-        again.follow(alloc, n, b, x)?;
+        let followed = again.follow(alloc, n, b, x, &other);
+        drop(other);
+        followed?;
     }
     Ok(None)
 }
 
-/// The first entry that is a race with e, and the least cell that both touch.
+/// The first entry that is a race with e, which touches this, and the least cell that both touch.
 pub fn first_partner(
     alloc: Global,
     n: u32,
     s: &Recorder,
     before: &[Entry],
     e: &Entry,
+    touch: &Option<Touch>,
 ) -> Result<Option<Partner>, NoMemory>
     requires all { AllFit n before.now × AllNoted n before.now }
     requires fits { FitsRun n before.now e.now }
     requires recorded { IsRecorded n before.now s.now }
+    requires touch { TouchesAll n before.now e.now touch.now }
     ensures { IfOk result (λ o. MatchOption o (NoneBelow n before.now e.now (length before.now)) (λ p. IsPartner n before.now e.now p.at (as_cell p.cell))) }
 {
-    match s.touch_of(alloc, n, before, e)? {
-        Some(touch) => {
-            let partner = scan(alloc, n, s, before, e, &touch);
-            drop(touch);
-            partner
-        }
+    match touch {
+        Some(touch) => scan(alloc, n, s, before, e, touch),
         None => Ok(None),
     }
 }

@@ -8,7 +8,7 @@ ghost use Rattle.order_theory.specs.Stored.{present};
 ghost use Rattle.segment_clock.specs.Counts.{count_of};
 ghost use Rattle.order_axioms.specs.Views.{view, edges};
 ghost use Rattle.race_watch.specs.Recorded.{IsRecorded, IsTold};
-ghost use Rattle.race_watch.specs.Marked.{MayNote};
+ghost use Rattle.race_watch.specs.Marked.{TouchesAll, MayNote};
 ghost use Rattle.race_search.specs.Known.{Fits, TellsOf};
 ghost use Rattle.race_search.specs.Failures.{IsWatched};
 
@@ -18,6 +18,7 @@ use caf_base::place::ImageNo;
 use caf_base::refusal::NoMemory;
 use caf_events::event::Entry;
 use race_watch::recorder::Recorder;
+use race_watch::touch::Touch;
 use segment_clock::clock::Clock;
 use std::alloc::Global;
 
@@ -96,21 +97,23 @@ impl Watcher {
         clock
     }
 
-    /// Records the next entry. Condition: no entry so far is unordered with it, or it is no access.
+    /// Records the next entry, which touches this. Condition: no entry so far is unordered with it, or it is no access.
     pub fn follow(
         &mut self,
         alloc: Global,
         n: u32,
         before: &[Entry],
         e: &Entry,
+        touch: &Option<Touch>,
     ) -> Result<(), NoMemory>
         requires fits { Fits n before.now e.now }
         requires watched { IsWatched n before.now self.old }
+        requires touch { TouchesAll n before.now e.now touch.now }
         requires none { MayNote n before.now e.now }
         ensures { IfOk result (λ _. IsWatched n (before.now ++ e.now ∷ []) self.new) }
     {
         let told = self.told(alloc, n, before, e)?;
-        let recorded = self.recorder.record(alloc, n, before, e, &told);
+        let recorded = self.recorder.record(alloc, n, before, e, touch, &told);
         drop(told);
         recorded?;
         keep_failure(alloc, n, &mut self.failures, before, e)

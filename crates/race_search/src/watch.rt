@@ -1,6 +1,6 @@
 //! The first race of a trace.
 
-ghost use Rattle.std.specs.Prelude.{◌≡◌, ◌<◌, ◌^◌, ℕ, List, length, IfOk, MatchOption};
+ghost use Rattle.std.specs.Prelude.{◌≡◌, ◌<◌, ◌^◌, ℕ, List, [], ◌∷◌, ◌++◌, length, IfOk, MatchOption};
 ghost use Rattle.object_rules.specs.Cells.{Declared};
 ghost use Rattle.core_runs.specs.Lawful.{IsLawfulTrace};
 ghost use Rattle.order_axioms.specs.Views.{edges};
@@ -8,7 +8,9 @@ ghost use Rattle.order_axioms.specs.Touching.{touches};
 ghost use Rattle.order_axioms.specs.FirstRaces.{HasNoRace, IsFirstRace};
 ghost use Rattle.race_watch.specs.ActParts.{as_cell};
 ghost use Rattle.race_watch.specs.Recorded.{FitsRun, IsRecorded};
-ghost use Rattle.race_search.specs.Known.{AllFit, AllNoted};
+ghost use Rattle.race_watch.specs.Marked.{TouchesAll, MayNote};
+ghost use Rattle.race_search.specs.Known.{Fits, AllFit, AllNoted};
+ghost use Rattle.race_search.specs.Failures.{IsWatched};
 ghost use Rattle.race_search.specs.Partners.{NoneBelow, IsPartner};
 
 use crate::partner::{Partner, first_partner};
@@ -17,6 +19,7 @@ use caf_base::refusal::NoMemory;
 use caf_events::event::Entry;
 use race_watch::act::CellName;
 use race_watch::recorder::Recorder;
+use race_watch::touch::Touch;
 use std::alloc::Global;
 
 /// Two entries by their places in the trace from 0, the earlier one first, and the least cell that both touch.
@@ -27,23 +30,50 @@ pub struct Race {
     pub cell: CellName,
 }
 
-// The first entry that is a race with the next one, and the least cell that both touch.
+// The first entry that is a race with the next one, which touches this, and the least cell that both touch.
 fn partner_of(
     alloc: Global,
     n: u32,
     s: &Recorder,
     before: &[Entry],
     e: &Entry,
+    touch: &Option<Touch>,
 ) -> Result<Option<Partner>, NoMemory>
     requires all { AllFit n before.now × AllNoted n before.now }
     requires fits { FitsRun n before.now e.now }
     requires recorded { IsRecorded n before.now s.now }
+    requires touch { TouchesAll n before.now e.now touch.now }
     ensures { IfOk result (λ o. MatchOption o (NoneBelow n before.now e.now (length before.now)) (λ p. IsPartner n before.now e.now p.at (as_cell p.cell))) }
 {
-    if s.clash(alloc, n, before, e)? {
-        first_partner(alloc, n, s, before, e)
+    if s.clash(n, before, e, touch) {
+        first_partner(alloc, n, s, before, e, touch)
     } else {
         Ok(None)
+    }
+}
+
+// The same; where there is none, the next entry is recorded.
+fn partner_or_follow(
+    alloc: Global,
+    n: u32,
+    watcher: &mut Watcher,
+    before: &[Entry],
+    e: &Entry,
+    touch: &Option<Touch>,
+) -> Result<Option<Partner>, NoMemory>
+    requires all { AllFit n before.now × AllNoted n before.now }
+    requires fits { Fits n before.now e.now }
+    requires watched { IsWatched n before.now watcher.old }
+    requires touch { TouchesAll n before.now e.now touch.now }
+    requires none { NoneBelow n before.now e.now (length before.now) → MayNote n before.now e.now }
+    ensures { IfOk result (λ o. MatchOption o (NoneBelow n before.now e.now (length before.now) × IsWatched n (before.now ++ e.now ∷ []) watcher.new) (λ p. IsPartner n before.now e.now p.at (as_cell p.cell))) }
+{
+    match partner_of(alloc, n, &watcher.recorder, before, e, touch)? {
+        Some(partner) => Ok(Some(partner)),
+        None => {
+            watcher.follow(alloc, n, before, e, touch)?;
+            Ok(None)
+        }
     }
 }
 
@@ -59,14 +89,16 @@ pub fn watch(alloc: Global, trace: &[Entry], n: u32) -> Result<Option<Race>, NoM
     for at in 0..trace.len() {
         let before = &trace[..at];
         let e = &trace[at];
-        if let Some(partner) = partner_of(alloc, n, &watcher.recorder, before, e)? {
+        let touch = watcher.recorder.touch_of(alloc, n, before, e)?;
+        let partner = partner_or_follow(alloc, n, &mut watcher, before, e, &touch);
+        drop(touch);
+        if let Some(partner) = partner? {
             return Ok(Some(Race {
                 first: partner.at,
                 second: at,
                 cell: partner.cell,
             }));
         }
-        watcher.follow(alloc, n, before, e)?;
     }
     Ok(None)
 }

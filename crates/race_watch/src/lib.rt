@@ -13,5 +13,6 @@ pub mod order;
 pub mod queue;
 pub mod recorder;
 pub mod row;
+pub mod shared;
 pub mod table;
 pub mod touch;

@@ -12,6 +12,7 @@ ghost use Rattle.race_watch.specs.Orders.{line_of, clock_of, OnlyFinishes, Sized
 
 use crate::act::{Act, CellName};
 use crate::queue::QueueTable;
+use crate::shared::SharedClock;
 use crate::table::{ClockTable, take};
 use caf_base::place::ImageNo;
 use caf_base::refusal::NoMemory;
@@ -220,8 +221,8 @@ fn posts(
     ensures { IfOk result (λ _. Ordered n (_before.now ++ e.now ∷ []) order.new) }
 {
     let line = line_of(n, cell.owner, cell.coarray);
-    let own = &order.images[(e.image.0 - 1) as usize];
-    order.events.put(alloc, n, line, cell.offset as usize, own)?;
+    let own = SharedClock::new(alloc, n, &order.images[(e.image.0 - 1) as usize])?;
+    order.events.put(alloc, line, cell.offset as usize, &own)?;
     finish(&mut order.images, &mut order.completed, e.image, told);
     Ok(())
 }
@@ -285,17 +286,15 @@ fn deletes(
 fn put_each(
     pairs: &mut QueueTable,
     alloc: Global,
-    n: u32,
     image: ImageNo,
     named: &[u32],
-    own: &Clock,
+    own: &SharedClock,
 ) -> Result<(), NoMemory>
-    requires own { length own.now ≡ n }
     requires apart { Differ named.now }
     ensures { IfOk result (λ _. (l k : ℕ) → queue_at pairs.new l k ≡ cond (nat_eq l image.0 && names k named.now) (queue_at pairs.old l k ++ own.now ∷ []) (queue_at pairs.old l k)) }
 {
     for other in named {
-        pairs.put(alloc, n, image.0 as usize, *other as usize, own)?;
+        pairs.put(alloc, image.0 as usize, *other as usize, own)?;
     }
     Ok(())
 }
@@ -313,8 +312,8 @@ fn pairs(
     requires apart { Differ images.items }
     ensures { IfOk result (λ _. Ordered n (_before.now ++ e.now ∷ []) order.new) }
 {
-    let own = &order.images[(e.image.0 - 1) as usize];
-    put_each(&mut order.pairs, alloc, n, e.image, images.as_slice(), own)?;
+    let own = SharedClock::new(alloc, n, &order.images[(e.image.0 - 1) as usize])?;
+    put_each(&mut order.pairs, alloc, e.image, images.as_slice(), &own)?;
     order.named[(e.image.0 - 1) as usize] = Named { images };
     Ok(())
 }

@@ -3,7 +3,7 @@
 ghost use Rattle.std.specs.Prelude.{◌≡◌, ◌<◌, ◌≤◌, ◌&&◌, ℕ, List, [], ◌∷◌, ◌++◌, length, get_or, nat_eq, cond, All, take, drop, IfOk};
 ghost use Rattle.race_watch.specs.Tables.{joined_all, queue_at};
 
-use crate::table::copied;
+use crate::shared::SharedClock;
 use caf_base::refusal::NoMemory;
 use segment_clock::clock::Clock;
 use std::alloc::Global;
@@ -12,7 +12,7 @@ use std::marker::Model;
 // A clock for each segment that waits, the first one first. In a contract it is the list of these.
 #[derive(Drop)]
 struct Queue {
-    clocks: Vec<Clock>,
+    clocks: Vec<SharedClock>,
 }
 
 impl Model for Queue {
@@ -52,12 +52,12 @@ impl Model for QueueTable {
 }
 
 // Joins these clocks.
-fn join_all(clocks: &[Clock], clock: &mut Clock)
+fn join_all(clocks: &[SharedClock], clock: &mut Clock)
     requires { All (λ c. length c ≡ length clock.old) clocks.now }
     ensures { clock.new ≡ joined_all clock.old clocks.now }
 {
     for other in clocks {
-        clock.join(other);
+        clock.join(other.clock());
     }
 }
 
@@ -71,11 +71,10 @@ impl Queue {
     }
 
     // One more segment waits, with the clock of its image.
-    fn put(&mut self, alloc: Global, n: u32, own: &Clock) -> Result<(), NoMemory>
-        requires { length own.now ≡ n }
+    fn put(&mut self, own: &SharedClock) -> Result<(), NoMemory>
         ensures { IfOk result (λ _. self.new ≡ self.old ++ own.now ∷ []) }
     {
-        self.clocks.push(copied(alloc, n, own)?)?;
+        self.clocks.push(own.again()?)?;
         Ok(())
     }
 
@@ -96,7 +95,7 @@ impl Queue {
         ensures { clock.new ≡ joined_all clock.old (take 1 (drop number self.now)) }
     {
         if number < self.clocks.len() {
-            clock.join(&self.clocks[number]);
+            clock.join(self.clocks[number].clock());
         }
     }
 }
@@ -121,12 +120,11 @@ impl QueueRow {
         }
     }
 
-    fn put(&mut self, alloc: Global, n: u32, place: usize, own: &Clock) -> Result<(), NoMemory>
-        requires { length own.now ≡ n }
+    fn put(&mut self, alloc: Global, place: usize, own: &SharedClock) -> Result<(), NoMemory>
         ensures { IfOk result (λ _. (k : ℕ) → get_or self.new k [] ≡ cond (nat_eq k place) (get_or self.old place [] ++ own.now ∷ []) (get_or self.old k [])) }
     {
         reach_places(&mut self.queues, alloc, place)?;
-        self.queues[place].put(alloc, n, own)
+        self.queues[place].put(own)
     }
 
     fn take(&mut self, place: usize, k: u64, clock: &mut Clock)
@@ -183,16 +181,14 @@ impl QueueTable {
     pub fn put(
         &mut self,
         alloc: Global,
-        n: u32,
         line: usize,
         place: usize,
-        own: &Clock,
+        own: &SharedClock,
     ) -> Result<(), NoMemory>
-        requires { length own.now ≡ n }
         ensures { IfOk result (λ _. (l k : ℕ) → queue_at self.new l k ≡ cond (nat_eq l line && nat_eq k place) (queue_at self.old l k ++ own.now ∷ []) (queue_at self.old l k)) }
     {
         reach_lines(&mut self.rows, alloc, line)?;
-        self.rows[line].put(alloc, n, place, own)
+        self.rows[line].put(alloc, place, own)
     }
 
     /// The first `count` segments, or all where there are fewer, are taken from a line and place: the clock is joined with theirs.

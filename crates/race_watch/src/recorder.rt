@@ -9,6 +9,7 @@ ghost use Rattle.segment_clock.specs.Counts.{count_of};
 ghost use Rattle.order_axioms.specs.Views.{act_of, view, edges};
 ghost use Rattle.race_watch.specs.ActParts.{as_act};
 ghost use Rattle.race_watch.specs.Touched.{FitsMemory, MadeIs};
+ghost use Rattle.race_watch.specs.Orders.{Ordered};
 ghost use Rattle.race_watch.specs.Marked.{Marked, HasPartner, TouchesAll, MayNote};
 ghost use Rattle.race_watch.specs.Recorded.{IsRecorded, FitsRun, IsTold, MadeKept};
 
@@ -20,6 +21,7 @@ use caf_base::place::ImageNo;
 use caf_base::refusal::NoMemory;
 use caf_events::ask::Ask;
 use caf_events::event::Entry;
+use caf_events::reply::Reply;
 use segment_clock::clock::Clock;
 use std::alloc::Global;
 
@@ -149,72 +151,85 @@ impl Recorder {
         touch
     }
 
-    /// Whether an entry so far conflicts with the next one and stands in a segment that doesn't precede its segment.
-    pub fn clash(
-        &self,
+    /// Whether an entry so far conflicts with the next one, which touches this, and stands in a segment that doesn't precede its segment.
+    pub fn clash(&self, n: u32, before: &[Entry], e: &Entry, touch: &Option<Touch>) -> bool
+        requires fits { FitsRun n before.now e.now }
+        requires recorded { IsRecorded n before.now self.now }
+        requires touch { TouchesAll n before.now e.now touch.now }
+        ensures { MatchBool result (HasPartner n before.now e.now) (HasPartner n before.now e.now → ⊥) }
+    {
+        self.marks.clash(&self.order, n, before, e, touch)
+    }
+
+    // Notes the next entry at the cells that it touches.
+    fn note(
+        &mut self,
         alloc: Global,
         n: u32,
         before: &[Entry],
         e: &Entry,
-    ) -> Result<bool, NoMemory>
-        requires fits { FitsRun n before.now e.now }
-        requires recorded { IsRecorded n before.now self.now }
-        ensures { IfOk result (λ b. MatchBool b (HasPartner n before.now e.now) (HasPartner n before.now e.now → ⊥)) }
-    {
-        let touch = self.touch_of(alloc, n, before, e)?;
-        let found = self.marks.clash(&self.order, n, before, e, &touch);
-        drop(touch);
-        Ok(found)
-    }
-
-    // Notes the next entry at the cells that it touches.
-    fn note(&mut self, alloc: Global, n: u32, before: &[Entry], e: &Entry) -> Result<(), NoMemory>
+        touch: &Option<Touch>,
+    ) -> Result<(), NoMemory>
         requires fits { FitsRun n before.now e.now }
         requires recorded { IsRecorded n before.now self.old }
+        requires touch { TouchesAll n before.now e.now touch.now }
         requires none { MayNote n before.now e.now }
         ensures order { self.new.order ≡ self.old.order }
         ensures made { self.new.made ≡ self.old.made }
         ensures marks { IfOk result (λ _. Marked n (before.now ++ e.now ∷ []) self.new.marks) }
     {
-        let touch = self.touch_of(alloc, n, before, e)?;
-        let noted = self.marks.note(alloc, &self.order, n, before, e, &touch);
-        drop(touch);
-        noted
+        self.marks.note(alloc, &self.order, n, before, e, touch)
     }
 
-    // Keeps what the next entry gives its coarray.
-    fn keep(&mut self, alloc: Global, n: u32, before: &[Entry], e: &Entry) -> Result<(), NoMemory>
+    // Keeps what the next entry, with this ask and reply, gives its coarray, and what it is to segment order.
+    fn keep(
+        &mut self,
+        alloc: Global,
+        n: u32,
+        before: &[Entry],
+        e: &Entry,
+        ask: &Ask,
+        reply: &Reply,
+        told: &Option<Clock>,
+    ) -> Result<(), NoMemory>
+        requires exchange { (ask.now ≡ e.now.event.ask) × (reply.now ≡ e.now.event.reply) }
         requires fits { FitsRun n before.now e.now }
+        requires order { Ordered n before.now self.old.order }
         requires made { MadeKept n before.now self.old.made.items }
-        ensures order { self.new.order ≡ self.old.order }
+        requires told { IsTold n before.now e.now told.now }
         ensures marks { self.new.marks ≡ self.old.marks }
+        ensures order { IfOk result (λ _. Ordered n (before.now ++ e.now ∷ []) self.new.order) }
         ensures made { IfOk result (λ _. MadeKept n (before.now ++ e.now ∷ []) self.new.made.items) }
     {
-        let ask = e.event.told().ask(alloc);
-        let kept = keep_made(&mut self.made, n, before, e, &ask);
-        drop(ask);
-        kept
+        keep_made(&mut self.made, n, before, e, ask)?;
+        let act = act_by(alloc, ask, reply)?;
+        self.order.step(alloc, n, before, e, act, told)
     }
 
-    /// Records the next entry. `told` covers the last segments of the failed images of which its status speaks. Condition: no entry so far is unordered
-    /// with it, or it is no access.
+    /// Records the next entry, which touches this. `told` covers the last segments of the failed images of which its status speaks. Condition: no entry so
+    /// far is unordered with it, or it is no access.
     pub fn record(
         &mut self,
         alloc: Global,
         n: u32,
         before: &[Entry],
         e: &Entry,
+        touch: &Option<Touch>,
         told: &Option<Clock>,
     ) -> Result<(), NoMemory>
         requires fits { FitsRun n before.now e.now }
         requires recorded { IsRecorded n before.now self.old }
+        requires touch { TouchesAll n before.now e.now touch.now }
         requires none { MayNote n before.now e.now }
         requires told { IsTold n before.now e.now told.now }
         ensures { IfOk result (λ _. IsRecorded n (before.now ++ e.now ∷ []) self.new) }
     {
-        self.note(alloc, n, before, e)?;
-        self.keep(alloc, n, before, e)?;
-        let act = act_of(alloc, e)?;
-        self.order.step(alloc, n, before, e, act, told)
+        self.note(alloc, n, before, e, touch)?;
+        let ask = e.event.told().ask(alloc);
+        let reply = e.event.reply(alloc);
+        let kept = self.keep(alloc, n, before, e, &ask, &reply, told);
+        drop(ask);
+        drop(reply);
+        kept
     }
 }

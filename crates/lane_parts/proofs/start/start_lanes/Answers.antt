@@ -5,7 +5,7 @@ use Rattle.core_runs.specs.Moments.{rules}
 use Rattle.core_runs.proofs.Beginnings.{first_kept}
 use Rattle.image_core.specs.Parts.{total, moment}
 use Rattle.image_core.proofs.Readiness.{if_ok_map}
-use Rattle.image_core.proofs.Slices.{map_length}
+use Rattle.run_outlook.proofs.Slices.{map_length}
 use Rattle.image_lanes.specs.Lanes.{lane_left}
 use Rattle.image_lanes.specs.LaneStates.{lane_of}
 use Rattle.image_lanes.specs.contracts.lane.LaneWalker.TheImpl as lane_walker

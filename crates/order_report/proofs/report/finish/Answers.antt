@@ -4,7 +4,7 @@ use Rattle.image_core.specs.declared.run.ImageRun.{ImageRun}
 use Rattle.image_core.specs.Choosing.{choosing}
 use Rattle.image_core.specs.Parts.{moment}
 use Rattle.image_core.specs.declared.choices.Choices.TheVariants.{Rotate}
-use Rattle.image_core.proofs.Slices.{map_length}
+use Rattle.run_outlook.proofs.Slices.{map_length}
 use Rattle.order_report.proofs.Runs.{whole_of, no_further}
 use Rattle.order_report.proofs.report.finish.Goals as goal
 

@@ -2,7 +2,7 @@ use Rattle.std.proofs.Common.{◌≡◌, ◌<◌, [], length, arith}
 use Rattle.std.proofs.lemmas.Grind.{common_steps}
 use Rattle.image_core.specs.declared.run.ImageRun.{ImageRun}
 use Rattle.image_core.specs.Parts.{event_lists}
-use Rattle.image_core.proofs.Slices.{map_index}
+use Rattle.run_outlook.proofs.Slices.{map_index}
 use Rattle.order_report.proofs.Runs.{ending_here}
 use Rattle.order_report.proofs.report.has_ended.Goals as goal
 

@@ -4,7 +4,7 @@ use Rattle.caf_events.specs.declared.event.Trace.{Trace}
 use Rattle.core_runs.specs.Moments.{rules}
 use Rattle.core_runs.specs.Traces.{IsTraceOf}
 use Rattle.image_core.specs.Parts.{event_lists, moment}
-use Rattle.image_core.proofs.Slices.{map_length}
+use Rattle.run_outlook.proofs.Slices.{map_length}
 use Rattle.order_axioms.specs.FirstRaces.{HasNoRace}
 use Rattle.order_axioms.specs.Touching.{touches}
 use Rattle.order_axioms.specs.Views.{edges}

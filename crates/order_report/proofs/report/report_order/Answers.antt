@@ -5,7 +5,7 @@ use Rattle.core_runs.proofs.OrderTraces.{order_trace}
 use Rattle.image_core.specs.declared.run.ImageRun.{ImageRun}
 use Rattle.image_core.specs.Choosing.{choosing}
 use Rattle.image_core.specs.Parts.{moment}
-use Rattle.image_core.proofs.Slices.{map_length}
+use Rattle.run_outlook.proofs.Slices.{map_length}
 use Rattle.order_report.proofs.Runs.{whole_of, no_further, with_order}
 use Rattle.order_report.proofs.report.report_order.Goals as goal
 

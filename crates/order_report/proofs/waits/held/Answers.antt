@@ -2,7 +2,7 @@ use Rattle.std.proofs.Common.{◌≡◌, ◌<◌, ◌+◌, ◌∙◌, ap, sym, s
 use Rattle.std.specs.Prelude.{map, MatchOption}
 use Rattle.caf_base.specs.declared.place.ImageNo.{ImageNo}
 use Rattle.caf_events.specs.Walkers.{AsksNext, IsAtLine, IsOver}
-use Rattle.image_core.proofs.Slices.{map_get}
+use Rattle.run_outlook.proofs.Slices.{map_get}
 use Rattle.order_report.specs.Reports.{AreHeld}
 use Rattle.order_report.proofs.Held.{held_over, held_more}
 use Rattle.order_report.proofs.waits.held.Goals.{in-Some+in_ok-push, in_default}

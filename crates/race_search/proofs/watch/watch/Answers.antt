@@ -6,38 +6,37 @@ use Rattle.race_search.proofs.Whole.{no_race_more, first_race, may_note}
 use Rattle.race_search.proofs.Lawfuls.{lawful_pauses, all_fit}
 use Rattle.race_search.proofs.watch.watch.Goals as goal
 
-pub partner_of-requires-clause-all : goal.partner_of-requires-clause-all
-partner_of-requires-clause-all c =
+pub touch_of-requires-clause-fits : goal.touch_of-requires-clause-fits
+touch_of-requires-clause-fits c =
+    (fit_at c.args.n c.args.trace.now (all_fit c.requires.lawful.0 c.args.n c.args.trace.now c.requires.lawful.1 c.requires.short) c.loop-at.at c.index-trace-at.result (omega arith) c.index-trace-at.is).run
+
+pub partner_or_follow-partner-requires-clause-all : goal.partner_or_follow-partner-requires-clause-all
+partner_or_follow-partner-requires-clause-all c =
     let fits = all_fit c.requires.lawful.0 c.args.n c.args.trace.now c.requires.lawful.1 c.requires.short in
     (front_fits c.args.n c.args.trace.now c.loop-at.at fits, front_noted c.args.n c.args.trace.now c.loop-at.at (omega arith) c.loop-at.invariant.noted)
 
-pub partner_of-requires-clause-fits : goal.partner_of-requires-clause-fits
-partner_of-requires-clause-fits c =
-    (fit_at c.args.n c.args.trace.now (all_fit c.requires.lawful.0 c.args.n c.args.trace.now c.requires.lawful.1 c.requires.short) c.loop-at.at c.index-trace-at.result (omega arith) c.index-trace-at.is).run
+pub partner_or_follow-partner-requires-clause-fits : goal.partner_or_follow-partner-requires-clause-fits
+partner_or_follow-partner-requires-clause-fits c =
+    fit_at c.args.n c.args.trace.now (all_fit c.requires.lawful.0 c.args.n c.args.trace.now c.requires.lawful.1 c.requires.short) c.loop-at.at c.index-trace-at.result (omega arith) c.index-trace-at.is
+
+pub partner_or_follow-partner-requires-clause-none : goal.partner_or_follow-partner-requires-clause-none
+partner_or_follow-partner-requires-clause-none c =
+    may_note c.args.n c.args.trace.now (lawful_pauses c.requires.lawful.0 c.args.n c.args.trace.now c.requires.lawful.1) (stands_at c.args.trace.now c.loop-at.at c.index-trace-at.result (omega arith) c.index-trace-at.is)
 
 pub returns-in-Some : goal.returns-in-Some
 returns-in-Some c =
     let z = c.in_ok-partner.ensures in
     first_race c.args.n c.args.trace.now c.loop-at.at c.index-trace-at.result (omega arith) c.index-trace-at.is c.in-Some.partner.at (as_cell c.in-Some.partner.cell) (rw c.in-Some.is at z) c.loop-at.invariant.none
 
-pub follow-requires-clause-fits : goal.follow-requires-clause-fits
-follow-requires-clause-fits c =
-    fit_at c.args.n c.args.trace.now (all_fit c.requires.lawful.0 c.args.n c.args.trace.now c.requires.lawful.1 c.requires.short) c.loop-at.at c.index-trace-at.result (omega arith) c.index-trace-at.is
-
-pub follow-requires-clause-none : goal.follow-requires-clause-none
-follow-requires-clause-none c =
-    let z = c.in_ok-partner.ensures in
-    may_note c.args.n c.args.trace.now (lawful_pauses c.requires.lawful.0 c.args.n c.args.trace.now c.requires.lawful.1) (stands_at c.args.trace.now c.loop-at.at c.index-trace-at.result (omega arith) c.index-trace-at.is) (rw c.in_default.is at z)
-
 pub loop-at-preserved : goal.loop-at-preserved
 loop-at-preserved c =
     let z = c.in_ok-partner.ensures in
-    let none = (rw c.in_default.is at z) in record {
-      watched = watched_next c.args.n c.args.trace.now c.loop-at.at c.index-trace-at.result c.follow.new.self (omega arith) c.index-trace-at.is c.in_ok-follow.ensures;
+    let both = (rw c.in_default.is at z) in record {
+      watched = watched_next c.args.n c.args.trace.now c.loop-at.at c.index-trace-at.result c.partner_or_follow-partner.new.watcher (omega arith) c.index-trace-at.is both.1;
       noted = below_more (λ b y. MayNote c.args.n b y) c.args.trace.now c.loop-at.at c.index-trace-at.result (omega arith) c.index-trace-at.is
-          (may_note c.args.n c.args.trace.now (lawful_pauses c.requires.lawful.0 c.args.n c.args.trace.now c.requires.lawful.1) (stands_at c.args.trace.now c.loop-at.at c.index-trace-at.result (omega arith) c.index-trace-at.is) none)
+          (may_note c.args.n c.args.trace.now (lawful_pauses c.requires.lawful.0 c.args.n c.args.trace.now c.requires.lawful.1) (stands_at c.args.trace.now c.loop-at.at c.index-trace-at.result (omega arith) c.index-trace-at.is) both.0)
           c.loop-at.invariant.noted;
-      none = no_race_more c.args.n c.args.trace.now c.loop-at.at c.index-trace-at.result (omega arith) c.index-trace-at.is none c.loop-at.invariant.none;
+      none = no_race_more c.args.n c.args.trace.now c.loop-at.at c.index-trace-at.result (omega arith) c.index-trace-at.is both.0 c.loop-at.invariant.none;
     }
 
 pub returns : goal.returns

@@ -3,7 +3,7 @@ use Rattle.std.specs.Prelude.{slice_get, Some, []}
 use Rattle.core_runs.specs.Moments.{rules}
 use Rattle.image_core.specs.Parts.{moment}
 use Rattle.image_core.proofs.Inertness.{leaves_others}
-use Rattle.image_core.proofs.Slices.{map_index, map_length}
+use Rattle.run_outlook.proofs.Slices.{map_index, map_length}
 use Rattle.image_core.proofs.parts.PartsOf.last_is_inert.Goals as goal
 
 pub returns-in-Some : goal.returns-in-Some

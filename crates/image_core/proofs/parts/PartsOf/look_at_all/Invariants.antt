@@ -1,6 +1,6 @@
 use Rattle.std.proofs.Common.{◌≡◌, ◌+◌, ◌-◌, ◌<◌, ℕ, false}
 use Rattle.core_runs.specs.Moments.{rules}
-use Rattle.image_core.specs.ImageSets.{has}
+use Rattle.run_outlook.specs.ImageSets.{has}
 use Rattle.image_core.specs.Outlooks.{Knows}
 use Rattle.image_core.specs.Parts.{moment}
 use Rattle.image_core.proofs.parts.PartsOf.look_at_all.Given as goal

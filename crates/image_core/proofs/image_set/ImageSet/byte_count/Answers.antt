@@ -1,6 +1,0 @@
-use Rattle.std.proofs.Common.{arith}
-use Rattle.image_core.proofs.Bytes.{byte_is}
-use Rattle.image_core.proofs.image_set.ImageSet.byte_count.Goals as goal
-
-pub returns : goal.returns
-returns c = byte_is c.args.self.now.words.items c.args.from c.index.result.now (omega arith) c.index.ensures c.requires.whole

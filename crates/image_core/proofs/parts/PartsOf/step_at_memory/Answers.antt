@@ -1,0 +1,73 @@
+use Rattle.std.proofs.Common.{◌≡◌, ◌-◌, ◌<◌, length, suc, refl, arith}
+use Rattle.std.specs.Vec.{with_item}
+use Rattle.image_core.proofs.DirectSteps.{asked_here, memory_hears, memory_not, memory_now, memory_ready, spends_now}
+use Rattle.image_core.proofs.PartSteps.{run_low, memory_low}
+use Rattle.image_core.proofs.parts.PartsOf.step_at_memory.Goals as goal
+
+pub step_at-requires-clause-asked : goal.step_at-requires-clause-asked
+step_at-requires-clause-asked g c =
+    asked_here g.M.Walker g.O.Object g.B.Object
+    c.args.self.now c.args.k c.index_mut.result.now c.requires.image c.index_mut.ensures.value c.args.ask c.requires.asked
+
+pub step_at-requires-clause-ready : goal.step_at-requires-clause-ready
+step_at-requires-clause-ready g c =
+    let low = c.requires.owner.0 in
+    let high = c.requires.owner.1 in
+    let within : c.args.owner.0 - 1 < length c.args.self.now.memories.items = omega arith in
+    let owner_is : c.args.owner.0 ≡ suc (c.args.owner.0 - 1) = omega arith in
+    memory_ready g.M.Walker g.O.Object g.B.Object
+    c.args.self.now c.args.k c.index_mut.result.now c.requires.image c.index_mut.ensures.value c.args.ask c.requires.asked c.requires.can c.requires.sound
+    c.args.owner (c.args.owner.0 - 1) c.index_mut-2.result.now owner_is within c.index_mut-2.ensures.value c.requires.place
+
+pub step_at-requires-clause-hears : goal.step_at-requires-clause-hears
+step_at-requires-clause-hears g c =
+    let low = c.requires.owner.0 in
+    let high = c.requires.owner.1 in
+    let within : c.args.owner.0 - 1 < length c.args.self.now.memories.items = omega arith in
+    let owner_is : c.args.owner.0 ≡ suc (c.args.owner.0 - 1) = omega arith in
+    memory_hears g.M.Walker g.O.Object g.B.Object
+    c.args.self.now c.args.k c.index_mut.result.now c.requires.image c.index_mut.ensures.value c.args.ask c.requires.asked c.requires.can c.requires.sound
+    c.args.owner (c.args.owner.0 - 1) c.index_mut-2.result.now owner_is within c.index_mut-2.ensures.value c.requires.place
+
+pub step_at-requires-clause-after : goal.step_at-requires-clause-after
+step_at-requires-clause-after g c =
+    run_low g.M.Walker g.O.Object g.B.Object
+    c.args.self.now c.args.k c.index_mut.result.now c.requires.image c.index_mut.ensures.value g.M.Walker.asks_left c.requires.sound.bounded c.index_mut.result.now.last_is
+
+pub step_at-requires-clause-last : goal.step_at-requires-clause-last
+step_at-requires-clause-last g c =
+    let low = c.requires.owner.0 in
+    let high = c.requires.owner.1 in
+    memory_low g.M.Walker g.O.Object g.B.Object
+    c.args.self.now c.args.k c.index_mut.result.now c.requires.image c.index_mut.ensures.value g.M.Walker.asks_left (c.args.owner.0 - 1) c.index_mut-2.result.now c.requires.sound.bounded (omega arith) c.index_mut-2.ensures.value
+
+pub returns-clause-step : goal.returns-clause-step
+returns-clause-step g c =
+    let low = c.requires.owner.0 in
+    let high = c.requires.owner.1 in
+    let within : c.args.owner.0 - 1 < length c.args.self.now.memories.items = omega arith in
+    let owner_is : c.args.owner.0 ≡ suc (c.args.owner.0 - 1) = omega arith in
+    memory_now g.M.Walker g.O.Object g.B.Object
+    c.args.self.now c.args.k c.index_mut.result.now c.requires.image c.index_mut.ensures.value c.args.ask c.requires.asked
+    (record { images = with_item c.args.self.now.images c.args.k c.step_at.new.run; memories = with_item c.args.self.now.memories (c.args.owner.0 - 1) c.step_at.new.object; board = c.args.self.now.board }) c.step_at.new.run refl
+    (c.requires.sound.numbered c.args.k c.index_mut.result.now c.requires.image c.index_mut.ensures.value)
+    c.step_at.result c.args.owner (c.args.owner.0 - 1) c.index_mut-2.result.now c.step_at.new.object owner_is c.requires.place
+    within c.index_mut-2.ensures.value refl refl c.step_at.ensures.step c.step_at.ensures.rests
+
+pub returns-clause-spends : goal.returns-clause-spends
+returns-clause-spends g c =
+    spends_now g.M.Walker g.O.Object g.B.Object
+    c.args.self.now c.args.k c.index_mut.result.now c.requires.image c.index_mut.ensures.value c.args.ask c.requires.asked
+    (record { images = with_item c.args.self.now.images c.args.k c.step_at.new.run; memories = with_item c.args.self.now.memories (c.args.owner.0 - 1) c.step_at.new.object; board = c.args.self.now.board }) c.step_at.new.run refl
+    c.step_at.result c.step_at.ensures.spends
+
+pub returns-clause-err : goal.returns-clause-err
+returns-clause-err g c =
+    let low = c.requires.owner.0 in
+    let high = c.requires.owner.1 in
+    let within : c.args.owner.0 - 1 < length c.args.self.now.memories.items = omega arith in
+    memory_not g.M.Walker g.O.Object g.B.Object
+    c.args.self.now (record { images = with_item c.args.self.now.images c.args.k c.step_at.new.run; memories = with_item c.args.self.now.memories (c.args.owner.0 - 1) c.step_at.new.object; board = c.args.self.now.board })
+    c.args.k c.index_mut.result.now c.step_at.new.run c.requires.image c.index_mut.ensures.value refl
+    c.step_at.result (c.args.owner.0 - 1) c.index_mut-2.result.now c.step_at.new.object within c.index_mut-2.ensures.value refl refl
+    c.step_at.ensures.err c.step_at.ensures.err_object

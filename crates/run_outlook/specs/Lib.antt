@@ -1,0 +1,2 @@
+pub mod ImageSets
+pub mod Outlooks
