@@ -1,11 +1,12 @@
 //! An ask with its reply, as the record of a run keeps it.
 
-ghost use Rattle.std.specs.Prelude.{◌≡◌, [], IfOk, IfSome, MatchOption};
+ghost use Rattle.std.specs.Prelude.{◌≡◌, [], true, false, IfOk, IfSome, MatchOption};
 ghost use Rattle.std.specs.Cow.{cow_value};
 ghost use Rattle.caf_events.specs.Exchanges.{asked_by, whole_of};
-ghost use Rattle.caf_events.specs.Events.{EndsBy, IsPrint};
+ghost use Rattle.caf_events.specs.Events.{EndsBy, IsPrint, counts_words, is_of_lock, words_by};
 ghost use Rattle.caf_events.specs.declared.ask.Ask.TheVariants as asks;
 ghost use Rattle.caf_events.specs.declared.reply.Reply.TheVariants as replies;
+ghost use Rattle.caf_events.specs.declared.round.Arriving.TheVariants as arrivings;
 
 use crate::ask::Ask;
 use crate::event::ends_by;
@@ -459,6 +460,47 @@ impl Exchange {
                 Ask::Print { text } => Some(text.as_slice()),
                 _ => None,
             },
+            _ => None,
+        }
+    }
+
+    /// The recorded words of the step, where it records some and asks nothing of a lock, and that is seen without its ask. None says nothing.
+    pub fn plain_words(&self) -> Option<u32>
+        ensures recorded { IfSome result (λ _. counts_words self.now.ask ≡ true) }
+        ensures lock { IfSome result (λ _. is_of_lock self.now.ask ≡ false) }
+        ensures words { IfSome result (λ w. words_by self.now.ask self.now.reply ≡ w) }
+    {
+        match &self.kept {
+            Kept::ReadCell { .. }
+            | Kept::WriteCell { .. }
+            | Kept::Gathered { .. }
+            | Kept::Taken { .. } => Some(5),
+            Kept::Joined { .. }
+            | Kept::Departed { .. }
+            | Kept::Waited { .. }
+            | Kept::Unpaired { .. }
+            | Kept::Entered { .. }
+            | Kept::Exited { .. } => Some(4),
+            Kept::Signaled { .. } | Kept::Shared(_) => None,
+        }
+    }
+
+    /// The team and the round, where the step is an arrival at SYNC ALL or SYNC TEAM that joined the round, and is kept in place. None says nothing.
+    pub fn joined(&self) -> Option<(TeamNo, u64)>
+        ensures { IfSome result (λ j. self.now ≡ record { ask = asks.Arrive j.0 arrivings.Sync; reply = replies.Round j.1 }) }
+    {
+        match &self.kept {
+            Kept::Joined { team, round } => Some((*team, *round)),
+            _ => None,
+        }
+    }
+
+    /// The team and the round, where the step is the departure from a round, and is kept in place. None says nothing.
+    pub fn departed(&self) -> Option<(TeamNo, u64)>
+        ensures { IfSome result (λ d. self.now.ask ≡ asks.Leave d.0 d.1) }
+    {
+        match &self.kept {
+            Kept::Departed { team, round, .. } => Some((*team, *round)),
             _ => None,
         }
     }
