@@ -1,4 +1,5 @@
 pub mod LaneRows
+pub mod Plainly
 pub mod LaneLaws
 pub mod CourseLaws
 pub mod Releases

@@ -1,9 +1,10 @@
 //! The machine of a lane.
 
-ghost use Rattle.std.specs.Prelude.{◌≡◌, ◌<◌, ◌^◌, ◌||◌, false, IfOk};
+ghost use Rattle.std.specs.Prelude.{◌≡◌, ◌<◌, ◌^◌, ◌||◌, true, false, IfOk};
 ghost use Rattle.trace_theory.specs.Machines.{Rests};
 ghost use Rattle.caf_events.specs.declared.ask.Ask.TheVariants as asking;
-ghost use Rattle.caf_events.specs.Walkers.{AsksNext, IsAtLine, Continues};
+ghost use Rattle.caf_events.specs.Events.{counts_words, is_of_lock, words_by};
+ghost use Rattle.caf_events.specs.Walkers.{IsAtAsk, AsksNext, IsAtLine, Continues};
 ghost use Rattle.image_lanes.specs.Lanes.{is_failure, is_due, is_full, lane_start, lane_step, lane_hears, begins_to_fail, fails_on, comes_to_end, goes_past};
 ghost use Rattle.image_lanes.specs.LaneStates.{lane_of, Given};
 ghost use Rattle.image_lanes.specs.Holds.{steps_from, rest_of};
@@ -87,6 +88,23 @@ impl<M: Walker> Lane<M> {
         }
     }
 
+    // The next ask where the limit has been reached and no failure of the list is due: FAIL IMAGE, or the limit.
+    fn ask_when_full(&self) -> Result<Ask, NoMemory>
+        requires going { self.now.going ≡ goings.ByProgram }
+        requires due { is_due (lane_of M.Walker self.now) ≡ false }
+        requires full { is_full (lane_of M.Walker self.now) ≡ true }
+        requires ask { IsAtAsk (lane_step M.step (lane_of M.Walker self.now)) }
+        ensures { IfOk result (AsksNext (lane_step M.step (lane_of M.Walker self.now))) }
+    {
+        let ask = self.machine.ask()?;
+        if fails(&ask) {
+            Ok(ask)
+        } else {
+            drop(ask);
+            self.limit()
+        }
+    }
+
     fn begin_to_fail(&mut self, line: u32)
         ensures { lane_of M.Walker self.new ≡ begins_to_fail (lane_of M.Walker self.old) line }
     {
@@ -153,6 +171,63 @@ impl<M: Walker> Lane<M> {
         }
     }
 
+    // A step of the program behind which it goes on, which records so many words and asks nothing of a lock.
+    #[tactic(auto, using(crate::proofs::Plainly::held_without_lock))]
+    fn go_past_plainly(&mut self, words: u32, event: &Event)
+        requires going { self.old.going ≡ goings.ByProgram }
+        requires words { words_by event.now.ask event.now.reply ≡ words }
+        requires plain { is_of_lock event.now.ask ≡ false }
+        requires asked { AsksNext (M.step (M.config self.old.machine)) event.now.ask }
+        requires line { IsAtLine (M.step (M.config self.old.machine)) event.now.line }
+        requires hears { M.hears (M.config self.old.machine) event.now.reply }
+        requires room { M.has_room self.old.machine }
+        requires few { self.old.words < 2 ^ 32 }
+        ensures past { lane_of M.Walker self.new ≡ goes_past (lane_of M.Walker self.old) event.now.ask event.now.reply (M.config self.new.machine) }
+        ensures goes { Continues M.step (M.step (M.config self.old.machine)) event.now.reply (M.config self.new.machine) }
+        ensures rests { Rests (M.step (M.config self.new.machine)) }
+    {
+        self.machine.give(event);
+        self.fails_in = self.fails_in.saturating_sub(1);
+        self.words += u128::from(words);
+    }
+
+    // Goes on with an event that records so many words and asks nothing of a lock, where the lane goes on by its program.
+    fn go_on_plainly(&mut self, words: u32, event: &Event)
+        requires going { self.old.going ≡ goings.ByProgram }
+        requires recorded { counts_words event.now.ask ≡ true }
+        requires words { words_by event.now.ask event.now.reply ≡ words }
+        requires plain { is_of_lock event.now.ask ≡ false }
+        requires asked { AsksNext (lane_step M.step (lane_of M.Walker self.old)) event.now.ask }
+        requires line { IsAtLine (lane_step M.step (lane_of M.Walker self.old)) event.now.line }
+        requires hears { lane_hears M.step M.hears (lane_of M.Walker self.old) event.now.reply }
+        requires room { M.has_room self.old.machine }
+        requires lock { 0 < self.old.held.room }
+        ensures { Given M.step (lane_of M.Walker self.old) event.now.reply (lane_of M.Walker self.new) }
+    {
+        if self.is_due() {
+            self.begin_to_fail(event.line());
+        } else if self.is_full() {
+            self.come_to_end();
+        } else {
+            self.go_past_plainly(words, event);
+        }
+    }
+
+    // Goes on with an event by its ask, where the lane goes on by its program.
+    fn go_on_by_ask(&mut self, event: &Event)
+        requires going { self.old.going ≡ goings.ByProgram }
+        requires asked { AsksNext (lane_step M.step (lane_of M.Walker self.old)) event.now.ask }
+        requires line { IsAtLine (lane_step M.step (lane_of M.Walker self.old)) event.now.line }
+        requires hears { lane_hears M.step M.hears (lane_of M.Walker self.old) event.now.reply }
+        requires room { M.has_room self.old.machine }
+        requires lock { 0 < self.old.held.room }
+        ensures { Given M.step (lane_of M.Walker self.old) event.now.reply (lane_of M.Walker self.new) }
+    {
+        let asked = event.told().ask(self.alloc);
+        self.go_on(&asked, event);
+        drop(asked);
+    }
+
     // Goes on with the next step of a failure.
     fn fail_on(&mut self, step: Failing, line: u32)
         ensures { lane_of M.Walker self.new ≡ fails_on (lane_of M.Walker self.old) (rest_of (steps_from self.old.image.0 self.old.held.locks step)) line }
@@ -194,15 +269,8 @@ impl<M: Walker> Walker for Lane<M> {
     fn ask(&self) -> Result<Ask, NoMemory> {
         match self.going {
             Going::ByProgram if self.is_due() => Ok(Ask::Fail),
-            Going::ByProgram => {
-                let ask = self.machine.ask()?;
-                if self.is_full() && !fails(&ask) {
-                    drop(ask);
-                    self.limit()
-                } else {
-                    Ok(ask)
-                }
-            }
+            Going::ByProgram if self.is_full() => self.ask_when_full(),
+            Going::ByProgram => self.machine.ask(),
             Going::Failing { step, .. } => match step.ask(self.alloc, self.image, &self.held) {
                 Some(ask) => Ok(ask),
                 None => unreachable!(),
@@ -232,11 +300,10 @@ impl<M: Walker> Walker for Lane<M> {
 
     fn give(&mut self, event: &Event) {
         match self.going {
-            Going::ByProgram => {
-                let asked = event.told().ask(self.alloc);
-                self.go_on(&asked, event);
-                drop(asked);
-            }
+            Going::ByProgram => match event.told().plain_words() {
+                Some(words) => self.go_on_plainly(words, event),
+                None => self.go_on_by_ask(event),
+            },
             Going::Failing { step, line } => self.fail_on(step, line),
             Going::AtEnd => {}
         }
