@@ -122,6 +122,18 @@ impl Way {
     }
 }
 
+/// The place of what has no dimension: its one cell.
+fn place_of_scalar(bounds: &[i64]) -> Result<PlaceNumbers, u32>
+    ensures found { IfOk result (λ p. numbers_of (place_found (pairs_in bounds.now) []) ≡ found p) }
+    ensures faults { IfErr result (λ k. numbers_of (place_found (pairs_in bounds.now) []) ≡ at_fault k) }
+{
+    if first_pair(bounds).is_some() {
+        Err(BOUNDS)
+    } else {
+        Ok(PlaceNumbers::new())
+    }
+}
+
 /// The numbers of the place of an element or a section of an array with these bounds, by a form and the numbers of its subscripts in the order in which they
 /// were put down; or the run fault ZeroStep or Bounds that is found first. An array whose cells, an empty dimension counting as one, are 2 ** 63 and more has
 /// places that 64 bits can't hold.
@@ -130,6 +142,9 @@ pub fn place_of(bounds: &[i64], form: u32, numbers: &[i64]) -> Result<PlaceNumbe
     ensures found { IfOk result (λ p. numbers_of (place_found (pairs_in bounds.now) (subscripts_in (digits form) numbers.now)) ≡ found p) }
     ensures faults { IfErr result (λ k. numbers_of (place_found (pairs_in bounds.now) (subscripts_in (digits form) numbers.now)) ≡ at_fault k) }
 {
+    if form == 0 {
+        return place_of_scalar(bounds);
+    }
     let mut way = Way {
         apart: 1,
         start: 0,

@@ -24,5 +24,8 @@ pub(crate) fn numbers_of_form(form: u32) -> usize
     ensures is { result ≡ places.numbers_of_form (places.digits form) }
     ensures few { result ≤ 9 }
 {
+    if form == 0 {
+        return 0;
+    }
     numbers_in(form % 10) + (numbers_in((form / 10) % 10) + numbers_in((form / 100) % 10))
 }

@@ -116,6 +116,9 @@ pub fn span(alloc: Global, coarray: u32, place: &[i64]) -> Result<Span, NoMemory
     let Some((start, dims)) = place.split_first() else {
         return Ok(cell_span(alloc, coarray, &0));
     };
+    if dims.is_empty() {
+        return Ok(cell_span(alloc, coarray, start));
+    }
     let few = dims_of(dims);
     let dims = Dims::from_slice(alloc, few.as_slice())?;
     Ok(Span {
