@@ -67,6 +67,9 @@ module _ {C : Type 0} (step : C → Move C Ask Reply) where
   same_asks : (a b : Ask) (l m : ℕ) (j k : Reply → OnLane C) → ◌≡◌ {A = Move (OnLane C) Ask Reply} (asks a l j) (asks b m k) → (a ≡ b) × (l ≡ m) × (j ≡ k)
   same_asks a b l m j k h = (cc, cc, cc)
 
+  one_ask : (a b : Ask) (l : ℕ) (j k : Reply → C) → ◌≡◌ {A = Move C Ask Reply} (asks a l j) (asks b l k) → a ≡ b
+  one_ask a b l j k h = cc
+
   said_is : (e : Said Ask Reply) (a : Ask) (line : ℕ) → a ≡ e.ask → line ≡ e.line → ◌≡◌ {A = Said Ask Reply} e (record { ask = a; reply = e.reply; line = line })
   said_is e a line p q = sym (ap (λ (b : Ask). let s : Said Ask Reply = record { ask = b; reply = e.reply; line = line } in s) p ∙ ap (λ (m : ℕ). let s : Said Ask Reply = record { ask = e.ask; reply = e.reply; line = m } in s) q)
 
@@ -87,6 +90,7 @@ module _ {C : Type 0} (step : C → Move C Ask Reply) where
       all = refl;
       walks = nothing_walked p c d g;
       none_due = tt;
+      recorded = tt;
       ends = inr (inl (record {
         line = line;
         reply = e.reply;
@@ -119,6 +123,7 @@ module _ {C : Type 0} (step : C → Move C Ask Reply) where
                 all = refl;
                 walks = nothing_walked p c d g;
                 none_due = tt;
+                recorded = tt;
                 ends = inr (inr (record {
                   line = line;
                   reply = e.reply;
@@ -126,6 +131,7 @@ module _ {C : Type 0} (step : C → Move C Ask Reply) where
                   full = full;
                   not_due = free;
                   place = (j, a, s);
+                  no_failure = λ q b t. subst (λ x. is_failure x ≡ false) (one_ask a b line j q (sym s ∙ t)) goes_on_;
                 }));
               })
           | inr room ↦ elim (cases_Bool (counts_words a)) [
@@ -142,6 +148,7 @@ module _ {C : Type 0} (step : C → Move C Ask Reply) where
                   all = ap (λ q. e ∷ q) rest.all;
                   walks = (w2.0, (j, comes_on p c d e.ask e.line j g (own_ask i.0 i.1), w2.1), w2.2, w2.3);
                   none_due = (free, subst (λ b. is_failure b ≡ false) i.0 goes_on_, room, none_same after (j e.reply) rest.walked rest.none_due);
+                  recorded = (inl (subst (λ b. counts_words b ≡ true) i.0 counts), rest.recorded);
                   ends = past_same after (j e.reply) rest.walked rest.to rest.rest rest.ends;
                 })
             | inr silent ↦ (
@@ -154,6 +161,7 @@ module _ {C : Type 0} (step : C → Move C Ask Reply) where
                   all = ap (λ q. e ∷ q) none;
                   walks = (j e.reply, (j, comes_on p c d e.ask e.line j g (own_ask i.0 i.1), refl), 0, refl);
                   none_due = (free, subst (λ b. is_failure b ≡ false) i.0 goes_on_, room, tt);
+                  recorded = (inr (refl, refl), tt);
                   ends = inl refl;
                 })
           ]
@@ -184,7 +192,7 @@ module _ {C : Type 0} (step : C → Move C Ask Reply) where
 
   -- a walk of a lane has a course
   pub course_of : (es : List (Said Ask Reply)) (l m : OnLane C) (c : C) → Walk (lane_step step) (at_program l c) es m → Course step (at_program l c) es
-  course_of [] l m c w = record { walked = []; rest = []; to = c; all = refl; walks = nothing_walked 0 c c refl; none_due = tt; ends = inl refl }
+  course_of [] l m c w = record { walked = []; rest = []; to = c; all = refl; walks = nothing_walked 0 c c refl; none_due = tt; recorded = tt; ends = inl refl }
   course_of (e ∷ es) l m c w =
       let r = reach w.1.0 l c e.ask e.line w.0 w.1.1 in
       by_move e es m l c r.there r.count r.walks w.0 (step r.there) refl r.asked w.2 (λ q x v. course_of es q m x v)

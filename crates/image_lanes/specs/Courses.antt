@@ -3,7 +3,7 @@ use Rattle.std.specs.Prelude.{ℕ, ◌+◌, ◌-◌, ◌≡◌, ◌⊎◌, ◌||
 use Rattle.caf_events.specs.declared.ask.Ask.{Ask}
 use Rattle.caf_events.specs.declared.ask.Ask.TheVariants as asking
 use Rattle.caf_events.specs.declared.reply.Reply.{Reply}
-use Rattle.caf_events.specs.Events.{words_by}
+use Rattle.caf_events.specs.Events.{counts_words, words_by}
 use Rattle.trace_theory.specs.Entries.{Each}
 use Rattle.trace_theory.specs.Machines.{Move, asks, Said, WalkTo}
 use Rattle.core_runs.specs.Failures.{held_after, failure_steps, is_failure_step}
@@ -14,6 +14,11 @@ abbrev pub AreAt : ℕ → List Ask → List (Said Ask Reply) → Type 0
 AreAt line steps [] = Unit {0}
 AreAt line [] (e ∷ es) = ⊥
 AreAt line (s ∷ ss) (e ∷ es) = (e.ask ≡ s) × (e.line ≡ line) × AreAt line ss es
+
+-- each of these steps records words, but perhaps the last one, where nothing stands behind it: behind such a step the lane is over
+abbrev pub AreRecorded : List (Said Ask Reply) → List (Said Ask Reply) → Type 0
+AreRecorded [] behind = Unit {0}
+AreRecorded (e ∷ es) behind = ((counts_words e.ask ≡ true) ⊎ ((es ≡ []) × (behind ≡ []))) × AreRecorded es behind
 
 module _ {C : Type 0} where
   -- a lane after one step of its program; where its program stands is told apart
@@ -41,7 +46,7 @@ module _ {C : Type 0} where
     pub cause : ((is_due l ≡ true) × (line ≡ 0)) ⊎ ((is_due l ≡ false) × (k : Reply → C) × (a : Ask) × (step l.program ≡ asks a line k) × (is_failure a ≡ true))
     pub steps : AreAt line (failure_steps l.image l.held) rest
 
-  -- the limit, in place of an ask of the program and at its line
+  -- the limit, in place of an ask of the program and at its line: one that isn't FAIL IMAGE
   pub record IsLimited (step : C → Move C Ask Reply) (l : OnLane C) (es : List (Said Ask Reply)) : Type 0 where
     pub line : ℕ
     pub reply : Reply
@@ -49,6 +54,7 @@ module _ {C : Type 0} where
     pub full : is_full l ≡ true
     pub not_due : is_due l ≡ false
     pub place : (k : Reply → C) × (a : Ask) × (step l.program ≡ asks a line k)
+    pub no_failure : (k : Reply → C) (a : Ask) → step l.program ≡ asks a line k → is_failure a ≡ false
 
   -- the whole course: steps of the program, as long as none is due, and then the failure or the limit, if there is one
   pub record Course (step : C → Move C Ask Reply) (l : OnLane C) (es : List (Said Ask Reply)) : Type 0 where
@@ -58,6 +64,7 @@ module _ {C : Type 0} where
     pub all : es ≡ walked ++ rest
     pub walks : WalkTo step l.program walked to
     pub none_due : NoneDue l walked
+    pub recorded : AreRecorded walked rest
     pub ends : (rest ≡ []) ⊎ (Fails step (lane_past l walked to) rest ⊎ IsLimited step (lane_past l walked to) rest)
 
 -- the program makes none of the steps of a failure behind the first one

@@ -26,7 +26,7 @@ pub fn law_fails<M: Walker>()
         → FailsFrom image es [] }
 {}
 
-/// A lane makes at most twice as many asks as its limit of recorded words, and four: each step of its program but the last records four words at least, and may get a
+/// The bound on the asks that a lane still makes (`asks_left` of its `Walker`) is at first twice its limit of recorded words, and four: each step of its program but the last records four words at least, and may get a
 /// lock that its failure frees.
 pub fn law_few<M: Walker>()
     ensures { (image fails_at limit : ℕ) (c : M.Config) → lane_left M.step (lane_start image fails_at limit c) ≤ 2 * limit + 4 }
