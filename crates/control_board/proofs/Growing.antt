@@ -1,22 +1,25 @@
 -- Room for a step, and its plan.
 use Rattle.std.proofs.Common.{◌≡◌, ℕ, suc, ◌<◌, ◌≤◌, true, false, List, [], ◌∷◌, ◌++◌, length, ap, sym, ◌∙◌, subst, arith, length-append}
-use Rattle.std.specs.Prelude.{Result, Ok, Err, OnOk, IfOk, Option}
+use Rattle.std.specs.Prelude.{Result, Ok, Err, OnOk, IfOk, Option, Some, None}
 use Rattle.std.specs.Global.{Vec}
 use Rattle.std.proofs.lemmas.List.{length-map}
 use Rattle.caf_base.specs.declared.place.ImageNo.{ImageNo}
 use Rattle.caf_base.specs.declared.place.TeamNo.{TeamNo}
 use Rattle.caf_events.specs.declared.ask.Ask.TheVariants as asks
 use Rattle.caf_events.specs.declared.round.Arriving.{Arriving}
+use Rattle.caf_events.specs.declared.round.Arriving.TheVariants as arrivings
 use Rattle.caf_events.specs.declared.event.Entry.{Entry}
 use Rattle.object_rules.specs.Happenings.{control, happened}
 use Rattle.object_rules.specs.TeamRounds.{arrivals}
 use Rattle.object_rules.specs.BoardTeams.{Team, made_by, teams_from, teams_after, members_at}
 use Rattle.team_tree.specs.KnownTeams.{images_from}
+use Rattle.team_tree.specs.declared.arg.FormArg.{FormArg as GivenArg}
 use Rattle.control_board.specs.declared.forming.Formation.{Formation}
 use Rattle.control_board.specs.declared.forming.Plan.{Plan}
 use Rattle.control_board.specs.declared.parts.Parts.{Parts}
-use Rattle.control_board.specs.Boards.{IsBoard, MakesFor, Planned, PlanFits, IsStocked, TeamsRoom, AllFew, all_made, made_by_one, bad_of, bad_now, due}
+use Rattle.control_board.specs.Boards.{IsBoard, MakesFor, MakesNoTeam, IsPlanAt, Planned, given_at, PlanFits, IsStocked, TeamsRoom, AllFew, all_made, made_by_one, bad_of, bad_now, due}
 use Rattle.control_board.proofs.Members.{rounds_count}
+use Rattle.control_board.proofs.Plans.{is_given, not_form, makes_none}
 
 -- ---- what holds of a success
 pub on_two : {T E : Type 0} {P Q R : Type 0} (r : Result T E) → (P → Q → R) → OnOk r P → OnOk r Q → OnOk r R
@@ -39,6 +42,18 @@ planned_arrival n h i team arriving o plan m made bad = record {
       let w : team ≡ t = cc in
       bad ∙ m.bad stamp line ∙ ap (λ (u : TeamNo). bad_now u.0 (suc (arrivals u.0 i.0 (happened control h))) (members_at (teams_after n h) u.0) h (due n h i (asks.Arrive team arriving) stamp line)) w);
 }
+
+-- what is planned of an arrival at FORM TEAM is planned of the arrival with which it was given
+pub plan_given : {E : Type 0} (r : Result Unit E) (p : Parts) (plan : Plan) (i : ImageNo) (team : TeamNo) (arriving : Arriving) (a : GivenArg) → given_at i arriving ≡ Some a
+    → OnOk r (IsPlanAt p a.image team (arrivings.Form a.number a.new_index) plan) → OnOk r (IsPlanAt p i team arriving plan)
+plan_given r p plan i team arriving a e planned =
+    let g = is_given i arriving a e in
+    subst (λ (b : Arriving). OnOk r (IsPlanAt p i team b plan)) (sym g.0) (subst (λ (j : ImageNo). OnOk r (IsPlanAt p j team (arrivings.Form a.number a.new_index) plan)) g.1 planned)
+
+-- no arrival at another statement makes a team
+pub plan_none : (p : Parts) (plan : Plan) (i : ImageNo) (team : TeamNo) (arriving : Arriving) → given_at i arriving ≡ None → 0 < team.0 → team.0 ≤ length p.teams.teams → MakesNoTeam plan → IsPlanAt p i team arriving plan
+plan_none p plan i team arriving e low high none n h b ready =
+    planned_arrival n h i team arriving None plan (makes_none n h p b i team arriving (not_form i arriving e) low high) (ap all_made none.formations) none.bad
 
 -- ---- the teams of a plan fit
 pub stock_count : (n : ℕ) (plan : Plan) → IsStocked n plan → length plan.control.items ≡ length (all_made plan.formations.items)

@@ -1,11 +1,11 @@
 -- A round that isn't one of FORM TEAM makes no team, and doesn't close with a bad argument.
-use Rattle.std.proofs.Common.{◌≡◌, ℕ, suc, ◌+◌, ◌<◌, Bool, true, false, ◌&&◌, ◌||◌, nat_eq, cond, List, [], ◌∷◌, ◌++◌, inl, inr, refl, ap, sym, ◌∙◌, arith, append_assoc}
+use Rattle.std.proofs.Common.{◌≡◌, ℕ, suc, ◌<◌, Bool, true, false, ◌&&◌, ◌||◌, nat_eq, List, [], ◌∷◌, ◌++◌, inl, inr, refl, ap, sym, ◌∙◌, arith, append_assoc}
 use Rattle.std.specs.Prelude.{Option, Some, None, map, filter}
 use Rattle.std.specs.List.{list_any, range_with_len}
 use Rattle.std.proofs.lemmas.Bool.{cases_Bool, ne_eqb, and_parts, eqb-true}
 use Rattle.std.proofs.lemmas.List.Elements.{filter_map-append}
 use Rattle.caf_events.specs.declared.event.Entry.{Entry}
-use Rattle.object_rules.specs.Happenings.{Happening, control, happens, happened}
+use Rattle.object_rules.specs.Happenings.{control, happens, happened}
 use Rattle.object_rules.specs.TeamRounds.{Opening, has_closed, joins_round, opening_of, missed_by}
 use Rattle.object_rules.specs.FormedTeams.{Members, formed}
 use Rattle.object_rules.specs.BoardTeams.{Team, is_form, closing, teams_made, closes_now, most_joined, form_args, round_of, made_in_rounds, made_in_team, made_by, teams_from, teams_after, made_teams}

@@ -256,6 +256,14 @@ pub record GatherRoom (p : Parts) (i t count : ℕ) : Type 0 where
   pub values : HasRoomIn p.brought.items t i
   pub few : count < 2 ^ 32
 
+-- by the plan no team is made, and it keeps nothing for one
+pub record MakesNoTeam (plan : Plan) : Type 0 where
+  pub formations : plan.formations.items ≡ []
+  pub bad : plan.bad ≡ false
+  pub control : plan.control.items ≡ []
+  pub collective : plan.collective.items ≡ []
+  pub tables : plan.tables.items ≡ []
+
 -- what is kept of each team of a plan is there
 pub record IsStocked (n : ℕ) (plan : Plan) : Type 0 where
   pub control : map (λ v. v.items) plan.control.items ≡ images_of_teams (all_made plan.formations.items)
@@ -329,6 +337,10 @@ pub record MakesFor (n : ℕ) (h : List Entry) (i : ImageNo) (team : TeamNo) (ar
 
 abbrev pub MakesAt : Parts → ImageNo → TeamNo → Arriving → Option Formation → Type 0
 MakesAt p i team arriving o = (n : ℕ) (h : List Entry) → IsBoard n h p → IsTrue (board_ready n h i.0 (asks.Arrive team arriving)) → MakesFor n h i team arriving o
+
+-- the plan is that of an arrival
+abbrev pub IsPlanAt : Parts → ImageNo → TeamNo → Arriving → Plan → Type 0
+IsPlanAt p i team arriving plan = (n : ℕ) (h : List Entry) → IsBoard n h p → IsTrue (board_ready n h i.0 (asks.Arrive team arriving)) → Planned n h plan i (asks.Arrive team arriving)
 
 -- what the end of an image makes of a round, of a team, and of all
 abbrev pub Ends : Entry → ℕ → Bool → Type 0

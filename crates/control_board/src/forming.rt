@@ -1,10 +1,10 @@
 //! FORM TEAM (ISO/IEC 1539-1:2018, 11.6.9): what images gave, and the teams that a step makes.
 
-ghost use Rattle.std.specs.Prelude.{◌≡◌, ◌+◌, ◌<◌, ◌≤◌, ◌++◌, ◌&&◌, nat_eq, length, map, replicate, IfOk, OnOk, vec_len, vec_capacity};
+ghost use Rattle.std.specs.Prelude.{◌≡◌, ◌+◌, ◌<◌, ◌≤◌, ◌++◌, ◌&&◌, nat_eq, length, map, replicate, IsTrue, IfOk, OnOk, vec_len, vec_capacity};
 ghost use Rattle.object_rules.specs.BoardTeams.{Team};
 ghost use Rattle.team_tree.specs.KnownTeams.{all_known};
 ghost use Rattle.control_board.specs.Values.{no_values};
-ghost use Rattle.control_board.specs.Boards.{args_in, given_at, given_with, listed_with, all_made, AllFew, images_of_teams, is_listed, IsCopied};
+ghost use Rattle.control_board.specs.Boards.{MakesNoTeam, args_in, given_at, given_with, listed_with, all_made, AllFew, images_of_teams, is_listed, IsCopied};
 
 use crate::brought::Table;
 use caf_base::place::{ImageNo, TeamNo};
@@ -51,13 +51,35 @@ pub struct Plan {
 
 impl Plan {
     // No team is made. It takes no memory.
-    pub(crate) fn none(alloc: Global) -> Plan {
+    pub(crate) fn none(alloc: Global) -> Plan
+        ensures { MakesNoTeam result }
+    {
         Plan {
             formations: Vec::new(alloc),
             bad: false,
             control: Vec::new(alloc),
             collective: Vec::new(alloc),
             tables: Vec::new(alloc),
+        }
+    }
+
+    // Whether no team is made, and nothing is kept for one.
+    fn is_none(&self) -> bool
+        ensures { IsTrue result → MakesNoTeam self.now }
+    {
+        !self.bad
+            && self.formations.is_empty()
+            && self.control.is_empty()
+            && self.collective.is_empty()
+            && self.tables.is_empty()
+    }
+
+    // Makes it a plan by which no team is made, which most plans are already. It takes no memory.
+    pub(crate) fn clear(&mut self, alloc: Global)
+        ensures { MakesNoTeam self.new }
+    {
+        if !self.is_none() {
+            *self = Plan::none(alloc);
         }
     }
 }

@@ -2,6 +2,8 @@
 
 ghost use Rattle.std.specs.Prelude.{◌≡◌, ℕ, List};
 ghost use Rattle.caf_events.specs.declared.ask.Ask.TheVariants as asks;
+ghost use Rattle.caf_events.specs.declared.reply.Reply.TheVariants as replies;
+ghost use Rattle.caf_events.specs.declared.round.Arriving.TheVariants as arrivings;
 ghost use Rattle.caf_events.specs.declared.event.Entry.{Entry};
 ghost use Rattle.object_rules.specs.BoardRules.{board_ready};
 ghost use Rattle.inert_laws.specs.Silent.{is_silent as is_silent_by};
@@ -13,6 +15,7 @@ use crate::ready::{can_leave, can_take};
 use caf_base::place::{ImageNo, TeamNo};
 use caf_events::ask::Ask;
 use caf_events::event::Event;
+use caf_events::exchange::Exchange;
 use caf_events::reply::Reply;
 use std::alloc::Global;
 
@@ -78,15 +81,45 @@ fn is_inert_by(parts: &Parts, image: ImageNo, ask: &Ask, reply: &Reply) -> bool
     is_silent(ask) || leaves_open(parts, image, ask, reply)
 }
 
+// Whether the arrival of the image at SYNC ALL or SYNC TEAM, by which it joined this round, is known to be inert, where it was the last step.
+fn is_inert_arrival(parts: &Parts, image: ImageNo, team: TeamNo, round: u64) -> bool
+    requires { IsKept parts.now }
+    ensures { (n : ℕ) (h : List Entry) → IsBoard n h parts.now → result ≡ is_inert_step n h image.0 (asks.Arrive team arrivings.Sync) (replies.Round round) }
+{
+    !leaves(parts, image, team, round)
+}
+
+// The same of any step, by its ask and its reply, which are made for it.
+fn is_inert_exchange(alloc: Global, parts: &Parts, image: ImageNo, told: &Exchange) -> bool
+    requires { IsKept parts.now }
+    ensures { (n : ℕ) (h : List Entry) → IsBoard n h parts.now → result ≡ is_inert_step n h image.0 told.now.ask told.now.reply }
+{
+    let asked = told.ask(alloc);
+    let said = told.reply(alloc);
+    let inert = is_inert_by(parts, image, &asked, &said);
+    drop(said);
+    drop(asked);
+    inert
+}
+
+// The same: an arrival that joined a round and a departure from one, which are most steps, are seen without the ask and the reply.
+fn is_inert_told(alloc: Global, parts: &Parts, image: ImageNo, told: &Exchange) -> bool
+    requires { IsKept parts.now }
+    ensures { (n : ℕ) (h : List Entry) → IsBoard n h parts.now → result ≡ is_inert_step n h image.0 told.now.ask told.now.reply }
+{
+    match told.joined() {
+        Some((team, round)) => is_inert_arrival(parts, image, team, round),
+        None => match told.departed() {
+            Some(_) => true,
+            None => is_inert_exchange(alloc, parts, image, told),
+        },
+    }
+}
+
 // Whether the event, which the image made last, is known to be inert.
 pub(crate) fn is_inert(alloc: Global, parts: &Parts, image: ImageNo, event: &Event) -> bool
     requires { IsKept parts.now }
     ensures { (n : ℕ) (h : List Entry) → IsBoard n h parts.now → result ≡ is_inert_step n h image.0 event.now.ask event.now.reply }
 {
-    let asked = event.told().ask(alloc);
-    let said = event.told().reply(alloc);
-    let inert = is_inert_by(parts, image, &asked, &said);
-    drop(said);
-    drop(asked);
-    inert
+    is_inert_told(alloc, parts, image, event.told())
 }

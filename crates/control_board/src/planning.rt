@@ -14,17 +14,16 @@ ghost use Rattle.object_rules.specs.TeamRounds.{opening_of};
 ghost use Rattle.object_rules.specs.BoardRules.{board_ready};
 ghost use Rattle.object_rules.specs.BoardTeams.{is_form, is_form_kind as is_form_kind_by};
 ghost use Rattle.team_round.specs.TeamStates.{TeamState};
-ghost use Rattle.control_board.specs.Boards.{IsBoard, Asked, CanEndNow, AllFew, made_by_one, bad_of, is_few, all_made, is_end_ask, IsFormed, IsJoined, MakesAt, EndsRound, EndsTeam, EndsAll, IsStocked, Planned, HasGrown, TeamsRoom, PlanFits, IsEnacted};
+ghost use Rattle.control_board.specs.Boards.{IsBoard, Asked, CanEndNow, AllFew, made_by_one, bad_of, is_few, all_made, is_end_ask, IsPlanAt, IsFormed, IsJoined, MakesAt, EndsRound, EndsTeam, EndsAll, IsStocked, Planned, HasGrown, TeamsRoom, PlanFits, IsEnacted};
 
-use crate::forming::{
-    Formation, Plan, add_formed, add_tables, args_for, copy_members, form_of, new_tables,
-};
+use crate::forming::{Formation, Plan, add_formed, add_tables, args_for, copy_members, new_tables};
 use crate::parts::Parts;
 use caf_base::place::{ImageNo, TeamNo};
 use caf_base::refusal::NoMemory;
 use caf_base::status::{STAT_FAILED_IMAGE, STAT_STOPPED_IMAGE};
-use caf_events::round::{Arriving, RoundKind};
+use caf_events::round::RoundKind;
 use std::alloc::Global;
+use std::mem;
 use team_round::round::Arrival;
 use team_tree::arg::FormArg;
 
@@ -98,24 +97,6 @@ fn plan_form(
     match parts.control.expected(team, arg.image, &RoundKind::Form) {
         Arrival::Joined(round) => plan_joined(alloc, parts, team, round, arg),
         Arrival::Clash { .. } => Ok(None),
-    }
-}
-
-// What an arrival makes.
-fn plan_arrival(
-    alloc: Global,
-    parts: &Parts,
-    image: ImageNo,
-    team: TeamNo,
-    arriving: &Arriving,
-) -> Result<Option<Formation>, NoMemory>
-    requires { Asked parts.now image.0 (asks.Arrive team arriving.now) }
-    ensures few { IfOk result is_few }
-    ensures made { IfOk result (MakesAt parts.now image team arriving.now) }
-{
-    match form_of(image, arriving) {
-        Some(arg) => plan_form(alloc, parts, team, arg),
-        None => Ok(None),
     }
 }
 
@@ -261,20 +242,19 @@ fn is_bad_one(made: &Option<Formation>) -> bool
     }
 }
 
-// The plan of an arrival.
-pub(crate) fn arrival_plan(
+// The plan of an arrival at FORM TEAM.
+pub(crate) fn form_team_plan(
     alloc: Global,
     parts: &Parts,
-    image: ImageNo,
     team: TeamNo,
-    arriving: &Arriving,
+    arg: FormArg,
 ) -> Result<Plan, NoMemory>
-    requires { Asked parts.now image.0 (asks.Arrive team arriving.now) }
+    requires { Asked parts.now arg.image.0 (asks.Arrive team (arrivings.Form arg.number arg.new_index)) }
     ensures few { IfOk result (λ p. AllFew p.formations.items) }
     ensures stock { IfOk result (λ p. IsStocked parts.now.images p) }
-    ensures planned { IfOk result (λ p. (n : ℕ) (h : List Entry) → IsBoard n h parts.now → IsTrue (board_ready n h image.0 (asks.Arrive team arriving.now)) → Planned n h p image (asks.Arrive team arriving.now)) }
+    ensures planned { IfOk result (IsPlanAt parts.now arg.image team (arrivings.Form arg.number arg.new_index)) }
 {
-    let made = plan_arrival(alloc, parts, image, team, arriving)?;
+    let made = plan_form(alloc, parts, team, arg)?;
     let bad = is_bad_one(&made);
     let mut formations = Vec::new(alloc);
     add_made(&mut formations, made)?;
@@ -321,7 +301,7 @@ pub(crate) fn make_room_for_teams(
 }
 
 // Adds the teams of a plan. It takes no memory.
-pub(crate) fn enact(parts: &mut Parts, plan: Plan)
+fn enact(parts: &mut Parts, plan: Plan)
     requires fits { PlanFits parts.old plan }
     requires control { (k : ℕ) (x : Vec ImageNo) → slice_get plan.control.items k ≡ Some x → AreWithin parts.old.control.images x.items }
     requires collective { (k : ℕ) (x : Vec ImageNo) → slice_get plan.collective.items k ≡ Some x → AreWithin parts.old.collective.images x.items }
@@ -338,4 +318,18 @@ pub(crate) fn enact(parts: &mut Parts, plan: Plan)
     parts.collective.add_teams(collective);
     add_tables(&mut parts.brought, tables);
     add_formed(&mut parts.teams, &mut parts.births, formations);
+}
+
+// Adds the teams that are planned, where there are some: most steps make none. It takes no memory.
+pub(crate) fn enact_plan(parts: &mut Parts)
+    requires fits { PlanFits parts.old parts.old.plan }
+    requires control { (k : ℕ) (x : Vec ImageNo) → slice_get parts.old.plan.control.items k ≡ Some x → AreWithin parts.old.control.images x.items }
+    requires collective { (k : ℕ) (x : Vec ImageNo) → slice_get parts.old.plan.collective.items k ≡ Some x → AreWithin parts.old.collective.images x.items }
+    ensures { IsEnacted parts.old parts.old.plan parts.new }
+{
+    if !parts.plan.formations.is_empty() {
+        let nothing = Plan::none(*parts.births.allocator());
+        let plan = mem::replace(&mut parts.plan, nothing);
+        enact(parts, plan);
+    }
 }

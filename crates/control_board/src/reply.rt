@@ -1,11 +1,12 @@
 //! The reply that is due to an ask.
 
-ghost use Rattle.std.specs.Prelude.{◌≡◌, ◌<◌, ◌^◌, ℕ, List, IsTrue, IfOk, length};
+ghost use Rattle.std.specs.Prelude.{◌≡◌, ◌-◌, ◌<◌, ◌≤◌, ◌^◌, ℕ, List, Some, IsTrue, IfOk, length, slice_get};
 ghost use Rattle.caf_events.specs.declared.ask.Ask.TheVariants as asks;
 ghost use Rattle.caf_events.specs.declared.event.Entry.{Entry};
 ghost use Rattle.caf_events.specs.declared.round.RoundKind.TheVariants as kinds;
-ghost use Rattle.object_rules.specs.Happenings.{collective, kind_of};
+ghost use Rattle.object_rules.specs.Happenings.{collective, control, kind_of};
 ghost use Rattle.object_rules.specs.BoardRules.{arrival_reply, board_ready, board_reply};
+ghost use Rattle.team_round.specs.TeamStates.{TeamState, CanExpect};
 ghost use Rattle.control_board.specs.Boards.{IsBoard, Comes, Gathers, reply_by, reply_to};
 
 use crate::ending::{ended_members, member_status};
@@ -46,7 +47,16 @@ fn told(arrival: Arrival) -> Reply
     }
 }
 
-// The reply to an arrival at a round.
+// The reply to an arrival at a round by a statement of this kind.
+fn joined_by(parts: &Parts, image: ImageNo, team: TeamNo, kind: &RoundKind) -> Reply
+    requires team { (0 < team.0) × (team.0 ≤ length parts.now.control.teams) }
+    requires state { (x : TeamState) → slice_get parts.now.control.teams (team.0 - 1) ≡ Some x → CanExpect x image.0 }
+    ensures { (n : ℕ) (h : List Entry) → IsBoard n h parts.now → result ≡ arrival_reply control h image.0 team.0 kind.now }
+{
+    told(parts.control.expected(team, image, kind))
+}
+
+// The reply to an arrival at a round. What is brought to SYNC ALL, most arrivals, isn't copied for it.
 fn joined(
     parts: &Parts,
     image: ImageNo,
@@ -56,10 +66,15 @@ fn joined(
     requires { Comes parts.now image.0 (asks.Arrive team arriving.now) }
     ensures { IfOk result (λ r. (n : ℕ) (h : List Entry) → IsBoard n h parts.now → r ≡ board_reply n h image.0 (asks.Arrive team arriving.now)) }
 {
-    let kind = kind_from(arriving.copy()?);
-    let arrival = parts.control.expected(team, image, &kind);
-    drop(kind);
-    Ok(told(arrival))
+    match arriving {
+        Arriving::Sync => Ok(joined_by(parts, image, team, &RoundKind::Sync)),
+        _ => {
+            let kind = kind_from(arriving.copy()?);
+            let reply = joined_by(parts, image, team, &kind);
+            drop(kind);
+            Ok(reply)
+        }
+    }
 }
 
 // The kind of a collective subroutine to which an image brings these values. It takes no memory.

@@ -1,19 +1,20 @@
 //! The step of an ask at the board.
 
-ghost use Rattle.std.specs.Prelude.{◌≡◌, ◌<◌, ◌≤◌, ℕ, ℤ, List, true, length, OnOk, IsTrue};
+ghost use Rattle.std.specs.Prelude.{◌≡◌, ◌<◌, ◌≤◌, ◌^◌, ℕ, ℤ, List, true, length, OnOk, IsTrue};
 ghost use Rattle.caf_events.specs.declared.ask.Ask.{Ask};
 ghost use Rattle.object_rules.specs.BoardRules.{board_ready};
 ghost use Rattle.caf_events.specs.declared.ask.Ask.TheVariants as asks;
 ghost use Rattle.caf_base.specs.declared.value.Kind.{Kind};
 ghost use Rattle.caf_events.specs.declared.event.Entry.{Entry};
 ghost use Rattle.caf_events.specs.declared.round.GatherOp.{GatherOp};
+ghost use Rattle.caf_events.specs.declared.round.Arriving.TheVariants as arrivings;
 ghost use Rattle.caf_events.specs.declared.round.RoundKind.TheVariants as kinds;
-ghost use Rattle.control_board.specs.Boards.{IsBoard, CanEndNow, Asked, CanStep, CanStop, CanGather, GatherRoom, ArriveRoom, HasGrown, PlanFits, Planned, IsPlanned, StepsTo, StepBy, PartsRoom, table_of, is_end_ask};
+ghost use Rattle.control_board.specs.Boards.{IsBoard, CanEndNow, Asked, CanStep, CanStop, CanGather, GatherRoom, ArriveRoom, HasGrown, MakesNoTeam, IsPlanAt, PlanFits, Planned, IsPlanned, StepsTo, StepBy, PartsRoom, table_of, is_end_ask};
 
 use crate::brought::{keep_joined, make_room_for};
-use crate::forming::{Plan, form_of, keep_bad, keep_given};
+use crate::forming::{form_of, keep_bad, keep_given};
 use crate::parts::Parts;
-use crate::planning::{arrival_plan, enact, end_plan, make_room_for_teams};
+use crate::planning::{enact_plan, end_plan, form_team_plan, make_room_for_teams};
 use crate::reply::{kind_from, kind_with};
 use caf_base::few::Few;
 use caf_base::listing::Listing;
@@ -23,7 +24,7 @@ use caf_base::value::Value;
 use caf_events::ask::Ask;
 use caf_events::round::{Arriving, RoundKind};
 use std::alloc::Global;
-use std::mem;
+use team_tree::arg::FormArg;
 
 // Makes room for what the image brings to a collective subroutine of the team.
 fn make_room_to_gather(
@@ -44,6 +45,38 @@ fn make_room_to_gather(
     make_room_for(&mut parts.brought, team, image)
 }
 
+// Makes room for an arrival at a round of the team that isn't at FORM TEAM: it makes no team.
+fn make_room_to_join(alloc: Global, parts: &mut Parts, team: TeamNo) -> Result<(), NoMemory>
+    requires team { (0 < team.0) × (team.0 ≤ length parts.old.control.teams) }
+    requires few { length parts.old.teams.teams < 2 ^ 32 }
+    ensures kept { HasGrown parts.old parts.new }
+    ensures room { OnOk result (ArriveRoom parts.new team.0) }
+    ensures planned { MakesNoTeam parts.new.plan }
+{
+    parts.plan.clear(alloc);
+    parts.forms.reserve(1)?;
+    parts.bad.reserve(1)?;
+    parts.control.reserve(alloc, team, 0)
+}
+
+// Makes room for an arrival at FORM TEAM, and plans what it makes.
+fn make_room_to_form(
+    alloc: Global,
+    parts: &mut Parts,
+    team: TeamNo,
+    arg: FormArg,
+) -> Result<(), NoMemory>
+    requires { Asked parts.old arg.image.0 (asks.Arrive team (arrivings.Form arg.number arg.new_index)) }
+    ensures kept { HasGrown parts.old parts.new }
+    ensures room { OnOk result (ArriveRoom parts.new team.0) }
+    ensures planned { OnOk result (IsPlanAt parts.old arg.image team (arrivings.Form arg.number arg.new_index) parts.new.plan) }
+{
+    parts.plan = form_team_plan(alloc, parts, team, arg)?;
+    parts.forms.reserve(1)?;
+    parts.bad.reserve(1)?;
+    make_room_for_teams(alloc, parts, team)
+}
+
 // Makes room for an arrival at a round of the team, and plans what it makes.
 fn make_room_to_arrive(
     alloc: Global,
@@ -55,12 +88,12 @@ fn make_room_to_arrive(
     requires { Asked parts.old image.0 (asks.Arrive team arriving.now) }
     ensures kept { HasGrown parts.old parts.new }
     ensures room { OnOk result (ArriveRoom parts.new team.0) }
-    ensures planned { OnOk result ((n : ℕ) (h : List Entry) → IsBoard n h parts.old → IsTrue (board_ready n h image.0 (asks.Arrive team arriving.now)) → Planned n h parts.new.plan image (asks.Arrive team arriving.now)) }
+    ensures planned { OnOk result (IsPlanAt parts.old image team arriving.now parts.new.plan) }
 {
-    parts.plan = arrival_plan(alloc, parts, image, team, arriving)?;
-    parts.forms.reserve(1)?;
-    parts.bad.reserve(1)?;
-    make_room_for_teams(alloc, parts, team)
+    match form_of(image, arriving) {
+        Some(arg) => make_room_to_form(alloc, parts, team, arg),
+        None => make_room_to_join(alloc, parts, team),
+    }
 }
 
 // Makes room for the end of the image, and plans what it makes.
@@ -108,13 +141,11 @@ fn arrive(parts: &mut Parts, image: ImageNo, team: TeamNo, arriving: Arriving, l
     requires { CanStep parts.old image.0 (asks.Arrive team arriving) }
     ensures { StepsTo parts.old image (asks.Arrive team arriving) line parts.new }
 {
-    let nothing = Plan::none(*parts.births.allocator());
-    let plan = mem::replace(&mut parts.plan, nothing);
     let form = form_of(image, &arriving);
     let arrival = parts.control.arrive(team, image, kind_from(arriving), line);
     keep_given(&mut parts.forms, team, form, arrival);
-    keep_bad(&mut parts.bad, team, arrival, plan.bad);
-    enact(parts, plan);
+    keep_bad(&mut parts.bad, team, arrival, parts.plan.bad);
+    enact_plan(parts);
 }
 
 // The image comes to a collective subroutine of this kind of the team, and brings values.
@@ -161,13 +192,11 @@ fn fail(parts: &mut Parts, image: ImageNo)
     requires { CanStep parts.old image.0 asks.Gone }
     ensures { (line : ℕ) → StepsTo parts.old image asks.Gone line parts.new }
 {
-    let nothing = Plan::none(*parts.births.allocator());
-    let plan = mem::replace(&mut parts.plan, nothing);
     parts.control.ended(image, true);
     parts.collective.ended(image, true);
     parts.pairs.ended(image, true);
     parts.criticals.gone(image);
-    enact(parts, plan);
+    enact_plan(parts);
 }
 
 // The image initiates normal termination.
@@ -175,12 +204,10 @@ fn stop(parts: &mut Parts, image: ImageNo)
     requires { CanStop parts.old image.0 }
     ensures { (code : ℤ) (line : ℕ) → StepsTo parts.old image (asks.Stop code) line parts.new }
 {
-    let nothing = Plan::none(*parts.births.allocator());
-    let plan = mem::replace(&mut parts.plan, nothing);
     parts.control.ended(image, false);
     parts.collective.ended(image, false);
     parts.pairs.ended(image, false);
-    enact(parts, plan);
+    enact_plan(parts);
 }
 
 // The step of an ask that brings nothing to be kept.

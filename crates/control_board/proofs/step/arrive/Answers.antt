@@ -1,11 +1,9 @@
-use Rattle.std.proofs.Common.{◌+◌, false, refl, sym, ◌∙◌, ap, subst}
-use Rattle.std.specs.Prelude.{slice_get}
+use Rattle.std.proofs.Common.{◌+◌, false, refl, ◌∙◌, ap, subst}
 use Rattle.object_rules.specs.Kinds.{same_kind}
 use Rattle.object_rules.specs.TeamRounds.{arrivals, opening_of}
 use Rattle.team_round.specs.TeamStates.{TellsAll, told_arrival, happened_with}
-use Rattle.control_board.specs.declared.forming.Plan.{Plan}
 use Rattle.control_board.specs.declared.parts.Parts.{Parts}
-use Rattle.control_board.specs.Boards.{PlanFits, IsEnacted, given_with, listed_with}
+use Rattle.control_board.specs.Boards.{given_with}
 use Rattle.caf_events.specs.declared.ask.Ask.TheVariants as asks
 use Rattle.control_board.proofs.Keeping.{can_arrive}
 use Rattle.control_board.proofs.Members.{member_there}
@@ -30,25 +28,22 @@ keep_given-requires c = c.requires.room.forms
 pub keep_bad-requires : goal.keep_bad-requires
 keep_bad-requires c = c.requires.room.bad
 
-pub enact-requires-clause-fits : goal.enact-requires-clause-fits
-enact-requires-clause-fits c =
-    subst (PlanFits _) (sym c.replace-plan.ensures.value)
-    (fits_with c.args.parts.now _ c.args.parts.now.plan refl c.arrive-arrival.ensures.room c.arrive-arrival.ensures.spare refl refl refl refl refl c.requires.room.plan)
+pub enact_plan-requires-clause-fits : goal.enact_plan-requires-clause-fits
+enact_plan-requires-clause-fits c =
+    fits_with c.args.parts.now _ c.args.parts.now.plan refl c.arrive-arrival.ensures.room c.arrive-arrival.ensures.spare refl refl refl refl refl c.requires.room.plan
 
-pub enact-requires-clause-control : goal.enact-requires-clause-control
-enact-requires-clause-control c k x at =
-    control_within c.requires.images c.requires.history c.args.parts.now c.args.image (asks.Arrive c.args.team c.args.arriving) c.requires.board c.requires.plan c.requires.room.plan c.arrive-arrival.new.self.images c.arrive-arrival.ensures.images k x
-    (ap (λ (q : Plan). slice_get q.control.items k) (sym c.replace-plan.ensures.value) ∙ at)
+pub enact_plan-requires-clause-control : goal.enact_plan-requires-clause-control
+enact_plan-requires-clause-control c k x at =
+    control_within c.requires.images c.requires.history c.args.parts.now c.args.image (asks.Arrive c.args.team c.args.arriving) c.requires.board c.requires.plan c.requires.room.plan c.arrive-arrival.new.self.images c.arrive-arrival.ensures.images k x at
 
-pub enact-requires-clause-collective : goal.enact-requires-clause-collective
-enact-requires-clause-collective c k x at =
-    collective_within c.requires.images c.requires.history c.args.parts.now c.args.image (asks.Arrive c.args.team c.args.arriving) c.requires.board c.requires.plan c.requires.room.plan c.args.parts.now.collective.images refl k x
-    (ap (λ (q : Plan). slice_get q.collective.items k) (sym c.replace-plan.ensures.value) ∙ at)
+pub enact_plan-requires-clause-collective : goal.enact_plan-requires-clause-collective
+enact_plan-requires-clause-collective c k x at =
+    collective_within c.requires.images c.requires.history c.args.parts.now c.args.image (asks.Arrive c.args.team c.args.arriving) c.requires.board c.requires.plan c.requires.room.plan c.args.parts.now.collective.images refl k x at
 
 pub returns : goal.returns
 returns c n h stamp b ready planned late =
-    let m : Parts = record { images = c.args.parts.now.images; teams = c.args.parts.now.teams; births = c.args.parts.now.births; control = c.arrive-arrival.new.self; collective = c.args.parts.now.collective; brought = c.args.parts.now.brought; forms = c.keep_given.new.forms; bad = c.keep_bad.new.rounds; pairs = c.args.parts.now.pairs; criticals = c.args.parts.now.criticals; plan = c.replace-plan.new.dest } in
-    arrived_steps c.args.parts.now m c.enact.new.parts c.args.image c.args.team c.args.arriving c.args.line c.arrive-arrival.result
+    let m : Parts = record { images = c.args.parts.now.images; teams = c.args.parts.now.teams; births = c.args.parts.now.births; control = c.arrive-arrival.new.self; collective = c.args.parts.now.collective; brought = c.args.parts.now.brought; forms = c.keep_given.new.forms; bad = c.keep_bad.new.rounds; pairs = c.args.parts.now.pairs; criticals = c.args.parts.now.criticals; plan = c.args.parts.now.plan } in
+    arrived_steps c.args.parts.now m c.enact_plan.new.parts c.args.image c.args.team c.args.arriving c.args.line c.arrive-arrival.result
     (record {
       answer = λ m hs t. c.arrive-arrival.ensures.arrival m hs t ∙ ap (λ k. told_arrival same_kind k (arrivals c.args.team.0 c.args.image.0 hs + 1) (opening_of c.args.team.0 (arrivals c.args.team.0 c.args.image.0 hs + 1) hs)) c.kind_from.ensures;
       told = λ m hs t. subst (λ k. TellsAll m c.arrive-arrival.new.self (happened_with hs c.args.team.0 c.args.image.0 k c.args.line c.arrive-arrival.result)) c.kind_from.ensures (c.arrive-arrival.ensures.told m hs t);
@@ -60,10 +55,10 @@ returns c n h stamp b ready planned late =
       others = refl;
       tables = refl;
       forms = c.keep_given.ensures ∙ ap (λ o. given_with c.args.parts.now.forms.items c.args.team o c.arrive-arrival.result) c.form_of-form.ensures;
-      bad = c.keep_bad.ensures ∙ ap (λ (q : Plan). listed_with c.args.parts.now.bad.items c.args.team c.arrive-arrival.result q.bad) c.replace-plan.ensures.value;
+      bad = c.keep_bad.ensures;
       syncs = refl;
       constructs = refl;
     })
     c.requires.room.plan
-    (subst (λ (q : Plan). IsEnacted m q c.enact.new.parts) c.replace-plan.ensures.value c.enact.ensures)
+    c.enact_plan.ensures
     n h stamp b ready planned late

@@ -1,9 +1,6 @@
-use Rattle.std.proofs.Common.{true, false, refl, sym, ◌∙◌, ap, subst}
-use Rattle.std.specs.Prelude.{slice_get}
+use Rattle.std.proofs.Common.{true, false, refl}
 use Rattle.caf_events.specs.declared.ask.Ask.TheVariants as asks
-use Rattle.control_board.specs.declared.forming.Plan.{Plan}
 use Rattle.control_board.specs.declared.parts.Parts.{Parts}
-use Rattle.control_board.specs.Boards.{PlanFits, IsEnacted}
 use Rattle.control_board.proofs.Keeping.{both, can_end, in_stopped, in_failed, in_rows}
 use Rattle.control_board.proofs.Steps.{ready_parts, ended_steps}
 use Rattle.control_board.proofs.Enacting.{fits_with, control_within, collective_within}
@@ -30,29 +27,26 @@ ended-requires-2-clause-state c = let s = c.requires in can_end s.images s.histo
 pub ended-requires-3 : goal.ended-requires-3
 ended-requires-3 c = let s = c.requires in in_rows s.images s.history c.args.parts.now s.board c.args.image.0 (ready_parts s.images s.history c.args.image.0 asks.Gone s.ready).0
 
-pub enact-requires-clause-fits : goal.enact-requires-clause-fits
-enact-requires-clause-fits c =
+pub enact_plan-requires-clause-fits : goal.enact_plan-requires-clause-fits
+enact_plan-requires-clause-fits c =
     let s = c.requires in
-    subst (PlanFits _) (sym c.replace-plan.ensures.value)
-    (fits_with c.args.parts.now _ c.args.parts.now.plan refl c.ended.ensures.room c.ended.ensures.spare c.ended-2.ensures.room c.ended-2.ensures.spare refl refl refl s.room)
+    fits_with c.args.parts.now _ c.args.parts.now.plan refl c.ended.ensures.room c.ended.ensures.spare c.ended-2.ensures.room c.ended-2.ensures.spare refl refl refl s.room
 
-pub enact-requires-clause-control : goal.enact-requires-clause-control
-enact-requires-clause-control c k x at =
+pub enact_plan-requires-clause-control : goal.enact_plan-requires-clause-control
+enact_plan-requires-clause-control c k x at =
     let s = c.requires in
-    control_within s.images s.history c.args.parts.now c.args.image asks.Gone s.board s.plan s.room c.ended.new.self.images c.ended.ensures.images k x
-    (ap (λ (q : Plan). slice_get q.control.items k) (sym c.replace-plan.ensures.value) ∙ at)
+    control_within s.images s.history c.args.parts.now c.args.image asks.Gone s.board s.plan s.room c.ended.new.self.images c.ended.ensures.images k x at
 
-pub enact-requires-clause-collective : goal.enact-requires-clause-collective
-enact-requires-clause-collective c k x at =
+pub enact_plan-requires-clause-collective : goal.enact_plan-requires-clause-collective
+enact_plan-requires-clause-collective c k x at =
     let s = c.requires in
-    collective_within s.images s.history c.args.parts.now c.args.image asks.Gone s.board s.plan s.room c.ended-2.new.self.images c.ended-2.ensures.images k x
-    (ap (λ (q : Plan). slice_get q.collective.items k) (sym c.replace-plan.ensures.value) ∙ at)
+    collective_within s.images s.history c.args.parts.now c.args.image asks.Gone s.board s.plan s.room c.ended-2.new.self.images c.ended-2.ensures.images k x at
 
 pub returns : goal.returns
 returns c line n h stamp b ready planned late =
     let s = c.requires in
-    let m : Parts = record { images = c.args.parts.now.images; teams = c.args.parts.now.teams; births = c.args.parts.now.births; control = c.ended.new.self; collective = c.ended-2.new.self; brought = c.args.parts.now.brought; forms = c.args.parts.now.forms; bad = c.args.parts.now.bad; pairs = c.ended-3.new.self; criticals = c.gone.new.self; plan = c.replace-plan.new.dest } in
-    ended_steps c.args.parts.now m c.enact.new.parts c.args.image asks.Gone true line
+    let m : Parts = record { images = c.args.parts.now.images; teams = c.args.parts.now.teams; births = c.args.parts.now.births; control = c.ended.new.self; collective = c.ended-2.new.self; brought = c.args.parts.now.brought; forms = c.args.parts.now.forms; bad = c.args.parts.now.bad; pairs = c.ended-3.new.self; criticals = c.gone.new.self; plan = c.args.parts.now.plan } in
+    ended_steps c.args.parts.now m c.enact_plan.new.parts c.args.image asks.Gone true line
     (record {
       round = both _ (λ r. refl) (λ r. refl);
       pair = λ r. refl;
@@ -70,5 +64,5 @@ returns c line n h stamp b ready planned late =
       forms = refl;
       bad = refl;
     })
-    s.room (subst (λ (q : Plan). IsEnacted m q c.enact.new.parts) c.replace-plan.ensures.value c.enact.ensures)
+    s.room c.enact_plan.ensures
     n h stamp b planned late

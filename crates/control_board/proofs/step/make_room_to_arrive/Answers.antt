@@ -1,34 +1,27 @@
-use Rattle.std.proofs.Common.{◌<◌, true, false, sym, subst, arith}
-use Rattle.std.specs.Prelude.{vec_len, vec_capacity}
-use Rattle.std.specs.Global.{Vec}
+use Rattle.std.proofs.Common.{false, sym, ◌∙◌}
 use Rattle.caf_events.specs.declared.ask.Ask.TheVariants as asks
-use Rattle.control_board.specs.declared.forming.BadRound.{BadRound}
-use Rattle.control_board.specs.declared.forming.Given.{Given}
-use Rattle.control_board.specs.declared.forming.Plan.{Plan}
-use Rattle.control_board.specs.Boards.{Planned}
-use Rattle.control_board.proofs.Growing.{on_two, on_any, plan_fits}
+use Rattle.control_board.proofs.Growing.{on_any, plan_given, plan_none}
 use Rattle.control_board.proofs.Members.{member_there}
 use Rattle.control_board.proofs.Steps.{ready_parts}
 use Rattle.control_board.proofs.step.make_room_to_arrive.Goals as goal
 
-pub make_room_for_teams-requires : goal.make_room_for_teams-requires
-make_room_for_teams-requires c =
+pub make_room_to_join-requires-clause-team : goal.make_room_to_join-requires-clause-team
+make_room_to_join-requires-clause-team c =
     let s = c.requires in
     let r = ready_parts s.images s.history c.args.image.0 (asks.Arrive c.args.team c.args.arriving.now) s.ready in
     let t = member_there s.images s.history c.args.parts.now s.board false c.args.team.0 c.args.image.0 r.1 in
-    let u = member_there s.images s.history c.args.parts.now s.board true c.args.team.0 c.args.image.0 r.1 in
-    (t.0, t.1, u.1)
+    (t.0, t.1)
 
-pub returns-clause-room : goal.returns-clause-room
-returns-clause-room c =
-    on_two c.make_room_for_teams.result (λ round room. record {
-      rounds = round;
-      forms = subst (λ (v : Vec Given). vec_len v < vec_capacity v) (sym c.make_room_for_teams.ensures.forms) (let f = c.in_ok-reserve.ensures.ok in omega arith);
-      bad = subst (λ (v : Vec BadRound). vec_len v < vec_capacity v) (sym c.make_room_for_teams.ensures.bad) (let f = c.in_ok-reserve-2.ensures.ok in omega arith);
-      plan = plan_fits c.args.parts.now.images c.make_room_for_teams.new.parts c.in_ok-parts.field-0 c.make_room_for_teams.ensures.plan c.make_room_for_teams.ensures.grown.images c.in_ok-parts.ensures.stock c.in_ok-parts.ensures.few room;
-    })
-    c.make_room_for_teams.ensures.round c.make_room_for_teams.ensures.room
+pub make_room_to_join-requires-clause-few : goal.make_room_to_join-requires-clause-few
+make_room_to_join-requires-clause-few c = c.requires.board.few
 
-pub returns-clause-planned : goal.returns-clause-planned
-returns-clause-planned c =
-    on_any c.make_room_for_teams.result (λ n h b ready. subst (λ (q : Plan). Planned n h q c.args.image (asks.Arrive c.args.team c.args.arriving.now)) (sym c.make_room_for_teams.ensures.plan) (c.in_ok-parts.ensures.planned n h b ready))
+pub returns-in-Some-clause-planned : goal.returns-in-Some-clause-planned
+returns-in-Some-clause-planned c =
+    plan_given c.make_room_to_form.result c.args.parts.now c.make_room_to_form.new.parts.plan c.args.image c.args.team c.args.arriving.now c.in-Some.arg (sym c.form_of.ensures ∙ c.in-Some.is) c.make_room_to_form.ensures.planned
+
+pub returns-in-None-clause-planned : goal.returns-in-None-clause-planned
+returns-in-None-clause-planned c =
+    let s = c.requires in
+    let r = ready_parts s.images s.history c.args.image.0 (asks.Arrive c.args.team c.args.arriving.now) s.ready in
+    let t = member_there s.images s.history c.args.parts.now s.board false c.args.team.0 c.args.image.0 r.1 in
+    on_any c.make_room_to_join.result (plan_none c.args.parts.now c.make_room_to_join.new.parts.plan c.args.image c.args.team c.args.arriving.now (sym c.form_of.ensures ∙ c.in-None.is) t.0 t.2 c.make_room_to_join.ensures.planned)
