@@ -3,7 +3,7 @@
 ghost use Rattle.std.specs.Prelude.{◌≡◌, ◌<◌, ◌≤◌, ◌+◌, ◌-◌, ◌^◌, ℕ, suc, length, IsTrue, IfOk, OnOk, OnErr, Some, None, true};
 ghost use Rattle.trace_theory.specs.Machines.{Rests};
 ghost use Rattle.caf_base.specs.declared.place.Place.TheVariants as places;
-ghost use Rattle.caf_events.specs.Histories.{last_stamp_of, IsSpare};
+ghost use Rattle.caf_events.specs.Histories.{last_stamp_of};
 ghost use Rattle.caf_events.specs.Walkers.{IsAtAsk, AsksNext};
 ghost use Rattle.caf_events.specs.declared.event.Event.{Event};
 ghost use Rattle.caf_events.specs.declared.reply.Reply.TheVariants as replies;
@@ -19,7 +19,7 @@ use caf_base::refusal::NoMemory;
 use caf_events::ask::Ask;
 use caf_events::event::Event;
 use caf_events::exchange::Exchange;
-use caf_events::object::{Object, Spare};
+use caf_events::object::Object;
 use caf_events::reply::Reply;
 use caf_events::walker::Walker;
 use run_outlook::next_asks::NextAsks;
@@ -36,27 +36,6 @@ fn room_alone<M: Walker>(run: &mut ImageRun<M>, ask: &Ask) -> Result<Exchange, N
 {
     run.make_room()?;
     Exchange::new(*run.events.allocator(), ask, &Reply::Done)
-}
-
-// Room for the step at an object, which is ready for it: what the object sets aside.
-fn room_at<M: Walker, O: Object>(
-    run: &mut ImageRun<M>,
-    object: &mut O,
-    ask: &Ask,
-) -> Result<Spare, NoMemory>
-    requires at { IsAtAsk (move_of M.Walker run.old) }
-    requires ready { IsTrue (O.ready_after (O.made object.old) (O.history object.old) run.old.image.0 ask.now) }
-    ensures image { run.new.image ≡ run.old.image }
-    ensures machine { M.config run.new.machine ≡ M.config run.old.machine }
-    ensures events { run.new.events.items ≡ run.old.events.items }
-    ensures last { run.new.last ≡ run.old.last }
-    ensures made { O.made object.new ≡ O.made object.old }
-    ensures history { O.history object.new ≡ O.history object.old }
-    ensures room { OnOk result (HasRoom M.Walker run.new × O.has_room object.new run.old.image.0 ask.now) }
-    ensures spare { IfOk result (IsSpare ask.now (O.reply_after (O.made object.old) (O.history object.old) run.old.image.0 ask.now)) }
-{
-    run.make_room()?;
-    object.reserve(run.image, ask)
 }
 
 // Makes the step of the kept ask, which the image makes by itself; the ask isn't kept any more. After want of memory it isn't made.
@@ -110,7 +89,8 @@ fn step_at<M: Walker, O: Object>(
     let Some(ask) = asks.get(image) else {
         unreachable!();
     };
-    match room_at(run, object, ask) {
+    run.make_room()?;
+    match object.reserve(image, ask) {
         Ok(spare) => {
             let Some(ask) = asks.take(image) else {
                 unreachable!();
