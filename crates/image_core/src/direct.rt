@@ -24,20 +24,6 @@ use caf_events::reply::Reply;
 use caf_events::walker::Walker;
 use run_outlook::next_asks::NextAsks;
 
-// Room for the step that the image makes by itself: the ask with its reply.
-fn room_alone<M: Walker>(run: &mut ImageRun<M>, ask: &Ask) -> Result<Exchange, NoMemory>
-    requires { IsAtAsk (move_of M.Walker run.old) }
-    ensures image { run.new.image ≡ run.old.image }
-    ensures machine { M.config run.new.machine ≡ M.config run.old.machine }
-    ensures events { run.new.events.items ≡ run.old.events.items }
-    ensures last { run.new.last ≡ run.old.last }
-    ensures room { OnOk result (HasRoom M.Walker run.new) }
-    ensures told { IfOk result (λ t. t ≡ record { ask = ask.now; reply = replies.Done }) }
-{
-    run.make_room()?;
-    Exchange::new(*run.events.allocator(), ask, &Reply::Done)
-}
-
 // Makes the step of the kept ask, which the image makes by itself; the ask isn't kept any more. After want of memory it isn't made.
 fn step_alone<M: Walker>(run: &mut ImageRun<M>, asks: &mut NextAsks) -> Result<(), NoMemory>
     requires kept { KeepsNext (move_of M.Walker run.old) run.old.image.0 asks.old.kept.items }
@@ -54,7 +40,9 @@ fn step_alone<M: Walker>(run: &mut ImageRun<M>, asks: &mut NextAsks) -> Result<(
     let Some(ask) = asks.get(image) else {
         unreachable!();
     };
-    match room_alone(run, ask) {
+    run.make_room()?;
+    let told = Exchange::new(*run.events.allocator(), ask, &Reply::Done);
+    match told {
         Ok(told) => {
             drop(asks.take(image));
             let event = Event::new(told, run.last + 1, run.machine.line());
