@@ -1,22 +1,22 @@
 //! The step of one image whose next ask is kept, made at once: nothing is set aside.
 
-ghost use Rattle.std.specs.Prelude.{◌≡◌, ◌<◌, ◌≤◌, ◌+◌, ◌-◌, ◌^◌, ℕ, suc, length, IsTrue, IfOk, OnOk, OnErr, Some, None, true};
+ghost use Rattle.std.specs.Prelude.{◌≡◌, ◌<◌, ◌≤◌, ◌+◌, ◌-◌, ◌^◌, ℕ, suc, length, IsTrue, OnOk, OnErr, Some, None, true};
 ghost use Rattle.trace_theory.specs.Machines.{Rests};
 ghost use Rattle.caf_base.specs.declared.place.Place.TheVariants as places;
 ghost use Rattle.caf_events.specs.Histories.{last_stamp_of};
-ghost use Rattle.caf_events.specs.Walkers.{IsAtAsk, AsksNext};
+ghost use Rattle.caf_events.specs.Walkers.{AsksNext};
+ghost use Rattle.caf_events.specs.declared.ask.Ask.{Ask};
 ghost use Rattle.caf_events.specs.declared.event.Event.{Event};
 ghost use Rattle.caf_events.specs.declared.reply.Reply.TheVariants as replies;
 ghost use Rattle.core_runs.specs.Moments.{can_step, item_at, rules, with_item, Steps};
 ghost use Rattle.image_core.specs.NextAsks.{AreNextAsks, AsksNextAt, KeepsNext};
 ghost use Rattle.image_core.specs.Parts.{moment, AreNumbered, AreSound, Spends};
-ghost use Rattle.image_core.specs.Prepared.{move_of, HasRoom, StepsAt, StepsAlone};
+ghost use Rattle.image_core.specs.Prepared.{move_of, StepsAt, StepsAlone};
 
 use crate::parts::PartsOf;
 use crate::run::ImageRun;
 use caf_base::place::{ImageNo, Place};
 use caf_base::refusal::NoMemory;
-use caf_events::ask::Ask;
 use caf_events::event::Event;
 use caf_events::exchange::Exchange;
 use caf_events::object::Object;
