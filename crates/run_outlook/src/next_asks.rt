@@ -7,18 +7,12 @@ use caf_base::place::ImageNo;
 use caf_base::refusal::NoMemory;
 use caf_events::ask::Ask;
 use std::alloc::Global;
+use std::mem;
 
 /// The next ask of each image, by number from 1; None where it isn't kept.
 #[derive(Drop)]
 pub struct NextAsks {
     kept: Vec<Option<Ask>>,
-}
-
-// Writes a value where another one stands, which is dropped there. Of an ask that is one goal of the proof; else each kind of ask would be one.
-fn write<T: Drop>(there: &mut T, value: T)
-    ensures { there.new ≡ value }
-{
-    *there = value;
 }
 
 impl NextAsks {
@@ -46,7 +40,7 @@ impl NextAsks {
         requires { (0 < image.0) × (image.0 ≤ length self.old.kept.items) }
         ensures { self.new.kept.items ≡ with_item self.old.kept.items image.0 (Some ask) }
     {
-        write(&mut self.kept[(image.0 - 1) as usize], Some(ask));
+        drop(mem::replace(&mut self.kept[(image.0 - 1) as usize], Some(ask)));
     }
 
     // Gives the next ask of an image, where it is kept, and keeps it no more.
