@@ -1,5 +1,5 @@
 -- What an image that is looked at asks next, and whether it can step.
-use Rattle.std.proofs.Common.{◌≡◌, ℕ, suc, ◌-◌, ◌<◌, ◌≤◌, length, refl, ap, sym, ◌∙◌, subst, arith, true, false}
+use Rattle.std.proofs.Common.{◌≡◌, ℕ, suc, ◌-◌, ◌<◌, ◌≤◌, length, ap, sym, subst, arith, true, false}
 use Rattle.std.specs.Prelude.{slice_index_or, Some}
 use Rattle.caf_base.specs.declared.place.Place.{Place}
 use Rattle.caf_events.specs.declared.object.Object as object
@@ -18,10 +18,10 @@ use Rattle.image_core.specs.NextAsks.{IsNextAsk, AsksNextAt}
 use Rattle.image_core.specs.Parts.{moment}
 use Rattle.image_core.specs.Prepared.{move_of}
 use Rattle.image_core.proofs.Choosing.{ended_cant}
-use Rattle.image_core.proofs.Readiness.{an_item, asks_at, at_place, can_is, ended, never_asks, next_at, over_now, ready_is, stands_at}
+use Rattle.image_core.proofs.Readiness.{an_item, asks_at, at_place, ended, never_asks, next_at, over_now, ready_is, stands_at}
 use Rattle.run_outlook.proofs.Slices.{map_get}
 
-can_asks : {C M B : Type 0} (r : Rules C M B) (m : Moment C M B) (i : ℕ) (move : Move C Ask Reply) → can_move r m i move ≡ true → IsAtAsk move
+pub can_asks : {C M B : Type 0} (r : Rules C M B) (m : Moment C M B) (i : ℕ) (move : Move C Ask Reply) → can_move r m i move ≡ true → IsAtAsk move
 can_asks r m i (goes c) h = absurd (cc)
 can_asks r m i (asks a l k) h = tt
 can_asks r m i over h = absurd (cc)
@@ -39,14 +39,15 @@ module _ {M O B : Type 0} (walks : walker.Ghosts M) (memory : object.Ghosts O) (
   within = omega arith
 
   -- an image whose next ask is known can step where that ask can come
-  pub can_kept : (a : Ask) → IsNextAsk (rules walks memory control) (moment walks memory control p) i a
-      → ready_there (rules walks memory control) (moment walks memory control p) i a (place_of a) ≡ can_step (rules walks memory control) (moment walks memory control p) i
-  can_kept a next =
+  pub can_kept : (q : Place) → AsksNextAt (rules walks memory control) (moment walks memory control p) i q → (a : Ask) → IsNextAsk (rules walks memory control) (moment walks memory control p) i a
+      → ready_there (rules walks memory control) (moment walks memory control p) i a q ≡ can_step (rules walks memory control) (moment walks memory control p) i
+  can_kept q place a next =
       let run = an_item p.images.items (i - 1) within in
       let there = map_get (λ (x : ImageRun M). walks.config x.machine) p.images.items (i - 1) run.0 within run.1 in
-      let asked = next (walks.config run.0.machine) (subst (λ n. item_at (moment walks memory control p).configs n ≡ Some (walks.config run.0.machine)) (sym number) there) in
-      subst (λ n. ready_there (rules walks memory control) (moment walks memory control p) n a (place_of a) ≡ can_step (rules walks memory control) (moment walks memory control p) n) (sym number)
-      (sym (ready_is walks memory control p (i - 1) run.0 within run.1 (place_of a) a (asks_at (place_of a) (move_of walks run.0) a asked refl) asked))
+      let stands = subst (λ n. item_at (moment walks memory control p).configs n ≡ Some (walks.config run.0.machine)) (sym number) there in
+      let asked = next (walks.config run.0.machine) stands in
+      subst (λ n. ready_there (rules walks memory control) (moment walks memory control p) n a q ≡ can_step (rules walks memory control) (moment walks memory control p) n) (sym number)
+      (sym (ready_is walks memory control p (i - 1) run.0 within run.1 q a (asks_at q (move_of walks run.0) a asked (place (walks.config run.0.machine) stands a asked)) asked))
 
   module _ (r : ImageRun M) (run_is : r ≡ slice_index_or p.images.items (i - 1) r) where
     -- one that has ended asks nothing and can't step
@@ -66,19 +67,7 @@ module _ {M O B : Type 0} (walks : walker.Ghosts M) (memory : object.Ghosts O) (
         next_at walks memory control p (i - 1) r within run_is q (at_place (move_of walks r) q next) c
         (subst (λ n. item_at (moment walks memory control p).configs n ≡ Some c) number at) a asked
 
-    pub asked_can : (q : Place) → NextIs (move_of walks r) (nexts.Ask q) → (a : Ask) → AsksNext (move_of walks r) a
-        → ready_there (rules walks memory control) (moment walks memory control p) i a q ≡ can_step (rules walks memory control) (moment walks memory control p) i
-    asked_can q next a asked =
-        subst (λ n. ready_there (rules walks memory control) (moment walks memory control p) n a q ≡ can_step (rules walks memory control) (moment walks memory control p) n) (sym number)
-        (sym (ready_is walks memory control p (i - 1) r within run_is q a (at_place (move_of walks r) q next) asked))
-
     pub asked_next : (a : Ask) → AsksNext (move_of walks r) a → IsNextAsk (rules walks memory control) (moment walks memory control p) i a
     asked_next a asked c at =
         subst (λ d. AsksNext (walks.step d) a) (sym (stands_at walks memory control p (i - 1) r within run_is c
         (subst (λ n. item_at (moment walks memory control p).configs n ≡ Some c) number at))) asked
-
-    -- one that can step is at an ask
-    pub at_ask : can_step (rules walks memory control) (moment walks memory control p) i ≡ true → IsAtAsk (move_of walks r)
-    at_ask can =
-        can_asks (rules walks memory control) (moment walks memory control p) (suc (i - 1)) (move_of walks r)
-        (sym (can_is walks memory control p (i - 1) r within run_is) ∙ subst (λ n. can_step (rules walks memory control) (moment walks memory control p) n ≡ true) number can)
