@@ -14,7 +14,7 @@ pub struct ImageSet {
 }
 
 impl ImageSet {
-    // The set without an image, with room for the images up to this number.
+    /// The set without an image, with room for the images up to this number.
     pub fn new(alloc: Global, images: u32) -> Result<ImageSet, NoMemory>
         ensures room { IfOk result (λ s. length s.words.items ≡ images / 64 + 1) }
         ensures none { IfOk result (λ s. (i : ℕ) → has s.words.items i ≡ false) }
@@ -23,7 +23,7 @@ impl ImageSet {
         Ok(ImageSet { words })
     }
 
-    // Whether the image is in the set.
+    /// Whether the image is in the set.
     pub fn has(&self, image: u32) -> bool
         requires { image < 64 * length self.now.words.items }
         ensures { result ≡ has self.now.words.items image }
@@ -31,7 +31,7 @@ impl ImageSet {
         (self.words[(image / 64) as usize] >> (image % 64)) & 1 == 1
     }
 
-    // Puts the image into the set.
+    /// Puts the image into the set.
     pub fn insert(&mut self, image: u32)
         requires { image < 64 * length self.old.words.items }
         ensures room { length self.new.words.items ≡ length self.old.words.items }
@@ -41,7 +41,7 @@ impl ImageSet {
         self.words[(image / 64) as usize] |= 1 << (image % 64);
     }
 
-    // Takes the image out of the set.
+    /// Takes the image out of the set.
     pub fn remove(&mut self, image: u32)
         requires { image < 64 * length self.old.words.items }
         ensures room { length self.new.words.items ≡ length self.old.words.items }
@@ -51,7 +51,7 @@ impl ImageSet {
         self.words[(image / 64) as usize] &= !(1 << (image % 64));
     }
 
-    // Puts the images of another set into this one.
+    /// Puts the images of another set into this one.
     pub fn insert_all(&mut self, more: &ImageSet)
         requires { length more.now.words.items ≡ length self.old.words.items }
         ensures room { length self.new.words.items ≡ length self.old.words.items }
@@ -71,7 +71,7 @@ impl ImageSet {
         ((self.words[(from / 64) as usize] >> (from % 64)) % 256).count_ones()
     }
 
-    // The first number of the byte in which the number stands that is at a place of the set, and how many of the byte stand before that.
+    /// The first number of the byte in which the number stands that is at a place of the set, and how many of the byte stand before that.
     pub fn byte_of(&self, place: u32) -> (u32, u32)
         requires { 64 * length self.now.words.items < 2 ^ 32 - 64 }
         ensures { result.1 + length (filter (has self.now.words.items) (range_with_len 0 result.0)) ≡ place }
@@ -89,7 +89,7 @@ impl ImageSet {
         (from, left)
     }
 
-    // The least image of the set from a number on.
+    /// The least image of the set from a number on.
     pub fn next(&self, from: u32) -> Option<u32>
         requires { 64 * length self.now.words.items < 2 ^ 32 }
         ensures { IsLeastFrom (has self.now.words.items) from result }

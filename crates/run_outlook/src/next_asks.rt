@@ -16,7 +16,7 @@ pub struct NextAsks {
 }
 
 impl NextAsks {
-    // No ask is kept of any of so many images.
+    /// No ask is kept of any of so many images.
     pub fn new(alloc: Global, images: u32) -> Result<NextAsks, NoMemory>
         ensures { IfOk result (λ asks. asks.kept.items ≡ replicate images None) }
     {
@@ -27,7 +27,7 @@ impl NextAsks {
         Ok(NextAsks { kept })
     }
 
-    // The next ask of an image, where it is kept.
+    /// The next ask of an image, where it is kept.
     pub fn get(&self, image: ImageNo) -> Option<&Ask>
         requires { (0 < image.0) × (image.0 ≤ length self.now.kept.items) }
         ensures { MatchOption result (item_at self.now.kept.items image.0 ≡ Some None) (λ a. item_at self.now.kept.items image.0 ≡ Some (Some a.now)) }
@@ -35,7 +35,7 @@ impl NextAsks {
         self.kept[(image.0 - 1) as usize].as_ref()
     }
 
-    // Keeps the next ask of an image.
+    /// Keeps the next ask of an image.
     pub fn keep(&mut self, image: ImageNo, ask: Ask)
         requires { (0 < image.0) × (image.0 ≤ length self.old.kept.items) }
         ensures { self.new.kept.items ≡ with_item self.old.kept.items image.0 (Some ask) }
@@ -43,7 +43,7 @@ impl NextAsks {
         drop(mem::replace(&mut self.kept[(image.0 - 1) as usize], Some(ask)));
     }
 
-    // Gives the next ask of an image, where it is kept, and keeps it no more.
+    /// Gives the next ask of an image, where it is kept, and keeps it no more.
     pub fn take(&mut self, image: ImageNo) -> Option<Ask>
         requires { (0 < image.0) × (image.0 ≤ length self.old.kept.items) }
         ensures taken { item_at self.old.kept.items image.0 ≡ Some result }

@@ -17,11 +17,17 @@ use std::alloc::Global;
 /// What an image asks next only its own step changes, so its next ask is kept until then.
 #[derive(Drop)]
 pub struct Outlook {
+    /// How many images the run has.
     pub images: u32,
+    /// Those that can step, as far as it is known: of a stale one this says nothing.
     pub can: ImageSet,
+    /// How many images are in `can`.
     pub count: u32,
+    /// Those of which it isn't known whether they can step.
     pub stale: ImageSet,
+    /// Those that are filed at the board, and at each memory by its owner's number.
     pub filed: Vec<ImageSet>,
+    /// The next asks that are known.
     pub asks: NextAsks,
 }
 
@@ -53,7 +59,7 @@ fn empty_sets(alloc: Global, count: usize, images: u32) -> Result<Vec<ImageSet>,
 }
 
 impl Outlook {
-    // Nothing is known of any image yet.
+    /// Nothing is known of any image yet.
     pub fn new(alloc: Global, images: u32, memories: usize) -> Result<Outlook, NoMemory>
         requires few { images < 2 ^ 31 }
         requires objects { memories < 2 ^ 64 - 1 }
@@ -90,7 +96,7 @@ impl Outlook {
         }
     }
 
-    // It isn't known any more whether this image can step, and it isn't filed at a place any more.
+    /// It isn't known any more whether this image can step; it is taken out of the file of a place. What is known of others stays.
     pub fn forget_image(&mut self, image: ImageNo, place: Place)
         requires well { IsWell self.old }
         requires image { (0 < image.0) × (image.0 ≤ self.old.images) }
@@ -109,7 +115,7 @@ impl Outlook {
         }
     }
 
-    // It isn't known any more whether those images can step that are filed at a place.
+    /// It isn't known any more whether those images can step that are filed at a place; that is all it forgets.
     pub fn forget_place(&mut self, place: Place)
         requires { IsWell self.old }
         ensures well { IsWell self.new }
@@ -165,7 +171,7 @@ impl Outlook {
         }
     }
 
-    // It is known now whether an image can step, and where its next ask is.
+    /// It is known now whether an image can step, and where its next ask is.
     pub fn learn(&mut self, image: ImageNo, place: Place, can: bool)
         requires well { IsWell self.old }
         requires image { (0 < image.0) × (image.0 ≤ self.old.images) }
@@ -185,7 +191,7 @@ impl Outlook {
         self.stale.remove(image.0);
     }
 
-    // Whether it isn't known of an image whether it can step.
+    /// Whether it isn't known of an image whether it can step.
     pub fn is_stale(&self, image: u32) -> bool
         requires well { IsWell self.now }
         requires image { image ≤ self.now.images }
@@ -194,7 +200,7 @@ impl Outlook {
         self.stale.has(image)
     }
 
-    // Whether an image can step, where that is known.
+    /// Whether an image can step, where that is known.
     pub fn can(&self, image: u32) -> bool
         requires well { IsWell self.now }
         requires image { image ≤ self.now.images }
@@ -203,7 +209,7 @@ impl Outlook {
         self.can.has(image)
     }
 
-    // The first image from a number on that isn't known to be unable to step.
+    /// The first image from a number on that isn't known to be unable to step.
     pub fn next_open(&self, from: u32) -> Option<u32>
         requires well { IsWell self.now }
         ensures { IsLeastFrom (λ j. has self.now.can.words.items j || has self.now.stale.words.items j) from result }
@@ -215,7 +221,7 @@ impl Outlook {
         }
     }
 
-    // The first image from a number on of which it isn't known whether it can step.
+    /// The first image from a number on of which it isn't known whether it can step.
     pub fn next_stale(&self, from: u32) -> Option<u32>
         requires well { IsWell self.now }
         ensures { IsLeastFrom (has self.now.stale.words.items) from result }
@@ -223,7 +229,7 @@ impl Outlook {
         self.stale.next(from)
     }
 
-    // The candidate at a place, from 0.
+    /// The candidate at a place, from 0.
     pub fn candidate_at(&self, place: u32) -> u32
         requires well { IsWell self.now }
         requires place { place < self.now.count }
