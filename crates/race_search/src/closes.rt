@@ -6,7 +6,7 @@ ghost use Rattle.object_rules.specs.ImagePairs.{names};
 ghost use Rattle.order_axioms.specs.Closes.{told, told_by, formed, members, joined_by, has_come, round_closed, pair_closed, is_over, gone_by};
 ghost use Rattle.race_search.specs.Steps.{closed_by, has_met, is_missed};
 
-use crate::steps::{Step, contains, is_gone, is_over, named, tally};
+use crate::steps::{Step, contains, goes, is_over, named, tally};
 use caf_base::refusal::NoMemory;
 use caf_events::event::Entry;
 use caf_events::reply::{FormedTeam, Reply};
@@ -206,7 +206,7 @@ fn is_missed(
 ) -> Result<bool, NoMemory>
     ensures { IfOk result (λ b. b ≡ is_missed n before.now close then.now e.now) }
 {
-    if is_gone(alloc, e) {
+    if goes(alloc, e) {
         Ok(!has_closed(alloc, n, close, before, then)?)
     } else {
         Ok(false)

@@ -9,6 +9,7 @@ ghost use Rattle.race_search.specs.Failures.{is_missing, AreFailures};
 use crate::closes::members;
 use crate::steps::{Step, is_gone, is_over, tally};
 use caf_base::refusal::NoMemory;
+use caf_events::ask::Ask;
 use caf_events::event::Entry;
 use std::alloc::Global;
 
@@ -63,18 +64,20 @@ fn closed_rounds(alloc: Global, n: u32, team: u32, before: &[Entry]) -> Result<u
     Ok(closed)
 }
 
-/// Keeps the failure of the entry's image, where it is gone by this entry.
+/// Keeps the failure of the entry's image, where it is gone by this entry, which has this ask.
 pub fn keep_failure(
     alloc: Global,
     n: u32,
     failures: &mut Vec<Failure>,
     before: &[Entry],
     e: &Entry,
+    ask: &Ask,
 ) -> Result<(), NoMemory>
-    requires { AreFailures n before.now failures.old.items }
+    requires ask { ask.now ≡ e.now.event.ask }
+    requires failures { AreFailures n before.now failures.old.items }
     ensures { IfOk result (λ _. AreFailures n (before.now ++ e.now ∷ []) failures.new.items) }
 {
-    if is_gone(alloc, e) {
+    if is_gone(ask) {
         let closed = closed_rounds(alloc, n, 1, before)?;
         failures.push(Failure {
             image: e.image.0,

@@ -168,21 +168,19 @@ fn speaks_by(
     }
 }
 
-/// The failed images of which the entry's status speaks, after these entries of a run of n images.
+/// The failed images of which the status of the entry, which has this ask and reply, speaks, after these entries of a run of n images.
 pub fn spoken(
     alloc: Global,
     n: u32,
     failures: &[Failure],
     before: &[Entry],
     e: &Entry,
+    ask: &Ask,
+    reply: &Reply,
 ) -> Result<Vec<u32>, NoMemory>
+    requires exchange { (ask.now ≡ e.now.event.ask) × (reply.now ≡ e.now.event.reply) }
     requires failures { AreFailures n before.now failures.now }
     ensures { IfOk result (λ v. v.items ≡ speaks_by n before.now e.now.image.0 e.now.event.ask e.now.event.reply) }
 {
-    let ask = e.event.told().ask(alloc);
-    let reply = e.event.reply(alloc);
-    let images = speaks_by(alloc, n, failures, before, e.image, &ask, &reply);
-    drop(ask);
-    drop(reply);
-    images
+    speaks_by(alloc, n, failures, before, e.image, ask, reply)
 }

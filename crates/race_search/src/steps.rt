@@ -133,12 +133,19 @@ pub fn is_over(alloc: Global, image: u32, before: &[Entry]) -> bool
     false
 }
 
+/// Whether an image is gone by this ask.
+pub fn is_gone(ask: &Ask) -> bool
+    ensures { result ≡ is_gone ask.now }
+{
+    matches!(ask, Ask::Gone)
+}
+
 /// Whether the entry's image is gone by it.
-pub fn is_gone(alloc: Global, e: &Entry) -> bool
+pub fn goes(alloc: Global, e: &Entry) -> bool
     ensures { result ≡ is_gone e.now.event.ask }
 {
     let ask = e.event.told().ask(alloc);
-    let is = matches!(&*ask, Ask::Gone);
+    let is = is_gone(&ask);
     drop(ask);
     is
 }

@@ -16,7 +16,9 @@ use crate::failures::{Failure, keep_failure};
 use crate::spoken::spoken;
 use caf_base::place::ImageNo;
 use caf_base::refusal::NoMemory;
+use caf_events::ask::Ask;
 use caf_events::event::Entry;
+use caf_events::reply::Reply;
 use race_watch::recorder::Recorder;
 use race_watch::touch::Touch;
 use segment_clock::clock::Clock;
@@ -79,43 +81,52 @@ impl Watcher {
         })
     }
 
-    /// The clock that covers the last segments of the failed images of which the entry's status speaks (11.6.11), None where it speaks of none.
+    /// The clock that covers the last segments of the failed images of which the status of the entry, which has this ask and reply, speaks (11.6.11), None
+    /// where it speaks of none.
     pub fn told(
         &self,
         alloc: Global,
         n: u32,
         before: &[Entry],
         e: &Entry,
+        ask: &Ask,
+        reply: &Reply,
     ) -> Result<Option<Clock>, NoMemory>
+        requires exchange { (ask.now ≡ e.now.event.ask) × (reply.now ≡ e.now.event.reply) }
         requires fits { Fits n before.now e.now }
         requires watched { IsWatched n before.now self.now }
         ensures { IfOk result (IsTold n before.now e.now) }
     {
-        let images = spoken(alloc, n, self.failures.as_slice(), before, e)?;
+        let images = spoken(alloc, n, self.failures.as_slice(), before, e, ask, reply)?;
         let clock = clock_of(alloc, n, &self.recorder, before, images.as_slice());
         drop(images);
         clock
     }
 
-    /// Records the next entry, which touches this. Condition: no entry so far is unordered with it, or it is no access.
+    /// Records the next entry, which has this ask and reply, and touches this. Condition: no entry so far is unordered with it, or it is no access.
     pub fn follow(
         &mut self,
         alloc: Global,
         n: u32,
         before: &[Entry],
         e: &Entry,
+        ask: &Ask,
+        reply: &Reply,
         touch: &Option<Touch>,
     ) -> Result<(), NoMemory>
+        requires exchange { (ask.now ≡ e.now.event.ask) × (reply.now ≡ e.now.event.reply) }
         requires fits { Fits n before.now e.now }
         requires watched { IsWatched n before.now self.old }
         requires touch { TouchesAll n before.now e.now touch.now }
         requires none { MayNote n before.now e.now }
         ensures { IfOk result (λ _. IsWatched n (before.now ++ e.now ∷ []) self.new) }
     {
-        let told = self.told(alloc, n, before, e)?;
-        let recorded = self.recorder.record(alloc, n, before, e, touch, &told);
+        let told = self.told(alloc, n, before, e, ask, reply)?;
+        let recorded = self
+            .recorder
+            .record(alloc, n, before, e, ask, reply, touch, &told);
         drop(told);
         recorded?;
-        keep_failure(alloc, n, &mut self.failures, before, e)
+        keep_failure(alloc, n, &mut self.failures, before, e, ask)
     }
 }

@@ -16,7 +16,9 @@ ghost use Rattle.race_search.specs.Partners.{NoneBelow, IsPartner};
 use crate::partner::{Partner, first_partner};
 use crate::told::Watcher;
 use caf_base::refusal::NoMemory;
+use caf_events::ask::Ask;
 use caf_events::event::Entry;
+use caf_events::reply::Reply;
 use race_watch::act::CellName;
 use race_watch::recorder::Recorder;
 use race_watch::touch::Touch;
@@ -52,15 +54,18 @@ fn partner_of(
     }
 }
 
-// The same; where there is none, the next entry is recorded.
+// The same; where there is none, the next entry, which has this ask and reply, is recorded.
 fn partner_or_follow(
     alloc: Global,
     n: u32,
     watcher: &mut Watcher,
     before: &[Entry],
     e: &Entry,
+    ask: &Ask,
+    reply: &Reply,
     touch: &Option<Touch>,
 ) -> Result<Option<Partner>, NoMemory>
+    requires exchange { (ask.now ≡ e.now.event.ask) × (reply.now ≡ e.now.event.reply) }
     requires all { AllFit n before.now × AllNoted n before.now }
     requires fits { Fits n before.now e.now }
     requires watched { IsWatched n before.now watcher.old }
@@ -71,10 +76,55 @@ fn partner_or_follow(
     match partner_of(alloc, n, &watcher.recorder, before, e, touch)? {
         Some(partner) => Ok(Some(partner)),
         None => {
-            watcher.follow(alloc, n, before, e, touch)?;
+            watcher.follow(alloc, n, before, e, ask, reply, touch)?;
             Ok(None)
         }
     }
+}
+
+// The same; what the next entry touches is made here.
+fn partner_by(
+    alloc: Global,
+    n: u32,
+    watcher: &mut Watcher,
+    before: &[Entry],
+    e: &Entry,
+    ask: &Ask,
+    reply: &Reply,
+) -> Result<Option<Partner>, NoMemory>
+    requires exchange { (ask.now ≡ e.now.event.ask) × (reply.now ≡ e.now.event.reply) }
+    requires all { AllFit n before.now × AllNoted n before.now }
+    requires fits { Fits n before.now e.now }
+    requires watched { IsWatched n before.now watcher.old }
+    requires none { NoneBelow n before.now e.now (length before.now) → MayNote n before.now e.now }
+    ensures { IfOk result (λ o. MatchOption o (NoneBelow n before.now e.now (length before.now) × IsWatched n (before.now ++ e.now ∷ []) watcher.new) (λ p. IsPartner n before.now e.now p.at (as_cell p.cell))) }
+{
+    let touch = watcher.recorder.touch_of(alloc, n, before, e, ask, reply)?;
+    let partner = partner_or_follow(alloc, n, watcher, before, e, ask, reply, &touch);
+    drop(touch);
+    partner
+}
+
+// The same; its ask and reply are made here, once for all that reads them.
+fn partner_at(
+    alloc: Global,
+    n: u32,
+    watcher: &mut Watcher,
+    before: &[Entry],
+    e: &Entry,
+) -> Result<Option<Partner>, NoMemory>
+    requires all { AllFit n before.now × AllNoted n before.now }
+    requires fits { Fits n before.now e.now }
+    requires watched { IsWatched n before.now watcher.old }
+    requires none { NoneBelow n before.now e.now (length before.now) → MayNote n before.now e.now }
+    ensures { IfOk result (λ o. MatchOption o (NoneBelow n before.now e.now (length before.now) × IsWatched n (before.now ++ e.now ∷ []) watcher.new) (λ p. IsPartner n before.now e.now p.at (as_cell p.cell))) }
+{
+    let ask = e.event.told().ask(alloc);
+    let reply = e.event.reply(alloc);
+    let partner = partner_by(alloc, n, watcher, before, e, &ask, &reply);
+    drop(ask);
+    drop(reply);
+    partner
 }
 
 /// The first race of the trace of a run of n images: the earliest entry that is a race with an earlier one, the earliest such partner, and the least cell
@@ -89,10 +139,7 @@ pub fn watch(alloc: Global, trace: &[Entry], n: u32) -> Result<Option<Race>, NoM
     for at in 0..trace.len() {
         let before = &trace[..at];
         let e = &trace[at];
-        let touch = watcher.recorder.touch_of(alloc, n, before, e)?;
-        let partner = partner_or_follow(alloc, n, &mut watcher, before, e, &touch);
-        drop(touch);
-        if let Some(partner) = partner? {
+        if let Some(partner) = partner_at(alloc, n, &mut watcher, before, e)? {
             return Ok(Some(Race {
                 first: partner.at,
                 second: at,

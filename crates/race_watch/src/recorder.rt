@@ -130,25 +130,23 @@ impl Recorder {
         self.order.completed(_n, _before, image)
     }
 
-    /// What an entry touches.
+    /// What an entry with this ask and reply touches.
     pub fn touch_of(
         &self,
         alloc: Global,
         n: u32,
         before: &[Entry],
-        e: &Entry,
+        _e: &Entry,
+        ask: &Ask,
+        reply: &Reply,
     ) -> Result<Option<Touch>, NoMemory>
-        requires fits { FitsRun n before.now e.now }
+        requires exchange { (ask.now ≡ _e.now.event.ask) × (reply.now ≡ _e.now.event.reply) }
+        requires fits { FitsRun n before.now _e.now }
         requires recorded { IsRecorded n before.now self.now }
-        ensures { IfOk result (TouchesAll n before.now e.now) }
+        ensures { IfOk result (TouchesAll n before.now _e.now) }
     {
-        let ask = e.event.told().ask(alloc);
-        let reply = e.event.reply(alloc);
-        let made = made_of(&self.made, n, before, &ask);
-        let touch = touch_by(alloc, n, before, &ask, &reply, made);
-        drop(ask);
-        drop(reply);
-        touch
+        let made = made_of(&self.made, n, before, ask);
+        touch_by(alloc, n, before, ask, reply, made)
     }
 
     /// Whether an entry so far conflicts with the next one, which touches this, and stands in a segment that doesn't precede its segment.
@@ -206,17 +204,20 @@ impl Recorder {
         self.order.step(alloc, n, before, e, act, told)
     }
 
-    /// Records the next entry, which touches this. `told` covers the last segments of the failed images of which its status speaks. Condition: no entry so
-    /// far is unordered with it, or it is no access.
+    /// Records the next entry, which has this ask and reply, and touches this. `told` covers the last segments of the failed images of which its status
+    /// speaks. Condition: no entry so far is unordered with it, or it is no access.
     pub fn record(
         &mut self,
         alloc: Global,
         n: u32,
         before: &[Entry],
         e: &Entry,
+        ask: &Ask,
+        reply: &Reply,
         touch: &Option<Touch>,
         told: &Option<Clock>,
     ) -> Result<(), NoMemory>
+        requires exchange { (ask.now ≡ e.now.event.ask) × (reply.now ≡ e.now.event.reply) }
         requires fits { FitsRun n before.now e.now }
         requires recorded { IsRecorded n before.now self.old }
         requires touch { TouchesAll n before.now e.now touch.now }
@@ -225,11 +226,6 @@ impl Recorder {
         ensures { IfOk result (λ _. IsRecorded n (before.now ++ e.now ∷ []) self.new) }
     {
         self.note(alloc, n, before, e, touch)?;
-        let ask = e.event.told().ask(alloc);
-        let reply = e.event.reply(alloc);
-        let kept = self.keep(alloc, n, before, e, &ask, &reply, told);
-        drop(ask);
-        drop(reply);
-        kept
+        self.keep(alloc, n, before, e, ask, reply, told)
     }
 }

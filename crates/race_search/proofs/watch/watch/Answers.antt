@@ -6,21 +6,17 @@ use Rattle.race_search.proofs.Whole.{no_race_more, first_race, may_note}
 use Rattle.race_search.proofs.Lawfuls.{lawful_pauses, all_fit}
 use Rattle.race_search.proofs.watch.watch.Goals as goal
 
-pub touch_of-requires-clause-fits : goal.touch_of-requires-clause-fits
-touch_of-requires-clause-fits c =
-    (fit_at c.args.n c.args.trace.now (all_fit c.requires.lawful.0 c.args.n c.args.trace.now c.requires.lawful.1 c.requires.short) c.loop-at.at c.index-trace-at.result (omega arith) c.index-trace-at.is).run
-
-pub partner_or_follow-partner-requires-clause-all : goal.partner_or_follow-partner-requires-clause-all
-partner_or_follow-partner-requires-clause-all c =
+pub partner_at-requires-clause-all : goal.partner_at-requires-clause-all
+partner_at-requires-clause-all c =
     let fits = all_fit c.requires.lawful.0 c.args.n c.args.trace.now c.requires.lawful.1 c.requires.short in
     (front_fits c.args.n c.args.trace.now c.loop-at.at fits, front_noted c.args.n c.args.trace.now c.loop-at.at (omega arith) c.loop-at.invariant.noted)
 
-pub partner_or_follow-partner-requires-clause-fits : goal.partner_or_follow-partner-requires-clause-fits
-partner_or_follow-partner-requires-clause-fits c =
+pub partner_at-requires-clause-fits : goal.partner_at-requires-clause-fits
+partner_at-requires-clause-fits c =
     fit_at c.args.n c.args.trace.now (all_fit c.requires.lawful.0 c.args.n c.args.trace.now c.requires.lawful.1 c.requires.short) c.loop-at.at c.index-trace-at.result (omega arith) c.index-trace-at.is
 
-pub partner_or_follow-partner-requires-clause-none : goal.partner_or_follow-partner-requires-clause-none
-partner_or_follow-partner-requires-clause-none c =
+pub partner_at-requires-clause-none : goal.partner_at-requires-clause-none
+partner_at-requires-clause-none c =
     may_note c.args.n c.args.trace.now (lawful_pauses c.requires.lawful.0 c.args.n c.args.trace.now c.requires.lawful.1) (stands_at c.args.trace.now c.loop-at.at c.index-trace-at.result (omega arith) c.index-trace-at.is)
 
 pub returns-in-Some : goal.returns-in-Some
@@ -32,7 +28,7 @@ pub loop-at-preserved : goal.loop-at-preserved
 loop-at-preserved c =
     let z = c.in_ok-partner.ensures in
     let both = (rw c.in_default.is at z) in record {
-      watched = watched_next c.args.n c.args.trace.now c.loop-at.at c.index-trace-at.result c.partner_or_follow-partner.new.watcher (omega arith) c.index-trace-at.is both.1;
+      watched = watched_next c.args.n c.args.trace.now c.loop-at.at c.index-trace-at.result c.partner_at.new.watcher (omega arith) c.index-trace-at.is both.1;
       noted = below_more (λ b y. MayNote c.args.n b y) c.args.trace.now c.loop-at.at c.index-trace-at.result (omega arith) c.index-trace-at.is
           (may_note c.args.n c.args.trace.now (lawful_pauses c.requires.lawful.0 c.args.n c.args.trace.now c.requires.lawful.1) (stands_at c.args.trace.now c.loop-at.at c.index-trace-at.result (omega arith) c.index-trace-at.is) both.0)
           c.loop-at.invariant.noted;
