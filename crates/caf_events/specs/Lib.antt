@@ -5,5 +5,4 @@ pub mod Events
 pub mod Exchanges
 pub mod Histories
 pub mod Memories
-pub mod Rounds
 pub mod Walkers

@@ -200,7 +200,7 @@ pub struct Entry {
     pub event: Event,
 }
 
-// An entry is small: each step is kept in a history, in an image's events and in the trace.
+// An entry is small: each step is kept in its image's events and in the trace.
 const _: () = prove!(size_of::<Entry>() <= 56);
 
 impl TryCopy for Entry {

@@ -40,8 +40,9 @@ pub(crate) enum Signal {
     Post,
 }
 
-// The exchanges of one cell, of SYNC ALL, of a lock or an event variable, of a collective subroutine over one integer, of the end of SYNC IMAGES and of CRITICAL in place; the
-// others are shared by all that keep the same one.
+// These stand in place: a read or a write of one cell that found it, an arrival at SYNC ALL or SYNC TEAM that joined its round, a departure that brings no teams, a step at a lock or an
+// event variable that has a status for its reply, a collective subroutine over one integer, the end of SYNC IMAGES, and CRITICAL and END CRITICAL. The others are shared by all that keep
+// the same one.
 #[derive(Drop)]
 pub(crate) enum Kept {
     ReadCell {
@@ -315,8 +316,7 @@ fn in_place(ask: &Ask, reply: &Reply) -> Option<Kept>
 }
 
 impl Exchange {
-    /// The exchange of this ask with this reply. One of a cell, of SYNC ALL, of a lock or an event variable, of a collective subroutine over one integer, of
-    /// the end of SYNC IMAGES or of CRITICAL takes no memory.
+    /// The exchange of this ask with this reply. It takes memory where it doesn't stand in place.
     pub fn new(alloc: Global, ask: &Ask, reply: &Reply) -> Result<Exchange, NoMemory>
         ensures { IfOk result (λ e. e ≡ record { ask = ask.now; reply = reply.now }) }
     {
@@ -332,6 +332,15 @@ impl Exchange {
                 })
             }
         }
+    }
+
+    /// The same, and the reply is given up.
+    pub fn with_reply(alloc: Global, ask: &Ask, reply: Reply) -> Result<Exchange, NoMemory>
+        ensures { IfOk result (λ e. e ≡ record { ask = ask.now; reply = reply }) }
+    {
+        let told = Exchange::new(alloc, ask, &reply);
+        drop(reply);
+        told
     }
 
     /// The ask. It takes no memory.

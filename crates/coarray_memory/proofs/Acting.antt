@@ -9,8 +9,7 @@ use Rattle.caf_base.specs.declared.span.Span.{Span}
 use Rattle.caf_base.specs.declared.value.Value.{Value}
 use Rattle.caf_base.specs.declared.value.AtomicOp.{AtomicOp}
 use Rattle.caf_base.specs.Spans.{offsets_of}
-use Rattle.caf_events.specs.Histories.{last_stamp_of, last_stamp_from, IsSpare}
-use Rattle.caf_events.specs.declared.object.Spare.{Spare}
+use Rattle.caf_events.specs.Histories.{last_stamp_of, last_stamp_from}
 use Rattle.caf_events.specs.declared.ask.Ask.{Ask}
 use Rattle.caf_events.specs.declared.ask.Ask.TheVariants as asks
 use Rattle.caf_events.specs.declared.reply.Reply.{Reply}
@@ -213,9 +212,6 @@ module _ (m : MadeMemory) (h : List Entry) (ss : List Store) (told : TellsAll m 
       let g = and_both (rules.is_own m i.0 owner) (rules.is_cell_of m rules.is_event span) d.0 in
       (cell_stores span rules.is_event (rules.is_own m i.0 owner) d.0, few_at span (asks.Wait owner span k) g.1 r.1))
   acts a ready cells = tt
-
-pub spare_due : {a : Ask} {r s : Reply} {x : Spare} → IsSpare a r x → r ≡ s → IsSpare a s x
-spare_due {a} {r} {s} {x} i e = subst (λ q. IsSpare a q x) e i
 
 -- the exchange that is due, and its event
 abbrev pub due_at : MadeMemory → List Entry → ℕ → Ask → Whole

@@ -16,14 +16,15 @@ use caf_base::refusal::NoMemory;
 use caf_base::value::Value;
 use caf_events::ask::Ask;
 use caf_events::event::Event;
+use caf_events::exchange::Exchange;
 use caf_events::history::History;
-use caf_events::object::{Object, Spare};
+use caf_events::object::Object;
 use caf_events::reply::Reply;
 use std::alloc::Global;
 use std::marker::Model;
 use std::mem;
 
-/// The memory of an image. In a contract it is what it was made with, its history, the room for further entries, and what is prepared.
+/// The memory of an image. In a contract it is what it was made with, its history, and what is prepared.
 #[derive(Drop)]
 pub struct Memory {
     declared: Declarations,
@@ -38,9 +39,9 @@ impl Model for Memory {
 
     ghost Value = { MemoryState };
 
-    ghost view = { λ m. record { made = m.declared; history = m.history.entries; room = m.history.room; plan = plan_of m.prepared } };
+    ghost view = { λ m. record { made = m.declared; history = m.history; plan = plan_of m.prepared } };
 
-    ghost invariant = { λ m. IsMemory m.declared m.history.entries m.stores.items m.marked };
+    ghost invariant = { λ m. IsMemory m.declared m.history m.stores.items m.marked };
 }
 
 // Whether the ask fits, by what is there.
@@ -153,18 +154,17 @@ impl Object for Memory {
         self.history.last_stamp()
     }
 
-    fn reserve(&mut self, image: ImageNo, ask: &Ask) -> Result<Spare, NoMemory> {
+    fn reserve(&mut self, image: ImageNo, ask: &Ask) -> Result<Exchange, NoMemory> {
         let alloc = *self.stores.allocator();
-        self.history.reserve()?;
         let cells = section_of(alloc, &self.stores, ask)?;
         let fresh = self.declared.fresh_for(alloc, ask)?;
         let told = reply(alloc, &self.stores, self.marked, image, ask, &cells)?;
-        let spare = Spare::new(alloc, ask, told)?;
+        let told = Exchange::with_reply(alloc, ask, told)?;
         self.prepared = Prepared { cells, fresh };
-        Ok(spare)
+        Ok(told)
     }
 
-    fn apply(&mut self, image: ImageNo, ask: Ask, spare: Spare, line: u32, after: u64) -> Event {
+    fn apply(&mut self, image: ImageNo, ask: Ask, told: Exchange, line: u32, after: u64) -> Event {
         let nothing = Prepared {
             cells: None,
             fresh: Store::Absent,
@@ -173,7 +173,7 @@ impl Object for Memory {
         act(&mut self.stores, image, &ask, self.marked, prepared);
         self.marked = is_marked_by(self.marked, &ask);
         drop(ask);
-        self.history.append(image, spare, line, after)
+        self.history.append(image, told, line, after)
     }
 }
 
@@ -204,7 +204,7 @@ impl Memory {
                 cells: None,
                 fresh: Store::Absent,
             },
-            history: History::new(alloc),
+            history: History::new(),
         })
     }
 

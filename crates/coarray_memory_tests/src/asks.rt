@@ -32,8 +32,8 @@ pub fn step<R: Abort>(
 ) {
     assert!(rt; memory.ready(ImageNo(image), &ask));
     assert!(rt; memory.last_stamp() < 4_611_686_018_427_387_904);
-    let spare = memory.reserve(ImageNo(image), &ask).expect(rt, "memory");
-    let event = memory.apply(ImageNo(image), ask, spare, 7, 0);
+    let told = memory.reserve(ImageNo(image), &ask).expect(rt, "memory");
+    let event = memory.apply(ImageNo(image), ask, told, 7, 0);
     let told = shown(rt, alloc, event.reply(alloc));
     drop(event);
     assert!(rt; told == shown(rt, alloc, wanted));

@@ -516,9 +516,8 @@ StepBy p i ask line q = q ≡ p
 pub record BoardState : Type 0 where
   pub images : ℕ
   pub history : List Entry
-  pub room : ℕ
   pub parts : Parts
 
 -- room for the entry and the step of an ask
 abbrev pub HasRoom : BoardState → ℕ → Ask → Type 0
-HasRoom s i ask = (0 < s.room) × PartsRoom s.parts i ask × IsPlanned s.images s.history s.parts.plan (record { 0 = i }) ask
+HasRoom s i ask = PartsRoom s.parts i ask × IsPlanned s.images s.history s.parts.plan (record { 0 = i }) ask

@@ -11,13 +11,14 @@ use caf_base::place::ImageNo;
 use caf_base::refusal::NoMemory;
 use caf_events::ask::Ask;
 use caf_events::event::Event;
+use caf_events::exchange::Exchange;
 use caf_events::history::History;
-use caf_events::object::{Object, Spare};
+use caf_events::object::Object;
 use inert_steps::inert::Inert;
 use std::alloc::Global;
 use std::marker::Model;
 
-/// The control board of a run. In a contract it is the number of images, its history, the room for further entries, and what it keeps.
+/// The control board of a run. In a contract it is the number of images, its history, and what it keeps.
 #[derive(Drop)]
 pub struct Board {
     alloc: Global,
@@ -26,13 +27,15 @@ pub struct Board {
 }
 
 impl Model for Board {
+    ghost use Rattle.std.specs.Prelude.{◌≤◌, ◌^◌};
+    ghost use Rattle.caf_events.specs.Histories.{last_stamp_of};
     ghost use Rattle.control_board.specs.Boards.{BoardState, IsBoard};
 
     ghost Value = { BoardState };
 
-    ghost view = { λ b. record { images = b.parts.images; history = b.history.entries; room = b.history.room; parts = b.parts } };
+    ghost view = { λ b. record { images = b.parts.images; history = b.history; parts = b.parts } };
 
-    ghost invariant = { λ b. IsBoard b.parts.images b.history.entries b.parts };
+    ghost invariant = { λ b. IsBoard b.parts.images b.history b.parts × (last_stamp_of b.history ≤ 2 ^ 62) };
 }
 
 impl Board {
@@ -44,7 +47,7 @@ impl Board {
         Ok(Board {
             alloc,
             parts: new_parts(alloc, images)?,
-            history: History::new(alloc),
+            history: History::new(),
         })
     }
 }
@@ -74,16 +77,15 @@ impl Object for Board {
         self.history.last_stamp()
     }
 
-    fn reserve(&mut self, image: ImageNo, ask: &Ask) -> Result<Spare, NoMemory> {
-        self.history.reserve()?;
+    fn reserve(&mut self, image: ImageNo, ask: &Ask) -> Result<Exchange, NoMemory> {
         make_room(self.alloc, &mut self.parts, image, ask)?;
         let told = reply(self.alloc, &self.parts, image, ask)?;
-        Spare::new(self.alloc, ask, told)
+        Exchange::with_reply(self.alloc, ask, told)
     }
 
-    fn apply(&mut self, image: ImageNo, ask: Ask, spare: Spare, line: u32, after: u64) -> Event {
+    fn apply(&mut self, image: ImageNo, ask: Ask, told: Exchange, line: u32, after: u64) -> Event {
         step(&mut self.parts, image, ask, line);
-        self.history.append(image, spare, line, after)
+        self.history.append(image, told, line, after)
     }
 }
 

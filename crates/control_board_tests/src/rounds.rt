@@ -24,8 +24,8 @@ fn shown<R: Abort, T: Debug + Drop>(rt: &R, alloc: Global, value: T) -> String {
 fn step<R: Abort>(rt: &R, alloc: Global, board: &mut Board, image: u32, ask: Ask, wanted: Reply) {
     assert!(rt; board.ready(ImageNo(image), &ask));
     assert!(rt; board.last_stamp() < 4_611_686_018_427_387_904);
-    let spare = board.reserve(ImageNo(image), &ask).expect(rt, "memory");
-    let event = board.apply(ImageNo(image), ask, spare, 7, 0);
+    let told = board.reserve(ImageNo(image), &ask).expect(rt, "memory");
+    let event = board.apply(ImageNo(image), ask, told, 7, 0);
     let told = shown(rt, alloc, event.reply(alloc));
     drop(event);
     assert!(rt; told == shown(rt, alloc, wanted));

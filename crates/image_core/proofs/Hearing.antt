@@ -30,7 +30,7 @@ use Rattle.image_core.proofs.WholeSteps.{aside_place, aside_own, aside_board, as
 served_ready : {O C : Type 0} (object : object.Ghosts O) (move : Move C Ask Reply) (i : ℕ) (o : O) (pr : Prepared) → IsServedNext object move i o pr → (a : Ask) → AsksNext move a → IsTrue (object.ready_after (object.made o) (object.history o) i a)
 served_ready object move i o prepareds.Nothing h a asked = absurd h
 served_ready object move i o (prepareds.Own told) h a asked = absurd h
-served_ready object move i o (prepareds.Served ask spare) h a asked =
+served_ready object move i o (prepareds.Served ask told) h a asked =
     subst (λ x. IsTrue (object.ready_after (object.made o) (object.history o) i x)) (same_ask move ask a h.0 asked) h.1.ready
 
 module _ {M O B : Type 0} (walks : walker.Ghosts M) (memory : object.Ghosts O) (control : object.Ghosts B)
@@ -54,7 +54,7 @@ module _ {M O B : Type 0} (walks : walker.Ghosts M) (memory : object.Ghosts O) (
     own_done : (pr : Prepared) → IsOwnNext (move_of walks r) pr → walks.hears (walks.config r.machine) replies.Done
     own_done prepareds.Nothing h = absurd h
     own_done (prepareds.Own told) h = heard told.ask places.Own h.0 h.1 refl
-    own_done (prepareds.Served ask spare) h = absurd h
+    own_done (prepareds.Served ask told) h = absurd h
 
     -- a step that the image makes by itself
     pub own_heard : place_aside r.prepared ≡ places.Own → walks.hears (walks.config r.machine) replies.Done

@@ -5,7 +5,7 @@ use Rattle.caf_base.specs.declared.place.Place.{Place}
 use Rattle.caf_base.specs.declared.place.Place.TheVariants as places
 use Rattle.caf_base.specs.declared.place.ImageNo.{ImageNo}
 use Rattle.caf_events.specs.declared.object.Object as object
-use Rattle.caf_events.specs.declared.object.Spare.{Spare}
+use Rattle.caf_events.specs.declared.exchange.Exchange.{Exchange}
 use Rattle.caf_events.specs.declared.walker.Walker as walker
 use Rattle.caf_events.specs.declared.ask.Ask.{Ask}
 use Rattle.caf_events.specs.declared.reply.Reply.{Reply}
@@ -37,11 +37,11 @@ module _ {M O B : Type 0} (walks : walker.Ghosts M) (memory : object.Ghosts O) (
       (length p'.memories.items ≡ length p.memories.items)
       × ((o : O) → o ≡ slice_index_or p'.memories.items (owner.0 - 1) o → o ≡ slice_index_or p.memories.items (owner.0 - 1) o)
 
-  there : (i : ℕ) (ask : Ask) (spare : Spare) (q : Place) → (q ≡ places.Board → p'.board ≡ p.board) → ((owner : ImageNo) → 0 < owner.0 → q ≡ places.Memory owner → SameMemory owner)
-      → IsServedThere walks memory control p i ask spare q → IsServedThere walks memory control p' i ask spare q
-  there i ask spare places.Own board memories s = absurd s
-  there i ask spare places.Board board memories s = subst (λ c. IsServed control i c ask spare) (sym (board refl)) s
-  there i ask spare (places.Memory owner) board memories s =
+  there : (i : ℕ) (ask : Ask) (told : Exchange) (q : Place) → (q ≡ places.Board → p'.board ≡ p.board) → ((owner : ImageNo) → 0 < owner.0 → q ≡ places.Memory owner → SameMemory owner)
+      → IsServedThere walks memory control p i ask told q → IsServedThere walks memory control p' i ask told q
+  there i ask told places.Own board memories s = absurd s
+  there i ask told places.Board board memories s = subst (λ c. IsServed control i c ask told) (sym (board refl)) s
+  there i ask told (places.Memory owner) board memories s =
       let same = memories owner s.0 refl in
       (s.0, subst (λ n. owner.0 ≤ n) (sym same.0) s.1, λ o at. s.2 o (same.1 o at))
 
@@ -49,7 +49,7 @@ module _ {M O B : Type 0} (walks : walker.Ghosts M) (memory : object.Ghosts O) (
       → IsSetAside walks memory control p i mv pr → IsSetAside walks memory control p' i mv pr
   aside_still i mv prepareds.Nothing board memories h = absurd h
   aside_still i mv (prepareds.Own told) board memories h = h
-  aside_still i mv (prepareds.Served ask spare) board memories h = (h.0, there i ask spare (place_of ask) board memories h.1)
+  aside_still i mv (prepareds.Served ask told) board memories h = (h.0, there i ask told (place_of ask) board memories h.1)
 
   others_by : (j : ℕ) → (k ≡ j → ⊥) → ((s : ImageRun M) → s ≡ slice_index_or p.images.items j s → place_aside s.prepared ≡ places.Board → p'.board ≡ p.board)
       → ((s : ImageRun M) → s ≡ slice_index_or p.images.items j s → (owner : ImageNo) → 0 < owner.0 → place_aside s.prepared ≡ places.Memory owner → SameMemory owner)

@@ -163,8 +163,8 @@ module _ {M O B : Type 0} (walks : walker.Ghosts M) (memory : object.Ghosts O) (
       → IsSetAside walks memory control p' i mv pr
   served_aside p' mv i h prepareds.Nothing s = absurd s
   served_aside p' mv i h (prepareds.Own told) s = absurd s
-  served_aside p' mv i h (prepareds.Served ask spare) s =
-      (s.0, subst (IsServedThere walks memory control p' i ask spare) (sym (asked_at places.Board mv ask h s.0)) s.1)
+  served_aside p' mv i h (prepareds.Served ask told) s =
+      (s.0, subst (IsServedThere walks memory control p' i ask told) (sym (asked_at places.Board mv ask h s.0)) s.1)
 
   -- the board set the step aside
   pub board_aside : (p' : PartsOf M O B) (r1 r' : ImageRun M) → p'.images.items ≡ slice_set p.images.items k r' → r1.image.0 ≡ suc k → walks.config r1.machine ≡ walks.config r.machine → r'.machine ≡ r1.machine

@@ -32,37 +32,37 @@ module _ {M O B : Type 0} (walks : walker.Ghosts M) (memory : object.Ghosts O) (
   pub aside_place : (pr : Prepared) (a : Ask) → IsSetAside walks memory control p i move pr → AsksNext move a → place_of a ≡ place_aside pr
   aside_place prepareds.Nothing a h k = absurd h
   aside_place (prepareds.Own told) a h k = ap place_of (same_ask move a told.ask k h.0) ∙ h.1
-  aside_place (prepareds.Served ask spare) a h k = ap place_of (same_ask move a ask k h.0)
+  aside_place (prepareds.Served ask told) a h k = ap place_of (same_ask move a ask k h.0)
 
   pub aside_at_ask : (pr : Prepared) → IsSetAside walks memory control p i move pr → IsAtAsk move
   aside_at_ask prepareds.Nothing h = absurd h
   aside_at_ask (prepareds.Own told) h = at_ask move told.ask h.0
-  aside_at_ask (prepareds.Served ask spare) h = at_ask move ask h.0
+  aside_at_ask (prepareds.Served ask told) h = at_ask move ask h.0
 
   -- a step that is set aside by the image itself
   pub aside_own : (pr : Prepared) → IsSetAside walks memory control p i move pr → place_aside pr ≡ places.Own → IsOwnNext move pr
   aside_own prepareds.Nothing h e = absurd h
   aside_own (prepareds.Own told) h e = h
-  aside_own (prepareds.Served ask spare) h e = absurd (subst (IsServedThere walks memory control p i ask spare) e h.1)
+  aside_own (prepareds.Served ask told) h e = absurd (subst (IsServedThere walks memory control p i ask told) e h.1)
 
   -- by the board
   pub aside_board : (pr : Prepared) → IsSetAside walks memory control p i move pr → place_aside pr ≡ places.Board → IsServedNext control move i p.board pr
   aside_board prepareds.Nothing h e = absurd h
   aside_board (prepareds.Own told) h e = absurd (cc)
-  aside_board (prepareds.Served ask spare) h e = (h.0, subst (IsServedThere walks memory control p i ask spare) e h.1)
+  aside_board (prepareds.Served ask told) h e = (h.0, subst (IsServedThere walks memory control p i ask told) e h.1)
 
   -- by a memory, which the run has
   pub aside_within : (pr : Prepared) (owner : ImageNo) → IsSetAside walks memory control p i move pr → place_aside pr ≡ places.Memory owner → (0 < owner.0) × (owner.0 ≤ length p.memories.items)
   aside_within prepareds.Nothing owner h e = absurd h
   aside_within (prepareds.Own told) owner h e = absurd (cc)
-  aside_within (prepareds.Served ask spare) owner h e =
-      let t = subst (IsServedThere walks memory control p i ask spare) e h.1 in (t.0, t.1)
+  aside_within (prepareds.Served ask told) owner h e =
+      let t = subst (IsServedThere walks memory control p i ask told) e h.1 in (t.0, t.1)
 
   pub aside_memory : (pr : Prepared) (owner : ImageNo) (o : O) → IsSetAside walks memory control p i move pr → place_aside pr ≡ places.Memory owner → o ≡ slice_index_or p.memories.items (owner.0 - 1) o → IsServedNext memory move i o pr
   aside_memory prepareds.Nothing owner o h e m = absurd h
   aside_memory (prepareds.Own told) owner o h e m = absurd (cc)
-  aside_memory (prepareds.Served ask spare) owner o h e m =
-      (h.0, (subst (IsServedThere walks memory control p i ask spare) e h.1).2 o m)
+  aside_memory (prepareds.Served ask told) owner o h e m =
+      (h.0, (subst (IsServedThere walks memory control p i ask told) e h.1).2 o m)
 
 module _ {M O B : Type 0} (walks : walker.Ghosts M) (memory : object.Ghosts O) (control : object.Ghosts B)
     (p p' : PartsOf M O B) (k : ℕ) (r r' : ImageRun M) (e : Event)

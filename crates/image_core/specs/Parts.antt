@@ -8,7 +8,7 @@ use Rattle.caf_events.specs.declared.ask.Ask.{Ask}
 use Rattle.caf_events.specs.declared.reply.Reply.{Reply}
 use Rattle.caf_events.specs.declared.reply.Reply.TheVariants as replies
 use Rattle.caf_events.specs.declared.event.Event.{Event}
-use Rattle.caf_events.specs.declared.object.Spare.{Spare}
+use Rattle.caf_events.specs.declared.exchange.Exchange.{Exchange}
 use Rattle.caf_events.specs.Asks.{place_of}
 use Rattle.caf_events.specs.Histories.{last_stamp_of}
 use Rattle.caf_events.specs.Walkers.{AsksNext}
@@ -94,17 +94,17 @@ pub record Spends {C M B : Type 0} (left : C → ℕ) (m : Moment C M B) (i : �
 -- what is set aside for the image at a place of the list is its next step
 module _ {M O B : Type 0} (walks : walker.Ghosts M) (memory : object.Ghosts O) (control : object.Ghosts B) where
   -- the object at this place set the step aside
-  abbrev pub IsServedThere : PartsOf M O B → ℕ → Ask → Spare → Place → Type 0
-  IsServedThere p i ask spare Own = ⊥
-  IsServedThere p i ask spare Board = IsServed control i p.board ask spare
-  IsServedThere p i ask spare (Memory owner) =
-      (0 < owner.0) × (owner.0 ≤ length p.memories.items) × ((o : O) → o ≡ slice_index_or p.memories.items (owner.0 - 1) o → IsServed memory i o ask spare)
+  abbrev pub IsServedThere : PartsOf M O B → ℕ → Ask → Exchange → Place → Type 0
+  IsServedThere p i ask told Own = ⊥
+  IsServedThere p i ask told Board = IsServed control i p.board ask told
+  IsServedThere p i ask told (Memory owner) =
+      (0 < owner.0) × (owner.0 ≤ length p.memories.items) × ((o : O) → o ≡ slice_index_or p.memories.items (owner.0 - 1) o → IsServed memory i o ask told)
 
   -- this step is set aside for the image
   abbrev pub IsSetAside : PartsOf M O B → ℕ → Move walks.Config Ask Reply → Prepared → Type 0
   IsSetAside p i move prepareds.Nothing = ⊥
   IsSetAside p i move (prepareds.Own told) = AsksNext move told.ask × (place_of told.ask ≡ Own) × (told.reply ≡ replies.Done)
-  IsSetAside p i move (prepareds.Served ask spare) = AsksNext move ask × IsServedThere p i ask spare (place_of ask)
+  IsSetAside p i move (prepareds.Served ask told) = AsksNext move ask × IsServedThere p i ask told (place_of ask)
 
   -- the step of the image at this place is set aside, with room for its event and for what its reply brings
   pub record IsPreparedRun (p : PartsOf M O B) (k : ℕ) (r : ImageRun M) : Type 0 where

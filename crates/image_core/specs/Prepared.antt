@@ -8,9 +8,9 @@ use Rattle.caf_events.specs.declared.ask.Ask.{Ask}
 use Rattle.caf_events.specs.declared.reply.Reply.{Reply}
 use Rattle.caf_events.specs.declared.reply.Reply.TheVariants as replies
 use Rattle.caf_events.specs.declared.event.Event.{Event}
-use Rattle.caf_events.specs.declared.object.Spare.{Spare}
+use Rattle.caf_events.specs.declared.exchange.Exchange.{Exchange}
 use Rattle.caf_events.specs.Asks.{place_of}
-use Rattle.caf_events.specs.Histories.{last_stamp_of, IsSpare}
+use Rattle.caf_events.specs.Histories.{last_stamp_of}
 use Rattle.caf_events.specs.Walkers.{AsksNext, IsAtLine, Continues}
 use Rattle.trace_theory.specs.Machines.{Move, asks, goes, over}
 use Rattle.image_core.specs.declared.run.ImageRun.{ImageRun}
@@ -28,16 +28,16 @@ pub record HasRoom {M : Type 0} (walks : walker.Ghosts M) (r : ImageRun M) : Typ
   pub machine : walks.has_room r.machine
 
 -- the object is ready for the ask of image i, has room for its entry, and set aside the ask and the reply
-pub record IsServed {O : Type 0} (object : objects.Ghosts O) (i : ℕ) (o : O) (ask : Ask) (spare : Spare) : Type 0 where
+pub record IsServed {O : Type 0} (object : objects.Ghosts O) (i : ℕ) (o : O) (ask : Ask) (told : Exchange) : Type 0 where
   pub ready : IsTrue (object.ready_after (object.made o) (object.history o) i ask)
   pub room : object.has_room o i ask
-  pub spare_is : IsSpare ask (object.reply_after (object.made o) (object.history o) i ask) spare
+  pub told_is : told ≡ record { ask = ask; reply = object.reply_after (object.made o) (object.history o) i ask }
 
 -- what is set aside is the next ask, for which this object is ready
 abbrev pub IsServedNext : {O C : Type 0} (object : objects.Ghosts O) → Move C Ask Reply → ℕ → O → Prepared → Type 0
 IsServedNext object move i o prepareds.Nothing = ⊥
 IsServedNext object move i o (prepareds.Own told) = ⊥
-IsServedNext object move i o (prepareds.Served ask spare) = AsksNext move ask × IsServed object i o ask spare
+IsServedNext object move i o (prepareds.Served ask told) = AsksNext move ask × IsServed object i o ask told
 
 -- one step of an image at an object: one event at the end of both lists, with the stamp and the reply that were due
 pub record StepsAt {M O : Type 0} (walks : walker.Ghosts M) (object : objects.Ghosts O) (r r' : ImageRun M) (o o' : O) (e : Event) : Type 0 where
@@ -55,13 +55,13 @@ pub record StepsAt {M O : Type 0} (walks : walker.Ghosts M) (object : objects.Gh
 abbrev pub IsOwnNext : {C : Type 0} → Move C Ask Reply → Prepared → Type 0
 IsOwnNext move prepareds.Nothing = ⊥
 IsOwnNext move (prepareds.Own told) = AsksNext move told.ask × (place_of told.ask ≡ Own) × (told.reply ≡ replies.Done)
-IsOwnNext move (prepareds.Served ask spare) = ⊥
+IsOwnNext move (prepareds.Served ask told) = ⊥
 
 -- the place of the step that is set aside
 abbrev pub place_aside : Prepared → Place
 place_aside prepareds.Nothing = Own
 place_aside (prepareds.Own told) = Own
-place_aside (prepareds.Served ask spare) = place_of ask
+place_aside (prepareds.Served ask told) = place_of ask
 
 -- one step that an image makes by itself: one event at the end of its list
 pub record StepsAlone {M : Type 0} (walks : walker.Ghosts M) (r r' : ImageRun M) (e : Event) : Type 0 where

@@ -79,12 +79,12 @@ fn step_at<M: Walker, O: Object>(
     };
     run.make_room()?;
     match object.reserve(image, ask) {
-        Ok(spare) => {
+        Ok(told) => {
             let Some(ask) = asks.take(image) else {
                 unreachable!();
             };
             let line = run.machine.line();
-            let event = object.apply(image, ask, spare, line, run.last);
+            let event = object.apply(image, ask, told, line, run.last);
             run.take(event);
             Ok(())
         }

@@ -80,8 +80,8 @@ pub(crate) fn prepare_at<M: Walker, O: Object>(
         return Ok(false);
     }
     match object.reserve(image, &ask) {
-        Ok(spare) => {
-            drop(mem::replace(&mut run.prepared, Prepared::Served { ask, spare }));
+        Ok(told) => {
+            drop(mem::replace(&mut run.prepared, Prepared::Served { ask, told }));
             Ok(true)
         }
         Err(e) => {
@@ -108,8 +108,8 @@ pub(crate) fn commit_at<M: Walker, O: Object>(run: &mut ImageRun<M>, object: &mu
     let line = run.machine.line();
     let after = run.last;
     match mem::replace(&mut run.prepared, Prepared::Nothing) {
-        Prepared::Served { ask, spare } => {
-            let event = object.apply(image, ask, spare, line, after);
+        Prepared::Served { ask, told } => {
+            let event = object.apply(image, ask, told, line, after);
             run.take(event);
         }
         _ => unreachable!(),
