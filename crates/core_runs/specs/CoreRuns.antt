@@ -40,7 +40,8 @@ abbrev pub IsDoneAlone : Entry → Type 0
 IsDoneAlone x = place_of x.event.ask ≡ Own → x.event.reply ≡ replies.Done
 
 -- a lawful trace: by stamp, then image, each stamp the one that is due after those before it at its image and its object; of this run's images and objects;
--- each ask was ready where it stands and has the reply that is due there; each arrival has its departure
+-- each ask was ready where it stands and has the reply that is due there; each arrival has its departure. (`IsLawfulTrace`, of the language's own memories and
+-- board, says besides what the declared coarrays are, what a failing image does, and that nothing follows a limit.)
 pub record IsLawful {C M B : Type 0} (r : Rules C M B) (b : Beginning C M B) (t : List Entry) : Type 0 where
   pub ordered : IsTraceOrder image_of stamp_of t
   pub stamped : IsStamped image_of key_of stamp_of own_stamp t

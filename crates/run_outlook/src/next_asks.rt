@@ -35,12 +35,16 @@ impl NextAsks {
         self.kept[(image.0 - 1) as usize].as_ref()
     }
 
-    /// Keeps the next ask of an image.
+    /// Keeps the next ask of an image, of which none is kept.
     pub fn keep(&mut self, image: ImageNo, ask: Ask)
-        requires { (0 < image.0) × (image.0 ≤ length self.old.kept.items) }
+        requires image { (0 < image.0) × (image.0 ≤ length self.old.kept.items) }
+        requires none { item_at self.old.kept.items image.0 ≡ Some None }
         ensures { self.new.kept.items ≡ with_item self.old.kept.items image.0 (Some ask) }
     {
-        drop(mem::replace(&mut self.kept[(image.0 - 1) as usize], Some(ask)));
+        match mem::replace(&mut self.kept[(image.0 - 1) as usize], Some(ask)) {
+            None => {}
+            Some(_) => unreachable!(),
+        }
     }
 
     /// Gives the next ask of an image, where it is kept, and keeps it no more.

@@ -214,6 +214,9 @@ impl Outlook {
         requires well { IsWell self.now }
         ensures { IsLeastFrom (λ j. has self.now.can.words.items j || has self.now.stale.words.items j) from result }
     {
+        if from <= self.images && self.is_stale(from) {
+            return Some(from);
+        }
         match (self.can.next(from), self.stale.next(from)) {
             (Some(can), Some(stale)) => Some(can.min(stale)),
             (Some(can), None) => Some(can),
