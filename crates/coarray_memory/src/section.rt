@@ -135,8 +135,10 @@ fn count_of(dims: &[(u32, i32)]) -> Option<u64>
 pub fn is_section(span: &Span) -> bool
     ensures { result ≡ is_span span.now }
 {
-    let dims = span.dims.as_slice();
-    are_wide(dims) && are_few(dims) && lie_within(span.start, dims)
+    match span.dims.as_slice() {
+        [] => span.start < 65_536,
+        dims => are_wide(dims) && are_few(dims) && lie_within(span.start, dims),
+    }
 }
 
 // Whether each dimension has two cells or more.
