@@ -53,7 +53,7 @@ fn step(board: &mut Board, image: ImageNo, ask: Ask, after: u64) -> u64 {
         return after;
     }
     match board.reserve(image, &ask) {
-        Ok(spare) => board.apply(image, ask, spare, 1, after).stamp(),
+        Ok(told) => board.apply(image, ask, told, 1, after).stamp(),
         Err(_) => {
             drop(ask);
             after

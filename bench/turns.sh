@@ -98,7 +98,7 @@ fn read(alloc: Global, memory: &mut Memory, after: u64) -> u64 {
         return after;
     }
     match memory.reserve(ImageNo(1), &ask) {
-        Ok(spare) => memory.apply(ImageNo(1), ask, spare, 1, after).stamp(),
+        Ok(told) => memory.apply(ImageNo(1), ask, told, 1, after).stamp(),
         Err(_) => {
             drop(ask);
             after

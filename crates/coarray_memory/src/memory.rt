@@ -1,4 +1,4 @@
-//! The memory of an image: cells that are overwritten, beside the history that says what they hold (ISO/IEC 1539-1:2018, 5.4.8, 16.5, 19.6.5).
+//! The memory of an image: cells that are overwritten, with a history, for proofs, that says what they hold (ISO/IEC 1539-1:2018, 5.4.8, 16.5, 19.6.5).
 
 ghost use Rattle.std.specs.Prelude.{◌≡◌, ◌||◌, [], map, IfOk};
 ghost use Rattle.object_rules.specs.Cells.{size_after, value_after, is_mark};
@@ -158,8 +158,8 @@ impl Object for Memory {
         let alloc = *self.stores.allocator();
         let cells = section_of(alloc, &self.stores, ask)?;
         let fresh = self.declared.fresh_for(alloc, ask)?;
-        let told = reply(alloc, &self.stores, self.marked, image, ask, &cells)?;
-        let told = Exchange::with_reply(alloc, ask, told)?;
+        let due = reply(alloc, &self.stores, self.marked, image, ask, &cells)?;
+        let told = Exchange::with_reply(alloc, ask, due)?;
         self.prepared = Prepared { cells, fresh };
         Ok(told)
     }

@@ -136,6 +136,7 @@ pub fn is_section(span: &Span) -> bool
     ensures { result ≡ is_span span.now }
 {
     match span.dims.as_slice() {
+        // One cell, as most accesses have.
         [] => span.start < 65_536,
         dims => are_wide(dims) && are_few(dims) && lie_within(span.start, dims),
     }

@@ -34,9 +34,9 @@ pub fn step<R: Abort>(
     assert!(rt; memory.last_stamp() < 4_611_686_018_427_387_904);
     let told = memory.reserve(ImageNo(image), &ask).expect(rt, "memory");
     let event = memory.apply(ImageNo(image), ask, told, 7, 0);
-    let told = shown(rt, alloc, event.reply(alloc));
+    let heard = shown(rt, alloc, event.reply(alloc));
     drop(event);
-    assert!(rt; told == shown(rt, alloc, wanted));
+    assert!(rt; heard == shown(rt, alloc, wanted));
 }
 
 /// The cell of this offset.

@@ -512,12 +512,12 @@ StepBy p i asks.Gone line q = StepsTo p i asks.Gone line q
 StepBy p i (asks.Stop code) line q = StepsTo p i (asks.Stop code) line q
 StepBy p i ask line q = q ≡ p
 
--- what contracts see of a board: the images of its run, its history, the room for further entries, and what it keeps
+-- what contracts see of a board: the images of its run, its history, and what it keeps
 pub record BoardState : Type 0 where
   pub images : ℕ
   pub history : List Entry
   pub parts : Parts
 
--- room for the entry and the step of an ask
+-- there is room for the step of an ask, and the plan is that of the ask
 abbrev pub HasRoom : BoardState → ℕ → Ask → Type 0
 HasRoom s i ask = PartsRoom s.parts i ask × IsPlanned s.images s.history s.parts.plan (record { 0 = i }) ask

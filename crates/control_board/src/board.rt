@@ -1,4 +1,4 @@
-//! The control board: what it keeps, beside the history that says what that is.
+//! The control board: what it keeps, with a history, for proofs, that says what that is.
 
 ghost use Rattle.std.specs.Prelude.{◌≡◌, [], IfOk};
 

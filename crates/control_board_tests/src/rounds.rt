@@ -26,9 +26,9 @@ fn step<R: Abort>(rt: &R, alloc: Global, board: &mut Board, image: u32, ask: Ask
     assert!(rt; board.last_stamp() < 4_611_686_018_427_387_904);
     let told = board.reserve(ImageNo(image), &ask).expect(rt, "memory");
     let event = board.apply(ImageNo(image), ask, told, 7, 0);
-    let told = shown(rt, alloc, event.reply(alloc));
+    let heard = shown(rt, alloc, event.reply(alloc));
     drop(event);
-    assert!(rt; told == shown(rt, alloc, wanted));
+    assert!(rt; heard == shown(rt, alloc, wanted));
 }
 
 // The ask of an image can't come now.

@@ -214,6 +214,7 @@ impl Outlook {
         requires well { IsWell self.now }
         ensures { IsLeastFrom (λ j. has self.now.can.words.items j || has self.now.stale.words.items j) from result }
     {
+        // Most often that image itself is stale.
         if from <= self.images && self.is_stale(from) {
             return Some(from);
         }

@@ -1,4 +1,4 @@
-use Rattle.std.proofs.Common.{◌+◌, ◌<◌, ◌^◌, length, sym, subst, arith, IsTrue}
+use Rattle.std.proofs.Common.{sym, subst, arith, IsTrue}
 use Rattle.object_rules.specs.BoardRules.{board_ready}
 use Rattle.control_board.specs.Boards.{BoardState, IsPlanned}
 use Rattle.control_board.proofs.Growing.{on_any}
