@@ -11,14 +11,9 @@ use Rattle.order_theory.proofs.Queues.{queue_more}
 use Rattle.segment_clock.specs.Counts.{count_of}
 use Rattle.order_axioms.specs.Views.{act_of, view, edges}
 use Rattle.race_watch.specs.declared.order.Order.{Order}
-use Rattle.race_watch.specs.Tables.{Numbered, none_yet, numbered_at, count_in, with_next, without}
+use Rattle.race_watch.specs.Tables.{Numbered, numbered_at, count_in, with_next, without}
 use Rattle.race_watch.specs.Orders.{clock_of, Sized, NumberedKept, Needed, Ordered, Forgets, ForgetsUsed, CanCount, Turned, turned_numbered}
 use Rattle.race_watch.proofs.Turning.{own, own_size, sized_last, sized_drop}
-
--- no clock stays none, whatever is forgotten
-pub none_without : (number : ℕ) → without number none_yet ≡ none_yet
-none_without zero = refl
-none_without (suc k) = refl
 
 -- a part of a list behind the first of two
 pub drop_past : {X : Type 0} (xs ys : List X) (k : ℕ) → length xs ≤ k → drop k (xs ++ ys) ≡ drop (k - length xs) ys

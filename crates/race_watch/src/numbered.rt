@@ -177,7 +177,7 @@ impl NumberedTable {
 
     // The clocks of a line and place, if any were ever put there or behind it.
     fn queue(&self, line: usize, place: usize) -> Option<&NumberedQueue>
-        ensures { MatchOption result (λ q. q.now ≡ numbered_at self.now line place) (numbered_at self.now line place ≡ none_yet) }
+        ensures { MatchOption result (numbered_at self.now line place ≡ none_yet) (λ q. q.now ≡ numbered_at self.now line place) }
     {
         match self.rows.get(line) {
             Some(row) => row.queues.get(place),
