@@ -112,9 +112,9 @@ kept_forgets : (n : ℕ) (g : List Entry) (key : Key) (b : ℕ) (q q' : Numbered
 kept_forgets n g key b q q' kept h =
     let cs = map count_of q.clocks in
     let same : (kept.gone ++ take h.many cs) ++ map count_of q'.clocks ≡ kept.gone ++ cs =
-        append_assoc kept.gone (take h.many cs) (map count_of q'.clocks)
-        ∙ ap (λ z. kept.gone ++ (take h.many cs ++ z)) (ap (map count_of) h.clocks ∙ sym (drop-map count_of h.many q.clocks))
-        ∙ ap (λ z. kept.gone ++ z) (take-append-drop h.many cs) in
+    append_assoc kept.gone (take h.many cs) (map count_of q'.clocks)
+    ∙ ap (λ z. kept.gone ++ (take h.many cs ++ z)) (ap (map count_of) h.clocks ∙ sym (drop-map count_of h.many q.clocks))
+    ∙ ap (λ z. kept.gone ++ z) (take-append-drop h.many cs) in
     record {
       sized = subst (Sized n) (sym h.clocks) (sized_drop n h.many q.clocks kept.sized);
       gone = kept.gone ++ take h.many cs;
@@ -130,7 +130,7 @@ kept_forgets n g key b q q' kept h =
     }
 
 -- no act clears or drops what waits for a pair
-OnlyAdds : Turn → Type 0
+abbrev OnlyAdds : Turn → Type 0
 OnlyAdds t = (t ≡ adds) ⊎ (t ≡ leaves_all)
 
 adds_where : (b : Bool) → OnlyAdds (cond b adds leaves_all)
@@ -153,30 +153,30 @@ pair_adds j h i (creates o m) = inr refl
 pair_adds j h i (deletes o m) = inr refl
 pair_adds j h i goes_on = inr refl
 
-first_turned : (t : Turn) (own : List ℕ) (q : Numbered) → (turned_numbered t own q).first ≡ q.first
-first_turned adds own q = refl
-first_turned clears own q = refl
-first_turned (drops m) own q = refl
-first_turned leaves_all own q = refl
+first_turned : (t : Turn) (clock : List ℕ) (q : Numbered) → (turned_numbered t clock q).first ≡ q.first
+first_turned adds clock q = refl
+first_turned clears clock q = refl
+first_turned (drops m) clock q = refl
+first_turned leaves_all clock q = refl
 
-count_turned : (t : Turn) (own : List ℕ) (q : Numbered) → count_in q ≤ count_in (turned_numbered t own q)
-count_turned adds own q = let l = length-append q.clocks (own ∷ []) in omega arith
-count_turned clears own q = omega arith
-count_turned (drops m) own q = omega arith
-count_turned leaves_all own q = omega arith
+count_turned : (t : Turn) (clock : List ℕ) (q : Numbered) → count_in q ≤ count_in (turned_numbered t clock q)
+count_turned adds clock q = let l = length-append q.clocks (clock ∷ []) in omega arith
+count_turned clears clock q = omega arith
+count_turned (drops m) clock q = omega arith
+count_turned leaves_all clock q = omega arith
 
-numbered_sized : (n : ℕ) (t : Turn) (own : List ℕ) (q : Numbered) → length own ≡ n → Sized n q.clocks → Sized n (turned_numbered t own q).clocks
-numbered_sized n adds own q h k = sized_last n own q.clocks h k
-numbered_sized n clears own q h k = k
-numbered_sized n (drops m) own q h k = k
-numbered_sized n leaves_all own q h k = k
+numbered_sized : (n : ℕ) (t : Turn) (clock : List ℕ) (q : Numbered) → length clock ≡ n → Sized n q.clocks → Sized n (turned_numbered t clock q).clocks
+numbered_sized n adds clock q h k = sized_last n clock q.clocks h k
+numbered_sized n clears clock q h k = k
+numbered_sized n (drops m) clock q h k = k
+numbered_sized n leaves_all clock q h k = k
 
-numbered_turned : (t : Turn) (own : List ℕ) (gone : List (ℕ → ℕ)) (q : Numbered) → OnlyAdds t
-    → turned_queue t (count_of own) (gone ++ map count_of q.clocks) ≡ gone ++ map count_of (turned_numbered t own q).clocks
-numbered_turned adds own gone q h = append_assoc gone (map count_of q.clocks) (count_of own ∷ []) ∙ ap (λ z. gone ++ z) (sym (map-append count_of q.clocks (own ∷ [])))
-numbered_turned clears own gone q h = absurd (elim h [ inl e ↦ cc | inr e ↦ cc ])
-numbered_turned (drops m) own gone q h = absurd (elim h [ inl e ↦ cc | inr e ↦ cc ])
-numbered_turned leaves_all own gone q h = refl
+numbered_turned : (t : Turn) (clock : List ℕ) (gone : List (ℕ → ℕ)) (q : Numbered) → OnlyAdds t
+    → turned_queue t (count_of clock) (gone ++ map count_of q.clocks) ≡ gone ++ map count_of (turned_numbered t clock q).clocks
+numbered_turned adds clock gone q h = append_assoc gone (map count_of q.clocks) (count_of clock ∷ []) ∙ ap (λ z. gone ++ z) (sym (map-append count_of q.clocks (clock ∷ [])))
+numbered_turned clears clock gone q h = absurd (elim h [ inl e ↦ cc | inr e ↦ cc ])
+numbered_turned (drops m) clock gone q h = absurd (elim h [ inl e ↦ cc | inr e ↦ cc ])
+numbered_turned leaves_all clock gone q h = refl
 
 module _ (n : ℕ) (g : List Entry) (s : Order) (rec : Ordered n g s) (e : Entry) (first : 0 < e.image.0) (last : e.image.0 ≤ n) (a : Act) (is : act_of e ≡ a) where
   kept_turned : (key : Key) (q : Numbered) → OnlyAdds (turn key e.image.0 a) → NumberedKept n g key q → NumberedKept n (g ++ e ∷ []) key (turned_numbered (turn key e.image.0 a) (clock_of s e.image.0) q)

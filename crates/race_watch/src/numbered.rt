@@ -92,9 +92,7 @@ impl NumberedQueue {
     fn forget(&mut self, number: usize)
         ensures { self.new ≡ without number self.old }
     {
-        let many = number
-            .saturating_sub(self.first)
-            .min(self.clocks.len());
+        let many = number.saturating_sub(self.first).min(self.clocks.len());
         self.clocks.drain(..many);
         self.first += many;
     }

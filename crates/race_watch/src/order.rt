@@ -345,11 +345,7 @@ fn forget_each(pairs: &mut NumberedTable, image: ImageNo, named: &[u32])
 {
     for other in named {
         let count = pairs.count(image.0 as usize, *other as usize);
-        pairs.forget(
-            *other as usize,
-            image.0 as usize,
-            count.saturating_sub(1),
-        );
+        pairs.forget(*other as usize, image.0 as usize, count.saturating_sub(1));
     }
 }
 

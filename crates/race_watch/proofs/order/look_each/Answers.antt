@@ -5,8 +5,8 @@ use Rattle.race_watch.specs.Orders.{paired}
 use Rattle.race_watch.proofs.Turning.{sized_all, size_all}
 use Rattle.race_watch.proofs.order.look_each.Goals as goal
 
-pub count-requires : goal.count-requires
-count-requires c = c.requires.counts _ _
+pub count-count-requires : goal.count-count-requires
+count-count-requires c = c.requires.counts _ _
 
 pub look-requires-clause-kept : goal.look-requires-clause-kept
 look-requires-clause-kept c = let n = c.requires.needed in let a = c.saturating_sub.ensures in let b = c.count-count.ensures in omega arith
