@@ -1,11 +1,10 @@
 -- An entry that completes a segment: its image's clock takes what is released to it, then what it is told of, and counts one more segment.
 use Rattle.std.proofs.Common.{◌≡◌, ℕ, suc, ◌+◌, ◌-◌, ◌<◌, ◌≤◌, ◌^◌, max, true, List, [], ◌∷◌, ◌++◌, length, get_or, set, map, take, drop, refl, ap, sym, ◌∙◌, subst, arith, length-set, get_or-set_same, Option}
-use Rattle.std.proofs.lemmas.List.{set-set, take-map, drop-map, length-map}
+use Rattle.std.proofs.lemmas.List.{set-set, take-map, drop-map}
 use Rattle.std.specs.List.{flat_map}
 use Rattle.caf_events.specs.declared.event.Entry.{Entry}
-use Rattle.order_theory.specs.Order.{Segment}
 use Rattle.order_theory.specs.Races.{Cell}
-use Rattle.order_theory.specs.Stored.{EachCovered, all_joined}
+use Rattle.order_theory.specs.Stored.{all_joined}
 use Rattle.order_theory.specs.Clocks.{Covers}
 use Rattle.order_theory.specs.Acts.{Act, waits, unpairs, event, pair, waiting, corresponding, completing, released}
 use Rattle.order_theory.proofs.Clocks.{covers_none}
@@ -15,9 +14,10 @@ use Rattle.segment_clock.specs.Counts.{count_of, joined, ticked}
 use Rattle.segment_clock.proofs.Joins.{count_ticked, length_joined, length_with_count}
 use Rattle.order_axioms.specs.Views.{act_of, view, edges}
 use Rattle.race_watch.specs.declared.order.Order.{Order}
-use Rattle.race_watch.specs.Tables.{counts_of, IsClockOf, queue_at, joined_all}
+use Rattle.race_watch.specs.Tables.{counts_of, IsClockOf, joined_all, Numbered, numbered_at, count_in, numbered}
 use Rattle.race_watch.specs.Orders.{clock_of, named_by, Sized, QueueKept, Ordered, Turned, Completing, GoingOn, paired}
 use Rattle.race_watch.proofs.Turning.{count_with, size_all, count_all, sized_take, sized_drop, own_size, own_done, room}
+use Rattle.race_watch.proofs.Forgetting.{drop_past, count_kept}
 use Rattle.race_watch.proofs.Stepping.{moves}
 
 -- the images' clocks with this one in place of that of e's image
@@ -34,37 +34,37 @@ pub record HasTaken (n : ℕ) (g : List Entry) (e : Entry) (s : Order) (clock : 
 
 -- what the SYNC IMAGES of image j that corresponds to the last one of image i that names j counts
 abbrev pub pair_counts : Order → ℕ → ℕ → ℕ → ℕ
-pair_counts s i j = all_joined (map count_of (take 1 (drop (length (queue_at s.pairs i j) - 1) (queue_at s.pairs j i))))
+pair_counts s i j = all_joined (map count_of (numbered (count_in (numbered_at s.pairs i j) - 1) (numbered_at s.pairs j i)))
 
-size_paired : (table : List (List (List (List ℕ)))) (i : ℕ) (js : List ℕ) (c : List ℕ) → length (paired table i js c) ≡ length c
+size_paired : (table : List (List Numbered)) (i : ℕ) (js : List ℕ) (c : List ℕ) → length (paired table i js c) ≡ length c
 size_paired table i [] c = refl
 size_paired table i (j ∷ js) c =
-    size_paired table i js (joined_all c (take 1 (drop (length (queue_at table i j) - 1) (queue_at table j i)))) ∙ size_all c (take 1 (drop (length (queue_at table i j) - 1) (queue_at table j i)))
+    let ds = numbered (count_in (numbered_at table i j) - 1) (numbered_at table j i) in
+    size_paired table i js (joined_all c ds) ∙ size_all c ds
 
-count_paired : (n : ℕ) (s : Order) → ((j h : ℕ) → Sized n (queue_at s.pairs j h)) → (i : ℕ) (js : List ℕ) (c : List ℕ) (x : ℕ) → length c ≡ n
+count_paired : (n : ℕ) (s : Order) → ((j h : ℕ) → Sized n (numbered_at s.pairs j h).clocks) → (i : ℕ) (js : List ℕ) (c : List ℕ) (x : ℕ) → length c ≡ n
     → count_of (paired s.pairs i js c) x ≡ max (count_of c x) (all_joined (map (pair_counts s i) js) x)
 count_paired n s sizes i [] c x h = omega arith
 count_paired n s sizes i (j ∷ js) c x h =
-    let ds = take 1 (drop (length (queue_at s.pairs i j) - 1) (queue_at s.pairs j i)) in
-    let k = sized_take n 1 (drop (length (queue_at s.pairs i j) - 1) (queue_at s.pairs j i)) (sized_drop n (length (queue_at s.pairs i j) - 1) (queue_at s.pairs j i) (sizes j i)) in
-    let a = count_all n c ds x h k in
-    let b = count_paired n s sizes i js (joined_all c ds) x (size_all c ds ∙ h) in
+    let q = numbered_at s.pairs j i in
+    let m = count_in (numbered_at s.pairs i j) - 1 in
+    let k = sized_take n 1 (drop (m - q.first) q.clocks) (sized_drop n (m - q.first) q.clocks (sizes j i)) in
+    let a = count_all n c (numbered m q) x h k in
+    let b = count_paired n s sizes i js (joined_all c (numbered m q)) x (size_all c (numbered m q) ∙ h) in
     omega arith
 
-each_length : (n : ℕ) (g : List Entry) (q : List Segment) (cs : List (ℕ → ℕ)) → EachCovered (edges n) g q cs → length q ≡ length cs
-each_length n g [] [] h = refl
-each_length n g [] (c ∷ cs) h = absurd h
-each_length n g (s ∷ q) [] h = absurd h
-each_length n g (s ∷ q) (c ∷ cs) h = ap suc (each_length n g q cs h.1)
+-- the clock of a number that isn't forgotten
+numbered_kept : (number : ℕ) (q : Numbered) (gone : List (ℕ → ℕ)) → length gone ≡ q.first → q.first ≤ number → take 1 (drop number (gone ++ map count_of q.clocks)) ≡ map count_of (numbered number q)
+numbered_kept number q gone e h =
+    ap (take 1) (drop_past gone (map count_of q.clocks) number (omega arith) ∙ ap (λ z. drop (number - z) (map count_of q.clocks)) e ∙ drop-map count_of (number - q.first) q.clocks) ∙ take-map count_of 1 (drop (number - q.first) q.clocks)
 
-pair_covered : (n : ℕ) (g : List Entry) (s : Order) (i j : ℕ) → QueueKept n g (pair i j) (queue_at s.pairs i j) → QueueKept n g (pair j i) (queue_at s.pairs j i)
-    → Covers (edges n) g (corresponding (view n) g i j) (pair_counts s i j)
-pair_covered n g s i j mine theirs =
-    let k : length (waiting (view n) (pair i j) g) ≡ length (queue_at s.pairs i j) = each_length n g (waiting (view n) (pair i j) g) (map count_of (queue_at s.pairs i j)) mine.covers ∙ length-map (queue_at s.pairs i j) count_of in
-    subst (λ m. Covers (edges n) g (take 1 (drop (m - 1) (waiting (view n) (pair j i) g))) (pair_counts s i j)) (sym k)
-    (subst (λ f. Covers (edges n) g (take 1 (drop (length (queue_at s.pairs i j) - 1) (waiting (view n) (pair j i) g))) (all_joined f))
-    (ap (take 1) (drop-map count_of (length (queue_at s.pairs i j) - 1) (queue_at s.pairs j i)) ∙ take-map count_of 1 (drop (length (queue_at s.pairs i j) - 1) (queue_at s.pairs j i)))
-    (queue_taken Entry (view n) (length (queue_at s.pairs i j) - 1) 1 g (waiting (view n) (pair j i) g) (map count_of (queue_at s.pairs j i)) theirs.covers))
+pair_covered : (n : ℕ) (g : List Entry) (s : Order) → Ordered n g s → (i j : ℕ) → Covers (edges n) g (corresponding (view n) g i j) (pair_counts s i j)
+pair_covered n g s rec i j =
+    let m = count_in (numbered_at s.pairs i j) - 1 in
+    let theirs = rec.pairs j i in
+    subst (λ k. Covers (edges n) g (take 1 (drop (k - 1) (waiting (view n) (pair j i) g))) (pair_counts s i j)) (sym (count_kept n g (pair i j) (numbered_at s.pairs i j) (rec.pairs i j)))
+    (subst (λ f. Covers (edges n) g (take 1 (drop m (waiting (view n) (pair j i) g))) (all_joined f)) (numbered_kept m (numbered_at s.pairs j i) theirs.gone theirs.many (rec.needed j i))
+    (queue_taken Entry (view n) m 1 g (waiting (view n) (pair j i) g) (theirs.gone ++ map count_of (numbered_at s.pairs j i).clocks) theirs.covers))
 
 module _ (n : ℕ) (g : List Entry) (e : Entry) (a : Act) (s : Order) (told : Option (List ℕ)) (c : Completing n g e a s told) where
   -- nothing is released
@@ -110,7 +110,7 @@ module _ (n : ℕ) (g : List Entry) (e : Entry) (a : Act) (s : Order) (told : Op
     count = λ i. count_paired n s (λ j h. (c.ordered.pairs j h).sized) e.image.0 (named_by s e.image.0) (clock_of s e.image.0) i (own_size n g s c.ordered e c.first c.last);
     covers = subst (λ z. Covers (edges n) g z (all_joined (map (pair_counts s e.image.0) (named_by s e.image.0)))) (sym (ap (released (view n) g e.image.0) (c.act ∙ is)))
         (subst (λ js. Covers (edges n) g (flat_map (corresponding (view n) g e.image.0) js) (all_joined (map (pair_counts s e.image.0) (named_by s e.image.0)))) (c.ordered.named e.image.0 c.first c.last)
-        (covers_flat Entry (view n) g (corresponding (view n) g e.image.0) (pair_counts s e.image.0) (named_by s e.image.0) (λ j w. pair_covered n g s e.image.0 j (c.ordered.pairs e.image.0 j) (c.ordered.pairs j e.image.0))));
+        (covers_flat Entry (view n) g (corresponding (view n) g e.image.0) (pair_counts s e.image.0) (named_by s e.image.0) (λ j w. pair_covered n g s c.ordered e.image.0 j)));
   }
 
   pub going_on : GoingOn n g e a s

@@ -12,8 +12,8 @@ use Rattle.segment_clock.specs.Counts.{count_of, ticked}
 use Rattle.segment_clock.proofs.Joins.{count_ticked, count_none, length_with_count}
 use Rattle.order_axioms.specs.Views.{view, edges}
 use Rattle.race_watch.specs.declared.order.Order.{Order}
-use Rattle.race_watch.specs.Tables.{clock_at, queue_at}
-use Rattle.race_watch.specs.Orders.{line_of, clock_of, JointKept, QueueKept, Ordered}
+use Rattle.race_watch.specs.Tables.{clock_at, queue_at, Numbered, none_yet, numbered_at}
+use Rattle.race_watch.specs.Orders.{line_of, clock_of, JointKept, QueueKept, NumberedKept, Ordered}
 use Rattle.race_watch.proofs.Turning.{count_empty}
 
 zero_at : (n j : ℕ) → get_or {A = ℕ} (replicate n 0) j 0 ≡ 0
@@ -29,6 +29,9 @@ first_joint n key c w e = subst (JointKept n [] key) (sym e) (record {
 
 first_queue : (n : ℕ) (key : Key) (cs : List (List ℕ)) → waiting (view n) key [] ≡ [] → cs ≡ [] → QueueKept n [] key cs
 first_queue n key cs w e = subst (QueueKept n [] key) (sym e) (record { sized = tt; covers = subst (λ z. EachCovered (edges n) [] z []) (sym w) tt })
+
+first_numbered : (n : ℕ) (key : Key) (q : Numbered) → waiting (view n) key [] ≡ [] → q ≡ none_yet → NumberedKept n [] key q
+first_numbered n key q w e = subst (NumberedKept n [] key) (sym e) (record { sized = tt; gone = []; many = refl; covers = subst (λ z. EachCovered (edges n) [] z []) (sym w) tt })
 
 pub first_ordered : (n : ℕ) (s : Order) → length s.images.items ≡ n → ((j : ℕ) → j < n → get_or s.images.items j [] ≡ ticked (replicate n 0) (j + 1)) → s.completed.items ≡ replicate n 0
     → length s.named.items ≡ n → ((j : ℕ) → get_or s.named.items j [] ≡ []) → s.rounds ≡ [] → s.locks ≡ [] → s.constructs ≡ [] → s.events ≡ [] → s.pairs ≡ [] → Ordered n [] s
@@ -49,5 +52,6 @@ first_ordered n s size clocks zeros many names rounds locks constructs events pa
   locks = λ c p q. first_joint n (lock c) _ refl (ap (λ z. clock_at z (line_of n c.owner c.coarray) c.offset) locks);
   constructs = λ k. first_joint n (construct k) _ refl (ap (λ z. clock_at z 0 k) constructs);
   events = λ c p q. first_queue n (event c) _ refl (ap (λ z. queue_at z (line_of n c.owner c.coarray) c.offset) events);
-  pairs = λ j h. first_queue n (pair j h) _ refl (ap (λ z. queue_at z j h) pairs);
+  pairs = λ j h. first_numbered n (pair j h) _ refl (ap (λ z. numbered_at z j h) pairs);
+  needed = λ j h. let z = ap (λ t. (numbered_at t j h).first) pairs in omega arith;
 }

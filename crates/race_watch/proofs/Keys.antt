@@ -7,10 +7,11 @@ use Rattle.order_theory.specs.Races.{Cell, same_cell, within_coarray}
 use Rattle.order_theory.specs.Acts.{Act, arrives, leaves, pairs, unpairs, gets, unlocks, enters, exits, posts, waits, finishes, creates, deletes, goes_on, adds, clears, drops, leaves_all, names, completing, released}
 use Rattle.order_axioms.specs.Views.{view}
 use Rattle.race_watch.specs.declared.order.Order.{Order}
-use Rattle.race_watch.specs.Tables.{merged, clock_at, queue_at}
-use Rattle.race_watch.specs.Orders.{line_of, named_by, OnlyFinishes, Differ, turned_counts, turned_clocks, Turned}
+use Rattle.race_watch.specs.Tables.{merged, clock_at, queue_at, Numbered, numbered_at, with_next}
+use Rattle.race_watch.specs.Orders.{line_of, named_by, OnlyFinishes, Differ, turned_counts, turned_clocks, turned_numbered, Turned}
 use Rattle.race_watch.proofs.Lines.{same_row, turned_round}
 use Rattle.race_watch.proofs.Turning.{at_set}
+use Rattle.race_watch.proofs.Forgetting.{forgets_none}
 
 or_assoc : (a b c : Bool) → ((a || b) || c) ≡ (a || (b || c))
 or_assoc true b c = refl
@@ -31,6 +32,10 @@ joint_cleared b false e own x = ap (λ z. cond z None x) e
 queue_added : (b c : Bool) → b ≡ c → (own : List ℕ) (x : List (List ℕ)) → cond b (x ++ own ∷ []) x ≡ turned_clocks (cond c adds leaves_all) own x
 queue_added b true e own x = ap (λ z. cond z (x ++ own ∷ []) x) e
 queue_added b false e own x = ap (λ z. cond z (x ++ own ∷ []) x) e
+
+numbered_added : (b c : Bool) → b ≡ c → (own : List ℕ) (q : Numbered) → cond b (with_next own q) q ≡ turned_numbered (cond c adds leaves_all) own q
+numbered_added b true e own q = ap (λ z. cond z (with_next own q) q) e
+numbered_added b false e own q = ap (λ z. cond z (with_next own q) q) e
 
 queue_cleared : (b c : Bool) → b ≡ c → (own : List ℕ) (x : List (List ℕ)) → cond b [] x ≡ turned_clocks (cond c clears leaves_all) own x
 queue_cleared b true e own x = ap (λ z. cond z [] x) e
@@ -56,9 +61,9 @@ module _ (n i : ℕ) (own : List ℕ) (s s' : Order) where
     module _ (rounds : s'.rounds ≡ s.rounds) (locks : s'.locks ≡ s.locks) (constructs : s'.constructs ≡ s.constructs) (events : s'.events ≡ s.events) (pairs_is : s'.pairs ≡ s.pairs) where
       -- nothing that waits is concerned
       pub only_finishes : (a : Act) → OnlyFinishes a → Turned n i a own s s'
-      only_finishes finishes h = record { rounds = λ t k. ap (λ z. clock_at z t k) rounds; locks = λ c p q. ap (λ z. clock_at z (line_of n c.owner c.coarray) c.offset) locks; constructs = λ k. ap (λ z. clock_at z 0 k) constructs; events = λ c p q. ap (λ z. queue_at z (line_of n c.owner c.coarray) c.offset) events; pairs = λ j h. ap (λ z. queue_at z j h) pairs_is; named_count = ap (λ z. length z.items) named; named = λ j p q. named_same j }
-      only_finishes (leaves t k false) h = record { rounds = λ t k. ap (λ z. clock_at z t k) rounds; locks = λ c p q. ap (λ z. clock_at z (line_of n c.owner c.coarray) c.offset) locks; constructs = λ k. ap (λ z. clock_at z 0 k) constructs; events = λ c p q. ap (λ z. queue_at z (line_of n c.owner c.coarray) c.offset) events; pairs = λ j h. ap (λ z. queue_at z j h) pairs_is; named_count = ap (λ z. length z.items) named; named = λ j p q. named_same j }
-      only_finishes (unpairs false) h = record { rounds = λ t k. ap (λ z. clock_at z t k) rounds; locks = λ c p q. ap (λ z. clock_at z (line_of n c.owner c.coarray) c.offset) locks; constructs = λ k. ap (λ z. clock_at z 0 k) constructs; events = λ c p q. ap (λ z. queue_at z (line_of n c.owner c.coarray) c.offset) events; pairs = λ j h. ap (λ z. queue_at z j h) pairs_is; named_count = ap (λ z. length z.items) named; named = λ j p q. named_same j }
+      only_finishes finishes h = record { rounds = λ t k. ap (λ z. clock_at z t k) rounds; locks = λ c p q. ap (λ z. clock_at z (line_of n c.owner c.coarray) c.offset) locks; constructs = λ k. ap (λ z. clock_at z 0 k) constructs; events = λ c p q. ap (λ z. queue_at z (line_of n c.owner c.coarray) c.offset) events; pairs = λ j h. forgets_none _ _ _ (ap (λ z. numbered_at z j h) pairs_is); named_count = ap (λ z. length z.items) named; named = λ j p q. named_same j }
+      only_finishes (leaves t k false) h = record { rounds = λ t k. ap (λ z. clock_at z t k) rounds; locks = λ c p q. ap (λ z. clock_at z (line_of n c.owner c.coarray) c.offset) locks; constructs = λ k. ap (λ z. clock_at z 0 k) constructs; events = λ c p q. ap (λ z. queue_at z (line_of n c.owner c.coarray) c.offset) events; pairs = λ j h. forgets_none _ _ _ (ap (λ z. numbered_at z j h) pairs_is); named_count = ap (λ z. length z.items) named; named = λ j p q. named_same j }
+      only_finishes (unpairs false) h = record { rounds = λ t k. ap (λ z. clock_at z t k) rounds; locks = λ c p q. ap (λ z. clock_at z (line_of n c.owner c.coarray) c.offset) locks; constructs = λ k. ap (λ z. clock_at z 0 k) constructs; events = λ c p q. ap (λ z. queue_at z (line_of n c.owner c.coarray) c.offset) events; pairs = λ j h. forgets_none _ _ _ (ap (λ z. numbered_at z j h) pairs_is); named_count = ap (λ z. length z.items) named; named = λ j p q. named_same j }
       only_finishes (leaves t k true) h = absurd h
       only_finishes (unpairs true) h = absurd h
       only_finishes (arrives t k) h = absurd h
@@ -116,9 +121,9 @@ module _ (n i : ℕ) (own : List ℕ) where
       → (k : ℕ) → clock_at new 0 k ≡ turned_counts (cond (nat_eq k m) clears leaves_all) own (clock_at old 0 k)
   construct_cleared old new m step k = step 0 k ∙ joint_cleared _ _ refl own (clock_at old 0 k)
 
-  pub pair_added : (old new : List (List (List (List ℕ)))) (js : List ℕ) → ((l k : ℕ) → queue_at new l k ≡ cond (nat_eq l i && names k js) (queue_at old l k ++ own ∷ []) (queue_at old l k))
-      → (j h : ℕ) → queue_at new j h ≡ turned_clocks (cond (nat_eq i j && names h js) adds leaves_all) own (queue_at old j h)
-  pair_added old new js step j h = step j h ∙ queue_added _ _ (ap (λ b. b && names h js) (turned_round j i)) own (queue_at old j h)
+  pub pair_added : (old new : List (List Numbered)) (js : List ℕ) → ((l k : ℕ) → numbered_at new l k ≡ cond (nat_eq l i && names k js) (with_next own (numbered_at old l k)) (numbered_at old l k))
+      → (j h : ℕ) → numbered_at new j h ≡ turned_numbered (cond (nat_eq i j && names h js) adds leaves_all) own (numbered_at old j h)
+  pair_added old new js step j h = step j h ∙ numbered_added _ _ (ap (λ b. b && names h js) (turned_round j i)) own (numbered_at old j h)
 
 pub only_completes : (a : Act) → OnlyFinishes a → completing a ≡ true
 only_completes finishes h = refl
@@ -167,16 +172,16 @@ names_append k [] ys = refl
 names_append k (x ∷ xs) ys = ap (λ b. nat_eq x k || b) (names_append k xs ys) ∙ sym (or_assoc (nat_eq x k) (names k xs) (names k ys))
 
 -- one more image of SYNC IMAGES
-put_by : (b m e : Bool) (own : List ℕ) (old mid new : List (List ℕ)) → (e ≡ true → m ≡ false) → mid ≡ cond (b && m) (old ++ own ∷ []) old → new ≡ cond (b && e) (mid ++ own ∷ []) mid → new ≡ cond (b && (m || (e || false))) (old ++ own ∷ []) old
+put_by : (b m e : Bool) (own : List ℕ) (old mid new : Numbered) → (e ≡ true → m ≡ false) → mid ≡ cond (b && m) (with_next own old) old → new ≡ cond (b && e) (with_next own mid) mid → new ≡ cond (b && (m || (e || false))) (with_next own old) old
 put_by false m e own old mid new d p q = q ∙ p
-put_by true m false own old mid new d p q = q ∙ p ∙ ap (λ z. cond z (old ++ own ∷ []) old) (sym (or_false m))
-put_by true false true own old mid new d p q = q ∙ ap (λ z. z ++ own ∷ []) p
+put_by true m false own old mid new d p q = q ∙ p ∙ ap (λ z. cond z (with_next own old) old) (sym (or_false m))
+put_by true false true own old mid new d p q = q ∙ ap (with_next own) p
 put_by true true true own old mid new d p q = absurd (let z = d refl in cc)
 
-pub put_more : (l k line i x d : ℕ) (js : List ℕ) (own : List ℕ) (old mid new : List (List ℕ)) → Differ js → i < length js → x ≡ get_or js i d
-    → mid ≡ cond (nat_eq l line && names k (take i js)) (old ++ own ∷ []) old → new ≡ cond (nat_eq l line && nat_eq k x) (mid ++ own ∷ []) mid
-    → new ≡ cond (nat_eq l line && names k (take (i + 1) js)) (old ++ own ∷ []) old
+pub put_more : (l k line i x d : ℕ) (js : List ℕ) (own : List ℕ) (old mid new : Numbered) → Differ js → i < length js → x ≡ get_or js i d
+    → mid ≡ cond (nat_eq l line && names k (take i js)) (with_next own old) old → new ≡ cond (nat_eq l line && nat_eq k x) (with_next own mid) mid
+    → new ≡ cond (nat_eq l line && names k (take (i + 1) js)) (with_next own old) old
 put_more l k line i x d js own old mid new apart h is p q =
     put_by (nat_eq l line) (names k (take i js)) (nat_eq x k) own old mid new
-    (λ t. subst (λ z. names z (take i js) ≡ false) (sym is ∙ eqb-true x k t) (apart i d h)) p (q ∙ ap (λ b. cond (nat_eq l line && b) (mid ++ own ∷ []) mid) (turned_round k x))
-    ∙ ap (λ b. cond (nat_eq l line && b) (old ++ own ∷ []) old) (sym (ap (names k) (take_more js i d h ∙ ap (λ z. take i js ++ z ∷ []) (sym is)) ∙ names_append k (take i js) (x ∷ [])))
+    (λ t. subst (λ z. names z (take i js) ≡ false) (sym is ∙ eqb-true x k t) (apart i d h)) p (q ∙ ap (λ b. cond (nat_eq l line && b) (with_next own mid) mid) (turned_round k x))
+    ∙ ap (λ b. cond (nat_eq l line && b) (with_next own old) old) (sym (ap (names k) (take_more js i d h ∙ ap (λ z. take i js ++ z ∷ []) (sym is)) ∙ names_append k (take i js) (x ∷ [])))

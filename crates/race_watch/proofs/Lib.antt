@@ -3,6 +3,7 @@ pub mod Joined
 pub mod Noting
 pub mod Lines
 pub mod Turning
+pub mod Forgetting
 pub mod Keys
 pub mod Stepping
 pub mod Finishing

@@ -5,7 +5,7 @@ use Rattle.caf_events.specs.declared.event.Entry.{Entry}
 use Rattle.order_theory.specs.Order.{done}
 use Rattle.order_theory.specs.Clocks.{Covers, tick}
 use Rattle.order_theory.specs.Races.{Cell, same_cell, within_coarray}
-use Rattle.order_theory.specs.Acts.{Act, arrives, leaves, pairs, unpairs, gets, unlocks, enters, exits, posts, waits, finishes, creates, deletes, goes_on, round, pair, lock, construct, event, adds, clears, drops, leaves_all, turn, completing, entries, released, others, last_named_from, named_after}
+use Rattle.order_theory.specs.Acts.{Act, arrives, leaves, pairs, unpairs, gets, unlocks, enters, exits, posts, waits, finishes, creates, deletes, goes_on, round, lock, construct, event, adds, clears, drops, leaves_all, turn, completing, entries, released, others, last_named_from, named_after}
 use Rattle.order_theory.specs.Stored.{present}
 use Rattle.order_theory.proofs.Splits.{done_append, done_at}
 use Rattle.order_theory.proofs.Clocks.{covers_same}
@@ -16,6 +16,7 @@ use Rattle.order_axioms.specs.Views.{act_of, view, edges}
 use Rattle.race_watch.specs.declared.order.Order.{Order}
 use Rattle.race_watch.specs.Orders.{clock_of, Ordered, Turned}
 use Rattle.race_watch.proofs.Turning.{at_set, own, joint_more, queue_after}
+use Rattle.race_watch.proofs.Forgetting.{pairs_after, needed_after}
 
 no_adding : (b : Bool) (m : ℕ) → cond b adds leaves_all ≡ drops m → ⊥
 no_adding true m h = cc
@@ -108,7 +109,8 @@ module _ (n : ℕ) (g : List Entry) (s : Order) (rec : Ordered n g s) (e : Entry
     locks = λ c p q. joint_more n g s rec e first last a is (lock c) _ _ (rec.locks c p q) (lock_whole c e.image.0 a) (turned.locks c p q);
     constructs = λ k. joint_more n g s rec e first last a is (construct k) _ _ (rec.constructs k) (construct_whole k e.image.0 a) (turned.constructs k);
     events = λ c p q. queue_after n g s rec e first last a is (event c) _ _ (rec.events c p q) (turned.events c p q);
-    pairs = λ j h. queue_after n g s rec e first last a is (pair j h) _ _ (rec.pairs j h) (turned.pairs j h);
+    pairs = pairs_after n g s rec e first last a is s' turned;
+    needed = needed_after n g s rec e first last a is s' turned;
   }
 
   -- the entry completes no segment

@@ -64,7 +64,7 @@ clocks_turned clears own cs = refl
 clocks_turned (drops m) own cs = sym (drop-map count_of m cs)
 clocks_turned leaves_all own cs = refl
 
-sized_last : (n : ℕ) (own : List ℕ) (cs : List (List ℕ)) → length own ≡ n → Sized n cs → Sized n (cs ++ own ∷ [])
+pub sized_last : (n : ℕ) (own : List ℕ) (cs : List (List ℕ)) → length own ≡ n → Sized n cs → Sized n (cs ++ own ∷ [])
 sized_last n own [] h k = (h, tt)
 sized_last n own (c ∷ cs) h k = (k.0, sized_last n own cs h k.1)
 

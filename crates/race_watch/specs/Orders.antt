@@ -1,5 +1,5 @@
 -- What the clocks of a recorder say of the trace so far.
-use Rattle.std.specs.Prelude.{ℕ, ◌+◌, ◌*◌, ◌-◌, ◌^◌, ◌<◌, ◌≤◌, ◌≡◌, List, [], ◌∷◌, ◌++◌, length, get_or, map, take, drop, false, Option, None}
+use Rattle.std.specs.Prelude.{ℕ, ◌+◌, ◌*◌, ◌-◌, ◌^◌, ◌<◌, ◌≤◌, ◌≡◌, List, [], ◌∷◌, ◌++◌, length, get_or, map, max, take, drop, false, Option, None}
 use Rattle.caf_events.specs.declared.event.Entry.{Entry}
 use Rattle.order_theory.specs.Order.{done}
 use Rattle.order_theory.specs.Clocks.{Covers}
@@ -9,7 +9,7 @@ use Rattle.order_theory.specs.Stored.{present, EachCovered}
 use Rattle.segment_clock.specs.Counts.{count_of}
 use Rattle.order_axioms.specs.Views.{act_of, view, edges}
 use Rattle.race_watch.specs.declared.order.Order.{Order}
-use Rattle.race_watch.specs.Tables.{counts_of, merged, IsClockOf, clock_at, queue_at, joined_all}
+use Rattle.race_watch.specs.Tables.{counts_of, merged, IsClockOf, clock_at, queue_at, joined_all, Numbered, numbered_at, count_in, numbered, with_next}
 
 -- the line of a coarray in the memory of an owner
 abbrev pub line_of : ℕ → ℕ → ℕ → ℕ
@@ -44,6 +44,18 @@ pub record QueueKept (n : ℕ) (g : List Entry) (key : Key) (cs : List (List ℕ
   pub sized : Sized n cs
   pub covers : EachCovered (edges n) g (waiting (view n) key g) (map count_of cs)
 
+-- the same, but of the first segments the clocks are forgotten
+pub record NumberedKept (n : ℕ) (g : List Entry) (key : Key) (q : Numbered) : Type 0 where
+  pub sized : Sized n q.clocks
+  pub gone : List (ℕ → ℕ)
+  pub many : length gone ≡ q.first
+  pub covers : EachCovered (edges n) g (waiting (view n) key g) (gone ++ map count_of q.clocks)
+
+-- What image h looks at when it ends SYNC IMAGES with image j is still kept: where it has named j so many times, the clock of the SYNC IMAGES in which j
+-- named it as often, and those behind it.
+abbrev pub Needed : List (List Numbered) → Type 0
+Needed table = (j h : ℕ) → (numbered_at table j h).first ≤ count_in (numbered_at table h j) - 1
+
 -- What is kept of segment order after these entries: of each image the clock of its present segment, ticked, how many segments it has completed, and the
 -- images that it named last; and the clocks of what waits at each key.
 pub record Ordered (n : ℕ) (g : List Entry) (s : Order) : Type 0 where
@@ -58,7 +70,8 @@ pub record Ordered (n : ℕ) (g : List Entry) (s : Order) : Type 0 where
   pub locks : (c : Cell) → 0 < c.owner → c.owner ≤ n → JointKept n g (lock c) (lock_at n s c)
   pub constructs : (k : ℕ) → JointKept n g (construct k) (clock_at s.constructs 0 k)
   pub events : (c : Cell) → 0 < c.owner → c.owner ≤ n → QueueKept n g (event c) (event_at n s c)
-  pub pairs : (j h : ℕ) → QueueKept n g (pair j h) (queue_at s.pairs j h)
+  pub pairs : (j h : ℕ) → NumberedKept n g (pair j h) (numbered_at s.pairs j h)
+  pub needed : Needed s.pairs
 
 -- a key's clock, and its queue, after a turn of an entry whose image has this clock
 abbrev pub turned_counts : Turn → List ℕ → Option (List ℕ) → Option (List ℕ)
@@ -73,13 +86,30 @@ turned_clocks clears own cs = []
 turned_clocks (drops k) own cs = drop k cs
 turned_clocks leaves_all own cs = cs
 
--- each key is kept as it is after the turn of an act of image i
+-- the numbered clocks of a pair, at which no act clears or drops any
+abbrev pub turned_numbered : Turn → List ℕ → Numbered → Numbered
+turned_numbered adds own q = with_next own q
+turned_numbered t own q = q
+
+-- some first clocks of q, each of a number below the bound, are forgotten in q'
+pub record Forgets (bound : ℕ) (q q' : Numbered) : Type 0 where
+  pub many : ℕ
+  pub there : many ≤ length q.clocks
+  pub first : q'.first ≡ q.first + many
+  pub clocks : q'.clocks ≡ drop many q.clocks
+  pub below : q'.first ≤ max q.first bound
+
+-- of what the images have yet to look at nothing is forgotten
+abbrev pub ForgetsUsed : List (List Numbered) → List (List Numbered) → Type 0
+ForgetsUsed old new = (j h : ℕ) → Forgets (count_in (numbered_at old h j) - 1) (numbered_at old j h) (numbered_at new j h)
+
+-- each key is kept as it is after the turn of an act of image i, but that clocks of pairs may be forgotten at which no image has yet to look
 pub record Turned (n i : ℕ) (a : Act) (own : List ℕ) (s s' : Order) : Type 0 where
   pub rounds : (t k : ℕ) → clock_at s'.rounds t k ≡ turned_counts (turn (round t k) i a) own (clock_at s.rounds t k)
   pub locks : (c : Cell) → 0 < c.owner → c.owner ≤ n → lock_at n s' c ≡ turned_counts (turn (lock c) i a) own (lock_at n s c)
   pub constructs : (k : ℕ) → clock_at s'.constructs 0 k ≡ turned_counts (turn (construct k) i a) own (clock_at s.constructs 0 k)
   pub events : (c : Cell) → 0 < c.owner → c.owner ≤ n → event_at n s' c ≡ turned_clocks (turn (event c) i a) own (event_at n s c)
-  pub pairs : (j h : ℕ) → queue_at s'.pairs j h ≡ turned_clocks (turn (pair j h) i a) own (queue_at s.pairs j h)
+  pub pairs : (j h : ℕ) → Forgets (count_in (numbered_at s.pairs h j) - 1) (turned_numbered (turn (pair j h) i a) own (numbered_at s.pairs j h)) (numbered_at s'.pairs j h)
   pub named_count : length s'.named.items ≡ length s.named.items
   pub named : (j : ℕ) → 0 < j → j ≤ n → named_by s' j ≡ named_after j (named_by s j) i a
 
@@ -91,9 +121,13 @@ OnlyFinishes (unpairs false) = Unit {0}
 OnlyFinishes a = ⊥
 
 -- the clock joined with those of the last SYNC IMAGES of image i with these images
-abbrev pub paired : List (List (List (List ℕ))) → ℕ → List ℕ → List ℕ → List ℕ
+abbrev pub paired : List (List Numbered) → ℕ → List ℕ → List ℕ → List ℕ
 paired table i [] c = c
-paired table i (j ∷ js) c = paired table i js (joined_all c (take 1 (drop (length (queue_at table i j) - 1) (queue_at table j i))))
+paired table i (j ∷ js) c = paired table i js (joined_all c (numbered (count_in (numbered_at table i j) - 1) (numbered_at table j i)))
+
+-- the clocks of each pair can be counted
+abbrev pub CanCount : List (List Numbered) → Type 0
+CanCount table = (j h : ℕ) → count_in (numbered_at table j h) < 2 ^ 64
 
 -- What is known where an entry comes that completes no segment: its act, and what is kept so far.
 pub record GoingOn (n : ℕ) (g : List Entry) (e : Entry) (a : Act) (s : Order) : Type 0 where

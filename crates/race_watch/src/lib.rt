@@ -9,6 +9,7 @@ pub mod class;
 pub mod kept;
 pub mod laws;
 pub mod marks;
+pub mod numbered;
 pub mod order;
 pub mod queue;
 pub mod recorder;

@@ -6,11 +6,12 @@ ghost use Rattle.order_theory.specs.Acts.{entries, names, arrives, leaves, pairs
 ghost use Rattle.order_theory.specs.Acts as theory;
 ghost use Rattle.segment_clock.specs.Counts.{count_of, joined, ticked};
 ghost use Rattle.race_watch.specs.ActParts.{as_act, as_cell};
-ghost use Rattle.race_watch.specs.Tables.{counts_of, IsClockOf, queue_at};
+ghost use Rattle.race_watch.specs.Tables.{counts_of, IsClockOf, numbered_at, with_next};
 ghost use Rattle.order_axioms.specs.Views.{view};
-ghost use Rattle.race_watch.specs.Orders.{line_of, clock_of, OnlyFinishes, Sized, Differ, IsSound, Ordered, Completing, GoingOn, paired};
+ghost use Rattle.race_watch.specs.Orders.{line_of, clock_of, OnlyFinishes, Sized, Differ, IsSound, Ordered, Completing, GoingOn, Needed, ForgetsUsed, CanCount, paired};
 
 use crate::act::{Act, CellName};
+use crate::numbered::NumberedTable;
 use crate::queue::QueueTable;
 use crate::shared::SharedClock;
 use crate::table::{ClockTable, take};
@@ -45,7 +46,8 @@ impl Named {
 
 /// Of each image the clock of its present segment, ticked, how many segments it has completed, and whom it named last; and the clocks of the segments that
 /// wait at a round of a team, a lock, a CRITICAL construct, an event, or for the SYNC IMAGES that corresponds. Locks and events are in the line of their
-/// coarray; constructs are in line 0; the SYNC IMAGES of image j that name image h are in line j at place h.
+/// coarray; constructs are in line 0; the SYNC IMAGES of image j that name image h are in line j at place h, those at which image h has no more to look
+/// forgotten.
 #[derive(Drop)]
 pub struct Order {
     pub(crate) images: Vec<Clock>,
@@ -55,7 +57,7 @@ pub struct Order {
     pub(crate) locks: ClockTable,
     pub(crate) constructs: ClockTable,
     pub(crate) events: QueueTable,
-    pub(crate) pairs: QueueTable,
+    pub(crate) pairs: NumberedTable,
 }
 
 // The image's segment is completed: its clock takes that of the failed images that it was told of, and its next segment begins.
@@ -284,14 +286,14 @@ fn deletes(
 
 // One more segment waits for each of the images that SYNC IMAGES names.
 fn put_each(
-    pairs: &mut QueueTable,
+    pairs: &mut NumberedTable,
     alloc: Global,
     image: ImageNo,
     named: &[u32],
     own: &SharedClock,
 ) -> Result<(), NoMemory>
     requires apart { Differ named.now }
-    ensures { IfOk result (λ _. (l k : ℕ) → queue_at pairs.new l k ≡ cond (nat_eq l image.0 && names k named.now) (queue_at pairs.old l k ++ own.now ∷ []) (queue_at pairs.old l k)) }
+    ensures { IfOk result (λ _. (l k : ℕ) → numbered_at pairs.new l k ≡ cond (nat_eq l image.0 && names k named.now) (with_next own.now (numbered_at pairs.old l k)) (numbered_at pairs.old l k)) }
 {
     for other in named {
         pairs.put(alloc, image.0 as usize, *other as usize, own)?;
@@ -319,8 +321,10 @@ fn pairs(
 }
 
 // The clock takes that of the SYNC IMAGES of each of these images that corresponds to the last one of this image.
-fn look_each(pairs: &QueueTable, image: ImageNo, named: &[u32], clock: &mut Clock)
-    requires { (j h : ℕ) → Sized (length clock.old) (queue_at pairs.now j h) }
+fn look_each(pairs: &NumberedTable, image: ImageNo, named: &[u32], clock: &mut Clock)
+    requires sizes { (j h : ℕ) → Sized (length clock.old) (numbered_at pairs.now j h).clocks }
+    requires needed { Needed pairs.now }
+    requires counts { CanCount pairs.now }
     ensures { clock.new ≡ paired pairs.now image.0 named.now clock.old }
 {
     for other in named {
@@ -334,6 +338,17 @@ fn look_each(pairs: &QueueTable, image: ImageNo, named: &[u32], clock: &mut Cloc
     }
 }
 
+// This image has named each of these images so many times, so it has no more to look at the clocks of earlier SYNC IMAGES in which they named it.
+fn forget_each(pairs: &mut NumberedTable, image: ImageNo, named: &[u32])
+    requires { CanCount pairs.old }
+    ensures { ForgetsUsed pairs.old pairs.new }
+{
+    for other in named {
+        let count = pairs.count(image.0 as usize, *other as usize);
+        pairs.forget(*other as usize, image.0 as usize, count.saturating_sub(1));
+    }
+}
+
 // The end of SYNC IMAGES, where it is whole.
 fn unpairs(order: &mut Order, _n: u32, _before: &[Entry], e: &Entry, told: &Option<Clock>)
     requires { Completing _n _before.now e.now (unpairs true) order.old told.now }
@@ -341,7 +356,9 @@ fn unpairs(order: &mut Order, _n: u32, _before: &[Entry], e: &Entry, told: &Opti
 {
     let place = (e.image.0 - 1) as usize;
     let clock = &mut order.images[place];
-    look_each(&order.pairs, e.image, order.named[place].as_slice(), clock);
+    let named = order.named[place].as_slice();
+    look_each(&order.pairs, e.image, named, clock);
+    forget_each(&mut order.pairs, e.image, named);
     finish(&mut order.images, &mut order.completed, e.image, told);
 }
 
@@ -393,7 +410,7 @@ impl Order {
             locks: ClockTable::new(alloc),
             constructs: ClockTable::new(alloc),
             events: QueueTable::new(alloc),
-            pairs: QueueTable::new(alloc),
+            pairs: NumberedTable::new(alloc),
         })
     }
 

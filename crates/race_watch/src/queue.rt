@@ -88,16 +88,6 @@ impl Queue {
         join_all(&self.clocks[..k], clock);
         self.clocks.drain(..k);
     }
-
-    // The clock is joined with that of the segment of this number, from 0, where there is one.
-    fn look(&self, number: usize, clock: &mut Clock)
-        requires { All (λ c. length c ≡ length clock.old) self.now }
-        ensures { clock.new ≡ joined_all clock.old (take 1 (drop number self.now)) }
-    {
-        if number < self.clocks.len() {
-            clock.join(self.clocks[number].clock());
-        }
-    }
 }
 
 // Makes the queues up to this one.
@@ -134,24 +124,6 @@ impl QueueRow {
     {
         if place < self.queues.len() {
             self.queues[place].take(k, clock);
-        }
-    }
-
-    fn look(&self, place: usize, number: usize, clock: &mut Clock)
-        requires { All (λ c. length c ≡ length clock.old) (get_or self.now place []) }
-        ensures { clock.new ≡ joined_all clock.old (take 1 (drop number (get_or self.now place []))) }
-    {
-        if place < self.queues.len() {
-            self.queues[place].look(number, clock);
-        }
-    }
-
-    fn count(&self, place: usize) -> usize
-        ensures { result ≡ length (get_or self.now place []) }
-    {
-        match self.queues.get(place) {
-            Some(queue) => queue.clocks.len(),
-            None => 0,
         }
     }
 }
@@ -199,26 +171,6 @@ impl QueueTable {
     {
         if line < self.rows.len() {
             self.rows[line].take(place, count, clock);
-        }
-    }
-
-    /// The clock is joined with that of the segment of this number, from 0, at a line and place, where there is one.
-    pub fn look(&self, line: usize, place: usize, number: usize, clock: &mut Clock)
-        requires { All (λ c. length c ≡ length clock.old) (queue_at self.now line place) }
-        ensures { clock.new ≡ joined_all clock.old (take 1 (drop number (queue_at self.now line place))) }
-    {
-        if line < self.rows.len() {
-            self.rows[line].look(place, number, clock);
-        }
-    }
-
-    /// How many segments wait at a line and place.
-    pub fn count(&self, line: usize, place: usize) -> usize
-        ensures { result ≡ length (queue_at self.now line place) }
-    {
-        match self.rows.get(line) {
-            Some(row) => row.count(place),
-            None => 0,
         }
     }
 

@@ -2,6 +2,7 @@ use Rattle.std.proofs.Common.{◌≡◌, ℕ, ◌-◌, ◌∙◌, ◌&&◌, nat_
 use Rattle.std.proofs.lemmas.List.{get_or_read}
 use Rattle.race_watch.specs.Tables.{merged, clock_at}
 use Rattle.race_watch.proofs.Turning.{own_size}
+use Rattle.race_watch.proofs.Forgetting.{forgets_none}
 use Rattle.race_watch.proofs.Finishing.{in_place, taken_none, ready, finished}
 use Rattle.race_watch.proofs.Keys as keys
 use Rattle.race_watch.proofs.order.exits.Goals as goal
@@ -30,4 +31,4 @@ finish-requires-clause-more c = (ready c.args.n c.args._before.now c.args.e.now 
 pub returns : goal.returns
 returns c =
     finished c.args.n c.args._before.now c.args.e.now _ c.args.order.now _ c.requires _ _ (taken_none c.args.n c.args._before.now c.args.e.now _ c.args.order.now _ c.requires refl) _ (in_place c.args.n c.args._before.now c.args.e.now _ c.args.order.now _ c.requires) refl _
-    (record { rounds = λ t k. refl; locks = λ c p q. refl; constructs = keys.construct_added c.args.n c.args.e.now.image.0 _ _ _ c.args.construct (subst (λ w. (l k : ℕ) → clock_at c.add.new.self l k ≡ cond (nat_eq l 0 && nat_eq k c.args.construct) (merged (clock_at c.args.order.now.constructs l k) w) (clock_at c.args.order.now.constructs l k)) (get_or_read c.args.order.now.images.items (c.args.e.now.image.0 - 1) c.index-own.result.now (let a = c.requires.first in let b = c.requires.last in let z = c.requires.ordered.image_count in omega arith) c.index-own.ensures []) c.in_ok-add.ensures); events = λ c p q. refl; pairs = λ j h. refl; named_count = refl; named = λ j p q. refl }) c.finish.ensures.clocks c.finish.ensures.counts
+    (record { rounds = λ t k. refl; locks = λ c p q. refl; constructs = keys.construct_added c.args.n c.args.e.now.image.0 _ _ _ c.args.construct (subst (λ w. (l k : ℕ) → clock_at c.add.new.self l k ≡ cond (nat_eq l 0 && nat_eq k c.args.construct) (merged (clock_at c.args.order.now.constructs l k) w) (clock_at c.args.order.now.constructs l k)) (get_or_read c.args.order.now.images.items (c.args.e.now.image.0 - 1) c.index-own.result.now (let a = c.requires.first in let b = c.requires.last in let z = c.requires.ordered.image_count in omega arith) c.index-own.ensures []) c.in_ok-add.ensures); events = λ c p q. refl; pairs = λ j h. forgets_none _ _ _ refl; named_count = refl; named = λ j p q. refl }) c.finish.ensures.clocks c.finish.ensures.counts

@@ -5,6 +5,7 @@ use Rattle.race_watch.specs.Tables.{counts_of, IsClockOf, clock_at}
 use Rattle.race_watch.specs.ActParts.{as_cell}
 use Rattle.race_watch.specs.Orders.{clock_of, lock_at}
 use Rattle.race_watch.proofs.Turning.{own_size}
+use Rattle.race_watch.proofs.Forgetting.{forgets_none}
 use Rattle.race_watch.proofs.Finishing.{put_in, taken_one, ready, finished}
 use Rattle.race_watch.proofs.Keys as keys
 use Rattle.race_watch.proofs.order.gets.Goals as goal
@@ -30,4 +31,4 @@ finish-requires-clause-more c = (ready c.args.n c.args._before.now c.args.e.now 
 pub returns : goal.returns
 returns c =
     finished c.args.n c.args._before.now c.args.e.now _ c.args.order.now _ c.requires.act _ _ (taken_one c.args.n c.args._before.now c.args.e.now _ c.args.order.now _ c.requires.act (lock_at c.args.n c.args.order.now (as_cell c.args.cell)) (c.requires.act.ordered.locks (as_cell c.args.cell) c.requires.owner.0 c.requires.owner.1).sized (c.requires.act.ordered.locks (as_cell c.args.cell) c.requires.owner.0 c.requires.owner.1).covers) _ (put_in c.args.n c.args._before.now c.args.e.now _ c.args.order.now _ c.requires.act _ _ (ap (λ z. set c.args.order.now.images.items (c.args.e.now.image.0 - 1) z) (c.take.ensures ∙ ap (λ z. joined z (counts_of (clock_at c.args.order.now.locks c.line_of-line.result c.args.cell.offset))) (get_or_read c.args.order.now.images.items (c.args.e.now.image.0 - 1) c.index_mut-clock.result.now (let a = c.requires.act.first in let b = c.requires.act.last in let z = c.requires.act.ordered.image_count in omega arith) c.index_mut-clock.ensures.value []) ∙ ap (λ z. joined (clock_of c.args.order.now c.args.e.now.image.0) (counts_of z)) (ap (λ z. clock_at c.args.order.now.locks z c.args.cell.offset) c.line_of-line.ensures)))) refl _
-    (record { rounds = λ t k. refl; locks = keys.lock_cleared c.args.n c.args.e.now.image.0 _ _ _ (as_cell c.args.cell) c.requires.owner.0 c.requires.owner.1 (subst (λ z. (l k : ℕ) → clock_at c.clear.new.self l k ≡ cond (nat_eq l z && nat_eq k c.args.cell.offset) None (clock_at c.args.order.now.locks l k)) c.line_of-line.ensures c.clear.ensures); constructs = λ k. refl; events = λ c p q. refl; pairs = λ j h. refl; named_count = refl; named = λ j p q. refl }) c.finish.ensures.clocks c.finish.ensures.counts
+    (record { rounds = λ t k. refl; locks = keys.lock_cleared c.args.n c.args.e.now.image.0 _ _ _ (as_cell c.args.cell) c.requires.owner.0 c.requires.owner.1 (subst (λ z. (l k : ℕ) → clock_at c.clear.new.self l k ≡ cond (nat_eq l z && nat_eq k c.args.cell.offset) None (clock_at c.args.order.now.locks l k)) c.line_of-line.ensures c.clear.ensures); constructs = λ k. refl; events = λ c p q. refl; pairs = λ j h. forgets_none _ _ _ refl; named_count = refl; named = λ j p q. refl }) c.finish.ensures.clocks c.finish.ensures.counts

@@ -4,6 +4,7 @@ use Rattle.race_watch.specs.Tables.{merged, IsClockOf, clock_at}
 use Rattle.race_watch.specs.ActParts.{as_cell}
 use Rattle.race_watch.specs.Orders.{clock_of}
 use Rattle.race_watch.proofs.Turning.{own_size}
+use Rattle.race_watch.proofs.Forgetting.{forgets_none}
 use Rattle.race_watch.proofs.Finishing.{in_place, taken_none, ready, finished}
 use Rattle.race_watch.proofs.Keys as keys
 use Rattle.race_watch.proofs.order.unlocks.Goals as goal
@@ -32,4 +33,4 @@ finish-requires-clause-more c = (ready c.args.n c.args._before.now c.args.e.now 
 pub returns : goal.returns
 returns c =
     finished c.args.n c.args._before.now c.args.e.now _ c.args.order.now _ c.requires.act _ _ (taken_none c.args.n c.args._before.now c.args.e.now _ c.args.order.now _ c.requires.act refl) _ (in_place c.args.n c.args._before.now c.args.e.now _ c.args.order.now _ c.requires.act) refl _
-    (record { rounds = λ t k. refl; locks = keys.lock_added c.args.n c.args.e.now.image.0 _ _ _ (as_cell c.args.cell) c.requires.owner.0 c.requires.owner.1 (subst (λ z. (l k : ℕ) → clock_at c.add.new.self l k ≡ cond (nat_eq l z && nat_eq k c.args.cell.offset) (merged (clock_at c.args.order.now.locks l k) (clock_of c.args.order.now c.args.e.now.image.0)) (clock_at c.args.order.now.locks l k)) c.line_of-line.ensures (subst (λ w. (l k : ℕ) → clock_at c.add.new.self l k ≡ cond (nat_eq l c.line_of-line.result && nat_eq k c.args.cell.offset) (merged (clock_at c.args.order.now.locks l k) w) (clock_at c.args.order.now.locks l k)) (get_or_read c.args.order.now.images.items (c.args.e.now.image.0 - 1) c.index-own.result.now (let a = c.requires.act.first in let b = c.requires.act.last in let z = c.requires.act.ordered.image_count in omega arith) c.index-own.ensures []) c.in_ok-add.ensures)); constructs = λ k. refl; events = λ c p q. refl; pairs = λ j h. refl; named_count = refl; named = λ j p q. refl }) c.finish.ensures.clocks c.finish.ensures.counts
+    (record { rounds = λ t k. refl; locks = keys.lock_added c.args.n c.args.e.now.image.0 _ _ _ (as_cell c.args.cell) c.requires.owner.0 c.requires.owner.1 (subst (λ z. (l k : ℕ) → clock_at c.add.new.self l k ≡ cond (nat_eq l z && nat_eq k c.args.cell.offset) (merged (clock_at c.args.order.now.locks l k) (clock_of c.args.order.now c.args.e.now.image.0)) (clock_at c.args.order.now.locks l k)) c.line_of-line.ensures (subst (λ w. (l k : ℕ) → clock_at c.add.new.self l k ≡ cond (nat_eq l c.line_of-line.result && nat_eq k c.args.cell.offset) (merged (clock_at c.args.order.now.locks l k) w) (clock_at c.args.order.now.locks l k)) (get_or_read c.args.order.now.images.items (c.args.e.now.image.0 - 1) c.index-own.result.now (let a = c.requires.act.first in let b = c.requires.act.last in let z = c.requires.act.ordered.image_count in omega arith) c.index-own.ensures []) c.in_ok-add.ensures)); constructs = λ k. refl; events = λ c p q. refl; pairs = λ j h. forgets_none _ _ _ refl; named_count = refl; named = λ j p q. refl }) c.finish.ensures.clocks c.finish.ensures.counts
