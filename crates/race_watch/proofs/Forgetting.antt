@@ -1,17 +1,17 @@
 -- The numbered clocks of pairs, of which the first are forgotten.
-use Rattle.std.proofs.Common.{◌≡◌, ◌⊎◌, ℕ, zero, suc, ◌+◌, ◌-◌, ◌<◌, ◌≤◌, ◌^◌, min, max, Bool, true, false, nat_eq, ◌&&◌, cond, List, [], ◌∷◌, ◌++◌, length, map, take, drop, inl, inr, refl, ap, sym, ◌∙◌, subst, arith}
+use Rattle.std.proofs.Common.{◌≡◌, ◌⊎◌, ℕ, zero, suc, ◌+◌, ◌-◌, ◌<◌, ◌≤◌, ◌^◌, min, Bool, true, false, nat_eq, ◌&&◌, cond, List, [], ◌∷◌, ◌++◌, length, map, take, drop, inl, inr, refl, ap, sym, ◌∙◌, subst, arith}
 use Rattle.std.proofs.lemmas.Bool.{and_parts, eqb-true}
 use Rattle.std.proofs.lemmas.List.{append_assoc, length-append, length-take, length-drop, length-map, drop-drop, drop-map, map-append, take-append-drop}
 use Rattle.std.proofs.Math.Seq.{drop-append-add}
 use Rattle.caf_events.specs.declared.event.Entry.{Entry}
 use Rattle.order_theory.specs.Order.{Segment, segment_of}
-use Rattle.order_theory.specs.Acts.{Act, arrives, leaves, pairs, unpairs, gets, unlocks, enters, exits, posts, waits, finishes, creates, deletes, goes_on, names, Key, pair, Turn, adds, clears, drops, leaves_all, turn, turned, turn_of, entries, waiting, waiting_from}
+use Rattle.order_theory.specs.Acts.{Act, arrives, leaves, pairs, unpairs, gets, unlocks, enters, exits, posts, waits, finishes, creates, deletes, goes_on, names, Key, pair, Turn, adds, clears, drops, leaves_all, turn, turned, entries, waiting, waiting_from}
 use Rattle.order_theory.specs.Stored.{EachCovered, turned_queue}
 use Rattle.order_theory.proofs.Queues.{queue_more}
 use Rattle.segment_clock.specs.Counts.{count_of}
 use Rattle.order_axioms.specs.Views.{act_of, view, edges}
 use Rattle.race_watch.specs.declared.order.Order.{Order}
-use Rattle.race_watch.specs.Tables.{Numbered, numbered_at, count_in, with_next, without}
+use Rattle.race_watch.specs.Tables.{Numbered, numbered_at, count_in, without}
 use Rattle.race_watch.specs.Orders.{clock_of, Sized, NumberedKept, Needed, Ordered, Forgets, ForgetsUsed, CanCount, Turned, turned_numbered}
 use Rattle.race_watch.proofs.Turning.{own, own_size, sized_last, sized_drop}
 
