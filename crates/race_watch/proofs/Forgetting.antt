@@ -28,13 +28,13 @@ drop_taken (suc k) (x ∷ xs) = drop_taken k xs
 pub forgets_none : (b : ℕ) (q q' : Numbered) → q' ≡ q → Forgets b q q'
 forgets_none b q q' is = subst (Forgets b q) (sym is) (record { many = 0; there = omega arith; first = omega arith; clocks = refl; below = omega arith })
 
-pub forgets_below : (b m : ℕ) (q : Numbered) → m ≤ b → Forgets b q (without m q)
+forgets_below : (b m : ℕ) (q : Numbered) → m ≤ b → Forgets b q (without m q)
 forgets_below b m q h =
     let l : length (take (m - q.first) q.clocks) ≡ min (m - q.first) (length q.clocks) = length-take (m - q.first) q.clocks in
     record { many = length (take (m - q.first) q.clocks); there = omega arith; first = refl; clocks = drop_taken (m - q.first) q.clocks; below = omega arith }
 
 -- and then some more
-pub forgets_more : (b : ℕ) (p q r : Numbered) → Forgets b p q → Forgets b q r → Forgets b p r
+forgets_more : (b : ℕ) (p q r : Numbered) → Forgets b p q → Forgets b q r → Forgets b p r
 forgets_more b p q r h k =
     let l : length q.clocks ≡ length p.clocks - h.many = ap length h.clocks ∙ length-drop h.many p.clocks in
     let a = h.there in
@@ -45,7 +45,7 @@ forgets_more b p q r h k =
     let g = k.below in
     record { many = h.many + k.many; there = omega arith; first = omega arith; clocks = k.clocks ∙ ap (drop k.many) h.clocks ∙ drop-drop k.many h.many p.clocks; below = omega arith }
 
-pub count_forgets : (b : ℕ) (q q' : Numbered) → Forgets b q q' → count_in q' ≡ count_in q
+count_forgets : (b : ℕ) (q q' : Numbered) → Forgets b q q' → count_in q' ≡ count_in q
 count_forgets b q q' h =
     let l : length q'.clocks ≡ length q.clocks - h.many = ap length h.clocks ∙ length-drop h.many q.clocks in
     let a = h.there in
