@@ -1,17 +1,17 @@
 -- The numbered clocks of pairs, of which the first are forgotten.
-use Rattle.std.proofs.Common.{◌≡◌, ◌⊎◌, ℕ, zero, suc, ◌+◌, ◌-◌, ◌<◌, ◌≤◌, ◌^◌, min, max, Bool, true, false, nat_eq, ◌&&◌, cond, List, [], ◌∷◌, ◌++◌, length, map, take, drop, inl, inr, refl, ap, sym, ◌∙◌, subst, arith}
+use Rattle.std.proofs.Common.{◌≡◌, ◌⊎◌, ℕ, zero, suc, ◌+◌, ◌-◌, ◌<◌, ◌≤◌, ◌^◌, min, Bool, true, false, nat_eq, ◌&&◌, cond, List, [], ◌∷◌, ◌++◌, length, map, take, drop, inl, inr, refl, ap, sym, ◌∙◌, subst, arith}
 use Rattle.std.proofs.lemmas.Bool.{and_parts, eqb-true}
 use Rattle.std.proofs.lemmas.List.{append_assoc, length-append, length-take, length-drop, length-map, drop-drop, drop-map, map-append, take-append-drop}
 use Rattle.std.proofs.Math.Seq.{drop-append-add}
 use Rattle.caf_events.specs.declared.event.Entry.{Entry}
 use Rattle.order_theory.specs.Order.{Segment, segment_of}
-use Rattle.order_theory.specs.Acts.{Act, arrives, leaves, pairs, unpairs, gets, unlocks, enters, exits, posts, waits, finishes, creates, deletes, goes_on, names, Key, pair, Turn, adds, clears, drops, leaves_all, turn, turned, turn_of, entries, waiting, waiting_from}
+use Rattle.order_theory.specs.Acts.{Act, arrives, leaves, pairs, unpairs, gets, unlocks, enters, exits, posts, waits, finishes, creates, deletes, goes_on, names, Key, pair, Turn, adds, clears, drops, leaves_all, turn, turned, entries, waiting, waiting_from}
 use Rattle.order_theory.specs.Stored.{EachCovered, turned_queue}
 use Rattle.order_theory.proofs.Queues.{queue_more}
 use Rattle.segment_clock.specs.Counts.{count_of}
 use Rattle.order_axioms.specs.Views.{act_of, view, edges}
 use Rattle.race_watch.specs.declared.order.Order.{Order}
-use Rattle.race_watch.specs.Tables.{Numbered, numbered_at, count_in, with_next, without}
+use Rattle.race_watch.specs.Tables.{Numbered, numbered_at, count_in, without}
 use Rattle.race_watch.specs.Orders.{clock_of, Sized, NumberedKept, Needed, Ordered, Forgets, ForgetsUsed, CanCount, Turned, turned_numbered}
 use Rattle.race_watch.proofs.Turning.{own, own_size, sized_last, sized_drop}
 
@@ -28,13 +28,13 @@ drop_taken (suc k) (x ∷ xs) = drop_taken k xs
 pub forgets_none : (b : ℕ) (q q' : Numbered) → q' ≡ q → Forgets b q q'
 forgets_none b q q' is = subst (Forgets b q) (sym is) (record { many = 0; there = omega arith; first = omega arith; clocks = refl; below = omega arith })
 
-pub forgets_below : (b m : ℕ) (q : Numbered) → m ≤ b → Forgets b q (without m q)
+forgets_below : (b m : ℕ) (q : Numbered) → m ≤ b → Forgets b q (without m q)
 forgets_below b m q h =
     let l : length (take (m - q.first) q.clocks) ≡ min (m - q.first) (length q.clocks) = length-take (m - q.first) q.clocks in
     record { many = length (take (m - q.first) q.clocks); there = omega arith; first = refl; clocks = drop_taken (m - q.first) q.clocks; below = omega arith }
 
 -- and then some more
-pub forgets_more : (b : ℕ) (p q r : Numbered) → Forgets b p q → Forgets b q r → Forgets b p r
+forgets_more : (b : ℕ) (p q r : Numbered) → Forgets b p q → Forgets b q r → Forgets b p r
 forgets_more b p q r h k =
     let l : length q.clocks ≡ length p.clocks - h.many = ap length h.clocks ∙ length-drop h.many p.clocks in
     let a = h.there in
@@ -45,7 +45,7 @@ forgets_more b p q r h k =
     let g = k.below in
     record { many = h.many + k.many; there = omega arith; first = omega arith; clocks = k.clocks ∙ ap (drop k.many) h.clocks ∙ drop-drop k.many h.many p.clocks; below = omega arith }
 
-pub count_forgets : (b : ℕ) (q q' : Numbered) → Forgets b q q' → count_in q' ≡ count_in q
+count_forgets : (b : ℕ) (q q' : Numbered) → Forgets b q q' → count_in q' ≡ count_in q
 count_forgets b q q' h =
     let l : length q'.clocks ≡ length q.clocks - h.many = ap length h.clocks ∙ length-drop h.many q.clocks in
     let a = h.there in

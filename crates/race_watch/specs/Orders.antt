@@ -44,15 +44,14 @@ pub record QueueKept (n : ℕ) (g : List Entry) (key : Key) (cs : List (List ℕ
   pub sized : Sized n cs
   pub covers : EachCovered (edges n) g (waiting (view n) key g) (map count_of cs)
 
--- the same, but of the first segments the clocks are forgotten
+-- the same where the first clocks are forgotten: `gone` is what they told
 pub record NumberedKept (n : ℕ) (g : List Entry) (key : Key) (q : Numbered) : Type 0 where
   pub sized : Sized n q.clocks
   pub gone : List (ℕ → ℕ)
   pub many : length gone ≡ q.first
   pub covers : EachCovered (edges n) g (waiting (view n) key g) (gone ++ map count_of q.clocks)
 
--- What image h looks at when it ends SYNC IMAGES with image j is still kept: where it has named j so many times, the clock of the SYNC IMAGES in which j
--- named it as often, and those behind it.
+-- Of the SYNC IMAGES of image j that name image h, the clock of the one that corresponds to the last of h that names j is still kept, and so are all behind it.
 abbrev pub Needed : List (List Numbered) → Type 0
 Needed table = (j h : ℕ) → (numbered_at table j h).first ≤ count_in (numbered_at table h j) - 1
 
@@ -86,7 +85,7 @@ turned_clocks clears own cs = []
 turned_clocks (drops k) own cs = drop k cs
 turned_clocks leaves_all own cs = cs
 
--- the numbered clocks of a pair, at which no act clears or drops any
+-- the clocks of a pair after a turn; no act clears or drops any there
 abbrev pub turned_numbered : Turn → List ℕ → Numbered → Numbered
 turned_numbered adds own q = with_next own q
 turned_numbered t own q = q
@@ -99,11 +98,11 @@ pub record Forgets (bound : ℕ) (q q' : Numbered) : Type 0 where
   pub clocks : q'.clocks ≡ drop many q.clocks
   pub below : q'.first ≤ max q.first bound
 
--- of what the images have yet to look at nothing is forgotten
+-- of each pair only clocks are forgotten at which no image has to look any more
 abbrev pub ForgetsUsed : List (List Numbered) → List (List Numbered) → Type 0
 ForgetsUsed old new = (j h : ℕ) → Forgets (count_in (numbered_at old h j) - 1) (numbered_at old j h) (numbered_at new j h)
 
--- each key is kept as it is after the turn of an act of image i, but that clocks of pairs may be forgotten at which no image has yet to look
+-- Each key is kept as it is after the turn of an act of image i; of a pair, clocks may be forgotten at which no image has to look any more.
 pub record Turned (n i : ℕ) (a : Act) (own : List ℕ) (s s' : Order) : Type 0 where
   pub rounds : (t k : ℕ) → clock_at s'.rounds t k ≡ turned_counts (turn (round t k) i a) own (clock_at s.rounds t k)
   pub locks : (c : Cell) → 0 < c.owner → c.owner ≤ n → lock_at n s' c ≡ turned_counts (turn (lock c) i a) own (lock_at n s c)

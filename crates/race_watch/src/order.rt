@@ -46,8 +46,8 @@ impl Named {
 
 /// Of each image the clock of its present segment, ticked, how many segments it has completed, and whom it named last; and the clocks of the segments that
 /// wait at a round of a team, a lock, a CRITICAL construct, an event, or for the SYNC IMAGES that corresponds. Locks and events are in the line of their
-/// coarray; constructs are in line 0; the SYNC IMAGES of image j that name image h are in line j at place h, those at which image h has no more to look
-/// forgotten.
+/// coarray; constructs are in line 0; the SYNC IMAGES of image j that name image h are in line j at place h; of these the clocks are forgotten at
+/// which image h has no more to look.
 #[derive(Drop)]
 pub struct Order {
     pub(crate) images: Vec<Clock>,
@@ -338,7 +338,7 @@ fn look_each(pairs: &NumberedTable, image: ImageNo, named: &[u32], clock: &mut C
     }
 }
 
-// This image has named each of these images so many times, so it has no more to look at the clocks of earlier SYNC IMAGES in which they named it.
+// Of the SYNC IMAGES of each of these images all before the one that corresponds to this image's last are forgotten: it has no more to look at them.
 fn forget_each(pairs: &mut NumberedTable, image: ImageNo, named: &[u32])
     requires { CanCount pairs.old }
     ensures { ForgetsUsed pairs.old pairs.new }

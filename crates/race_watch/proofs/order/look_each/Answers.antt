@@ -1,4 +1,4 @@
-use Rattle.std.proofs.Common.{◌≡◌, ℕ, ◌+◌, ◌-◌, ◌≤◌, ◌∙◌, length, get_or, drop, ap, sym, arith}
+use Rattle.std.proofs.Common.{◌≡◌, ℕ, ◌+◌, ◌-◌, ◌∙◌, length, get_or, drop, ap, sym, arith}
 use Rattle.std.proofs.lemmas.List.{drop_more}
 use Rattle.race_watch.specs.Tables.{numbered_at, count_in, numbered, joined_all}
 use Rattle.race_watch.specs.Orders.{paired}
