@@ -2,7 +2,7 @@
 # Steps of one thread at the control board: bench/board.sh
 # Proves, builds and runs a program in a scratch copy of the crates under it. Each line is of a board of so many images and of so many rounds of SYNC ALL of all
 # of them, each with an arrival and a departure of every image, each through `ready`, `reserve` and `apply`; it has the time of all, of one round and of one step.
-# Seen on one of four shared processors: 64 images 48 to 54 us a round and 0.38 to 0.42 us a step, 256 images 379 to 443 us a round and 0.74 to 0.87 us a step.
+# Seen on one of four shared processors, while a board still kept its history: 64 images 48 to 54 us a round and 0.38 to 0.42 us a step, 256 images 379 to 443 us a round and 0.74 to 0.87 us a step.
 set -e
 root=$(cd "$(dirname "$0")/.." && pwd)
 libraries="trace_theory caf_base caf_events object_rules failure_status image_sync team_round team_tree collectives control_board"
