@@ -8,5 +8,5 @@ pub returns : goal.returns
 returns c =
     let inv = c.self.invariant in
     c.size_of.ensures
-    ∙ sym (size_told c.self.inside.declared c.self.inside.history.entries c.args.coarray (stored_at c.self.inside.stores.items c.args.coarray) (inv.tells c.args.coarray))
+    ∙ sym (size_told c.self.inside.declared c.self.inside.history c.args.coarray (stored_at c.self.inside.stores.items c.args.coarray) (inv.tells c.args.coarray))
     ∙ ap (λ (s : MemoryState). size_after s.made s.history c.args.coarray) c.self.view_is

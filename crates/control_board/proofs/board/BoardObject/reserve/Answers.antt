@@ -23,7 +23,7 @@ returns-clause-room c =
     let ready = subst (λ (s : BoardState). IsTrue (board_ready s.images s.history c.args.image.0 c.args.ask.now)) (sym c.self.view_is) c.requires in
     let planned = c.in_ok-make_room.ensures.planned n h c.self.invariant.0 ready in
     let run = (c.make_room.ensures.kept n h c.self.invariant.0).run in
-    on_any c.new.result (
+    on_any c.with_reply.result (
       c.in_ok-make_room.ensures.room,
       subst (λ k. IsPlanned k h c.make_room.new.parts.plan c.args.image c.args.ask.now) (sym run) planned,
     )
