@@ -23,8 +23,7 @@ invariant_of-self c =
     let grown : c.append.new.self ≡ h ++ due n h i ask stamp c.args.line ∷ [] =
     c.append.ensures.entries ∙ ap (λ (e : EventParts). h ++ record { image = i; event = e } ∷ []) event in
     let board = c.step.ensures n h stamp c.self.invariant.0 ready room.1 (omega arith) in
-    let is : last_stamp_of c.append.new.self ≡ stamp = ap last_stamp_of grown ∙ last_stamp_more 0 h (due n h i ask stamp c.args.line) in
-    (
+    let is : last_stamp_of c.append.new.self ≡ stamp = ap last_stamp_of grown ∙ last_stamp_more 0 h (due n h i ask stamp c.args.line) in (
       subst (λ k. IsBoard k c.append.new.self c.step.new.parts) (sym board.run) (subst (λ es. IsBoard n es c.step.new.parts) (sym grown) board),
       rw is (omega arith),
     )
