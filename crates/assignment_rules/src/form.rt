@@ -139,7 +139,7 @@ fn listed_form(sides: Sides) -> Option<StatementForm>
     let variable = local_target(&target);
     let of_type = target.of_type;
     drop(target);
-    list_given(variable, of_type, value.form)
+    list_given(variable, of_type, value.into_form())
 }
 
 #[tactic(auto, using(checked_tree::specs::StatementViews::typed_statement_forms))]
@@ -169,12 +169,9 @@ fn plain_form(sides: Sides) -> Option<StatementForm>
     ensures { option_map statement_form result ≡ rules.plain_assignment (sides_seen sides).0 (sides_seen sides).1 }
 {
     let Sides { target, value } = sides;
-    let TypedExpr {
-        form,
-        of_type,
-        rank,
-    } = target;
-    assign(into_designator(form), of_type, rank, value)
+    let of_type = target.of_type;
+    let rank = target.rank;
+    assign(into_designator(target.into_form()), of_type, rank, value)
 }
 
 /// The statement that an assignment is, where it breaks no rule.

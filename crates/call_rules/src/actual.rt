@@ -185,12 +185,9 @@ fn argument_for(takes_value: bool, value: TypedExpr) -> Argument
     if takes_value {
         return Argument::Value(value);
     }
-    let TypedExpr {
-        form,
-        of_type,
-        rank,
-    } = value;
-    match form {
+    let of_type = value.of_type;
+    let rank = value.rank;
+    match value.into_form() {
         ExprForm::Designator(designator) => Argument::Variable(designator),
         form => Argument::Value(TypedExpr {
             form,

@@ -6,11 +6,37 @@ use caf_base::value::Kind;
 
 /// A typed expression: what it is, its type with its kind, and its rank.
 #[cycle(typed)]
-#[derive(Drop)]
 pub struct TypedExpr {
     pub form: ExprForm,
     pub of_type: DataType,
     pub rank: u32,
+}
+
+impl TypedExpr {
+    ghost use Rattle.std.specs.Prelude.{◌≡◌};
+
+    /// What it is, without its type and rank.
+    pub fn into_form(self) -> ExprForm
+        ensures { result ≡ self.form }
+    {
+        let TypedExpr {
+            form,
+            of_type: _,
+            rank: _,
+        } = self;
+        form
+    }
+}
+
+impl Drop for TypedExpr {
+    #[cycle(typed_drop)]
+    fn drop(self) {
+        let TypedExpr {
+            form: _,
+            of_type: _,
+            rank: _,
+        } = self;
+    }
 }
 
 /// The forms of an expression.
@@ -107,11 +133,38 @@ pub enum LogicalOperator {
 /// A designator (9.1): no subscripts is the whole object; else as many as its rank. A coindexed one has a selector, and its
 /// object is a coarray.
 #[cycle(typed)]
-#[derive(Drop)]
 pub struct Designator {
     pub object: Object,
     pub subscripts: Vec<Subscript>,
     pub selector: Option<Selector>,
+}
+
+impl Designator {
+    ghost use Rattle.std.specs.Prelude.{◌≡◌};
+
+    /// Its subscripts and its selector.
+    pub fn into_parts(self) -> (Vec<Subscript>, Option<Selector>)
+        ensures subscripts { result.0 ≡ self.subscripts }
+        ensures selector { result.1 ≡ self.selector }
+    {
+        let Designator {
+            object: _,
+            subscripts,
+            selector,
+        } = self;
+        (subscripts, selector)
+    }
+}
+
+impl Drop for Designator {
+    #[cycle(typed_drop)]
+    fn drop(self) {
+        let Designator {
+            object: _,
+            subscripts: _,
+            selector: _,
+        } = self;
+    }
 }
 
 /// A section-subscript (R920), its parts scalar integers.
@@ -128,40 +181,79 @@ pub enum Subscript {
 
 /// An image selector (9.6): a cosubscript for each codimension, scalar integers.
 #[cycle(typed)]
-#[derive(Drop)]
 pub struct Selector {
     pub cosubscripts: Vec<TypedExpr>,
     pub team: SelectedTeam,
     pub stat: Option<Box<ResultVariable>>,
 }
 
+impl Drop for Selector {
+    #[cycle(typed_drop)]
+    fn drop(self) {
+        let Selector {
+            cosubscripts: _,
+            team: _,
+            stat: _,
+        } = self;
+    }
+}
+
 /// The team of an image selector (R926).
 #[cycle(typed)]
-#[derive(Drop)]
 pub enum SelectedTeam {
     Current,
     Team(Box<TypedExpr>),
     TeamNumber(Box<TypedExpr>),
 }
 
+impl Drop for SelectedTeam {
+    #[cycle(typed_drop)]
+    fn drop(self) {
+        match self {
+            SelectedTeam::Current => {}
+            SelectedTeam::Team(_) => {}
+            SelectedTeam::TeamNumber(_) => {}
+        }
+    }
+}
+
 /// A scalar variable that a statement sets last (STAT=, ACQUIRED_LOCK=) or an intrinsic subroutine sets: no coarray, its
 /// subscripts scalar integers, as many as its rank.
 #[cycle(typed)]
-#[derive(Drop)]
 pub struct ResultVariable {
     pub variable: Local,
     pub subscripts: Vec<TypedExpr>,
     pub kind: Kind,
 }
 
+impl Drop for ResultVariable {
+    #[cycle(typed_drop)]
+    fn drop(self) {
+        let ResultVariable {
+            variable: _,
+            subscripts: _,
+            kind: _,
+        } = self;
+    }
+}
+
 /// An actual argument of a procedure of the program (15.5.2), of the dummy's type, kind and rank.
 #[cycle(typed)]
-#[derive(Drop)]
 pub enum Argument {
     /// For an IN dummy: a value.
     Value(TypedExpr),
     /// For an OUT or INOUT dummy: a variable or a part of one, no coarray.
     Variable(Designator),
+}
+
+impl Drop for Argument {
+    #[cycle(typed_drop)]
+    fn drop(self) {
+        match self {
+            Argument::Value(_) => {}
+            Argument::Variable(_) => {}
+        }
+    }
 }
 
 /// In which order two arguments of a function were written, beside the order in which they stand here.

@@ -99,10 +99,9 @@ pub fn is_listed(value: &TypedExpr) -> bool
 pub fn scalar_part(value: TypedExpr, is_wanted: bool) -> Option<Designator>
     ensures { option_map designator_seen result ≡ scalar_designator is_wanted (form_seen value.form) value.rank }
 {
-    let TypedExpr { form, rank, .. } = value;
-    if is_wanted && rank == 0 {
-        return into_designator(form);
+    if is_wanted && value.rank == 0 {
+        return into_designator(value.into_form());
     }
-    drop(form);
+    drop(value);
     None
 }

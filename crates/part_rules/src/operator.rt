@@ -77,12 +77,8 @@ fn arithmetic_form(
     if left.rank != 0 {
         return arithmetic_pair(alloc, operator, left, right);
     }
-    let TypedExpr {
-        form,
-        of_type: left_type,
-        ..
-    } = left;
-    match form {
+    let left_type = left.of_type;
+    match left.into_form() {
         ExprForm::Arithmetic {
             operator: before,
             left: first,
@@ -181,10 +177,7 @@ fn logic_form(
         return logic_pair(alloc, operator, left, right);
     }
     match left.of_type {
-        DataType::Intrinsic(Kind::L4) => {
-            let TypedExpr { form, .. } = left;
-            logic_behind(alloc, operator, form, right)
-        }
+        DataType::Intrinsic(Kind::L4) => logic_behind(alloc, operator, left.into_form(), right),
         DataType::Intrinsic(Kind::I4 | Kind::I8)
         | DataType::Team
         | DataType::Event
@@ -222,68 +215,66 @@ fn apply(
 {
     let number = joint_type(left.of_type, right.of_type);
     let logical = DataType::Intrinsic(Kind::L4);
-    let (form, of_type) = match operator {
+    let (made, of_type) = match operator {
         Operator::Power => (
-            arithmetic_pair(alloc, ArithmeticOperator::Power, left, right)?,
+            arithmetic_pair(alloc, ArithmeticOperator::Power, left, right),
             number,
         ),
         Operator::Multiply => (
-            arithmetic_form(alloc, ArithmeticOperator::Multiply, left, right)?,
+            arithmetic_form(alloc, ArithmeticOperator::Multiply, left, right),
             number,
         ),
         Operator::Divide => (
-            arithmetic_form(alloc, ArithmeticOperator::Divide, left, right)?,
+            arithmetic_form(alloc, ArithmeticOperator::Divide, left, right),
             number,
         ),
         Operator::Add => (
-            arithmetic_form(alloc, ArithmeticOperator::Add, left, right)?,
+            arithmetic_form(alloc, ArithmeticOperator::Add, left, right),
             number,
         ),
         Operator::Subtract => (
-            arithmetic_form(alloc, ArithmeticOperator::Subtract, left, right)?,
+            arithmetic_form(alloc, ArithmeticOperator::Subtract, left, right),
             number,
         ),
         Operator::Equal => (
-            relation_form(alloc, RelationalOperator::Equal, left, right)?,
+            relation_form(alloc, RelationalOperator::Equal, left, right),
             logical,
         ),
         Operator::NotEqual => (
-            relation_form(alloc, RelationalOperator::NotEqual, left, right)?,
+            relation_form(alloc, RelationalOperator::NotEqual, left, right),
             logical,
         ),
         Operator::Less => (
-            relation_form(alloc, RelationalOperator::Less, left, right)?,
+            relation_form(alloc, RelationalOperator::Less, left, right),
             logical,
         ),
         Operator::LessEqual => (
-            relation_form(alloc, RelationalOperator::LessEqual, left, right)?,
+            relation_form(alloc, RelationalOperator::LessEqual, left, right),
             logical,
         ),
         Operator::Greater => (
-            relation_form(alloc, RelationalOperator::Greater, left, right)?,
+            relation_form(alloc, RelationalOperator::Greater, left, right),
             logical,
         ),
         Operator::GreaterEqual => (
-            relation_form(alloc, RelationalOperator::GreaterEqual, left, right)?,
+            relation_form(alloc, RelationalOperator::GreaterEqual, left, right),
             logical,
         ),
         Operator::And => (
-            logic_form(alloc, LogicalOperator::And, left, right)?,
+            logic_form(alloc, LogicalOperator::And, left, right),
             logical,
         ),
-        Operator::Or => (
-            logic_form(alloc, LogicalOperator::Or, left, right)?,
-            logical,
-        ),
+        Operator::Or => (logic_form(alloc, LogicalOperator::Or, left, right), logical),
         Operator::Eqv => (
-            logic_form(alloc, LogicalOperator::Eqv, left, right)?,
+            logic_form(alloc, LogicalOperator::Eqv, left, right),
             logical,
         ),
         Operator::Neqv => (
-            logic_form(alloc, LogicalOperator::Neqv, left, right)?,
+            logic_form(alloc, LogicalOperator::Neqv, left, right),
             logical,
         ),
     };
+    let form = made?;
     Ok(TypedExpr {
         form,
         of_type,

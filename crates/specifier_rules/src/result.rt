@@ -66,11 +66,8 @@ fn local_part(
 ) -> Result<Option<ResultVariable>, NoMemory>
     ensures { IfOk result (λ o. option_map result_seen o ≡ rules.result_form (t.designator (designator_seen designator)) (Intrinsic kind)) }
 {
-    let Designator {
-        object,
-        subscripts,
-        selector,
-    } = designator;
+    let object = designator.object;
+    let (subscripts, selector) = designator.into_parts();
     let has_selector = selector.is_some();
     drop(selector);
     if has_selector {
@@ -102,8 +99,8 @@ fn result_of(
         drop(value);
         return Ok(None);
     }
-    let TypedExpr { form, of_type, .. } = value;
-    let designator = designator_in(form);
+    let of_type = value.of_type;
+    let designator = designator_in(value.into_form());
     let DataType::Intrinsic(kind) = of_type else {
         drop(designator);
         return Ok(None);

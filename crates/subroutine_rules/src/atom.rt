@@ -74,8 +74,8 @@ fn atom_of(taken: Taken, value: TypedExpr) -> Option<Atom>
         drop(value);
         return None;
     }
-    let TypedExpr { form, of_type, .. } = value;
-    match designator_in(form) {
+    let of_type = value.of_type;
+    match designator_in(value.into_form()) {
         Some(variable) => atom_in(variable, atom_kind(taken, of_type)),
         None => None,
     }

@@ -81,12 +81,9 @@ fn collectable(
 fn collected_of(value: TypedExpr) -> Option<Collected>
     ensures { option_map collected_seen result ≡ rules.collected_of (expression value) }
 {
-    let TypedExpr {
-        form,
-        of_type,
-        rank,
-    } = value;
-    let Some(variable) = designator_in(form) else {
+    let of_type = value.of_type;
+    let rank = value.rank;
+    let Some(variable) = designator_in(value.into_form()) else {
         return None;
     };
     let DataType::Intrinsic(kind) = of_type else {

@@ -55,8 +55,7 @@ fn event_of(value: TypedExpr) -> Option<Designator>
         drop(value);
         return None;
     }
-    let TypedExpr { form, .. } = value;
-    designator_in(form)
+    designator_in(value.into_form())
 }
 
 /// An event of any image (11.6.7): rule 49 for what is no scalar event.
