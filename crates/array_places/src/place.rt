@@ -3,7 +3,7 @@
 ghost use Rattle.std.specs.Prelude.{◌≡◌, ◌<◌, ◌≤◌, ◌+◌, ◌-◌, ◌*◌, ◌%◌, ◌^◌, ◌∷◌, ◌+ℤ◌, ◌*ℤ◌, pos, min, length, IfSome, IfNone, unsigned_abs, Some, slice_get};
 ghost use Rattle.caf_base.specs.Arithmetic.{natural};
 ghost use Rattle.caf_base.specs.Spans.{offsets_from};
-ghost use Rattle.image_acts.specs.Places.{place_in, cells_of, extents_of, offsets, dims_in};
+ghost use Rattle.image_acts.specs.Places.{place_in, cells_of, offsets, dims_in};
 ghost use Rattle.array_places.specs.Offsets.{counts_of};
 
 /// A number, or 0 for one below 0.
@@ -91,20 +91,4 @@ fn offset_from(start: i64, dims: &[i64], k: u32) -> i128
         left = rest;
     }
     at
-}
-
-/// The extent of the dimension with this number from 0, where there is one.
-pub fn extent_in(place: &[i64], number: usize) -> Option<u64>
-    ensures { result ≡ slice_get (extents_of (place_in place.now)) number }
-{
-    let mut left = split(place).1;
-    let mut further = number;
-    while let Some((count, _step, rest)) = first_pair(left) {
-        if further == 0 {
-            return Some(natural(count));
-        }
-        further -= 1;
-        left = rest;
-    }
-    None
 }

@@ -17,8 +17,6 @@ use std::rt::Env;
 mod tests;
 #[cfg(test)]
 mod tests_of_threads;
-#[cfg(test)]
-mod tests_of_traces;
 
 /// The status where memory is wanting.
 const WANT_OF_MEMORY: u8 = 12;

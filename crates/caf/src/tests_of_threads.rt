@@ -1,9 +1,10 @@
-//! Runs on workers, through the top call: that images run at once and that each memory has a gate of its own, which no contract says, and worked rows that end alike in every order.
+//! Runs on workers, through the top call: that images run at once and that each memory has a gate of its own, which no
+//! contract says. Rows on workers that end alike in every order are run on the built program (tools/answers.cases).
 //! A hook waits for what another worker does at most so long; what didn't come in that time is a miss.
 
 ghost use Rattle.std.specs.Prelude.{◌≤◌};
 
-use crate::tests::{NEIGHBOUR, RING, WHOLE, says, source_of, words_of};
+use crate::tests::{WHOLE, source_of, words_of};
 use caf_base::hook::{Hook, HookStep};
 use caf_base::place::Place;
 use caf_io::mem_sink::MemSink;
@@ -71,7 +72,8 @@ impl Hook for Meeting {
     }
 }
 
-/// Whoever has the memory of image 1 in hand waits until a turn at that of image 2 is over, and that turn until the other has it in hand.
+/// Whoever has the memory of image 1 in hand waits until a turn at that of image 2 is over, and that turn until the
+/// other has it in hand.
 #[derive(Drop)]
 struct Crossing {
     held: AtomicU64,
@@ -131,40 +133,4 @@ fn no_lock_round_both_memories(rt: HostRuntime) {
     };
     writes(&rt, rt.alloc(), &hook);
     assert!(&rt; hook.missed.load(Ordering::SeqCst) == 0, "no miss");
-}
-
-#[test]
-fn rows_on_workers(rt: HostRuntime) {
-    let ring = ["run", "-n", "8", "-w", "4", "a.f90"];
-    says(
-        &rt,
-        rt.alloc(),
-        &ring,
-        RING,
-        WHOLE,
-        0,
-        "1: 850500 32004000\n",
-    );
-    for workers in ["1", "2", "4", "64"] {
-        let words = ["run", "-w", workers, "a.f90"];
-        says(&rt, rt.alloc(), &words, NEIGHBOUR, WHOLE, 0, "1: 4\n");
-    }
-    let words = ["run", "-n", "1", "a.f90"];
-    says(&rt, rt.alloc(), &words, b"end\n", WHOLE, 0, "");
-}
-
-// An error stop, and images that wait for ever, are told as in an ordered run.
-#[test]
-fn ends_on_workers(rt: HostRuntime) {
-    let words = ["run", "-n", "2", "-w", "2", "a.f90"];
-    let stop = b"if (this_image() == 2) error stop 7\nend\n";
-    says(
-        &rt,
-        rt.alloc(),
-        &words,
-        stop,
-        WHOLE,
-        4,
-        "error stop image 2 line 1 code 7\n",
-    );
 }

@@ -38,17 +38,6 @@ pub fn needed(name: &'static [u8]) -> Dummy
     }
 }
 
-/// A dummy that must have an argument, which may be a list of images.
-pub fn needed_list(name: &'static [u8]) -> Dummy
-    ensures { dummy_seen result ≡ rules.needed_list name.now }
-{
-    Dummy {
-        name,
-        is_needed: true,
-        takes_images: true,
-    }
-}
-
 /// A dummy that may have an argument.
 pub fn optional(name: &'static [u8]) -> Dummy
     ensures { dummy_seen result ≡ rules.optional name.now }

@@ -1,7 +1,6 @@
 //! The code of expressions and of what stands in them, in the order of evaluation (ISO/IEC 1539-1:2018, 10.1.4).
 
-ghost use Rattle.std.specs.Prelude.{◌≡◌, IfOk, OnOk};
-ghost use Rattle.walk_theory.specs.Made.{parts_size};
+ghost use Rattle.std.specs.Prelude.{◌≡◌, OnOk};
 ghost use Rattle.checked_tree.specs.ExpressionViews as view;
 ghost use Rattle.tree_meaning.specs.Environment.{procedure_in};
 ghost use Rattle.tree_meaning.specs.Expressions as meaning;
@@ -32,7 +31,6 @@ use checked_tree::expr::{
 };
 use checked_tree::program::Dummy;
 use image_code::step::{AskStep, Step};
-use std::alloc::Global;
 
 /// Appends the code of an expression: it leaves a number, or an array with its evaluation cells. After want of memory nothing is said of the draft.
 #[cycle(expression)]
@@ -846,14 +844,4 @@ fn push_actual(
         Object::Constant(_) => Ok(()),
         Object::Coarray(_) => Ok(()),
     }
-}
-
-/// How many steps the code of an expression has.
-#[tactic(auto, using(crate::proofs::Lines::written_long))]
-pub fn expr_size(alloc: Global, env: &Env<'_>, expr: &TypedExpr) -> Result<u64, NoMemory>
-    ensures { IfOk result (λ n. n ≡ parts_size (meaning.expression (environment env.now) (view.expression expr.now))) }
-{
-    let mut draft = Draft::counting(alloc)?;
-    push_expr(&mut draft, env, expr, 0)?;
-    Ok(draft.length())
 }

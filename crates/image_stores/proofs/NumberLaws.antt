@@ -159,9 +159,6 @@ repeated vs d n i now l h w =
     ∙ more_of vs (d + (n - (i + 1))) i (d + n - 1) (omega arith) (omega arith)
     ∙ ap (λ m. take m (drop (d + (n - (i + 1))) vs) ++ vs) b
 
-pub repeated_long : (vs now : List ℤ) (d n i : ℕ) → i < n → d + n ≤ length vs → now ≡ take i (drop (d + (n - i)) vs) ++ vs → length now ≡ i + length vs
-repeated_long vs now d n i l h w = ap length w ∙ omega (arith, length-append (take i (drop (d + (n - i)) vs)) vs, taken_here vs (d + (n - i)) i (omega arith))
-
 -- numbers that are brought to the top: cells one behind the other, and what they are as a stack
 index_front : (p q : List ℤ) (k : ℕ) → k < length p → slice_index_or (p ++ q) k (pos 0) ≡ slice_index_or p k (pos 0)
 index_front [] q k h = absurd (omega arith)

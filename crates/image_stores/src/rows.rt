@@ -127,15 +127,6 @@ impl Rows {
         self.depth
     }
 
-    /// How many cells they have.
-    #[tactic(auto, using(crate::proofs::RowLaws::total_rows))]
-    pub fn used(&self) -> usize
-        ensures used { result ≡ total self.now.rows }
-        ensures within { result ≤ self.now.size }
-    {
-        self.top
-    }
-
     /// Begins a row of so many zeros.
     pub fn begin_zeros(&mut self, n: usize)
         requires deep { length self.old.rows < self.old.most }

@@ -29,9 +29,6 @@ module _ {T : Type 0} where
     shallow = shallow_parts n q.moved r.moved q.shallow (shallow_less m (n - length q.moved) r.moved (let i = sym (bare_length q.moved) ∙ (ap length q.same ∙ bare_length u) in omega arith) r.shallow);
   }
 
-  pub moved_less : (Q : List (Mark T) → Type 0) (n m : ℕ) (w : List (Mark T)) → m ≤ n → Moved Q n w → Moved Q m w
-  moved_less Q n m w l q = record { moved = q.moved; is_word = q.is_word; same = q.same; shallow = shallow_less n m q.moved l q.shallow }
-
 -- what goes on in a word goes on in one that is moved to where its levels are in reach
 module _ {T A : Type 0} (L M : A → List (Mark T) → Type 0) (ts : List T) where
   pub moved_begins : (n : ℕ) → ((a : A) (w : List (Mark T)) → L a w → Moved (M a) n w) → length ts ≤ n → Goes L ts → Begins M ts

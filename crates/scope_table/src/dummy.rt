@@ -46,11 +46,4 @@ impl<'a> Dummies<'a> {
     {
         self.names.contains(name)
     }
-
-    /// The names.
-    pub fn listed(&self) -> &[Name]
-        ensures { name_texts result.now ≡ self.now }
-    {
-        self.listed
-    }
 }
