@@ -133,38 +133,11 @@ pub enum LogicalOperator {
 /// A designator (9.1): no subscripts is the whole object; else as many as its rank. A coindexed one has a selector, and its
 /// object is a coarray.
 #[cycle(typed)]
+#[derive(Drop)]
 pub struct Designator {
     pub object: Object,
     pub subscripts: Vec<Subscript>,
     pub selector: Option<Selector>,
-}
-
-impl Designator {
-    ghost use Rattle.std.specs.Prelude.{◌≡◌};
-
-    /// Its subscripts and its selector.
-    pub fn into_parts(self) -> (Vec<Subscript>, Option<Selector>)
-        ensures subscripts { result.0 ≡ self.subscripts }
-        ensures selector { result.1 ≡ self.selector }
-    {
-        let Designator {
-            object: _,
-            subscripts,
-            selector,
-        } = self;
-        (subscripts, selector)
-    }
-}
-
-impl Drop for Designator {
-    #[cycle(typed_drop)]
-    fn drop(self) {
-        let Designator {
-            object: _,
-            subscripts: _,
-            selector: _,
-        } = self;
-    }
 }
 
 /// A section-subscript (R920), its parts scalar integers.

@@ -66,8 +66,11 @@ fn local_part(
 ) -> Result<Option<ResultVariable>, NoMemory>
     ensures { IfOk result (λ o. option_map result_seen o ≡ rules.result_form (t.designator (designator_seen designator)) (Intrinsic kind)) }
 {
-    let object = designator.object;
-    let (subscripts, selector) = designator.into_parts();
+    let Designator {
+        object,
+        subscripts,
+        selector,
+    } = designator;
     let has_selector = selector.is_some();
     drop(selector);
     if has_selector {
