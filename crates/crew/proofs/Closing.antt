@@ -22,11 +22,11 @@ use Rattle.core_runs.proofs.Lanes.{numbered_item}
 use Rattle.image_core.specs.declared.run.ImageRun.{ImageRun}
 use Rattle.image_core.specs.declared.parts.PartsOf.{PartsOf}
 use Rattle.image_core.specs.Parts.{moment, event_lists, AreNumbered, AreSound, total, steps_made, IsBounded}
-use Rattle.image_links.specs.Links.{OfImage, Linked, Closed, HasSeen, AllClosed}
-use Rattle.image_links.specs.Counts.{events_of}
-use Rattle.image_links.proofs.Links.{linked_none, image_none}
-use Rattle.linked_runs.specs.Linked.{HasCome, AreTogether}
-use Rattle.linked_runs.proofs.Together.{kept, few_images, few_objects}
+use Rattle.worker_laws.specs.Links.{OfImage, Linked, Closed, HasSeen, AllClosed}
+use Rattle.worker_laws.specs.Counts.{events_of}
+use Rattle.worker_laws.proofs.Links.{linked_none, image_none}
+use Rattle.worker_laws.specs.Linked.{HasCome, AreTogether}
+use Rattle.worker_laws.proofs.Together.{kept, few_images, few_objects}
 use Rattle.turn_gate.specs.Gates.{At, NotIn, StartsWith}
 use Rattle.turn_gate.specs.Known.{Known}
 use Rattle.turn_gate.specs.Passes.{Opened, IsPassOf, kept_known}

@@ -25,9 +25,9 @@ use Rattle.image_core.specs.declared.run.ImageRun.{ImageRun}
 use Rattle.image_core.specs.declared.parts.PartsOf.{PartsOf}
 use Rattle.image_core.specs.Prepared.{move_of}
 use Rattle.image_core.specs.Parts.{moment, event_lists, AreNumbered, AreSound, EachAt, total, steps_made, IsBounded}
-use Rattle.image_links.specs.Counts.{events_of}
-use Rattle.linked_runs.specs.Linked.{AreTogether}
-use Rattle.linked_runs.proofs.Together.{kept, few_images, few_objects}
+use Rattle.worker_laws.specs.Counts.{events_of}
+use Rattle.worker_laws.specs.Linked.{AreTogether}
+use Rattle.worker_laws.proofs.Together.{kept, few_images, few_objects}
 use Rattle.turn_gate.specs.Gates.{At, StartsWith}
 use Rattle.turn_gate.specs.Known.{Known}
 use Rattle.turn_gate.specs.Passes.{Opened, kept_known}

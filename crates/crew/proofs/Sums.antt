@@ -5,7 +5,7 @@ use Rattle.caf_events.specs.declared.event.Event.{Event}
 use Rattle.caf_events.specs.declared.event.Entry.{Entry}
 use Rattle.core_runs.specs.Lists.{list_at, entries_of, entry}
 use Rattle.image_core.specs.Parts.{total}
-use Rattle.image_links.specs.Counts.{events_of}
+use Rattle.worker_laws.specs.Counts.{events_of}
 
 -- a number for each place from 1 to n, summed
 abbrev sum_to : (ℕ → ℕ) → ℕ → ℕ

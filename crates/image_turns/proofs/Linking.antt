@@ -23,8 +23,8 @@ use Rattle.turn_gate.proofs.Lists.{last_same}
 use Rattle.image_gate.specs.declared.passes.Passes.{Passes}
 use Rattle.image_gate.specs.Fabrics.{IsPlaceOf, TurnsAtMemory, TurnsAt}
 use Rattle.image_gate.proofs.Rows.{is_there}
-use Rattle.image_links.specs.Links.{OfImage, Linked}
-use Rattle.image_links.proofs.Links.{looks_more, made_here, made_elsewhere, image_more}
+use Rattle.worker_laws.specs.Links.{OfImage, Linked}
+use Rattle.worker_laws.proofs.Links.{looks_more, made_here, made_elsewhere, image_more}
 use Rattle.image_turns.specs.Turns.{entries, passes_of, AreLinked}
 
 -- the events with one more, where a turn made one

@@ -15,7 +15,7 @@ use Rattle.core_runs.specs.Lists.{image_of, key_of, stamp_of, entry, said}
 use Rattle.core_runs.specs.Beginnings.{IsThere}
 use Rattle.image_core.specs.declared.run.ImageRun.{ImageRun}
 use Rattle.image_core.specs.Prepared.{move_of, StepsAlone}
-use Rattle.image_links.specs.Links.{OfImage, Linked}
+use Rattle.worker_laws.specs.Links.{OfImage, Linked}
 use Rattle.turn_gate.specs.Gates.{At}
 use Rattle.turn_gate.specs.Known.{Known}
 use Rattle.turn_gate.specs.Passes.{Opened}

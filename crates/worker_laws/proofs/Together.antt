@@ -1,6 +1,6 @@
 -- Images that are together are at a moment of their run.
-use Rattle.std.proofs.Common.{◌≡◌, ℕ, zero, suc, ◌+◌, ◌<◌, ◌≤◌, Bool, IsTrue, List, [], ◌∷◌, ◌++◌, ◌⊎◌, inl, inr, length, refl, ap, sym, ◌∙◌, subst, arith, append_assoc}
-use Rattle.std.specs.Prelude.{map, slice_get, slice_index_or, Some}
+use Rattle.std.proofs.Common.{◌≡◌, ℕ, zero, suc, ◌<◌, ◌≤◌, Bool, IsTrue, List, [], ◌∷◌, ◌++◌, ◌⊎◌, inl, inr, length, refl, ap, sym, ◌∙◌, subst, arith, append_assoc}
+use Rattle.std.specs.Prelude.{map, slice_get, Some}
 use Rattle.std.proofs.lemmas.Bool.{cases_lt}
 use Rattle.std.proofs.lemmas.List.{append-nil, get_or_past}
 use Rattle.caf_base.specs.declared.place.Place.{Place}
@@ -15,19 +15,17 @@ use Rattle.caf_events.specs.Asks.{place_of, object_of}
 use Rattle.caf_events.specs.Histories.{Served, last_stamp_of, last_stamp_from}
 use Rattle.trace_theory.specs.Entries.{of, Each, last_or}
 use Rattle.trace_theory.specs.Machines.{Said}
-use Rattle.trace_theory.specs.Runs.{Woven}
 use Rattle.core_runs.specs.Lists.{image_of, key_of, stamp_of, own_stamp, entry, said, list_at, entries_of, history_of, last_of, IsWoven}
-use Rattle.core_runs.specs.Moments.{Rules, Moment, item_at}
+use Rattle.core_runs.specs.Moments.{Rules, Moment}
 use Rattle.core_runs.specs.Beginnings.{Beginning, IsImage, IsPlace}
 use Rattle.core_runs.specs.Sequences.{IsStampLimit}
-use Rattle.core_runs.specs.Lanes.{IsLane}
 use Rattle.core_runs.specs.Kept.{IsKept}
 use Rattle.core_runs.proofs.CoreRuns.{all_answer}
-use Rattle.core_runs.proofs.Lanes.{own_answers, alone_rises, is_image}
-use Rattle.image_links.specs.Counts.{events_of, NoneElse}
-use Rattle.image_links.proofs.Links.{woven, agree_by}
-use Rattle.image_links.proofs.Counts.{Inside, each_inside, inside_each, inside_other, stamps_few, object_stamps_few}
-use Rattle.linked_runs.specs.Linked.{HasCome, AreTogether}
+use Rattle.core_runs.proofs.Lanes.{own_answers, alone_rises}
+use Rattle.worker_laws.specs.Counts.{events_of, NoneElse}
+use Rattle.worker_laws.proofs.Links.{woven, agree_by}
+use Rattle.worker_laws.proofs.Counts.{Inside, each_inside, inside_each, inside_other, stamps_few, object_stamps_few}
+use Rattle.worker_laws.specs.Linked.{HasCome, AreTogether}
 
 each_mapped : {A B : Type 0} (P : B → Type 0) (f : A → B) (xs : List A) → Each (λ x. P (f x)) xs → Each P (map f xs)
 each_mapped P f [] h = tt

@@ -6,8 +6,8 @@ use Rattle.trace_theory.specs.Entries.{of, Each, last_or}
 use Rattle.trace_theory.specs.Runs.{Woven}
 use Rattle.trace_theory.proofs.Filters.{of_inside}
 use Rattle.trace_theory.proofs.Snocs.{each_at}
-use Rattle.image_links.specs.Counts.{events_of, NoneElse}
-use Rattle.image_links.proofs.Links.{no_split}
+use Rattle.worker_laws.specs.Counts.{events_of, NoneElse}
+use Rattle.worker_laws.proofs.Links.{no_split}
 
 -- 1 where the one is at most the other, else 0
 abbrev up_to : ℕ → ℕ → ℕ

@@ -1,6 +1,6 @@
 use Rattle.core_runs.specs.Moments.{rules}
-use Rattle.linked_runs.proofs.Together.{few_images, few_objects}
-use Rattle.linked_runs.proofs.laws.law_linked_few.Goals as goal
+use Rattle.worker_laws.proofs.Together.{few_images, few_objects}
+use Rattle.worker_laws.proofs.laws.law_linked_few.Goals as goal
 
 pub returns-clause-images : goal.returns-clause-images
 returns-clause-images g c b m h i = few_images (rules g.M.Walker g.O.Object g.B.Object) b m h i

@@ -6,7 +6,7 @@ use Rattle.trace_theory.specs.Entries.{of, Each, last_or, Above, Rises}
 use Rattle.trace_theory.specs.Runs.{Woven}
 use Rattle.trace_theory.proofs.Filters.{filter_append, each_filter, of_first, of_inside, of_last, of_other}
 use Rattle.trace_theory.proofs.Snocs.{split_last, each_at, each_last, rises_more}
-use Rattle.image_links.specs.Links.{OfImage, Linked, AllClosed}
+use Rattle.worker_laws.specs.Links.{OfImage, Linked, AllClosed}
 
 module _ {E : Type 0} where
   -- an entry of two lists put together stands in the first or in the second

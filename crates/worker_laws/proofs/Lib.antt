@@ -1,2 +1,3 @@
 pub mod Links
 pub mod Counts
+pub mod Together

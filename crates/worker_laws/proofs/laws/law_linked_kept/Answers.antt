@@ -1,6 +1,6 @@
 use Rattle.core_runs.specs.Moments.{rules}
-use Rattle.linked_runs.proofs.Together.{kept}
-use Rattle.linked_runs.proofs.laws.law_linked_kept.Goals as goal
+use Rattle.worker_laws.proofs.Together.{kept}
+use Rattle.worker_laws.proofs.laws.law_linked_kept.Goals as goal
 
 pub returns : goal.returns
 returns g c b m h = kept (rules g.M.Walker g.O.Object g.B.Object) b m h

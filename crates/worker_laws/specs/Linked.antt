@@ -11,7 +11,7 @@ use Rattle.core_runs.specs.Lists.{image_of, key_of, stamp_of, said, list_at, ent
 use Rattle.core_runs.specs.Moments.{Rules, Moment, item_at}
 use Rattle.core_runs.specs.Beginnings.{Beginning, IsImage, IsPlace, numbers_to}
 use Rattle.core_runs.specs.CoreRuns.{IsFit}
-use Rattle.image_links.specs.Links.{AllClosed}
+use Rattle.worker_laws.specs.Links.{AllClosed}
 
 -- the events are a walk of the image's program to where it stands, at an ask or its end; each stands at a place of the run, and the image's own are done
 pub record HasCome {C M B : Type 0} (r : Rules C M B) (b : Beginning C M B) (i : ℕ) (es : List Event) (c : C) : Type 0 where
