@@ -37,7 +37,7 @@ def refusal_text(number: str, place: Place, text: str, tables: Tables) -> str:
 def left_out(number: str, place: Place, source: List[str], tables: Tables) -> List[str]:
     """Says what there is in the place of a form of Fortran that isn't read, where the refused line has one."""
     lines = []
-    if number == "1" and source and source[0].startswith(_BYTE_ORDER_MARK):
+    if number == "1" and place.line == 1 and source and source[0].startswith(_BYTE_ORDER_MARK):
         lines.append("caf: the file begins with a byte order mark: save it as text without one")
     if number not in ("5", "7", "20", "35"):
         return lines
