@@ -28,8 +28,8 @@ class Interrupted(BaseException):
 
 @contextlib.contextmanager
 def interruptible() -> Iterator[None]:
-    """Raises Interrupted in its body where one of the signals comes that end a process. Those that are ignored stay so,
-    as under nohup."""
+    """Raises Interrupted in its body where one of the signals comes that end a process. Those that are ignored stay
+    so, as under nohup."""
 
     def interrupt(number: int, _: FrameType | None) -> None:
         # (a second one finds the tidying begun)
@@ -71,7 +71,9 @@ def end(begun: subprocess.Popen[Any], first: int = signal.SIGKILL) -> None:
     begun.wait()
 
 
-def wait(begun: list[subprocess.Popen[Any]], tick: Callable[[], None], is_done: Callable[[], bool] | None = None) -> None:
+def wait(
+    begun: list[subprocess.Popen[Any]], tick: Callable[[], None], is_done: Callable[[], bool] | None = None
+) -> None:
     """Waits until these have ended, or until `is_done`, and calls `tick` ten times a second."""
     while any(it.poll() is None for it in begun) and not (is_done and is_done()):
         tick()

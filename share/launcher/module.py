@@ -16,7 +16,9 @@ from dataclasses import dataclass
 import sources
 
 # The calls of checks, and the filling of fresh locals.
-LEFT_OUT = re.compile(r'  call void (@"rattle-llvm-checks::|@llvm\.trap\(|@llvm\.memset\.p0\.i64\(ptr %r\d+, i8 -86, )')
+LEFT_OUT = re.compile(
+    r'  call void (@"rattle-llvm-checks::|@llvm\.trap\(|@llvm\.memset\.p0\.i64\(ptr %r\d+, i8 -86, )'
+)
 NAME = re.compile(r'@("[^"]*"|[\w.$-]+)')
 COMMENT = re.compile(r" *; preds = .*")
 # A function of the sources that is put in place wherever it is called.
@@ -138,7 +140,7 @@ def kinds_of(module: Module, tick: Callable[[], None]) -> dict[str, int]:
 
 
 def merge_alike(module: Module, is_reading: Callable[[str], bool], tick: Callable[[], None]) -> None:
-    """Leaves one of the functions that do the same, and has all others name that one: one that runs, where there is."""
+    """Leaves one of the functions that do the same, one that runs where there is, and has the others name that one."""
     kinds, firsts = kinds_of(module, tick), {}
     for name in sorted(module.bodies, key=lambda it: (it != "main", is_reading(it), it)):
         firsts.setdefault(kinds[name], name)

@@ -23,8 +23,11 @@ def packed(program: bytes) -> bytes:
     """Returns the program packed: the same bytes for the same program."""
     import lzma
 
-    small = {"id": lzma.FILTER_LZMA2, "preset": 9 | lzma.PRESET_EXTREME, "dict_size": 1 << 22}
-    return lzma.compress(program, format=lzma.FORMAT_XZ, check=lzma.CHECK_CRC64, filters=[{"id": lzma.FILTER_X86}, small])
+    filters = [
+        {"id": lzma.FILTER_X86},
+        {"id": lzma.FILTER_LZMA2, "preset": 9 | lzma.PRESET_EXTREME, "dict_size": 1 << 22},
+    ]
+    return lzma.compress(program, format=lzma.FORMAT_XZ, check=lzma.CHECK_CRC64, filters=filters)
 
 
 def git(home: str, *words: str) -> str:
@@ -88,5 +91,6 @@ def compare(home: str) -> None:
         raise Damaged(why)
     ours, theirs = release.read(f"{home}/{proof.PROGRAM}"), release.program_bytes(home, made)
     if ours != theirs:
-        place = next((at for at, (one, other) in enumerate(zip(ours, theirs)) if one != other), min(len(ours), len(theirs)))
+        shorter = min(len(ours), len(theirs))
+        place = next((at for at in range(shorter) if ours[at] != theirs[at]), shorter)
         raise Damaged(f"{proof.PROGRAM} and the release differ from byte {place} on, of {len(ours)} and {len(theirs)}")

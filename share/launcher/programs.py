@@ -49,8 +49,8 @@ def closing_words(program: Program) -> str:
 
 
 def released(home: str, told: str | None) -> tuple[Program | None, str]:
-    """Returns the program of the release where it is of the sources of that sum, or why it isn't run. An installed tree
-    has no sources, so its release decides."""
+    """Returns the program of the release where it is of the sources of that sum, or why it isn't run. An installed
+    tree has no sources, so its release decides."""
     try:
         said = release.manifest_of(home)
         if said is None:

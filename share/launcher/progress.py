@@ -1,5 +1,5 @@
-"""Tells on standard error how far a long work is: on a terminal in one line that is written anew each second, else by a
-line for each phase and each half minute."""
+"""Tells on standard error how far a long work is: on a terminal in one line that is written anew each second, else by
+a line for each phase and each half minute."""
 
 from __future__ import annotations
 

@@ -1,8 +1,8 @@
 """What tells that crates/caf/out/caf is the program that rt ci built by proof of the sources as they stand now.
 
 rt leaves the program there and says nothing of the text that it is of. So whoever runs rt ci over the checkout writes
-beside it, where it passed: the sum of the sources before and after, and the sum of the program. Each run of rt ci takes
-the whole folder out/ away first, so what stands beside a program is of the same run.
+beside it, where it passed: the sum of the sources, which didn't change meanwhile, the sum of the program, and the name
+of the kit. Each run of rt ci takes the whole folder out/ away first, so what stands beside a program is of its run.
 """
 
 from __future__ import annotations

@@ -1,8 +1,8 @@
 """The program that a checkout or an installed tree brings with it: release/, which tools/release makes.
 
-release/MANIFEST has lines `KEY VALUE`; release/caf-x86_64-linux.xz is the program, packed. It was built by proof of the
-sources whose sum the manifest states, and a call runs it where these are the sources of the checkout. It is unpacked
-once into the cache, and what runs is held to the sum of the program at each call.
+release/MANIFEST has lines `KEY VALUE`; release/caf-x86_64-linux.xz is the program, packed. It was built by proof of
+the sources whose sum the manifest states, and a call runs it where these are the sources of the checkout. It is
+unpacked once into the cache, and what runs is held to the sum of the program at each call.
 """
 
 from __future__ import annotations
