@@ -7,6 +7,7 @@ Where it passed, and no source was changed meanwhile, proof.py's note is written
 from __future__ import annotations
 
 import collections
+import contextlib
 import os
 import re
 import select
@@ -19,7 +20,7 @@ import children
 import proof
 import sources
 from progress import Progress
-from trouble import say
+from trouble import NoProgram, say
 
 # So many lines of what rt says of a failure are told.
 TAIL = 40
@@ -140,6 +141,13 @@ def run_and_note(home: str, is_plain: bool) -> int:
     return 0
 
 
+def is_proved(home: str) -> bool:
+    """Returns whether the program in out/ is the proved one of the sources as they stand."""
+    with contextlib.suppress(NoProgram):
+        return proof.proved_program(home, sources.sum_of_sources(home)) is not None
+    return False
+
+
 def prove(home: str, is_plain: bool = False) -> int:
     """Proves the sources of the checkout and leaves the program in crates/caf/out/caf; returns the status to end with.
 
@@ -149,7 +157,7 @@ def prove(home: str, is_plain: bool = False) -> int:
     if not sources.has_sources(home):
         say("there are no sources here to prove")
         return 1
-    if not is_plain and proof.proved_program(home, sources.sum_of_sources(home)):
+    if not is_plain and is_proved(home):
         say(f"these sources are proved already, and {proof.PROGRAM} is of them")
         return 0
     if not shutil.which("rt"):
@@ -158,6 +166,9 @@ def prove(home: str, is_plain: bool = False) -> int:
     try:
         with children.interruptible():
             status = run_and_note(home, is_plain)
+    except NoProgram as why:
+        say(str(why))
+        return 1
     except children.Interrupted as interrupted:
         say("the proof was interrupted; the next call goes on from here")
         return 128 + interrupted.number
