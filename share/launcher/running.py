@@ -6,16 +6,17 @@ import os
 import re
 import select
 import signal
+import stat
 import subprocess
-from typing import Callable, List, NamedTuple, Optional, Sequence
+from typing import Callable, Iterator, List, NamedTuple, Optional, Sequence
 
-from children import PR_SET_PDEATHSIG, Interrupted, interruptible
+from children import ENDING, PR_SET_PDEATHSIG, Interrupted, interruptible
 from ends import WORDS
 from progress import Progress
 from texts import NothingMoreTaken, bytes_of, text_of, write_out
 
 PIECE = 1 << 20
-# So many bytes at least are taken at once where a pipe takes any.
+# So many bytes at least a pipe takes at once where it takes any.
 ATOM = 4096
 # How long standard output may take for what is left when a signal ends the run, in seconds.
 PATIENCE = 0.3
@@ -29,6 +30,16 @@ class Outcome(NamedTuple):
 
     status: int
     lines: List[str]
+
+
+@contextlib.contextmanager
+def _whole() -> Iterator[None]:
+    """Lets no signal come between what its body does and the note of it."""
+    signal.pthread_sigmask(signal.SIG_BLOCK, ENDING)
+    try:
+        yield
+    finally:
+        signal.pthread_sigmask(signal.SIG_UNBLOCK, ENDING)
 
 
 class EndLines:
@@ -57,19 +68,26 @@ class Outlet:
 
     def __init__(self) -> None:
         self.left = memoryview(b"")
+        self._atom = PIECE if stat.S_ISREG(os.fstat(1).st_mode) else ATOM
 
     def put(self, piece: bytes) -> None:
         """Writes a piece."""
         self.left = memoryview(piece)
         while self.left:
-            self.left = self.left[write_out(self.left) :]
+            select.select([], [1], [])
+            self._write()
 
     def put_now(self, piece: bytes) -> bool:
         """Writes what is left and a piece, as far as it is taken at once, and tells whether that is all."""
         self.left = memoryview(bytes(self.left) + piece)
         while self.left and select.select([], [1], [], PATIENCE)[1]:
-            self.left = self.left[write_out(self.left[:ATOM]) :]
+            self._write()
         return not self.left
+
+    def _write(self) -> None:
+        """Writes some of what is left."""
+        with _whole():
+            self.left = self.left[write_out(self.left[: self._atom]) :]
 
 
 def run(program: str, words: Sequence[str], standard_input: Optional[int]) -> Outcome:
@@ -140,9 +158,12 @@ def _await_text(text: int, progress: Progress) -> None:
         return
     if poll.poll(FIRST_SIGN):
         return
-    progress.enter("the program runs")
-    while not poll.poll(NEXT_SIGN):
-        progress.show()
+    progress.change("the program runs")
+    while True:
+        with _whole():
+            progress.show()
+        if poll.poll(NEXT_SIGN):
+            return
 
 
 def _is_in_front() -> bool:

@@ -11,7 +11,7 @@ from checks.comparing import HOME, Checks, call, read
 
 LONGEST_LINE = 120
 MOST_LINES = 300
-_FOLDERS = (".", "bench", "tools", "tools/checks", "share/launcher", "share/launcher/tests", ".ci")
+_FOLDERS = (".", "bench", "tools", "tools/checks", "tools/stand_in", "share/launcher", "share/launcher/tests", ".ci")
 
 
 def _files(first_line: bytes, ending: str) -> List[str]:

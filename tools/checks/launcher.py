@@ -1,40 +1,50 @@
 """What ./caf answers by itself, and how it behaves as a process: streams, signals, a terminal, and what is left of it."""
 
 import os
-import pty
-import signal
 import subprocess
 import sys
-import time
-from typing import List, Tuple
 
-from checks.comparing import HOME, LAUNCHER, Checks, Done, call, folder, read, started, with_status, write
+from checks.comparing import HOME, LAUNCHER, Checks, call, folder, read, started, with_status, write
 
-HELP_WORDS = "run check make -n -w --order --steps --fail --trace --vars --made FILE --try --prove --which --explain --version Statuses"
+HELP_WORDS = """run check make -n -w --order --steps --fail --trace --vars --made FILE --try --prove --which --explain --version
+Statuses"""
 NEIGHBOUR = ["run", "-n", "4", "--order", "0", "examples/neighbour.f90"]
-# A program that some images in turn, of which each counts for seconds, and whose first image has printed by then.
-LONG = b"integer :: i, s\nprint *, 1\ns = 0\ndo i = 1, 90000000\ns = mod(s + i, 1000)\nend do\nprint *, s\nend\n"
-LONG_WORDS = ["run", "-n", "64", "--order", "0", "--steps", "100000000"]
-# A program whose trace is long, and which ends in a refusal of the last line.
+# A program whose trace is long, and which ends by a fault in its last statement.
 TRACED = b"integer :: i, x[*]\ndo i = 1, 20000\nx = i\nend do\nx = x / (x - x)\nend\n"
 TRACED_WORDS = ["run", "-n", "4", "--order", "0", "--trace"]
+# A stand-in for the program, which writes 96 MB and then a fault; and what runs a command and prints its status and its memory.
+WRITES = """import os, sys
+line = b"1: " + b"x" * 60 + b"\\n"
+for _ in range(100):
+    os.write(1, line * 15000)
+os.write(1, b"fault image 1 line 1 Bounds\\n")
+sys.exit(8)
+"""
+MEASURES = """import resource, subprocess, sys
+status = subprocess.run(sys.argv[1:], stdout=subprocess.DEVNULL).returncode
+print(status, resource.getrusage(resource.RUSAGE_CHILDREN).ru_maxrss)
+"""
 MOST_KILOBYTES = 60000
 
 
 def check_launcher(checks: Checks) -> None:
-    """All of it."""
+    """What the launcher answers by itself, and how it passes on what the program writes."""
     _check_words(checks)
+    _check_without_a_program(checks)
     _check_standard_input(checks)
+    _check_other_sources(checks)
     _check_standard_output(checks)
     _check_long_text(checks)
-    with folder() as work:
-        path = write(f"{work}/long.f90", LONG)
-        _check_signals(checks, path)
-        _check_killed_launcher(checks, path)
-        _check_killed_program(checks, path)
-        _check_terminal(checks, path)
+    _check_much_text(checks)
     _check_home(checks)
-    _check_nothing_is_left(checks)
+    _check_python(checks)
+
+
+def stand_in(folder_of_it: str, text: str) -> str:
+    """Writes a program in Python that stands in for the program, and returns its path."""
+    path = write(f"{folder_of_it}/program", f"#!{sys.executable}\n{text}")
+    os.chmod(path, 0o755)
+    return path
 
 
 def _check_words(checks: Checks) -> None:
@@ -55,6 +65,10 @@ def _check_words(checks: Checks) -> None:
     checks.same("./caf --which", checks.program + "\n", call([LAUNCHER, "--which"]).text)
     checks.same("./caf --try", b"1: 4\n", call([LAUNCHER, "--try", *NEIGHBOUR]).text)
     checks.same("./caf without words", b"usage: word 1\nstatus 2\n", with_status(call([LAUNCHER])))
+
+
+def _check_without_a_program(checks: Checks) -> None:
+    """Words that are wrong, and a file that can't be read, are answered without a program."""
     nothing = {**os.environ, "CAF_PROGRAM": "/nonexistent"}
     for words in ([], ["check"], ["--try", "run"], ["--prove", "run", "-n"], ["check", "absent.f90"], ["--prove", "check", "docs"]):
         own = [word for word in words if word not in ("--try", "--prove")]
@@ -78,6 +92,11 @@ def _check_standard_input(checks: Checks) -> None:
         got = call([LAUNCHER, "check", name], given=b"\n" * 3000000)
         checks.same(f"a source by {name} that is too long", b"too long\nstatus 13\n", with_status(got))
         checks.same(f"no source by {name}", b"refused 7 at 1:1\nstatus 3\n", with_status(call([LAUNCHER, "check", name], given=b"")))
+
+
+def _check_other_sources(checks: Checks) -> None:
+    """What is no regular file is read once as well; what can't be read is told."""
+    wanted = call([LAUNCHER, "check", "examples/undeclared.f90"])
     with folder() as work:
         os.mkfifo(f"{work}/pipe")
         writer = started(["sh", "-c", f"cat examples/undeclared.f90 >{work}/pipe"])
@@ -106,100 +125,55 @@ def _check_standard_output(checks: Checks) -> None:
 
 
 def _check_long_text(checks: Checks) -> None:
-    """A long text is passed on byte for byte, without being held."""
+    """A long text is passed on byte for byte, and its end is told."""
     with folder() as work:
         path = write(f"{work}/traced.f90", TRACED)
         own = call([checks.program, *TRACED_WORDS, path])
         got = call([LAUNCHER, *TRACED_WORDS, path])
         checks.holds("the long text is long", len(own.text) > 2000000)
         checks.holds("a long text is the program's", with_status(own) == with_status(got))
-        checks.holds("the end of a long text is told", b":5:1: run fault of image 1: an integer division by zero" in got.said)
-    again = "import os,sys;b=b'1: '+b'x'*60+b'\\n';[os.write(1,b*15000) for _ in range(100)];os.write(1,b'fault image 1 line 1 Bounds\\n');sys.exit(8)"
+        checks.holds("the end of a long text is told", b":5:1: run fault of image 1: an integer division by" in got.said)
+
+
+def _check_much_text(checks: Checks) -> None:
+    """A text of 96 MB isn't held in memory."""
     with folder() as work:
-        stand_in = write(f"{work}/program", f"#!{sys.executable}\n{again}\n")
-        os.chmod(stand_in, 0o755)
-        measured = "import resource,subprocess,sys;s=subprocess.run(sys.argv[1:],stdout=subprocess.DEVNULL).returncode;print(s,resource.getrusage(resource.RUSAGE_CHILDREN).ru_maxrss)"
-        got = call([sys.executable, "-c", measured, LAUNCHER, *NEIGHBOUR], env={**os.environ, "CAF_PROGRAM": stand_in})
+        env = {**os.environ, "CAF_PROGRAM": stand_in(work, WRITES)}
+        got = call([sys.executable, "-c", MEASURES, LAUNCHER, *NEIGHBOUR], env=env)
         status, kilobytes = (int(it) for it in got.text.split())
-        checks.holds(f"96 MB of text go through {kilobytes} kB of memory", status == 8 and kilobytes < MOST_KILOBYTES)
+        checks.holds(f"96 MB of text need {kilobytes} kB, status {status}", status == 8 and kilobytes < MOST_KILOBYTES)
 
 
-def _programs(path: str) -> List[int]:
-    """Returns the numbers of the processes that run a program with this source, the launcher left out."""
-    found = []
-    for number in (int(it) for it in os.listdir("/proc") if it.isdigit()):
-        try:
-            words = read(f"/proc/{number}/cmdline").split(b"\0")
-            if path.encode() in words and words[1] == b"run":
-                found.append(number)
-        except OSError:
-            continue
-    return found
-
-
-def _run_of(path: str, **how: object) -> "subprocess.Popen[bytes]":
-    """Starts a long run, and waits until its program runs."""
-    launcher = started([LAUNCHER, *LONG_WORDS, path], stdout=subprocess.PIPE, stderr=subprocess.PIPE, **how)
-    for _ in range(400):
-        if _programs(path):
-            break
-        time.sleep(0.05)
-    return launcher
-
-
-def _ended(checks: Checks, what: str, launcher: "subprocess.Popen[bytes]", path: str, status: int) -> Done:
-    """Waits for the end of a run, which must come at once, with that status and no process left."""
-    begun = time.monotonic()
-    text, said = launcher.communicate(timeout=60)
-    spent = time.monotonic() - begun
-    checks.holds(f"{what}: the status is {launcher.returncode}", launcher.returncode == status)
-    checks.holds(f"{what}: it ends after {spent:.1f} s", spent < 3)
-    for _ in range(40):
-        if not _programs(path):
-            break
-        time.sleep(0.05)
-    left = _programs(path)
-    checks.holds(f"{what}: {left} are left", not left)
-    for number in left:
-        os.kill(number, signal.SIGKILL)
-    return Done(text, said, launcher.returncode)
-
-
-def _check_signals(checks: Checks, path: str) -> None:
-    """A signal that ends the launcher ends the program."""
-    for number in (signal.SIGTERM, signal.SIGINT, signal.SIGHUP):
-        launcher = _run_of(path)
-        checks.holds("the program of a long run runs", bool(_programs(path)))
-        os.kill(launcher.pid, number)
-        got = _ended(checks, f"{number.name} to the launcher", launcher, path, -number)
-        checks.same(f"{number.name} to the launcher: standard error", b"", got.said)
-    launcher = _run_of(path)
-    os.killpg(launcher.pid, signal.SIGINT)
-    _ended(checks, "Ctrl-C", launcher, path, -signal.SIGINT)
-    told = call(["sh", "-c", f"{LAUNCHER} {' '.join(LONG_WORDS)} {path} & sleep 1; kill -TERM $!; wait $!; echo $?"])
-    checks.same("the status of SIGTERM in a shell", b"143\n", told.text)
-
-
-def _check_killed_launcher(checks: Checks, path: str) -> None:
-    """The program ends with a launcher that is killed."""
-    launcher = _run_of(path)
-    launcher.kill()
-    _ended(checks, "SIGKILL to the launcher", launcher, path, -signal.SIGKILL)
-
-
-def _check_killed_program(checks: Checks, path: str) -> None:
-    """A program that is ended from outside is told."""
-    launcher = _run_of(path)
-    own = [it for it in _programs(path) if it != launcher.pid]
-    os.kill(own[0], signal.SIGKILL)
-    got = _ended(checks, "SIGKILL to the program", launcher, path, 137)
-    checks.same("a killed program", b"caf: the program was ended from outside, by signal 9\n", got.said)
+def _check_home(checks: Checks) -> None:
+    """The launcher finds its home by links, in a folder with blanks, from elsewhere, and without a checkout."""
     with folder() as work:
-        source = "import os,time;os.write(1,b'1: first\\n');time.sleep(60)"
-        stand_in = write(f"{work}/program", f"#!{sys.executable}\n{source}\n")
-        os.chmod(stand_in, 0o755)
-        launcher = started([LAUNCHER, "run", path], stdout=subprocess.PIPE, env={**os.environ, "CAF_PROGRAM": stand_in})
-        first = os.read(launcher.stdout.fileno(), 100)
-        checks.same("what is printed is passed on at once", b"1: first\n", first)
-        launcher.terminate()
-        launcher.communicate()
+        home = f"{work}/a tree/share/caf"
+        os.makedirs(f"{home}/docs")
+        os.makedirs(f"{work}/a tree/bin")
+        for name in ("caf", "share", "docs/REFUSALS.md"):
+            call(["cp", "-r", f"{HOME}/{name}", f"{home}/{name}"])
+        os.symlink("../share/caf/caf", f"{work}/a tree/bin/caf")
+        os.symlink(f"{work}/a tree/bin/caf", f"{work}/linked")
+        env = {"PATH": os.environ["PATH"], "CAF_PROGRAM": checks.program}
+        for command in (f"{work}/a tree/bin/caf", f"{work}/linked", f"{home}/caf"):
+            got = call([command, "check", f"{HOME}/examples/undeclared.f90"], folder="/", env=env)
+            checks.same(command, b"refused 20 at 1:1\nstatus 3\n", with_status(got))
+            checks.holds(f"{command} tells its name", f"caf: {command} --explain 20".encode() in got.said)
+        env["PATH"] = f"{work}/a tree/bin:{env['PATH']}"
+        got = call(["sh", "-c", "caf run " + " ".join(NEIGHBOUR[1:])], env=env)
+        checks.same("caf on the path", b"1: 4\nstatus 0\n", with_status(got))
+        checks.same("--version of an installed tree", b"caf 0.2", call(["linked", "--version"], folder=work, executable=f"{work}/linked").text[:7])
+
+
+def _check_python(checks: Checks) -> None:
+    """Where python3 isn't there, or too old, that is told."""
+    with folder() as work:
+        for name in ("sh", "readlink"):
+            os.symlink(call(["sh", "-c", f"command -v {name}"]).text.decode().strip(), f"{work}/{name}")
+        got = call([f"{work}/sh", LAUNCHER, "--help"], env={"PATH": work})
+        checks.holds("no python3: status 1", got.status == 1)
+        checks.same("no python3", b"caf: there is no python3 on the path; caf needs Python 3.8 or a later one\n", got.said)
+    older = f"import runpy, sys; sys.version_info = (3, 7, 2); runpy.run_path({HOME + '/share/launcher/__main__.py'!r})"
+    got = call([sys.executable, "-c", older])
+    checks.holds("an old python3: status 1", got.status == 1)
+    checks.same("an old python3", b"caf: python3 is Python 3.7, and caf needs Python 3.8 or a later one\n", got.said)
