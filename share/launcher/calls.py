@@ -89,9 +89,8 @@ def _run(caller: Caller, way: str, words: List[str]) -> int:
 
 def _tell_usage(caller: Caller, words: List[str], number: int) -> int:
     """Answers words that are wrong at that number, as the program does."""
-    from messages import Answered, messages
+    from usage import usage_message
 
-    line = f"usage: word {number}"
-    answer(f"{line}\n")
-    tell(messages(caller, Asked(words), Answered(USAGE, [line])))
+    answer(f"usage: word {number}\n")
+    tell(usage_message(caller, words, number))
     return USAGE

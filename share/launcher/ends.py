@@ -10,7 +10,8 @@ WORDS = ("refused", "usage:", "fault", "error", "clash", "limit", "stuck", "race
 
 
 class Place(NamedTuple):
-    """A line and a column from 1, column 0 for the first character that isn't a blank, line 0 for no place; and what is said there."""
+    """A line and a column from 1, column 0 for the first character that isn't a blank, line 0 for no place; and what is
+    said there."""
 
     line: int
     column: int
@@ -18,7 +19,8 @@ class Place(NamedTuple):
 
 
 class End(NamedTuple):
-    """What the lines tell: the places in their order; the word for `--explain`; and, where there is one, the wrong word's number, the refusal's and the coarray of a race."""
+    """What the lines tell: the places in their order; the word for `--explain`; and, where there is one, the number
+    of the wrong word, the number of the refusal, and the coarray of the race."""
 
     places: List[Place]
     hint: str = ""
@@ -50,7 +52,8 @@ def read_end(lines: Sequence[str], tables: Tables) -> End:
             end = _read_line(line, end, tables)
     if not waits:
         return end
-    return End(end.places + [_wait(key, images, tables) for key, images in waits.items()], tables.name(Kind.STATUS, "6"))
+    places = [_wait(key, images, tables) for key, images in waits.items()]
+    return End(end.places + places, tables.name(Kind.STATUS, "6"))
 
 
 def _read_line(line: str, end: End, tables: Tables) -> End:
@@ -72,7 +75,8 @@ def _read_line(line: str, end: End, tables: Tables) -> End:
 
 
 def _refusal(tables: Tables, number: str, line: str, column: str) -> End:
-    """Reads a refusal, whose text is made of its line. A number below 20 is that of a status too, so the hint has the name."""
+    """Reads a refusal, whose text is made of its line. A number below 20 is that of a status too, so the hint has the
+    name."""
     hint = tables.name(Kind.REFUSAL, number) if int(number) < 20 else number
     return End([Place(int(line), int(column), "")], hint, refusal=number)
 
@@ -82,26 +86,30 @@ def _usage(_: Tables, number: str) -> End:
 
 
 def _fault(tables: Tables, image: str, line: str, kind: str) -> End:
-    return End([Place(int(line), 0, f"run fault of image {image}: {tables.meaning(Kind.FAULT, kind)} ({kind})")], kind)
+    text = f"run fault of image {image}: {tables.meaning(Kind.FAULT, kind)} ({kind})"
+    return End([Place(int(line), 0, text)], kind)
 
 
 def _error_stop(tables: Tables, image: str, line: str, code: str) -> End:
     entry = tables.find(Kind.CODE, code)
     if entry is None:
-        return End([Place(int(line), 0, f"image {image} ended the run: error stop with code {code}")], tables.name(Kind.STATUS, "4"))
+        text = f"image {image} ended the run: error stop with code {code}"
+        return End([Place(int(line), 0, text)], tables.name(Kind.STATUS, "4"))
     text = f"image {image} ended the run with code {code}: {entry.meaning} ({entry.name})"
     return End([Place(int(line), 0, text)], code)
 
 
 def _clash(tables: Tables, image: str, line: str, other: str, at: str) -> End:
-    text = f"clash: image {image} is here and image {other} of its team at line {at}, and all must execute the same statement"
+    where = f"image {image} is here and image {other} of its team at line {at}"
+    text = f"clash: {where}, and all must execute the same statement"
     places = [Place(int(line), 0, text), Place(int(at), 0, f"image {other} is here")]
     return End(places, tables.name(Kind.STATUS, "9"))
 
 
 def _limit(tables: Tables, image: str, line: str, what: str, count: str) -> End:
     meaning = tables.meaning(Kind.LIMIT, what).replace(" N ", f" {count} ")
-    return End([Place(int(line), 0, f"limit of image {image}: {meaning} ({what})")], tables.name(Kind.STATUS, "7"))
+    text = f"limit of image {image}: {meaning} ({what})"
+    return End([Place(int(line), 0, text)], tables.name(Kind.STATUS, "7"))
 
 
 def _wait(key: str, images: List[str], tables: Tables) -> Place:

@@ -1,4 +1,5 @@
-"""What `caf --explain WORD` says: the entries of docs/REFUSALS.md with a number or a name, or what there is in the place of a form of Fortran."""
+"""What `caf --explain WORD` says: the entries of docs/REFUSALS.md with a number or a name, or what there is in the
+place of a form of Fortran."""
 
 from typing import List, Optional
 
@@ -6,7 +7,10 @@ from excerpts import excerpt
 from tables import Entry, Kind, Tables
 from texts import lower
 
-KINDS = "a status (0 to 13), the number of a refusal (1 to 9, 20 to 59), a run fault (Overflow), a code (6000 to 6006), or a name of these"
+KINDS = (
+    "a status (0 to 13), the number of a refusal (1 to 9, 20 to 59), a run fault (Overflow), a code (6000 to 6006), "
+    "or a name of these"
+)
 
 _TITLES = {Kind.FAULT: "run fault", Kind.CODE: "code of a status", Kind.WAIT: "a stuck image waits for"}
 

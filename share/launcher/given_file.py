@@ -1,4 +1,5 @@
-"""FILE of a call: a regular file, which the program reads by its name, or else what is read once, and kept for its standard input."""
+"""FILE of a call: a regular file, which the program reads by its name, or else what is read once, and kept for its
+standard input."""
 
 import os
 import stat
@@ -47,7 +48,8 @@ class GivenFile(NamedTuple):
 
 
 class Asked(NamedTuple):
-    """What the program is asked: the words of the call, and the place of FILE among them, from 0, and FILE, where they have one."""
+    """What the program is asked: the words of the call, and the place of FILE among them, from 0, and FILE, where they
+    have one."""
 
     words: Sequence[str]
     place: Optional[int] = None

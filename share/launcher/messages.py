@@ -6,10 +6,9 @@ from ending import Caller
 from ends import End, Place, read_end
 from excerpts import excerpt
 from given_file import Asked, why_unread
-from help import help_words
 from refusals import left_out, refusal_text
 from tables import read_tables, tables_path
-from usage import usage_lines
+from usage import usage_message
 from uses import use_of
 
 NO_MORE_TAKEN = "caf: standard output took no more than a front of the text"
@@ -47,8 +46,7 @@ def _end_lines(caller: Caller, asked: Asked, told: Sequence[str]) -> List[str]:
     tables = read_tables(tables_path(caller.home))
     end = read_end(told, tables)
     if end.wrong_word:
-        lines = usage_lines(asked.words, end.wrong_word, help_words(caller.home))
-        return lines + [f"caf: {caller.called} --help has every word"]
+        return usage_message(caller, asked.words, end.wrong_word).split("\n")[:-1]
     source = asked.source().split("\n")
     lines = []
     for place in end.places:

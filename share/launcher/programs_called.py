@@ -7,7 +7,6 @@ import programs
 from children import Interrupted
 from ending import NO_PROGRAM, Caller, end_by
 from messages import Answered, Asked, messages
-from prove import prove
 from running import run
 from texts import answer, tell, text_of
 
@@ -23,6 +22,8 @@ def _find(caller: Caller, way: str) -> Optional[programs.Program]:
 
 def prove_alone(caller: Caller) -> int:
     """Proves the sources and returns the status."""
+    from prove import prove  # here, since most calls don't need it
+
     return prove(caller.home)
 
 
@@ -36,10 +37,10 @@ def tell_which(caller: Caller) -> int:
 
 
 def run_program(caller: Caller, way: str, asked: Asked) -> int:
-    """Runs the program, tells what its answer means, and returns its status. With the way `--prove` it is proved before, with
-    `--try` it is one without proof."""
+    """Runs the program, tells what its answer means, and returns its status. With the way `--prove` it is proved
+    before, with `--try` it is one without proof."""
     if way == "--prove":
-        status = prove(caller.home)
+        status = prove_alone(caller)
         if status:
             return status
     program = programs.proved_here(caller.home) if way == "--prove" else _find(caller, way)

@@ -1,4 +1,5 @@
-"""What is said of a refused place: the rule that it breaks with the token there, and what there is in the place of a form that isn't read."""
+"""What is said of a refused place: the rule that it breaks with the token there, and what there is in the place of a
+form that isn't read."""
 
 import re
 from typing import List, Optional
@@ -22,7 +23,8 @@ def _token_at(text: str, column: int) -> str:
 
 
 def refusal_text(number: str, place: Place, text: str, tables: Tables) -> str:
-    """Returns the rule that a place breaks. Past a statement's end, and in a file without a statement, 7 has no token to speak of."""
+    """Returns the rule that a place breaks. Past a statement's end, and in a file without a statement, 7 has no token
+    to speak of."""
     token = _token_at(text, place.column)
     rule = tables.meaning(Kind.REFUSAL, number)
     said = f" at `{token}`" if token else ""

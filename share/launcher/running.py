@@ -1,4 +1,5 @@
-"""Runs the program: passes its text on as it comes, keeps the lines that tell how it ended, and ends it where the launcher ends."""
+"""Runs the program: passes its text on as it comes, keeps the lines that tell how it ended, and ends it where the
+launcher ends."""
 
 import contextlib
 import ctypes
@@ -93,8 +94,9 @@ class Outlet:
 def run(program: str, words: Sequence[str], standard_input: Optional[int]) -> Outcome:
     """Runs the program with these words and returns how it ended.
 
-    Its text goes to standard output byte for byte. Raises NothingMoreTaken where that takes no more, Interrupted where a signal
-    ends the run, and OSError where the program can't be begun; the program has ended then, and its text so far is written.
+    Its text goes to standard output byte for byte. Raises NothingMoreTaken where that takes no more, Interrupted where
+    a signal ends the run, and OSError where the program can't be begun; the program has ended then, and its text so far
+    is written.
     """
     lines = EndLines()
     outlet = Outlet()

@@ -19,7 +19,8 @@ class Kind(enum.Enum):
 
 
 class Entry(NamedTuple):
-    """A row of a table. An example stands in backticks where it is a program, and is told in words else; a refusal for which there is no program has neither example nor place."""
+    """A row of a table. An example stands in backticks where it is a program, and is told in words else; a refusal for
+    which there is no program has neither example nor place."""
 
     kind: Kind
     key: str
@@ -32,7 +33,8 @@ class Entry(NamedTuple):
 
 
 class Tables(NamedTuple):
-    """All entries in their order; what to do after a status, by its number; what stands in the place of a form of Fortran that isn't read, by its word."""
+    """All entries in their order; what to do after a status, by its number; what stands in the place of a form of
+    Fortran that isn't read, by its word."""
 
     entries: List[Entry]
     advice: Dict[str, str]
@@ -101,7 +103,8 @@ def _keep_row(tables: Tables, section: str, cells: List[str]) -> None:
 
 
 def read_tables(path: str) -> Tables:
-    """Reads the tables of a page: below a heading `## SECTION` the lines that begin with `| `, behind the one of dashes."""
+    """Reads the tables of a page: below a heading `## SECTION` the lines that begin with `| `, behind the one of
+    dashes."""
     tables = Tables([], {}, {})
     section = ""
     is_behind_dashes = False

@@ -1,4 +1,5 @@
-"""Texts as the launcher keeps them: one character a byte, so that columns count bytes and bytes that are no UTF-8 stay as they are."""
+"""Texts as the launcher keeps them: one character a byte, so that columns count bytes, and bytes that are no UTF-8 stay
+as they are."""
 
 import errno
 import os
@@ -54,7 +55,8 @@ def is_text(word: str) -> bool:
 
 
 def write_out(data: Union[bytes, memoryview]) -> int:
-    """Writes some of these bytes to standard output and returns how many; raises NothingMoreTaken where it takes no more."""
+    """Writes some of these bytes to standard output and returns how many; raises NothingMoreTaken where it takes
+    none."""
     try:
         return os.write(1, data)
     except BlockingIOError:
@@ -82,7 +84,8 @@ def tell(text: str) -> None:
 
 
 def keep_streams() -> None:
-    """Puts something that takes nothing where standard output or standard error is closed, so that no file comes to stand there."""
+    """Puts something that takes nothing where standard output or standard error is closed, so that no file comes to
+    stand there."""
     for stream in (1, 2):
         try:
             os.fstat(stream)

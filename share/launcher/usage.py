@@ -3,14 +3,17 @@
 import re
 from typing import Dict, List, NamedTuple, Optional, Sequence, Set
 
+from ending import Caller
 from excerpts import excerpt
+from help import help_words
 
 _VALUE = re.compile("[A-Z][A-Z@]*")
 _RIVAL = re.compile("not beside (-[-a-z]+)")
 
 
 class Form(NamedTuple):
-    """What the help text says of a command or an option: its lines, and the values that stand behind its word."""
+    """What the help text says of a command or an option: its lines, the values that stand behind its word, and the
+    option that excludes it."""
 
     lines: List[str]
     values: List[str]
@@ -30,7 +33,8 @@ class Help(NamedTuple):
 
 
 class Words(NamedTuple):
-    """What the words before the wrong one are: the options among them, whether one is FILE, and the value that the last option, or the command itself, lacks."""
+    """What the words before the wrong one are: the options among them, whether one is FILE, and the value that the last
+    option, or the command itself, lacks."""
 
     given: Set[str]
     has_file: bool
@@ -39,7 +43,8 @@ class Words(NamedTuple):
 
 
 def read_help(text: str) -> Help:
-    """Reads the lines of the commands, `    caf COMMAND ..`, and of the options, `    -OPTION VALUE..  what it is`, up to the one on standard output."""
+    """Reads the lines of the commands, `    caf COMMAND ..`, and of the options, `    -OPTION VALUE..  what it is`, up
+    to the one on standard output."""
     told = Help({}, {}, [])
     for line in text.partition("\nStandard output")[0].split("\n"):
         if re.match("    caf [a-z]", line):
@@ -121,8 +126,15 @@ def _reason_of_word(told: Help, command: str, word: str, given: Set[str]) -> str
     return "FILE is empty" if word == "" else ""
 
 
+def usage_message(caller: Caller, words: Sequence[str], number: int) -> str:
+    """Returns what is said of words that are wrong at that number."""
+    lines = usage_lines(words, number, help_words(caller.home))
+    return "".join(f"{line}\n" for line in [*lines, f"caf: {caller.called} --help has every word"])
+
+
 def usage_lines(words: Sequence[str], number: int, help_text: str) -> List[str]:
-    """Returns the wrong word with its reason, the words of the call with a caret below it, the form of its command (all forms where it has none), and the line of its option."""
+    """Returns the wrong word with its reason, the words of the call with a caret below it, the form of its command (all
+    forms where it has none), and the line of its option."""
     told = read_help(help_text)
     before = _read_words(told, words, number)
     why = _reason(told, words, number, before)

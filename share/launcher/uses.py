@@ -14,14 +14,16 @@ _COMPARISONS = ("==", "/=", "<=", ">=")
 
 
 class Use(NamedTuple):
-    """What is done, in the words of a message, and the column of the one place that does it, from 1, or 0 where there are more."""
+    """What is done, in the words of a message, and the column of the one place that does it, from 1, or 0 where there
+    are more."""
 
     verb: str
     column: int
 
 
 def use_of(name: str, line: str) -> Use:
-    """Tells what a line does with a coarray: it `defines` or `reads` it, or `uses` it where that isn't plain from the line."""
+    """Tells what a line does with a coarray: it `defines` or `reads` it, or `uses` it where that isn't plain from the
+    line."""
     line = lower(line) + " "
     if _UNTOLD.search(line):
         return Use("uses", 0)

@@ -1,7 +1,7 @@
-"""Which lists of words are valid, and where the others go wrong: the same answer as the program gives, but for `-` as FILE.
+"""Which lists of words are valid, and where the others go wrong: what the program answers, but for `-` as FILE.
 
-The words are those of `run OPTIONS FILE`, `run OPTIONS --made SEED SIZE`, `check FILE` and `make SEED SIZE`. FILE isn't empty and
-doesn't begin with `-`, but `-` itself, which is standard input, is one.
+The words are those of `run OPTIONS FILE`, `run OPTIONS --made SEED SIZE`, `check FILE` and `make SEED SIZE`. FILE isn't
+empty and doesn't begin with `-`, but `-` itself, which is standard input, is one.
 """
 
 import re
@@ -34,7 +34,8 @@ class Valid(NamedTuple):
 
 
 class Wrong(NamedTuple):
-    """Words that aren't valid: the number of the first one, from 1, with which no valid list begins, or one more than there are."""
+    """Words that aren't valid: the number of the first one, from 1, with which no valid list begins, or one more than
+    there are."""
 
     word: int
 
@@ -43,7 +44,12 @@ SEED = Range(0, GREATEST_SEED)
 SIZE = Range(1, GREATEST_SIZE)
 
 # The options of a run that have a number behind them, and those that have nothing.
-_NUMBERS: Dict[str, Range] = {"-n": Range(1, 64), "-w": Range(1, 64), "--order": SEED, "--steps": Range(1, 100000000)}
+_NUMBERS: Dict[str, Range] = {
+    "-n": Range(1, 64),
+    "-w": Range(1, 64),
+    "--order": SEED,
+    "--steps": Range(1, 100000000),
+}
 _FLAGS = ("--trace", "--vars")
 # The one option that may stand more than once, and what stands behind it: I@K.
 _FAIL = "--fail"
@@ -54,7 +60,8 @@ _RIVALS = {"-w": "--order", "--order": "-w"}
 
 
 def read_words(words: Sequence[str]) -> Union[Valid, Wrong]:
-    """Tells what the words of a call are; a list with a word that is no UTF-8 is read as an empty one, as the program does."""
+    """Tells what the words of a call are; a list with a word that is no UTF-8 is read as an empty one, as the program
+    does."""
     if not words or not all(is_text(word) for word in words):
         return Wrong(1)
     if words[0] == "run":

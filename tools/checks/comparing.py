@@ -57,7 +57,8 @@ class Checks:
             print(f"FAILED: {what}", flush=True)
 
     def same(self, what: str, wanted: Union[str, bytes], got: Union[str, bytes]) -> bool:
-        """Counts two texts that have to be the same; where they differ the lines are shown, those that are wanted with a minus."""
+        """Counts two texts that have to be the same; where they differ the lines are shown, those that are wanted with
+        a minus."""
         is_same = _bytes(wanted) == _bytes(got)
         self.holds(what, is_same)
         if not is_same:
@@ -100,6 +101,6 @@ def write(path: str, data: Union[str, bytes]) -> str:
     return path
 
 
-def started(command: Sequence[str], given: Optional[int] = None, folder: str = HOME, **how: object) -> "subprocess.Popen[bytes]":
+def started(command: Sequence[str], **how: object) -> "subprocess.Popen[bytes]":
     """Starts a command in a session of its own."""
-    return subprocess.Popen(command, stdin=subprocess.DEVNULL if given is None else given, cwd=folder, start_new_session=True, **how)
+    return subprocess.Popen(command, stdin=subprocess.DEVNULL, cwd=HOME, start_new_session=True, **how)

@@ -20,7 +20,8 @@ class Example(NamedTuple):
 
 
 def calls_of(path: str) -> Iterator[Example]:
-    """Gives the calls of examples/NAME.out: a line '# ./caf WORDS: status S' and below it what standard output must have."""
+    """Gives the calls of examples/NAME.out: a line '# ./caf WORDS: status S' and below it what standard output must
+    have."""
     calls: List[Tuple[List[str], str, List[str]]] = []
     for line in read(path).decode("utf-8").split("\n")[:-1]:
         found = _CALL.fullmatch(line)
@@ -47,7 +48,8 @@ def check_examples(checks: Checks) -> None:
 
 
 def check_workers(checks: Checks) -> None:
-    """The calls of tools/workers.cases end alike in every order: on four workers, ten times in a row, as by rotation."""
+    """The calls of tools/workers.cases end alike in every order: on four workers, ten times in a row, as by
+    rotation."""
     for line in read(f"{HOME}/tools/workers.cases").decode().splitlines():
         wanted = with_status(call([checks.program, "run", "--order", "0", *line.split()]))
         got = [with_status(call([checks.program, "run", "-w", "4", *line.split()])) for _ in range(10)]
@@ -56,7 +58,8 @@ def check_workers(checks: Checks) -> None:
 
 
 def check_limits(checks: Checks) -> None:
-    """The longest file that is read and one byte more; each number of images; a text that can't be written, by the program itself."""
+    """The longest file that is read and one byte more; each number of images; a text that can't be written, by the
+    program itself."""
     with folder() as work:
         longest = write(f"{work}/longest.f90", b"\n" * 1048572 + b"end\n")
         longer = write(f"{work}/longer.f90", b"\n" * 1048573 + b"end\n")
@@ -70,7 +73,8 @@ def check_limits(checks: Checks) -> None:
         checks.same(f"an empty program on {images} images", b"status 0\n", with_status(got))
     with open("/dev/full", "wb") as full:
         words = ["run", "-n", "4", "--order", "0", "examples/neighbour.f90"]
-        checks.holds("a text that can't be written: status 11", call([checks.program, *words], stdout=full).status == 11)
+        got = call([checks.program, *words], stdout=full)
+        checks.same("the program, to what takes nothing", b"status 11\n", with_status(got))
 
 
 class Shown(NamedTuple):
@@ -81,7 +85,8 @@ class Shown(NamedTuple):
 
 
 def commands_of(page: str) -> List[Shown]:
-    """Returns the commands of a page: each line '    $ COMMAND', with lines '    > MORE' that go on with it, and below it what it writes."""
+    """Returns the commands of a page: each line '    $ COMMAND', with lines '    > MORE' that go on with it, and below
+    it what it writes."""
     shown: List[List[str]] = []
     is_open = False
     for line in page.split("\n"):
@@ -99,7 +104,8 @@ def commands_of(page: str) -> List[Shown]:
 
 
 def check_pages(checks: Checks) -> None:
-    """The commands of a page write what stands below them. They run in one folder, which has ./caf, examples and docs."""
+    """The commands of a page write what stands below them. They run in one folder, which has ./caf, examples and
+    docs."""
     for page in PAGES:
         with folder() as work:
             for name in ("caf", "examples", "docs"):

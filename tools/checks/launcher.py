@@ -1,4 +1,4 @@
-"""What ./caf answers by itself, and how it behaves as a process: streams, signals, a terminal, and what is left of it."""
+"""What ./caf answers by itself, what it reads and writes, and where it finds its home."""
 
 import os
 import subprocess
@@ -6,13 +6,14 @@ import sys
 
 from checks.comparing import HOME, LAUNCHER, Checks, call, folder, read, started, with_status, write
 
-HELP_WORDS = """run check make -n -w --order --steps --fail --trace --vars --made FILE --try --prove --which --explain --version
-Statuses"""
+HELP_WORDS = """run check make -n -w --order --steps --fail --trace --vars --made FILE --try --prove --which --explain
+--version Statuses"""
 NEIGHBOUR = ["run", "-n", "4", "--order", "0", "examples/neighbour.f90"]
 # A program whose trace is long, and which ends by a fault in its last statement.
 TRACED = b"integer :: i, x[*]\ndo i = 1, 20000\nx = i\nend do\nx = x / (x - x)\nend\n"
 TRACED_WORDS = ["run", "-n", "4", "--order", "0", "--trace"]
-# A stand-in for the program, which writes 96 MB and then a fault; and what runs a command and prints its status and its memory.
+# A stand-in for the program, which writes 96 MB and then a fault; and what runs a command and prints its status and its
+# memory.
 WRITES = """import os, sys
 line = b"1: " + b"x" * 60 + b"\\n"
 for _ in range(100):
@@ -25,6 +26,7 @@ status = subprocess.run(sys.argv[1:], stdout=subprocess.DEVNULL).returncode
 print(status, resource.getrusage(resource.RUSAGE_CHILDREN).ru_maxrss)
 """
 MOST_KILOBYTES = 60000
+NEEDED = b"caf needs Python 3.8 or a later one\n"
 
 
 def check_launcher(checks: Checks) -> None:
@@ -70,10 +72,11 @@ def _check_words(checks: Checks) -> None:
 def _check_without_a_program(checks: Checks) -> None:
     """Words that are wrong, and a file that can't be read, are answered without a program."""
     nothing = {**os.environ, "CAF_PROGRAM": "/nonexistent"}
-    for words in ([], ["check"], ["--try", "run"], ["--prove", "run", "-n"], ["check", "absent.f90"], ["--prove", "check", "docs"]):
-        own = [word for word in words if word not in ("--try", "--prove")]
-        wanted = with_status(call([checks.program, *own]))
-        checks.same(f"{words} is answered without a program", wanted, with_status(call([LAUNCHER, *words], env=nothing)))
+    for way, words in (("", ""), ("", "check"), ("--try", "run"), ("--prove", "run -n"), ("", "check absent.f90"),
+                       ("--prove", "check docs")):
+        wanted = call([checks.program, *words.split()])
+        got = call([LAUNCHER, *way.split(), *words.split()], env=nothing)
+        checks.same(f"./caf {way} {words} is answered without a program", with_status(wanted), with_status(got))
     checks.same("a program that isn't there", b"status 1\n", with_status(call([LAUNCHER, *NEIGHBOUR], env=nothing)))
 
 
@@ -91,7 +94,8 @@ def _check_standard_input(checks: Checks) -> None:
         checks.same(f"a source by {name} from a file", with_status(wanted), with_status(got))
         got = call([LAUNCHER, "check", name], given=b"\n" * 3000000)
         checks.same(f"a source by {name} that is too long", b"too long\nstatus 13\n", with_status(got))
-        checks.same(f"no source by {name}", b"refused 7 at 1:1\nstatus 3\n", with_status(call([LAUNCHER, "check", name], given=b"")))
+        got = call([LAUNCHER, "check", name], given=b"")
+        checks.same(f"no source by {name}", b"refused 7 at 1:1\nstatus 3\n", with_status(got))
 
 
 def _check_other_sources(checks: Checks) -> None:
@@ -132,7 +136,7 @@ def _check_long_text(checks: Checks) -> None:
         got = call([LAUNCHER, *TRACED_WORDS, path])
         checks.holds("the long text is long", len(own.text) > 2000000)
         checks.holds("a long text is the program's", with_status(own) == with_status(got))
-        checks.holds("the end of a long text is told", b":5:1: run fault of image 1: an integer division by" in got.said)
+        checks.holds("the end of a long text is told", b":5:1: run fault of image 1: an integer division" in got.said)
 
 
 def _check_much_text(checks: Checks) -> None:
@@ -162,7 +166,8 @@ def _check_home(checks: Checks) -> None:
         env["PATH"] = f"{work}/a tree/bin:{env['PATH']}"
         got = call(["sh", "-c", "caf run " + " ".join(NEIGHBOUR[1:])], env=env)
         checks.same("caf on the path", b"1: 4\nstatus 0\n", with_status(got))
-        checks.same("--version of an installed tree", b"caf 0.2", call(["linked", "--version"], folder=work, executable=f"{work}/linked").text[:7])
+        got = call([f"{work}/linked", "--version"], env=env)
+        checks.same("--version of an installed tree", b"caf 0.2", got.text[:7])
 
 
 def _check_python(checks: Checks) -> None:
@@ -172,8 +177,8 @@ def _check_python(checks: Checks) -> None:
             os.symlink(call(["sh", "-c", f"command -v {name}"]).text.decode().strip(), f"{work}/{name}")
         got = call([f"{work}/sh", LAUNCHER, "--help"], env={"PATH": work})
         checks.holds("no python3: status 1", got.status == 1)
-        checks.same("no python3", b"caf: there is no python3 on the path; caf needs Python 3.8 or a later one\n", got.said)
+        checks.same("no python3", b"caf: there is no python3 on the path; " + NEEDED, got.said)
     older = f"import runpy, sys; sys.version_info = (3, 7, 2); runpy.run_path({HOME + '/share/launcher/__main__.py'!r})"
     got = call([sys.executable, "-c", older])
     checks.holds("an old python3: status 1", got.status == 1)
-    checks.same("an old python3", b"caf: python3 is Python 3.7, and caf needs Python 3.8 or a later one\n", got.said)
+    checks.same("an old python3", b"caf: python3 is Python 3.7, and " + NEEDED, got.said)

@@ -37,13 +37,15 @@ def cases() -> Iterator[Case]:
 
 
 def check_messages(checks: Checks) -> None:
-    """The messages of each case. Where the program ends with the status of the case, its answer is that of the case, and the launcher says both."""
+    """The messages of each case. Where the program ends with the status of the case, its answer is that of the case,
+    and the launcher says both."""
     with folder() as work:
         os.symlink(LAUNCHER, f"{work}/caf")
         os.chdir(work)
         for case in cases():
             write("a.f90", bytes_of(case.parts["source"]))
-            said = messages(Caller(HOME, "./caf"), _asked(case.words), Answered(case.status, case.parts["text"].split("\n")))
+            answered = Answered(case.status, case.parts["text"].split("\n"))
+            said = messages(Caller(HOME, "./caf"), _asked(case.words), answered)
             checks.same(f"messages of {case.name}", bytes_of(case.parts["said"]), bytes_of(said))
             own = call([checks.program, *case.words], folder=work)
             if own.status == case.status:
@@ -81,7 +83,8 @@ def check_tables(checks: Checks) -> None:
         checks.holds(f"{kind.value} {key} stands {found.count((kind, key))} times", found.count((kind, key)) == 1)
     with folder() as work:
         for entry in entries:
-            checks.holds(f"{entry.kind.value} {entry.key} has no name or no meaning", bool(entry.name and entry.meaning))
+            is_told = bool(entry.name and entry.meaning)
+            checks.holds(f"{entry.kind.value} {entry.key} has no name or no meaning", is_told)
             if entry.example is not None:
                 _check_example(checks, entry, work)
 
@@ -105,7 +108,8 @@ def _check_example(checks: Checks, entry: Entry, work: str) -> None:
 
 
 def _source_of(entry: Entry) -> str:
-    """Returns the source of an example. The one that is told in words is a comment of 1,001 bytes; the statements of a run fault's stand on lines of their own."""
+    """Returns the source of an example. The one that is told in words is a comment of 1,001 bytes; the statements of a
+    run fault's stand on lines of their own."""
     text = entry.example or ""
     if not text.startswith("`"):
         return "!" + "x" * 1000

@@ -14,7 +14,8 @@ from typing import List
 from checks.comparing import LAUNCHER, Checks, Done, call, folder, read, started, write
 from checks.launcher import NEIGHBOUR, stand_in
 
-# A program whose images count one after the other, each for a second or more; no line of it is printed before the run ends.
+# A program whose images count one after the other, each for a second or more; no line of it is printed before the run
+# ends.
 LONG = b"integer :: i, s\nprint *, 1\ns = 0\ndo i = 1, 90000000\ns = mod(s + i, 1000)\nend do\nprint *, s\nend\n"
 LONG_WORDS = ["run", "-n", "64", "--order", "0", "--steps", "100000000"]
 # Stand-ins for the program: one writes a line and goes on; one writes more than two

@@ -1,7 +1,7 @@
-"""Lists of words and their usage numbers, 0 where they are valid, worked out from the forms of docs and of crates/caf_words:
+"""Lists of words and their usage numbers, 0 where they are valid, worked out from the contract of crates/caf_words.
 
-the usage number is the least number of words with which no valid list begins, or one more than there are where they are a valid list cut
-short. Words stand between blanks; `_` stands for the empty word.
+The usage number is the least number of words with which no valid list begins, or one more than there are where they are
+a valid list cut short. Words stand between blanks; `_` stands for the empty word.
 """
 
 from typing import Iterator, List, Tuple

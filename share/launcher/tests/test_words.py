@@ -20,7 +20,7 @@ class WordsTest(unittest.TestCase):
         self.assertEqual(read_words(["make", "1", "4"]), Valid("make", None))
 
     def test_what_begins_a_valid_list(self) -> None:
-        # By the definition: a list goes wrong at its number exactly where the words before it begin a valid one, which some words complete.
+        # The words before the wrong one begin a valid list, which some words complete.
         endings = ([], ["a.f90"], ["1", "a.f90"], ["1@1", "a.f90"], ["1"], ["1", "1"])
         for number, words in rows():
             if number > 1:
