@@ -6,7 +6,7 @@ from typing import List, Optional
 
 from ending import DONE, NO_PROGRAM, READ_FAULT, USAGE, WRITE_FAULT, Caller, end_by
 from given_file import Asked, CannotRead, take_file
-from texts import NothingMoreTaken, answer, keep_streams, tell, text_of, words_of_call
+from texts import NO_MORE_TAKEN, NothingMoreTaken, answer, keep_streams, tell, text_of, words_of_call
 from words import Wrong, read_words
 
 # The modules of the other answers are read where they are needed: a call that only answers words has to be quick.
@@ -22,12 +22,13 @@ def main(home: str) -> int:
         return _answer(caller, words_of_call())
     except NothingMoreTaken as wrong:
         if not wrong.is_quiet:
-            tell("caf: standard output took no more than a front of the text\n")
+            tell(f"{NO_MORE_TAKEN}\n")
         return WRITE_FAULT
     except KeyboardInterrupt:
         end_by(signal.SIGINT)
     except OSError as wrong:
-        tell(text_of(os.fsencode(f"caf: {wrong.filename}: {wrong.strerror}\n")))
+        where = f"{os.fsdecode(wrong.filename)}: " if wrong.filename else ""
+        tell(text_of(os.fsencode(f"caf: {where}{wrong.strerror}\n")))
         return NO_PROGRAM
 
 

@@ -22,7 +22,10 @@ def help_text(home: str) -> str:
 
 
 def version_text(home: str) -> str:
-    """Returns the version, the kit, and the commit of the checkout, where it is one."""
+    """Returns the version; the kit; the commit of the checkout, where it is one; and what the release is of, where there
+    is one."""
+    from release import release_of  # here, since the help needs none
+
     kit = _said_by(["rt", "version"])
     lines = [f"caf {VERSION}\n", "no kit: rt isn't on the path\n" if kit is None else kit]
     if os.path.exists(os.path.join(home, ".git")):
@@ -30,6 +33,9 @@ def version_text(home: str) -> str:
         changes = _said_by(["git", "-C", home, "status", "--porcelain"])
         if commit is not None:
             lines.append(f"commit {commit.strip()}{', with changes' if changes else ''}\n")
+    release = release_of(home)
+    if release is not None:
+        lines.append(f"release of commit {release.commit[:12]}, by {release.kit} logic {release.logic}\n")
     return "".join(lines)
 
 

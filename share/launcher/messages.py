@@ -8,10 +8,9 @@ from excerpts import excerpt
 from given_file import Asked, why_unread
 from refusals import left_out, refusal_text
 from tables import read_tables, tables_path
+from texts import NO_MORE_TAKEN
 from usage import usage_message
 from uses import use_of
-
-NO_MORE_TAKEN = "caf: standard output took no more than a front of the text"
 
 
 class Answered(NamedTuple):

@@ -7,6 +7,8 @@ import select
 import sys
 from typing import List, Union
 
+NO_MORE_TAKEN = "caf: standard output took no more than a front of the text"
+
 _UPPER = "ABCDEFGHIJKLMNOPQRSTUVWXYZ"
 _TO_LOWER = str.maketrans(_UPPER, _UPPER.lower())
 
