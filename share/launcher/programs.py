@@ -9,7 +9,7 @@ from __future__ import annotations
 
 import enum
 import os
-from dataclasses import dataclass
+from typing import NamedTuple
 
 import proof
 import release
@@ -31,8 +31,7 @@ class Kind(enum.Enum):
     NAMED = "named"
 
 
-@dataclass(frozen=True)
-class Program:
+class Program(NamedTuple):
     """A program that can be run, and, of one without proof, why no proved one is run."""
 
     path: str
