@@ -59,8 +59,8 @@ def released(home: str, told: str | None) -> tuple[Program | None, str]:
         if told is not None and said.sources != told:
             return None, "the release is of other sources than these"
         return Program(release.unpacked(home, said), Kind.RELEASED), ""
-    except release.Damaged as damaged:
-        return None, str(damaged)
+    except (release.Damaged, NoProgram) as wrong:
+        return None, str(wrong)
 
 
 def proved_here(home: str) -> Program | None:
