@@ -10,9 +10,7 @@ from __future__ import annotations
 import contextlib
 import fcntl
 import os
-import shutil
 import stat
-import tempfile
 import time
 from collections.abc import Callable, Iterator
 
@@ -52,6 +50,8 @@ def folder(home: str) -> str:
 
 def write(path: str, text: bytes, mode: int = 0o644) -> None:
     """Writes a file whole, or not at all."""
+    import tempfile  # (most calls write nothing, and begin sooner without it)
+
     number, part = tempfile.mkstemp(prefix=PART, dir=os.path.dirname(path))
     try:
         with open(number, "wb") as made:
@@ -124,6 +124,9 @@ def is_same(number: int, path: str) -> bool:
 @contextlib.contextmanager
 def room(at: str) -> Iterator[str]:
     """Gives a folder of the cache to build in, which is removed at the end; what killed builds left goes before."""
+    import shutil
+    import tempfile
+
     remove_left(at)
     made = tempfile.mkdtemp(prefix=ROOM, dir=at)
     held = take(f"{made}/held", may_wait=False)
@@ -137,6 +140,8 @@ def room(at: str) -> Iterator[str]:
 
 def remove_left(at: str) -> None:
     """Removes the rooms that nobody holds, and the parts of files that killed calls left."""
+    import shutil
+
     for name in os.listdir(at):
         path = f"{at}/{name}"
         if name.startswith(ROOM) and is_left(path):

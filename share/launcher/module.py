@@ -11,7 +11,6 @@ from __future__ import annotations
 import glob
 import re
 from collections.abc import Callable, Iterable
-from dataclasses import dataclass
 
 import sources
 
@@ -41,12 +40,12 @@ class NoModule(Exception):
     """The text isn't that of a whole program."""
 
 
-@dataclass
 class Module:
     """A module's text: the lines outside functions, and those of each function, its name's line first."""
 
-    outside: list[str]
-    bodies: dict[str, list[str]]
+    def __init__(self) -> None:
+        self.outside: list[str] = []
+        self.bodies: dict[str, list[str]] = {}
 
     def uses(self) -> dict[str, set[str]]:
         """Returns what each function names."""
@@ -76,7 +75,7 @@ def first_line(line: str, in_place: set[tuple[str, str]]) -> str:
 
 def read_module(lines: Iterable[str], in_place: set[tuple[str, str]], tick: Callable[[], None]) -> Module:
     """Reads a module, without checks."""
-    module, body, left_out = Module([], {}), None, LEFT_OUT.match
+    module, body, left_out = Module(), None, LEFT_OUT.match
     for line in lines:
         if body is not None:
             if not left_out(line):

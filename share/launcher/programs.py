@@ -9,7 +9,7 @@ from __future__ import annotations
 
 import enum
 import os
-from dataclasses import dataclass
+from typing import NamedTuple
 
 import proof
 import release
@@ -31,8 +31,7 @@ class Kind(enum.Enum):
     NAMED = "named"
 
 
-@dataclass(frozen=True)
-class Program:
+class Program(NamedTuple):
     """A program that can be run, and, of one without proof, why no proved one is run."""
 
     path: str
@@ -60,8 +59,8 @@ def released(home: str, told: str | None) -> tuple[Program | None, str]:
         if told is not None and said.sources != told:
             return None, "the release is of other sources than these"
         return Program(release.unpacked(home, said), Kind.RELEASED), ""
-    except release.Damaged as damaged:
-        return None, str(damaged)
+    except (release.Damaged, NoProgram) as wrong:
+        return None, str(wrong)
 
 
 def proved_here(home: str) -> Program | None:

@@ -10,10 +10,9 @@ from __future__ import annotations
 import contextlib
 import hashlib
 import os
-import platform
 import re
 import sys
-from dataclasses import dataclass
+from typing import NamedTuple
 
 import cache
 from trouble import NoProgram
@@ -41,8 +40,7 @@ class Damaged(Exception):
     """What stands in release/ isn't whole; the text says what."""
 
 
-@dataclass(frozen=True)
-class Release:
+class Release(NamedTuple):
     """What release/MANIFEST says: sums are sha256 in 64 hexadecimal digits, sizes are in bytes, `commit` is the one
     whose sources it was built of."""
 
@@ -103,7 +101,7 @@ def release_of(home: str) -> Release | None:
 
 def is_for_this_machine() -> bool:
     """Returns whether the packed program runs here."""
-    return sys.platform == "linux" and platform.machine() in ("x86_64", "amd64")
+    return sys.platform == "linux" and os.uname().machine == "x86_64"
 
 
 def packed_bytes(home: str, release: Release) -> bytes:

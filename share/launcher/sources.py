@@ -17,7 +17,7 @@ import hashlib
 import os
 import stat
 import time
-from dataclasses import dataclass
+from typing import NamedTuple
 
 import cache
 from trouble import NoProgram
@@ -29,14 +29,20 @@ LIST = "crates.txt"
 SETTLED = 2_000_000_000
 
 
-@dataclass(frozen=True)
-class Look:
-    """What a look at the sources told: their names from the top on, sorted; the sum of what tells one state of them
-    from another; and the latest time of change, in nanoseconds since 1970."""
+class Look(NamedTuple):
+    """What a look at the sources told: a line for each, as look_below makes it, sorted; and the sum of these lines and
+    of crates.txt, which tells one state of the sources from another."""
 
-    names: tuple[str, ...]
+    lines: list[str]
     identity: str
-    latest: int
+
+    def names(self) -> list[str]:
+        """Returns the names of the sources from the top on, in the order of their bytes."""
+        return sorted((line.rsplit(" ", 4)[0] for line in self.lines), key=os.fsencode)
+
+    def latest(self) -> int:
+        """Returns the latest time of change of a source, in nanoseconds since 1970."""
+        return max((int(line.rpartition(" ")[2]) for line in self.lines), default=0)
 
 
 def crates_listed(home: str) -> dict[str, list[str]]:
@@ -62,38 +68,41 @@ def crates_under(home: str, *tops: str) -> set[str]:
     return found
 
 
-def look_below(home: str, folder: str, found: list[tuple[str, int, int, int, int]]) -> None:
-    """Adds the files of a folder, which is named from the top on, and of the folders in it."""
-    with os.scandir(f"{home}/{folder}") as entries:
-        for entry in entries:
-            name = f"{folder}/{entry.name}"
-            if entry.is_dir(follow_symlinks=False):
-                look_below(home, name, found)
-                continue
-            told = entry.stat(follow_symlinks=False)
-            if not stat.S_ISREG(told.st_mode):
-                raise NoProgram(f"{name} is no plain file: put the file itself there")
-            found.append((name, told.st_ino, told.st_size, told.st_mtime_ns, told.st_ctime_ns))
+def look_below(home: str, waiting: list[str], found: list[str]) -> None:
+    """Adds a line for each file of these folders and of those in them: the name from the top on, then the inode, the
+    size, and the times of the last write and of the last change in nanoseconds since 1970."""
+    is_plain = stat.S_ISREG
+    while waiting:
+        folder = waiting.pop()
+        with os.scandir(f"{home}/{folder}") as entries:
+            for entry in entries:
+                name = f"{folder}/{entry.name}"
+                if entry.is_dir(follow_symlinks=False):
+                    waiting.append(name)
+                    continue
+                it = entry.stat(follow_symlinks=False)
+                if not is_plain(it.st_mode):
+                    raise NoProgram(f"{name} is no plain file: put the file itself there")
+                found.append(f"{name} {it.st_ino} {it.st_size} {it.st_mtime_ns} {it.st_ctime_ns}")
 
 
 def look(home: str) -> Look:
     """Looks at all sources of a checkout, without reading them."""
-    found: list[tuple[str, int, int, int, int]] = []
+    found: list[str] = []
     try:
-        for name in sorted(crates_under(home, PROGRAM)):
-            look_below(home, f"crates/{name}/src", found)
-            for part in PARTS[1:]:
-                with contextlib.suppress(FileNotFoundError):
-                    look_below(home, f"crates/{name}/{part}", found)
+        crates = sorted(crates_under(home, PROGRAM))
+        look_below(home, [f"crates/{name}/src" for name in crates], found)
+        others = [f"crates/{name}/{part}" for name in crates for part in PARTS[1:]]
+        look_below(home, [it for it in others if os.path.lexists(f"{home}/{it}")], found)
         found.sort()
         with open(f"{home}/{LIST}", "rb") as listed:
-            told = hashlib.sha256(listed.read() + repr(found).encode("utf-8", "surrogateescape"))
+            told = hashlib.sha256(listed.read() + "\n".join(found).encode("utf-8", "surrogateescape"))
     except OSError as error:
         raise NoProgram(f"the sources of the program can't be read: {error}") from error
-    return Look(tuple(it[0] for it in found), told.hexdigest(), max((it[4] for it in found), default=0))
+    return Look(found, told.hexdigest())
 
 
-def read_sum(home: str, names: tuple[str, ...]) -> str:
+def read_sum(home: str, names: list[str]) -> str:
     """Returns the sum of crates.txt and of these files, by reading them."""
     whole = hashlib.sha256()
     try:
@@ -144,8 +153,8 @@ def sum_of_sources(home: str, seen: Look | None = None) -> str:
     places = places_of_kept(home)
     told = kept_sum(places, seen.identity)
     if told is None:
-        told = read_sum(home, seen.names)
-        if seen.latest < begun - SETTLED:
+        told = read_sum(home, seen.names())
+        if seen.latest() < begun - SETTLED:
             keep_sum(places, seen.identity, told)
     return told
 

@@ -188,7 +188,7 @@ class Running(WithProof):
         self.assertFalse(os.path.exists(self.path))
 
     def test_another_machine_takes_the_next_one(self) -> None:
-        with mock.patch("platform.machine", return_value="aarch64"):
+        with mock.patch("sys.platform", "darwin"):
             self.assertEqual(programs.find_program(self.home).kind, programs.Kind.PROVED)
 
 
