@@ -14,7 +14,7 @@ from typing import Callable, Iterator, List, NamedTuple, Optional, Sequence
 from children import ENDING, PR_SET_PDEATHSIG, Interrupted, interruptible
 from ends import WORDS
 from progress import Progress
-from texts import NothingMoreTaken, bytes_of, text_of, write_out
+from texts import NothingMoreTaken, await_output, bytes_of, text_of, write_out
 
 PIECE = 1 << 20
 # So many bytes at least a pipe takes at once where it takes any.
@@ -36,11 +36,11 @@ class Outcome(NamedTuple):
 @contextlib.contextmanager
 def _whole() -> Iterator[None]:
     """Lets no signal come between what its body does and the note of it."""
-    signal.pthread_sigmask(signal.SIG_BLOCK, ENDING)
+    before = signal.pthread_sigmask(signal.SIG_BLOCK, ENDING)
     try:
         yield
     finally:
-        signal.pthread_sigmask(signal.SIG_UNBLOCK, ENDING)
+        signal.pthread_sigmask(signal.SIG_SETMASK, before)
 
 
 class EndLines:
@@ -75,13 +75,13 @@ class Outlet:
         """Writes a piece."""
         self.left = memoryview(piece)
         while self.left:
-            select.select([], [1], [])
+            await_output()
             self._write()
 
     def put_now(self, piece: bytes) -> bool:
         """Writes what is left and a piece, as far as it is taken at once, and tells whether that is all."""
         self.left = memoryview(bytes(self.left) + piece)
-        while self.left and select.select([], [1], [], PATIENCE)[1]:
+        while self.left and await_output(PATIENCE):
             self._write()
         return not self.left
 
@@ -155,17 +155,16 @@ def _await_text(text: int, progress: Progress) -> None:
     """Waits until some of the text can be read, or its end."""
     poll = select.poll()
     poll.register(text, select.POLLIN)
-    if not progress.is_terminal or not _is_in_front():
+    if not progress.is_terminal:
         poll.poll()
         return
-    if poll.poll(FIRST_SIGN):
-        return
     progress.change("the program runs")
-    while True:
-        with _whole():
-            progress.show()
-        if poll.poll(NEXT_SIGN):
-            return
+    wait = FIRST_SIGN
+    while not poll.poll(wait):
+        wait = NEXT_SIGN
+        if _is_in_front():
+            with _whole():
+                progress.show()
 
 
 def _is_in_front() -> bool:

@@ -5,7 +5,7 @@ import errno
 import os
 import select
 import sys
-from typing import List, Union
+from typing import List, Optional, Union
 
 NO_MORE_TAKEN = "caf: standard output took no more than a front of the text"
 
@@ -56,13 +56,17 @@ def is_text(word: str) -> bool:
     return True
 
 
+def await_output(patience: Optional[float] = None) -> bool:
+    """Waits until standard output takes something, for so many seconds at most, and tells whether it does."""
+    return bool(select.select([], [1], [], patience)[1])
+
+
 def write_out(data: Union[bytes, memoryview]) -> int:
-    """Writes some of these bytes to standard output and returns how many; raises NothingMoreTaken where it takes
-    none."""
+    """Writes some of these bytes to standard output and returns how many, none where it takes none now; raises
+    NothingMoreTaken where it takes no more."""
     try:
         return os.write(1, data)
     except BlockingIOError:
-        select.select([], [1], [])
         return 0
     except OSError as wrong:
         raise NothingMoreTaken(wrong.errno == errno.EPIPE) from None
@@ -72,6 +76,7 @@ def answer(text: str) -> None:
     """Writes a text to standard output; raises NothingMoreTaken where it takes no more than a front of it."""
     left = bytes_of(text)
     while left:
+        await_output()
         left = left[write_out(left) :]
 
 
@@ -80,6 +85,7 @@ def tell(text: str) -> None:
     left = bytes_of(text)
     try:
         while left:
+            select.select([], [2], [])
             left = left[os.write(2, left) :]
     except OSError:
         pass

@@ -11,6 +11,7 @@ HOME = os.path.dirname(os.path.dirname(os.path.dirname(os.path.abspath(__file__)
 LAUNCHER = f"{HOME}/caf"
 # A call that takes longer has come to no end.
 LONGEST = 120.0
+NO_END = -1000
 
 Input = Union[None, bytes, int, IO[bytes]]
 
@@ -24,19 +25,16 @@ class Done(NamedTuple):
 
 
 def call(command: Sequence[Union[str, bytes]], given: Input = None, folder: str = HOME, **how: object) -> Done:
-    """Calls a command with these bytes, or this file, as its standard input, and nothing else there."""
-    stream: object = given if given is not None else subprocess.DEVNULL
-    data = given if isinstance(given, bytes) else None
-    done = subprocess.run(
-        command,
-        stdin=None if data is not None else stream,
-        input=data,
-        stdout=how.pop("stdout", subprocess.PIPE),
-        stderr=how.pop("stderr", subprocess.PIPE),
-        cwd=folder,
-        timeout=LONGEST,
-        **how,
-    )
+    """Calls a command with these bytes, or this file, as its standard input, or with nothing there."""
+    how = {"stdout": subprocess.PIPE, "stderr": subprocess.PIPE, "cwd": folder, "timeout": LONGEST, **how}
+    if isinstance(given, bytes):
+        how["input"] = given
+    else:
+        how["stdin"] = subprocess.DEVNULL if given is None else given
+    try:
+        done = subprocess.run(command, **how)
+    except subprocess.TimeoutExpired:
+        return Done(b"", b"the call came to no end", NO_END)
     return Done(done.stdout or b"", done.stderr or b"", done.returncode)
 
 
