@@ -57,7 +57,8 @@ def row_a_release_that_fits_passes_both_checks(here: Checkout) -> None:
 def row_a_release_of_other_sources(here: Checkout) -> None:
     pack(here)
     here.change()
-    said = here.call("tools/release", "--check").has(1, "tools/release: release/ is of other sources than these, those of ")
+    said = here.call("tools/release", "--check")
+    said.has(1, "tools/release: release/ is of other sources than these, those of commit ")
     assert said.err.count("\n") == 1, said.err
     here.call("tools/release", "--compare").has(3, "of other sources")
     quick_is_run(here)

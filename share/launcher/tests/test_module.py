@@ -75,7 +75,8 @@ pub(crate) fn peek() {}
 class Plain(WithCheckout):
     def setUp(self) -> None:
         super().setUp()
-        put(f"{self.home}/crates.txt", "caf_base:\nsource_reader: caf_base\nimage_core: caf_base\ncaf: source_reader\n")
+        crates = "caf_base:\nsource_reader: caf_base\nimage_core: caf_base\ncaf: source_reader\n"
+        put(f"{self.home}/crates.txt", crates)
         put(f"{self.home}/crates/source_reader/src/lib.rt", READER)
 
     def read(self, text: str = TEXT) -> module.Module:
