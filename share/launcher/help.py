@@ -22,8 +22,8 @@ def help_text(home: str) -> str:
 
 
 def version_text(home: str) -> str:
-    """Returns the version; the kit; the commit of the checkout, where it is one; and what the release is of, where there
-    is one."""
+    """Returns the version; the kit; the commit of the checkout, where it is one; and what the release is of, where
+    there is one."""
     from release import release_of  # here, since the help needs none
 
     kit = _said_by(["rt", "version"])

@@ -49,6 +49,9 @@ Words below a table.
 """
 
 
+BEHIND_SIZE = "nothing stands behind SIZE, and the options stand before --made"
+
+
 class TablesTest(unittest.TestCase):
     def setUp(self) -> None:
         with tempfile.TemporaryDirectory() as work:
@@ -106,7 +109,7 @@ class UsageTest(unittest.TestCase):
         table = [
             ("", 1, "word 1 is missing: the command is run or check or make"),
             ("run -n", 3, "word 3 is missing: it has to be the N of -n"),
-            ("run --made 1 4 5", 5, "word 5 is wrong, 5: nothing stands behind SIZE, and the options stand before --made"),
+            ("run --made 1 4 5", 5, f"word 5 is wrong, 5: {BEHIND_SIZE}"),
             ("run --made 1", 4, "word 4 is missing: it has to be the SIZE of --made"),
             ("make 1 4 5", 4, "word 4 is wrong, 5: nothing stands behind SIZE"),
             ("make x 4", 2, "word 2 is wrong, x: it has to be the SEED of make"),
@@ -119,7 +122,8 @@ class UsageTest(unittest.TestCase):
         self.assertEqual(got, "caf: word 2 is wrong, '': FILE is empty")
 
     def test_the_help_text(self) -> None:
-        told = read_help("    caf go A B   goes\n    -x N   x; not beside -y\n    FILE  f\nStandard output\n    -z   z\n")
+        lines = ["    caf go A B   goes", "    -x N   x; not beside -y", "    FILE  f", "Standard output", "    -z   z", ""]
+        told = read_help("\n".join(lines))
         self.assertEqual(told.commands["go"].values, ["A", "B"])
         self.assertEqual((told.options["-x"].values, told.options["-x"].rival), (["N"], "-y"))
         self.assertEqual(list(told.options), ["-x"])
@@ -137,7 +141,8 @@ class GivenFileTest(unittest.TestCase):
             given = take_file(f"{work}/a.f90")
             self.assertEqual((given.kept, given.word, given.source()), (None, f"{work}/a.f90", "end \xff\n"))
         given = take_file("/dev/zero")
-        self.assertEqual((len(given.kept or b""), given.word, given.shown_name), (MOST_BYTES, "/dev/stdin", "/dev/zero"))
+        self.assertEqual((given.word, given.shown_name), ("/dev/stdin", "/dev/zero"))
+        self.assertEqual(len(given.kept or b""), MOST_BYTES)
 
     def test_the_standard_input_of_the_program(self) -> None:
         asked = Asked(["check", "-"], 1, GivenFile("/dev/stdin", "<stdin>", b"end\n"))
