@@ -122,7 +122,7 @@ class UsageTest(unittest.TestCase):
         self.assertEqual(got, "caf: word 2 is wrong, '': FILE is empty")
 
     def test_the_help_text(self) -> None:
-        lines = ["    caf go A B   goes", "    -x N   x; not beside -y", "    FILE  f", "Standard output", "    -z   z", ""]
+        lines = ["    caf go A B   goes", "    -x N   x; not beside -y", "    FILE  f", "Standard output", "    -z   z"]
         told = read_help("\n".join(lines))
         self.assertEqual(told.commands["go"].values, ["A", "B"])
         self.assertEqual((told.options["-x"].values, told.options["-x"].rival), (["N"], "-y"))
