@@ -1,0 +1,97 @@
+"""What a call of `caf` does, from its words to its status: first what needs no program."""
+
+import os
+import signal
+from typing import List, Optional
+
+from ending import DONE, NO_PROGRAM, READ_FAULT, USAGE, WRITE_FAULT, Caller, end_by
+from given_file import Asked, CannotRead, take_file
+from texts import NO_MORE_TAKEN, NothingMoreTaken, answer, keep_streams, tell, text_of, words_of_call
+from words import Wrong, read_words
+
+# The modules of the other answers are read where they are needed: a call that only answers words has to be quick.
+
+HELP_WORDS = ("-h", "--help", "help")
+
+
+def main(home: str) -> int:
+    """Answers the call and returns its status."""
+    keep_streams()
+    caller = Caller(home, text_of(os.environb.get(b"CAF_CALLED", b"")) or "./caf")
+    try:
+        return _answer(caller, words_of_call())
+    except NothingMoreTaken as wrong:
+        if not wrong.is_quiet:
+            tell(f"{NO_MORE_TAKEN}\n")
+        return WRITE_FAULT
+    except KeyboardInterrupt:
+        end_by(signal.SIGINT)
+    except OSError as wrong:
+        where = f"{os.fsdecode(wrong.filename)}: " if wrong.filename else ""
+        tell(text_of(os.fsencode(f"caf: {where}{wrong.strerror}\n")))
+        return NO_PROGRAM
+
+
+def _answer(caller: Caller, words: List[str]) -> int:
+    """Answers the words: those of the launcher, or else those of the program."""
+    first = words[0] if words else ""
+    if first in HELP_WORDS or first == "--version":
+        from help import help_text, version_text
+
+        answer(version_text(caller.home) if first == "--version" else help_text(caller.home))
+        return DONE
+    if first == "--explain":
+        return _explain(caller, words[1:])
+    if first == "--which":
+        import programs_called
+
+        return programs_called.tell_which(caller)
+    if first == "--prove" and len(words) == 1:
+        import programs_called
+
+        return programs_called.prove_alone(caller)
+    way = first if first in ("--prove", "--try") else ""
+    return _run(caller, way, words[1:] if way else words)
+
+
+def _explain(caller: Caller, words: List[str]) -> int:
+    """Prints what docs/REFUSALS.md says of a word."""
+    from explain import KINDS, explain
+    from tables import read_tables, tables_path
+
+    if len(words) != 1:
+        tell(f"caf: --explain takes one word of docs/REFUSALS.md: {KINDS}\n")
+        return USAGE
+    said = explain(words[0], read_tables(tables_path(caller.home)))
+    if said is None:
+        tell(f"caf: docs/REFUSALS.md has no {words[0]}; it has {KINDS}\n")
+        return USAGE
+    answer(said)
+    return DONE
+
+
+def _run(caller: Caller, way: str, words: List[str]) -> int:
+    """Runs the program with words that are valid and whose FILE can be read; the answer to others needs no program."""
+    read = read_words(words)
+    if isinstance(read, Wrong):
+        return _tell_usage(caller, words, read.word)
+    asked = Asked(words)
+    if read.file is not None:
+        try:
+            asked = Asked(words, read.file, take_file(words[read.file]))
+        except CannotRead as wrong:
+            answer("read fault\n")
+            tell(f"caf: {wrong}\n")
+            return READ_FAULT
+    import programs_called
+
+    return programs_called.run_program(caller, way, asked)
+
+
+def _tell_usage(caller: Caller, words: List[str], number: int) -> int:
+    """Answers words that are wrong at that number, as the program does."""
+    from usage import usage_message
+
+    answer(f"usage: word {number}\n")
+    tell(usage_message(caller, words, number))
+    return USAGE

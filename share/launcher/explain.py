@@ -1,0 +1,53 @@
+"""What `caf --explain WORD` says: the entries of docs/REFUSALS.md with a number or a name, or what there is in the
+place of a form of Fortran."""
+
+from typing import List, Optional
+
+from excerpts import excerpt
+from tables import Entry, Kind, Tables
+from texts import lower
+
+KINDS = (
+    "a status (0 to 13), the number of a refusal (1 to 9, 20 to 59), a run fault (Overflow), a code (6000 to 6006), "
+    "or a name of these"
+)
+
+_TITLES = {Kind.FAULT: "run fault", Kind.CODE: "code of a status", Kind.WAIT: "a stuck image waits for"}
+
+
+def explain(word: str, tables: Tables) -> Optional[str]:
+    """Returns what is said of a word, or nothing where the tables don't have it."""
+    wanted = lower(word)
+    told = [_explained(entry, tables) for entry in tables.entries if wanted in (lower(entry.key), lower(entry.name))]
+    if wanted in tables.left:
+        told.append([f"there is no {wanted.upper()}", f"    {tables.left[wanted]}"])
+    if not told:
+        return None
+    return "\n".join("".join(f"{line}\n" for line in lines) for lines in told)
+
+
+def _explained(entry: Entry, tables: Tables) -> List[str]:
+    """Returns the lines of an entry."""
+    title = _TITLES.get(entry.kind, entry.kind.value)
+    name = "" if entry.name == entry.key else f" {entry.name}"
+    lines = [f"{title} {entry.key}{name}", f"    {entry.meaning}"]
+    if entry.output is not None:
+        lines.append(f"    standard output: {entry.output}")
+    if entry.standard is not None:
+        lines.append(f"    {'ISO/IEC 1539-1:2018, ' if entry.standard[:1].isdigit() else ''}{entry.standard}")
+    if entry.kind is Kind.STATUS and entry.key in tables.advice:
+        lines.append(f"    what to do: {tables.advice[entry.key]}")
+    if entry.example is not None:
+        lines += _example(entry.example, entry.place)
+    return lines
+
+
+def _example(text: str, place: Optional[str]) -> List[str]:
+    """Returns the lines of an example: one in backticks is a program, any other is told in words."""
+    if not (len(text) > 1 and text[0] == text[-1] == "`"):
+        return [f"    example: {text}, refused at {place}"]
+    text = text[1:-1]
+    if place is None:
+        return ["    example:", f"          | {text}"]
+    line, column = place.split(":")
+    return [f"    example, refused at {place}:", *excerpt(f"    {line:>5}", text, int(column))]

@@ -1,0 +1,142 @@
+"""Which words lead to which program, and what is said behind its run."""
+
+import contextlib
+import os
+import signal
+import unittest
+from typing import Iterator, List, Tuple
+from unittest import mock
+
+import calls
+import programs_called
+from children import Interrupted
+from ending import Caller
+from programs import Kind, NoProgram, Program
+from running import Outcome
+
+HOME = os.path.dirname(os.path.dirname(os.path.dirname(os.path.dirname(os.path.abspath(__file__)))))
+FOUND = Program("/found", Kind.RELEASED)
+UNPROVED = Program("/unproved", Kind.UNPROVED)
+PROVED = Program("/proved", Kind.PROVED)
+
+
+class CallsTest(unittest.TestCase):
+    """Calls with stand-ins for all that they lead to."""
+
+    def setUp(self) -> None:
+        self.said: List[str] = []
+        self.answered: List[str] = []
+        self.find = self.put(mock.patch("programs.find_program", return_value=FOUND))
+        self.proved_here = self.put(mock.patch("programs.proved_here", return_value=PROVED))
+        self.prove = self.put(mock.patch("prove.prove", return_value=0))
+        self.run_program = self.put(mock.patch("programs_called.run", return_value=Outcome(0, [])))
+        for module in (calls, programs_called):
+            self.put(mock.patch.object(module, "tell", side_effect=self.said.append))
+            self.put(mock.patch.object(module, "answer", side_effect=self.answered.append))
+
+    def put(self, patch: "mock._patch[mock.MagicMock]") -> mock.MagicMock:
+        """Puts a stand-in for the time of the test."""
+        self.addCleanup(patch.stop)
+        return patch.start()
+
+    def call(self, *words: str) -> int:
+        """Answers these words and returns the status."""
+        return calls._answer(Caller(HOME, "caf"), list(words))
+
+    def programs_run(self) -> List[Tuple[str, List[str]]]:
+        """Returns the programs that were run and their words."""
+        return [(it.args[0], it.args[1]) for it in self.run_program.call_args_list]
+
+    def test_a_run(self) -> None:
+        self.assertEqual(self.call("make", "1", "4"), 0)
+        self.assertEqual(self.programs_run(), [("/found", ["make", "1", "4"])])
+        self.find.assert_called_once_with(HOME, unproved=False)
+        self.assertEqual(self.said, [""])
+
+    def test_its_end_is_told(self) -> None:
+        self.run_program.return_value = Outcome(12, [])
+        self.assertEqual(self.call("make", "1", "4"), 12)
+        self.assertEqual(self.said, ["caf: there was no memory for the next step\n"])
+
+    def test_a_program_without_proof_is_told_last(self) -> None:
+        self.find.return_value = UNPROVED
+        self.run_program.return_value = Outcome(12, [])
+        self.assertEqual(self.call("--try", "make", "1", "4"), 12)
+        self.find.assert_called_once_with(HOME, unproved=True)
+        self.assertEqual(self.programs_run(), [("/unproved", ["make", "1", "4"])])
+        self.assertEqual(self.said[0], "caf: there was no memory for the next step\n")
+        self.assertRegex(self.said[1], r"\Acaf: this program is built without proof.*\n\Z")
+
+    def test_no_program(self) -> None:
+        self.find.side_effect = NoProgram("there is no program")
+        self.assertEqual(self.call("make", "1", "4"), 1)
+        self.assertEqual(self.said, ["caf: there is no program\n"])
+        self.assertEqual(self.call("--which"), 1)
+        self.assertEqual(self.answered, [])
+
+    def test_which(self) -> None:
+        self.assertEqual(self.call("--which"), 0)
+        self.assertEqual(self.answered, ["/found\n"])
+
+    def test_a_proof_alone(self) -> None:
+        self.prove.return_value = 3
+        self.assertEqual(self.call("--prove"), 3)
+        self.assertEqual(self.programs_run(), [])
+
+    def test_a_proof_and_a_run(self) -> None:
+        self.assertEqual(self.call("--prove", "make", "1", "4"), 0)
+        self.prove.assert_called_once_with(HOME)
+        self.assertEqual(self.programs_run(), [("/proved", ["make", "1", "4"])])
+
+    def test_a_proof_that_fails(self) -> None:
+        self.prove.return_value = 1
+        self.assertEqual(self.call("--prove", "make", "1", "4"), 1)
+        self.assertEqual(self.programs_run(), [])
+
+    def test_words_are_judged_first(self) -> None:
+        for words, status, text in (
+            (["--prove", "run"], 2, "usage: word 2\n"),
+            (["--try"], 2, "usage: word 1\n"),
+            (["--try", "check", "/nonexistent"], 10, "read fault\n"),
+            (["check", "/"], 10, "read fault\n"),
+        ):
+            with self.subTest(words=words):
+                self.answered.clear()
+                self.assertEqual(self.call(*words), status)
+                self.assertEqual(self.answered, [text])
+        self.prove.assert_not_called()
+        self.find.assert_not_called()
+
+    def test_a_signal_ends_the_call_by_itself(self) -> None:
+        self.run_program.side_effect = Interrupted(signal.SIGTERM)
+        with mock.patch("programs_called.end_by", side_effect=SystemExit) as ends:
+            self.assertRaises(SystemExit, self.call, "make", "1", "4")
+        ends.assert_called_once_with(signal.SIGTERM)
+
+
+class MainTest(unittest.TestCase):
+    """What may come to the top."""
+
+    @contextlib.contextmanager
+    def raising(self, wrong: BaseException) -> Iterator[List[str]]:
+        """Lets the answer raise this, and gives what is said."""
+        said: List[str] = []
+        with mock.patch("calls._answer", side_effect=wrong), mock.patch("calls.tell", side_effect=said.append):
+            yield said
+
+    def test_standard_output_that_takes_no_more(self) -> None:
+        with self.raising(calls.NothingMoreTaken(False)) as said:
+            self.assertEqual(calls.main(HOME), 11)
+        self.assertEqual(said, ["caf: standard output took no more than a front of the text\n"])
+        with self.raising(calls.NothingMoreTaken(True)) as said:
+            self.assertEqual(calls.main(HOME), 11)
+        self.assertEqual(said, [])
+
+    def test_a_file_of_the_launcher_that_is_missing(self) -> None:
+        with self.raising(FileNotFoundError(2, "No such file", "/docs")) as said:
+            self.assertEqual(calls.main(HOME), 1)
+        self.assertEqual(said, ["caf: /docs: No such file\n"])
+
+
+if __name__ == "__main__":
+    unittest.main()

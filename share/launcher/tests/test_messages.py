@@ -1,0 +1,91 @@
+"""What is said of an answer: each kind of end, columns and bytes, and the forms of Fortran that aren't read."""
+
+import os
+import tempfile
+import unittest
+from typing import List
+
+from ending import Caller
+from given_file import Asked, GivenFile
+from messages import Answered, messages
+
+HOME = os.path.dirname(os.path.dirname(os.path.dirname(os.path.dirname(os.path.abspath(__file__)))))
+
+
+def said(status: int, source: bytes, *lines: str) -> List[str]:
+    """Returns the lines that are said of an answer to a call with a kept source."""
+    asked = Asked(["check", "a.f90"], 1, GivenFile("a.f90", "a.f90", source))
+    return messages(Caller(HOME, "caf"), asked, Answered(status, lines)).split("\n")[:-1]
+
+
+class MessagesTest(unittest.TestCase):
+    def test_statuses_without_an_end(self) -> None:
+        self.assertEqual(said(0, b"end\n"), [])
+        self.assertEqual(said(1, b"end\n"), [])
+        self.assertEqual(said(11, b"end\n"), ["caf: standard output took no more than a front of the text"])
+        self.assertEqual(said(12, b"end\n"), ["caf: there was no memory for the next step"])
+        self.assertEqual(said(13, b"end\n"), ["caf: a.f90 has more than 1,048,576 bytes"])
+        self.assertEqual(said(139, b""), ["caf: the program was ended from outside, by signal 11"])
+
+    def test_a_file_that_went_away(self) -> None:
+        with tempfile.TemporaryDirectory() as work:
+            asked = Asked(["check", f"{work}/a"], 1, GivenFile(f"{work}/a", f"{work}/a"))
+            told = messages(Caller(HOME, "caf"), asked, Answered(10, ["read fault"]))
+            self.assertEqual(told, f"caf: there is no file {work}/a\n")
+            told = messages(Caller(HOME, "caf"), asked, Answered(3, ["refused 20 at 2:1"]))
+            self.assertEqual(told.split(": ")[0], f"{work}/a:2:1")
+
+    def test_columns_count_bytes_and_carets_characters(self) -> None:
+        got = said(3, "! é\n\tprint *, 'é', \xe4\n".encode("utf-8"), "refused 1 at 2:17")
+        self.assertEqual(got[0], "a.f90:2:17: refused: a byte above 127 outside a comment (1 NotAscii)")
+        self.assertEqual(got[1], "    2 | \tprint *, '\xc3\xa9', \xc3\xa4")
+        self.assertEqual(got[2], "      | \t              ^")
+
+    def test_bytes_that_are_no_utf8_stay(self) -> None:
+        got = said(3, b"a = \xff\n", "refused 1 at 1:5")
+        self.assertEqual(got[1], "    1 | a = \xff")
+
+    def test_bytes_that_command_a_terminal(self) -> None:
+        got = said(3, b"a\x1b[2J = b\r\n", "refused 5 at 1:2")
+        self.assertEqual(got[1:3], ["    1 | a?[2J = b", "      |  ^"])
+
+    def test_a_long_line_is_cut(self) -> None:
+        got = said(3, b"x" * 300 + b"?" + b"y" * 300, "refused 5 at 1:301")
+        self.assertEqual(got[1], "    1 | " + "x" * 60 + "?" + "y" * 59)
+        self.assertEqual(got[2], "      | " + " " * 60 + "^")
+
+    def test_a_place_behind_the_end(self) -> None:
+        got = said(3, b"do\n", "refused 8 at 2:1")
+        self.assertEqual(len([it for it in got if " | " in it]), 0)
+
+    def test_forms_that_are_left_out(self) -> None:
+        table = [
+            (b"a = 1.5", "refused 5 at 1:6", "REAL"),
+            (b"a = 2d0", "refused 5 at 1:6", "REAL"),
+            (b"real :: a", "refused 7 at 1:6", "REAL"),
+            (b"10 continue", "refused 7 at 1:1", "LABEL"),
+            (b"do concurrent (i = 1:3)", "refused 7 at 1:15", "CONCURRENT"),
+            (b"sync all (errmsg = m)", "refused 35 at 1:11", "ERRMSG"),
+            (b"print *, sum(x)", "refused 20 at 1:10", "SUM"),
+        ]
+        for source, line, word in table:
+            with self.subTest(source=source):
+                self.assertTrue(any(it.startswith(f"caf: there is no {word}: ") for it in said(3, source, line)))
+        for source, line in ((b"real = 3 + * 4", "refused 7 at 1:12"), (b"real :: a", "refused 23 at 1:6")):
+            with self.subTest(source=source):
+                self.assertFalse(any("there is no" in it for it in said(3, source, line)))
+
+    def test_codes(self) -> None:
+        got = said(4, b"stop\n", "error stop image 2 line 1 code 6001")
+        self.assertIn("(STAT_FAILED_IMAGE)", got[0])
+        got = said(4, b"stop\n", "error stop image 2 line 1 code -7")
+        self.assertEqual(got[0], "a.f90:1:1: image 2 ended the run: error stop with code -7")
+
+    def test_a_made_source(self) -> None:
+        asked = Asked(["run", "--made", "1", "4"])
+        told = messages(Caller(HOME, "caf"), asked, Answered(6, ["stuck image 1 line 10 leave"]))
+        self.assertEqual(told.split(": ")[0], "made source:10:1")
+
+
+if __name__ == "__main__":
+    unittest.main()

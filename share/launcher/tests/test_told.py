@@ -1,0 +1,158 @@
+"""Parts of messages: excerpts, tables, what is explained, why words are wrong, and files that are given."""
+
+import os
+import tempfile
+import unittest
+
+from ending import Caller
+from excerpts import excerpt
+from explain import explain
+from given_file import MOST_BYTES, Asked, CannotRead, GivenFile, take_file
+from tables import Kind, read_tables, tables_path
+from texts import lower
+from usage import read_help, usage_message
+
+HOME = os.path.dirname(os.path.dirname(os.path.dirname(os.path.dirname(os.path.abspath(__file__)))))
+PAGE = """# A page
+
+| status | name | text | when |
+|---|---|---|---|
+| 9 | NotRead | - | not in a section |
+
+## Statuses
+
+| status | name | text on standard output | when |
+|---|---|---|---|
+| 0 | Finished | `ok` | it has `finished` |
+
+Words below a table.
+
+## What to do
+
+| status | what to do |
+|---|---|
+| 0 | be glad |
+
+## Refusals
+
+| number | name | meaning | standard | example | place |
+|---|---|---|---|---|---|
+| 1 | NotAscii | a byte | 6.1 | `a = b` | 1:5 |
+| 2 | TooLong | a line | a limit | a long line | 1:99 |
+| 3 | NoProgram | nothing | 6.2 | - | - |
+
+## What of Fortran isn't read
+
+| words | instead |
+|---|---|
+| real double | `integers` do |
+"""
+
+
+BEHIND_SIZE = "nothing stands behind SIZE, and the options stand before --made"
+
+
+class TablesTest(unittest.TestCase):
+    def setUp(self) -> None:
+        with tempfile.TemporaryDirectory() as work:
+            with open(f"{work}/page", "w", encoding="utf-8") as file:
+                file.write(PAGE)
+            self.tables = read_tables(f"{work}/page")
+
+    def test_rows(self) -> None:
+        found = [(it.kind, it.key) for it in self.tables.entries]
+        self.assertEqual(found, [(Kind.STATUS, "0"), (Kind.REFUSAL, "1"), (Kind.REFUSAL, "2"), (Kind.REFUSAL, "3")])
+        self.assertEqual(self.tables.meaning(Kind.STATUS, "0"), "it has finished")
+        self.assertEqual(self.tables.name(Kind.REFUSAL, "9"), "")
+        self.assertEqual(self.tables.left, {"real": "integers do", "double": "integers do"})
+
+    def test_explained(self) -> None:
+        told = ["status 0 Finished", "    it has finished", "    standard output: ok", "    what to do: be glad", ""]
+        self.assertEqual(explain("FINISHED", self.tables), "\n".join(told))
+        told = ["refusal 1 NotAscii", "    a byte", "    ISO/IEC 1539-1:2018, 6.1", "    example, refused at 1:5:"]
+        told += ["        1 | a = b", "          |     ^", ""]
+        self.assertEqual(explain("1", self.tables), "\n".join(told))
+        told = ["refusal 2 TooLong", "    a line", "    a limit", "    example: a long line, refused at 1:99", ""]
+        self.assertEqual(explain("toolong", self.tables), "\n".join(told))
+        self.assertEqual(explain("3", self.tables), "refusal 3 NoProgram\n    nothing\n    ISO/IEC 1539-1:2018, 6.2\n")
+        self.assertEqual(explain("Double", self.tables), "there is no DOUBLE\n    integers do\n")
+        self.assertIsNone(explain("4", self.tables))
+        self.assertIsNone(explain("", self.tables))
+
+    def test_a_word_of_more_than_one_entry(self) -> None:
+        told = explain("5", read_tables(tables_path(HOME))) or ""
+        heads = [part.split("\n")[0] for part in told.split("\n\n")]
+        self.assertEqual(heads, ["status 5 Race", "refusal 5 BadCharacter"])
+
+
+class ExcerptTest(unittest.TestCase):
+    def test_carets(self) -> None:
+        self.assertEqual(excerpt("    1", "a = b", 5), ["    1 | a = b", "      |     ^"])
+        self.assertEqual(excerpt("  ", "\ta", 2)[1], "   | \t^")
+        self.assertEqual(excerpt("  ", "ab", 9)[1], "   |   ^")
+        self.assertEqual(excerpt("  ", "", 0)[1], "   | ^")
+
+    def test_a_line_of_121(self) -> None:
+        self.assertEqual(excerpt("", "x" * 121, 80)[0], " | " + "x" * 120)
+        self.assertEqual(excerpt("", "y" * 20 + "x" * 101, 81)[0], " | " + "x" * 101)
+
+    def test_small_letters(self) -> None:
+        self.assertEqual(lower("AZ\xc4[\x9d"), "az\xc4[\x9d")
+
+
+class UsageTest(unittest.TestCase):
+    def told(self, words: str, number: int) -> str:
+        """Returns the first line that is said of wrong words."""
+        return usage_message(Caller(HOME, "caf"), words.split(), number).split("\n")[0]
+
+    def test_reasons(self) -> None:
+        table = [
+            ("", 1, "word 1 is missing: the command is run or check or make"),
+            ("run -n", 3, "word 3 is missing: it has to be the N of -n"),
+            ("run --made 1 4 5", 5, f"word 5 is wrong, 5: {BEHIND_SIZE}"),
+            ("run --made 1", 4, "word 4 is missing: it has to be the SIZE of --made"),
+            ("make 1 4 5", 4, "word 4 is wrong, 5: nothing stands behind SIZE"),
+            ("make x 4", 2, "word 2 is wrong, x: it has to be the SEED of make"),
+            ("run --trace --trace", 3, "word 3 is wrong, --trace: --trace stands twice"),
+        ]
+        for words, number, wanted in table:
+            with self.subTest(words=words):
+                self.assertEqual(self.told(words, number), f"caf: {wanted}")
+        got = usage_message(Caller(HOME, "caf"), ["check", ""], 2).split("\n")[0]
+        self.assertEqual(got, "caf: word 2 is wrong, '': FILE is empty")
+
+    def test_the_help_text(self) -> None:
+        lines = ["    caf go A B   goes", "    -x N   x; not beside -y", "    FILE  f", "Standard output", "    -z   z"]
+        told = read_help("\n".join(lines))
+        self.assertEqual(told.commands["go"].values, ["A", "B"])
+        self.assertEqual((told.options["-x"].values, told.options["-x"].rival), (["N"], "-y"))
+        self.assertEqual(list(told.options), ["-x"])
+
+
+class GivenFileTest(unittest.TestCase):
+    def test_what_is_kept(self) -> None:
+        with tempfile.TemporaryDirectory() as work:
+            os.mkfifo(f"{work}/pipe")
+            self.assertRaises(CannotRead, take_file, work)
+            self.assertRaises(CannotRead, take_file, f"{work}/absent")
+            self.assertRaises(CannotRead, take_file, "a\0b")
+            with open(f"{work}/a.f90", "wb") as file:
+                file.write(b"end \xff\n")
+            given = take_file(f"{work}/a.f90")
+            self.assertEqual((given.kept, given.word, given.source()), (None, f"{work}/a.f90", "end \xff\n"))
+        given = take_file("/dev/zero")
+        self.assertEqual((given.word, given.shown_name), ("/dev/stdin", "/dev/zero"))
+        self.assertEqual(len(given.kept or b""), MOST_BYTES)
+
+    def test_the_standard_input_of_the_program(self) -> None:
+        asked = Asked(["check", "-"], 1, GivenFile("/dev/stdin", "<stdin>", b"end\n"))
+        self.assertEqual(asked.words_for_program(), ["check", "/dev/stdin"])
+        number = asked.standard_input()
+        assert number is not None
+        self.assertEqual(os.read(number, 100), b"end\n")
+        os.close(number)
+        self.assertIsNone(Asked(["check", "a"], 1, GivenFile("a", "a")).standard_input())
+
+
+if __name__ == "__main__":
+    unittest.main()

@@ -1,0 +1,152 @@
+"""Why a word of a call is wrong, by the forms and options that the help text tells."""
+
+import re
+from typing import Dict, List, NamedTuple, Optional, Sequence, Set
+
+from ending import Caller
+from excerpts import excerpt
+from help import help_words
+
+_VALUE = re.compile("[A-Z][A-Z@]*")
+_RIVAL = re.compile("not beside (-[-a-z]+)")
+
+
+class Form(NamedTuple):
+    """What the help text says of a command or an option: its lines, the values that stand behind its word, and the
+    option that excludes it."""
+
+    lines: List[str]
+    values: List[str]
+    rival: Optional[str] = None
+
+    def takes_options(self) -> bool:
+        """Tells whether a line of the form has OPTIONS."""
+        return any(" OPTIONS " in line for line in self.lines)
+
+
+class Help(NamedTuple):
+    """The commands and the options of the help text, by their words, in its order; and all lines of commands."""
+
+    commands: Dict[str, Form]
+    options: Dict[str, Form]
+    lines: List[str]
+
+
+class Words(NamedTuple):
+    """What the words before the wrong one are: the options among them, whether one is FILE, and the value that the last
+    option, or the command itself, lacks."""
+
+    given: Set[str]
+    has_file: bool
+    option: str
+    wanted: Optional[str]
+
+
+def read_help(text: str) -> Help:
+    """Reads the lines of the commands, `    caf COMMAND ..`, and of the options, `    -OPTION VALUE..  what it is`, up
+    to the one on standard output."""
+    told = Help({}, {}, [])
+    for line in text.partition("\nStandard output")[0].split("\n"):
+        if re.match("    caf [a-z]", line):
+            _keep_command(told, line)
+        elif line.startswith("    -"):
+            words = line.split()
+            rival = _RIVAL.search(line)
+            told.options[words[0]] = Form([line], _values(words[1:]), rival.group(1) if rival else None)
+    return told
+
+
+def _keep_command(told: Help, line: str) -> None:
+    """Keeps a line of a command, which may have several. One that takes no FILE takes values, as an option does."""
+    words = line.split()
+    told.lines.append(line)
+    form = told.commands.setdefault(words[1], Form([], []))
+    form.lines.append(line)
+    if words[2] not in ("OPTIONS", "FILE"):
+        form.values.extend(_values(words[2:]))
+
+
+def _values(words: Sequence[str]) -> List[str]:
+    """Returns those of the words with which they begin that are values."""
+    values: List[str] = []
+    for word in words:
+        if not _VALUE.fullmatch(word):
+            break
+        values.append(word)
+    return values
+
+
+def _read_words(told: Help, words: Sequence[str], number: int) -> Words:
+    """Reads the words before the one of a number."""
+    command = told.commands.get(words[0] if words else "")
+    option = words[0] if words else ""
+    left = list((command or told.options.get(option) or Form([], [])).values)
+    given: Set[str] = set()
+    has_file = False
+    for word in words[1 : number - 1]:
+        if left:
+            left.pop(0)
+        elif word in told.options and command and command.takes_options():
+            option = word
+            given.add(word)
+            left = list(told.options[word].values)
+        else:
+            has_file = True
+    return Words(given, has_file, option, left[0] if left else None)
+
+
+def _reason(told: Help, words: Sequence[str], number: int, before: Words) -> str:
+    """Says why the word of a number is wrong, or nothing where that isn't known."""
+    if number == 1:
+        return "the command is " + " or ".join(told.commands)
+    if before.wanted is not None:
+        return f"it has to be the {before.wanted} of {before.option}"
+    if "--made" in before.given:
+        return "nothing stands behind SIZE, and the options stand before --made"
+    command = told.commands.get(words[0], Form([], []))
+    if command.values:
+        return f"nothing stands behind {command.values[-1]}"
+    if number > len(words):
+        return "it has to be FILE"
+    if before.has_file:
+        return "nothing stands behind FILE, and the options stand before it"
+    return _reason_of_word(told, words[0], words[number - 1], before.given)
+
+
+def _reason_of_word(told: Help, command: str, word: str, given: Set[str]) -> str:
+    """Says why a word is wrong where an option or FILE may stand."""
+    if word in given:
+        return f"{word} stands twice"
+    rival = told.options[word].rival if word in told.options else None
+    if rival in given:
+        return f"{word} and {rival} exclude each other"
+    if word.startswith("-"):
+        takes_options = command in told.commands and told.commands[command].takes_options()
+        return "there is no such option" + ("" if takes_options else f" of {command}")
+    return "FILE is empty" if word == "" else ""
+
+
+def usage_message(caller: Caller, words: Sequence[str], number: int) -> str:
+    """Returns what is said of words that are wrong at that number."""
+    lines = usage_lines(words, number, help_words(caller.home))
+    return "".join(f"{line}\n" for line in [*lines, f"caf: {caller.called} --help has every word"])
+
+
+def usage_lines(words: Sequence[str], number: int, help_text: str) -> List[str]:
+    """Returns the wrong word with its reason, the words of the call with a caret below it, the form of its command (all
+    forms where it has none), and the line of its option."""
+    told = read_help(help_text)
+    before = _read_words(told, words, number)
+    why = _reason(told, words, number, before)
+    if number > len(words):
+        what = "missing"
+    else:
+        what = f"wrong, {words[number - 1] or repr('')}"
+    front = " ".join(["caf", *words[: number - 1]])
+    lines = [f"caf: word {number} is {what}{': ' + why if why else ''}"]
+    lines += excerpt("    ", " ".join(["caf", *words]), len(front) + 2)
+    command = told.commands.get(words[0]) if words else None
+    lines += told.lines if number == 1 else (command.lines if command else [""])
+    if before.wanted is not None and before.option in told.options:
+        lines += told.options[before.option].lines
+    return lines

@@ -1,0 +1,120 @@
+"""Which lists of words are valid, and where the others go wrong: what the program answers, but for `-` as FILE.
+
+The words are those of `run OPTIONS FILE`, `run OPTIONS --made SEED SIZE`, `check FILE` and `make SEED SIZE`. FILE isn't
+empty and doesn't begin with `-`, but `-` itself, which is standard input, is one.
+"""
+
+import re
+from typing import Dict, NamedTuple, Optional, Sequence, Union
+
+from texts import is_text
+
+GREATEST_SEED = 2147483647
+GREATEST_SIZE = 4096
+
+_NUMBER = re.compile("0|[1-9][0-9]*")
+
+
+class Range(NamedTuple):
+    """Whole numbers, from the least to the greatest."""
+
+    least: int
+    greatest: int
+
+    def has(self, word: str) -> bool:
+        """Tells whether a word is one of them in decimal, without a sign and without a leading zero."""
+        return _NUMBER.fullmatch(word) is not None and len(word) < 20 and self.least <= int(word) <= self.greatest
+
+
+class Valid(NamedTuple):
+    """Valid words: the command, and the place of FILE among the words, from 0, where it has one."""
+
+    command: str
+    file: Optional[int]
+
+
+class Wrong(NamedTuple):
+    """Words that aren't valid: the number of the first one, from 1, with which no valid list begins, or one more than
+    there are."""
+
+    word: int
+
+
+SEED = Range(0, GREATEST_SEED)
+SIZE = Range(1, GREATEST_SIZE)
+
+# The options of a run that have a number behind them, and those that have nothing.
+_NUMBERS: Dict[str, Range] = {
+    "-n": Range(1, 64),
+    "-w": Range(1, 64),
+    "--order": SEED,
+    "--steps": Range(1, 100000000),
+}
+_FLAGS = ("--trace", "--vars")
+# The one option that may stand more than once, and what stands behind it: I@K.
+_FAIL = "--fail"
+_FAIL_IMAGE = Range(1, 64)
+_FAIL_STEP = Range(1, 1000000)
+# Of these two only one may stand.
+_RIVALS = {"-w": "--order", "--order": "-w"}
+
+
+def read_words(words: Sequence[str]) -> Union[Valid, Wrong]:
+    """Tells what the words of a call are; a list with a word that is no UTF-8 is read as an empty one, as the program
+    does."""
+    if not words or not all(is_text(word) for word in words):
+        return Wrong(1)
+    if words[0] == "run":
+        return _read_run(words)
+    if words[0] == "check":
+        return _read_file("check", words, 1)
+    if words[0] == "make":
+        return _read_made("make", words, 1)
+    return Wrong(1)
+
+
+def _read_run(words: Sequence[str]) -> Union[Valid, Wrong]:
+    given = set()
+    place = 1
+    while place < len(words) and _may_stand(words[place], given):
+        option = words[place]
+        given.add(option)
+        place += 1
+        if option not in _FLAGS:
+            if place == len(words) or not _is_value(option, words[place]):
+                return Wrong(place + 1)
+            place += 1
+    if place < len(words) and words[place] == "--made":
+        return _read_made("run", words, place + 1)
+    return _read_file("run", words, place)
+
+
+def _may_stand(option: str, given: set) -> bool:
+    """Tells whether a word is an option that may stand behind those that are given."""
+    if option == _FAIL:
+        return True
+    is_option = option in _NUMBERS or option in _FLAGS
+    return is_option and option not in given and _RIVALS.get(option) not in given
+
+
+def _is_value(option: str, word: str) -> bool:
+    if option != _FAIL:
+        return _NUMBERS[option].has(word)
+    image, at, step = word.partition("@")
+    return at == "@" and _FAIL_IMAGE.has(image) and _FAIL_STEP.has(step)
+
+
+def _read_file(command: str, words: Sequence[str], place: int) -> Union[Valid, Wrong]:
+    """Reads FILE, which stands alone behind all others."""
+    if place == len(words) or words[place] == "" or (words[place][0] == "-" and words[place] != "-"):
+        return Wrong(place + 1)
+    return Valid(command, place) if len(words) == place + 1 else Wrong(place + 2)
+
+
+def _read_made(command: str, words: Sequence[str], place: int) -> Union[Valid, Wrong]:
+    """Reads SEED and SIZE, which stand alone behind all others."""
+    for kind in (SEED, SIZE):
+        if place == len(words) or not kind.has(words[place]):
+            return Wrong(place + 1)
+        place += 1
+    return Valid(command, None) if len(words) == place else Wrong(place + 1)
