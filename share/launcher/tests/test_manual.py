@@ -161,7 +161,7 @@ class Completions(unittest.TestCase):
     def test_zsh(self) -> None:
         made = completions.zsh_completion(WORDS)
         self.assertTrue(made.startswith("#compdef caf\n"))
-        self.assertIn("    options=('-n:so many images; 4 where it isn'\\''t given' '--made:in the place of FILE'", made)
+        self.assertIn(" options=('-n:so many images; 4 where it isn'\\''t given' '--made:in the place of FILE'", made)
         self.assertIn(" if [[ ${words[CURRENT - 1]} == (-n|--made) || ${words[CURRENT - 2]} == (--made) ]]", made)
 
     def test_fish(self) -> None:
