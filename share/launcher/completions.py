@@ -21,15 +21,13 @@ def known_words(tables: Tables) -> List[str]:
 
 @dataclass(frozen=True)
 class Words:
-    """What a completion offers: commands and the launcher's own words in the first place, options behind `run`."""
+    """What a completion offers: commands and the launcher's own words in the first place, and behind those that stand
+    ahead of others, as --try; options behind `run`; and what --explain knows."""
 
     first: Tuple[Item, ...]
+    ahead: Tuple[str, ...]
     options: Tuple[Item, ...]
     known: Tuple[str, ...]
-
-    def ahead(self) -> List[str]:
-        """Returns the words behind which all others may stand, as --try."""
-        return [name_of(it) for it in self.first if "WORDS" in it.term]
 
     def taking(self, count: int) -> List[str]:
         """Returns the options that are followed by at least so many words."""
@@ -42,9 +40,12 @@ def name_of(item: Item) -> str:
 
 
 def words_of(text: Help, tables: Tables) -> Words:
-    """Returns what the completions offer."""
-    first = text.items(r"caf (\S+)")
-    return Words(tuple(first), tuple(text.items(r"(-\S+)")), tuple(known_words(tables)))
+    """Returns what the completions offer, each word once."""
+    calls = text.items("caf ")
+    first = {name_of(it): it for it in reversed(calls)}
+    ahead = tuple(name_of(it) for it in calls if it.term.endswith(" WORDS"))
+    in_order = tuple(first[name] for name in dict.fromkeys(map(name_of, calls)))
+    return Words(in_order, ahead, tuple(text.items("-")), tuple(known_words(tables)))
 
 
 BASH = """\
@@ -115,7 +116,7 @@ def described(items: Sequence[Item]) -> str:
 def filled(frame: str, words: Words, first: str, options: str) -> str:
     """Returns a completion with its words in their places."""
     places = {
-        "AHEAD": "|".join(words.ahead()),
+        "AHEAD": "|".join(words.ahead),
         "FIRST": first,
         "OPTIONS": options,
         "KNOWN": " ".join(words.known),

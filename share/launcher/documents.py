@@ -14,9 +14,9 @@ from typing import Callable, Dict, Sequence
 
 import release
 from completions import bash_completion, fish_completion, words_of, zsh_completion
-from help import help_words, tables_path
+from help import VERSION, help_words
 from manual import help_of, man_page
-from tables import read_tables
+from tables import read_tables, tables_path
 from texts import bytes_of
 
 HOME = os.path.dirname(os.path.dirname(os.path.dirname(os.path.realpath(__file__))))
@@ -35,7 +35,7 @@ def main(asked: Sequence[str]) -> int:
     text, tables = help_of(help_words(HOME)), read_tables(tables_path(HOME))
     words = words_of(text, tables)
     made: Dict[str, Callable[[], bytes]] = {
-        "man": lambda: bytes_of(man_page(text, tables)),
+        "man": lambda: bytes_of(man_page(text, tables, VERSION)),
         "bash": lambda: bytes_of(bash_completion(words)),
         "zsh": lambda: bytes_of(zsh_completion(words)),
         "fish": lambda: bytes_of(fish_completion(words)),

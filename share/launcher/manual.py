@@ -8,7 +8,7 @@ from __future__ import annotations
 
 import re
 from dataclasses import dataclass
-from typing import Dict, List, NamedTuple, Sequence, Tuple, Union
+from typing import List, NamedTuple, Sequence, Tuple, Union
 
 from tables import Kind, Tables
 
@@ -33,15 +33,9 @@ class Help:
         """Returns the lists alone."""
         return [block for block in self.blocks if not isinstance(block, str)]
 
-    def items(self, pattern: str) -> List[Item]:
-        """Returns the lines of all lists whose terms match, each beginning of a term once."""
-        found: Dict[str, Item] = {}
-        for block in self.lists():
-            for item in block:
-                word = re.match(pattern, item.term)
-                if word and item.text:
-                    found.setdefault(word[1], item)
-        return list(found.values())
+    def items(self, beginning: str) -> List[Item]:
+        """Returns the lines of all lists that have two columns, the first of which begins so."""
+        return [item for block in self.lists() for item in block if item.text and item.term.startswith(beginning)]
 
 
 def column_of(lines: Sequence[str]) -> int:
@@ -83,10 +77,10 @@ def man_list(items: Sequence[Item]) -> List[str]:
     return [line for item in items for line in (".TP", f".B {roff(item.term)}", roff(item.text))]
 
 
-def man_page(text: Help, tables: Tables) -> str:
+def man_page(text: Help, tables: Tables, version: str) -> str:
     """Returns the man page, in the macros of man(7)."""
-    title = str(text.blocks[0])
-    lines = [".TH CAF 1", ".SH NAME", f"caf \\- {roff(re.sub('^caf ', '', title).rstrip('.'))}", ".SH SYNOPSIS", ".nf"]
+    title = roff(re.sub("^caf ", "", str(text.blocks[0])).rstrip("."))
+    lines = [f'.TH CAF 1 "" "caf {version}"', ".SH NAME", f"caf \\- {title}", ".SH SYNOPSIS", ".nf"]
     lines += [*(f".B {roff(it.term)}" for it in text.lists()[0]), ".fi", ".SH DESCRIPTION"]
     for block in text.blocks[1:]:
         if block == "Examples:":

@@ -23,6 +23,8 @@ Numbers have no sign
 and no leading zero.
 
     caf --try WORDS       the same, with nothing proved
+    caf --prove           prove all
+    caf --prove WORDS     prove all, and the same then
     caf --explain WORD    what a word means
     caf --help            this text
 
@@ -45,7 +47,7 @@ TABLES = Tables(
 )
 
 PAGE = """\
-.TH CAF 1
+.TH CAF 1 "" "caf 1.5"
 .SH NAME
 caf \\- runs programs, and says what happened
 .SH SYNOPSIS
@@ -81,6 +83,12 @@ Numbers have no sign and no leading zero.
 .TP
 .B caf \\-\\-try WORDS
 the same, with nothing proved
+.TP
+.B caf \\-\\-prove
+prove all
+.TP
+.B caf \\-\\-prove WORDS
+prove all, and the same then
 .TP
 .B caf \\-\\-explain WORD
 what a word means
@@ -120,7 +128,7 @@ class ManPage(unittest.TestCase):
     """The man page says what the help text and the tables say."""
 
     def test_page(self) -> None:
-        self.assertEqual(manual.man_page(manual.help_of(TEXT), TABLES), PAGE)
+        self.assertEqual(manual.man_page(manual.help_of(TEXT), TABLES, "1.5"), PAGE)
 
     def test_term_as_long_as_its_column(self) -> None:
         made = manual.help_of(TEXT).lists()[1][1]
@@ -135,12 +143,14 @@ class Completions(unittest.TestCase):
 
     def test_what_is_known(self) -> None:
         self.assertEqual(WORDS.known, ("0", "Finished", "5", "Race", "32", "Assignment", "Overflow", "real"))
-        self.assertEqual((WORDS.ahead(), WORDS.taking(1), WORDS.taking(2)), (["--try"], ["-n", "--made"], ["--made"]))
+        self.assertEqual(WORDS.ahead, ("--try", "--prove"))
+        self.assertEqual((WORDS.taking(1), WORDS.taking(2)), (["-n", "--made"], ["--made"]))
 
     def test_first_word(self) -> None:
-        self.assertEqual(offered(""), ["run", "check", "make", "--try", "--explain", "--help"])
+        self.assertEqual(offered(""), ["run", "check", "make", "--try", "--prove", "--explain", "--help"])
         self.assertEqual(offered("ch"), ["check"])
         self.assertEqual(offered("--try", "ru"), ["run"])
+        self.assertEqual(offered("--prove", "run", "--m"), ["--made"])
 
     def test_options_and_what_stands_behind_them(self) -> None:
         self.assertEqual(offered("run", "-"), ["-n", "--made", "--trace"])
@@ -170,6 +180,7 @@ class Completions(unittest.TestCase):
         run = "complete -c caf -n '__fish_seen_subcommand_from run'"
         self.assertIn(f"{first} -a check -d 'say ok'", made)
         self.assertIn(f"{first} -l try -d 'the same, with nothing proved'", made)
+        self.assertIn(f"{first} -l prove -d 'prove all'", made)
         self.assertIn(f"{first} -l help -d 'this text'", made)
         self.assertIn(f"{run} -s n -x -d 'so many images; 4 where it isn'\\''t given'", made)
         self.assertIn(f"{run} -l trace -d 'the trace: a line a step'", made)
