@@ -16,7 +16,7 @@ one_of true x y h g e = h e
 one_of false x y h g e = g e
 
 -- what is added is completed by its entry, or its image pauses
-adds_when : (key : Key) (i : ℕ) (a : Act) → turn key i a ≡ adds → (completing a ≡ true) ⊎ (pausing a ≡ true)
+pub adds_when : (key : Key) (i : ℕ) (a : Act) → turn key i a ≡ adds → (completing a ≡ true) ⊎ (pausing a ≡ true)
 adds_when key i (arrives t k) h = inr refl
 adds_when key i (pairs js) h = inr refl
 adds_when key i (unlocks c) h = inl refl
@@ -104,7 +104,7 @@ module _ (E : Type 0) (v : View E) where
   released_waits g i (unpairs false) a w = absurd w
   released_waits g i (unpairs true) a w =
       let z = within_flat ℕ Segment (corresponding v g i) a (last_named_from v i [] g) w in
-      (pair z.0 i, within_drop Segment a (length (waiting v (pair i z.0) g) - 1) (waiting v (pair z.0 i) g) (within_take Segment a 1 _ z.1))
+      (pair z.0 i, within_drop Segment a (length (waiting v (pair i z.0) g) - 1) (waiting v (pair z.0 i) g) (within_take Segment a 1 _ z.2))
   released_waits g i (gets c) a w = (lock c, w)
   released_waits g i (enters n) a w = (construct n, w)
   released_waits g i (waits c k) a w = (event c, within_take Segment a k (waiting v (event c) g) w)

@@ -1,19 +1,22 @@
 //! What is kept while the entries of a trace are read.
 
-ghost use Rattle.std.specs.Prelude.{◌≡◌, ◌<◌, ◌≤◌, ℕ, [], ◌∷◌, ◌++◌, length, get_or, IfOk, MatchBool};
+ghost use Rattle.std.specs.Prelude.{◌≡◌, ◌<◌, ◌≤◌, ℕ, [], ◌∷◌, ◌++◌, length, get_or, true, false, IfOk, MatchBool};
 ghost use Rattle.order_theory.specs.Order.{done};
 ghost use Rattle.order_theory.specs.Clocks.{Covers};
-ghost use Rattle.order_theory.specs.Acts.{entries};
+ghost use Rattle.order_theory.specs.Acts.{entries, completing};
 ghost use Rattle.order_theory.specs.Stored.{present};
 ghost use Rattle.segment_clock.specs.Counts.{count_of};
 ghost use Rattle.order_axioms.specs.Views.{act_of, view, edges};
 ghost use Rattle.race_watch.specs.ActParts.{as_act};
 ghost use Rattle.race_watch.specs.Touched.{FitsMemory, MadeIs};
 ghost use Rattle.race_watch.specs.Orders.{Ordered};
-ghost use Rattle.race_watch.specs.Marked.{Marked, HasPartner, TouchesAll, MayNote};
+ghost use Rattle.race_watch.specs.Marked.{Marked, HasPartner, Touching, TouchesAll, MayNote};
+ghost use Rattle.race_watch.specs.Flagged.{Flagged};
 ghost use Rattle.race_watch.specs.Recorded.{IsRecorded, FitsRun, IsTold, MadeKept};
 
 use crate::act::{Act, act_by};
+use crate::flag_use::{sees, sets, spoils};
+use crate::flags::Flags;
 use crate::marks::Marks;
 use crate::order::{Order, line_of};
 use crate::touch::{Touch, touch_by};
@@ -25,11 +28,13 @@ use caf_events::reply::Reply;
 use segment_clock::clock::Clock;
 use std::alloc::Global;
 
-/// The clocks of images and of what waits, the marks of cells, and for each line how many cells its coarray was last given.
+/// The clocks of images and of what waits, the marks of cells, what is handed on by flags, and for each line how many cells its
+/// coarray was last given.
 #[derive(Drop)]
 pub struct Recorder {
     pub(crate) order: Order,
     pub(crate) marks: Marks,
+    pub(crate) flags: Flags,
     pub(crate) made: Vec<u32>,
 }
 
@@ -87,6 +92,46 @@ fn keep_made(
     }
 }
 
+// Before the first entry nothing is handed on.
+fn first_flags(alloc: Global, n: u32) -> Result<Flags, NoMemory>
+    ensures { IfOk result (Flagged (view n) n []) }
+{
+    let flags = Flags::new(alloc, n)?;
+    Ok(flags)
+}
+
+// An entry that completes no segment sees, sets or spoils the cells that it touches.
+fn hand_on(
+    flags: &mut Flags,
+    alloc: Global,
+    n: u32,
+    _before: &[Entry],
+    e: &Entry,
+    ask: &Ask,
+    reply: &Reply,
+    touch: &Touch,
+) -> Result<(), NoMemory>
+    requires exchange { (ask.now ≡ e.now.event.ask) × (reply.now ≡ e.now.event.reply) }
+    requires fits { FitsRun n _before.now e.now }
+    requires still { completing (act_of e.now) ≡ false }
+    requires flagged { Flagged (view n) n _before.now flags.old }
+    requires touch { Touching n _before.now e.now touch.now }
+    ensures { IfOk result (λ _. Flagged (view n) n (_before.now ++ e.now ∷ []) flags.new) }
+{
+    let line = line_of(n, touch.owner, touch.coarray);
+    flags.step(
+        alloc,
+        n,
+        line,
+        touch.cells.as_slice(),
+        e.image,
+        sees(ask),
+        sets(ask, reply),
+        spoils(touch.class),
+    )?;
+    Ok(())
+}
+
 /// What an entry is to segment order.
 pub fn act_of(alloc: Global, e: &Entry) -> Result<Act, NoMemory>
     ensures { IfOk result (λ a. as_act a ≡ act_of e.now) }
@@ -107,6 +152,7 @@ impl Recorder {
         Ok(Recorder {
             order: Order::new(alloc, n)?,
             marks: Marks::new(alloc, n),
+            flags: first_flags(alloc, n)?,
             made: Vec::new(alloc),
         })
     }
@@ -174,9 +220,90 @@ impl Recorder {
         requires none { MayNote n before.now e.now }
         ensures order { self.new.order ≡ self.old.order }
         ensures made { self.new.made ≡ self.old.made }
+        ensures flags { self.new.flags ≡ self.old.flags }
         ensures marks { IfOk result (λ _. Marked n (before.now ++ e.now ∷ []) self.new.marks) }
     {
         self.marks.note(alloc, &self.order, n, before, e, touch)
+    }
+
+    // The next entry sees, sets or spoils the cells that it touches, and completes no segment.
+    fn hand(
+        &mut self,
+        alloc: Global,
+        n: u32,
+        _before: &[Entry],
+        e: &Entry,
+        ask: &Ask,
+        reply: &Reply,
+        touch: &Option<Touch>,
+    ) -> Result<(), NoMemory>
+        requires exchange { (ask.now ≡ e.now.event.ask) × (reply.now ≡ e.now.event.reply) }
+        requires fits { FitsRun n _before.now e.now }
+        requires still { completing (act_of e.now) ≡ false }
+        requires flagged { Flagged (view n) n _before.now self.old.flags }
+        requires touch { TouchesAll n _before.now e.now touch.now }
+        ensures marks { self.new.marks ≡ self.old.marks }
+        ensures made { self.new.made ≡ self.old.made }
+        ensures order { self.new.order ≡ self.old.order }
+        ensures flagged { IfOk result (λ _. Flagged (view n) n (_before.now ++ e.now ∷ []) self.new.flags) }
+    {
+        match touch {
+            Some(touch) => hand_on(&mut self.flags, alloc, n, _before, e, ask, reply, touch),
+            None => Ok(()),
+        }
+    }
+
+    // The next entry completes its image's segment.
+    fn complete(
+        &mut self,
+        alloc: Global,
+        n: u32,
+        before: &[Entry],
+        e: &Entry,
+        act: Act,
+        told: &Option<Clock>,
+    ) -> Result<(), NoMemory>
+        requires act { as_act act ≡ act_of e.now }
+        requires completes { completing (act_of e.now) ≡ true }
+        requires fits { FitsRun n before.now e.now }
+        requires order { Ordered n before.now self.old.order }
+        requires flagged { Flagged (view n) n before.now self.old.flags }
+        requires told { IsTold n before.now e.now told.now }
+        ensures marks { self.new.marks ≡ self.old.marks }
+        ensures made { self.new.made ≡ self.old.made }
+        ensures order { IfOk result (λ _. Ordered n (before.now ++ e.now ∷ []) self.new.order) }
+        ensures flagged { IfOk result (λ _. Flagged (view n) n (before.now ++ e.now ∷ []) self.new.flags) }
+    {
+        self.flags.tell(alloc, n, e.image, told)?;
+        self.flags
+            .remember(e.image, self.order.clock(n, before, e.image));
+        self.order
+            .step(alloc, n, before, e, act, self.flags.taken_by(e.image))?;
+        self.flags.forget(e.image);
+        Ok(())
+    }
+
+    // The next entry completes no segment.
+    fn go_on(
+        &mut self,
+        alloc: Global,
+        n: u32,
+        before: &[Entry],
+        e: &Entry,
+        act: Act,
+    ) -> Result<(), NoMemory>
+        requires act { as_act act ≡ act_of e.now }
+        requires still { completing (act_of e.now) ≡ false }
+        requires fits { FitsRun n before.now e.now }
+        requires order { Ordered n before.now self.old.order }
+        requires flagged { Flagged (view n) n before.now self.old.flags }
+        ensures marks { self.new.marks ≡ self.old.marks }
+        ensures made { self.new.made ≡ self.old.made }
+        ensures flags { self.new.flags ≡ self.old.flags }
+        ensures order { IfOk result (λ _. Ordered n (before.now ++ e.now ∷ []) self.new.order) }
+    {
+        self.order
+            .step(alloc, n, before, e, act, self.flags.taken_by(e.image))
     }
 
     // Keeps what the next entry, with this ask and reply, gives its coarray, and what it is to segment order.
@@ -188,20 +315,29 @@ impl Recorder {
         e: &Entry,
         ask: &Ask,
         reply: &Reply,
+        touch: &Option<Touch>,
         told: &Option<Clock>,
     ) -> Result<(), NoMemory>
         requires exchange { (ask.now ≡ e.now.event.ask) × (reply.now ≡ e.now.event.reply) }
         requires fits { FitsRun n before.now e.now }
         requires order { Ordered n before.now self.old.order }
+        requires flagged { Flagged (view n) n before.now self.old.flags }
         requires made { MadeKept n before.now self.old.made.items }
+        requires touch { TouchesAll n before.now e.now touch.now }
         requires told { IsTold n before.now e.now told.now }
         ensures marks { self.new.marks ≡ self.old.marks }
         ensures order { IfOk result (λ _. Ordered n (before.now ++ e.now ∷ []) self.new.order) }
+        ensures flagged { IfOk result (λ _. Flagged (view n) n (before.now ++ e.now ∷ []) self.new.flags) }
         ensures made { IfOk result (λ _. MadeKept n (before.now ++ e.now ∷ []) self.new.made.items) }
     {
         keep_made(&mut self.made, n, before, e, ask)?;
         let act = act_by(alloc, ask, reply)?;
-        self.order.step(alloc, n, before, e, act, told)
+        if act.completes() {
+            self.complete(alloc, n, before, e, act, told)
+        } else {
+            self.go_on(alloc, n, before, e, act)?;
+            self.hand(alloc, n, before, e, ask, reply, touch)
+        }
     }
 
     /// Records the next entry, which has this ask and reply, and touches this. `told` covers the last segments of the failed images of which its status
@@ -226,6 +362,6 @@ impl Recorder {
         ensures { IfOk result (λ _. IsRecorded n (before.now ++ e.now ∷ []) self.new) }
     {
         self.note(alloc, n, before, e, touch)?;
-        self.keep(alloc, n, before, e, ask, reply, told)
+        self.keep(alloc, n, before, e, ask, reply, touch, told)
     }
 }
