@@ -53,6 +53,8 @@ fn statements_are_cut_or_refused(rt: HostRuntime) {
         ("integer)::x", "integer|)|::|x|"),
         ("print *,'it''s',\"a'b\"", "print|*|,|'it''s'|,|\"a'b\"|"),
         ("a<=b\t>c", "a|<=|b|>|c|"),
+        ("use m,y=>x", "use|m|,|y|=>|x|"),
+        ("a==>b= >c", "a|==|>|b|=|>|c|"),
         ("0009223372036854775807", "0009223372036854775807|"),
         ("x = 1.5", "BadCharacter at 1:6"),
         ("a .foo. b", "BadCharacter at 1:3"),
