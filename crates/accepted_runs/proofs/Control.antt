@@ -230,7 +230,7 @@ module _ (e : Environment) where
     sync_images_does x h = (image_set_does x h, (optional_place_does e stat k, ((tt, tt), (((tt, (tt, tt)), ((tt, tt), (tt, tt)), tt), (settling_does stat 1 [], dropping_does size)))))
 
     pub sync_team_does : (x : t.Expression) → kinded.IsOfRank procedures x 0 → PartsDo (control.sync_team e x stat)
-    sync_team_does x h = (scalar_does e x 0 h, ((tt, tt), (optional_place_does e stat k, (copying_does size 1, ((tt, tt), (copying_does size 1, ((tt, tt), (settling_does stat 1 [], dropping_does (size + 1)))))))))
+    sync_team_does x h = (scalar_does e x 0 h, ((tt, tt), (optional_place_does e stat k, (copying_does size 1, ((tt, (tt, tt)), (copying_does size 1, ((tt, tt), (settling_does stat 1 [], dropping_does (size + 1)))))))))
 
     pub form_team_does : (x : t.Expression) (v : Local) (index : t.OptionalExpression) (o : WrittenOrder) → kinded.IsOfRank procedures x 0 → kinded.IsOptionalScalar procedures index → PartsDo (control.form_team e x v index stat o)
     form_team_does x v index o h i = (scalar_does e x 0 h, (put_down_does o _ _ 1 size (number_does index _ i (tt, tt)) (optional_place_does e stat k), (((tt, tt), ((copying_does (size + 1) 2, (tt, tt)), (tt, (tt, tt)))), ((tt, tt), (settling_does stat 1 [], dropping_does (size + 2))))))
@@ -286,7 +286,7 @@ module _ (e : Environment) where
   pub change_team_does : (x : t.Expression) (stat : t.OptionalResult) → kinded.IsOfRank procedures x 0 → kinded.IsOptionalResult procedures stat → PartsDo (control.change_team e x stat)
   change_team_does x stat h k =
       let size = expressions.optional_size stat in
-      (scalar_does e x 0 h, ((tt, tt), (optional_place_does e stat k, (copying_does size 1, ((tt, tt), (copying_does size 1, ((tt, tt), (copying_does (size + 1) 1, ((tt, tt), (settling_does stat 1 [], dropping_does (size + 1)))))))))))
+      (scalar_does e x 0 h, ((tt, tt), (optional_place_does e stat k, (copying_does size 1, ((tt, (tt, tt)), (copying_does size 1, ((tt, tt), (copying_does (size + 1) 1, ((tt, tt), (settling_does stat 1 [], dropping_does (size + 1)))))))))))
 
   deleting_does : (ns : List ℕ) (c : ℕ) → PartsDo (control.deleting e ns c)
   deleting_does [] c = tt

@@ -306,7 +306,7 @@ module _ (e : Environment) where
     intrinsic_does (t.num_images which) y r h = (team_does which h.1, (tt, tt))
     intrinsic_does (t.num_images_of_number n) y r h = (scalar_does n 0 h.1, (tt, tt))
     intrinsic_does (t.image_index c sub which o) y r h = (beside_does o _ _ (array_does sub h.1) (team_does which h.2), (tt, tt))
-    intrinsic_does (t.image_status i which o) y r h = (as_written_does o _ _ (scalar_does i 0 h.1) (team_does which h.2), (tt, tt))
+    intrinsic_does (t.image_status i which o) y r h = (as_written_does o _ _ (scalar_does i 0 h.1) (team_does which h.2), (tt, (tt, tt)))
     intrinsic_does (t.failed_images which) y r h = (team_does which h.1, (tt, (tt, tt)))
     intrinsic_does (t.stopped_images which) y r h = (team_does which h.1, (tt, (tt, tt)))
     intrinsic_does (t.number_of_team which) y r h = (team_does which h.1, (tt, tt))

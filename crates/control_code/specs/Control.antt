@@ -17,9 +17,9 @@ use Rattle.tree_meaning.specs.Settling.{settling}
 abbrev pub pairing : Parts Act
 pairing = choosing (doing (ask a.pair ∷ ask a.unpair ∷ [])) (doing (stack a.drop_array ∷ []) ▸ pushing bad_argument)
 
--- the round of a team that stands beneath so many numbers
-abbrev pub team_round : ℕ → a.AskAct → Parts Act
-team_round depth arrival = copying depth 1 ▸ doing (ask arrival ∷ []) ▸ copying depth 1 ▸ doing (ask a.leave ∷ [])
+-- the round of a team that stands beneath so many numbers, and is looked up by this act before it arrives
+abbrev pub team_round : ℕ → a.TeamAct → a.AskAct → Parts Act
+team_round depth lookup arrival = copying depth 1 ▸ doing (Act.team lookup ∷ ask arrival ∷ []) ▸ copying depth 1 ▸ doing (ask a.leave ∷ [])
 
 -- that of FORM TEAM, with its number and index beneath a place of this size
 abbrev pub forming : ℕ → Parts Act

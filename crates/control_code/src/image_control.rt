@@ -130,17 +130,24 @@ pub fn push_sync_images(
     push_drop(draft, size_of(stat), line)
 }
 
-// The team beneath so many numbers arrives and leaves.
-fn push_team_round(
-    draft: &mut Draft,
-    depth: u32,
-    arrival: AskStep,
-    line: u32,
-) -> Result<(), NoMemory>
-    ensures { OnOk result (draft.new ≡ written line (team_round depth (table.ask_of arrival)) draft.old) }
+// The team beneath so many numbers, which is looked up once more, arrives at SYNC TEAM and leaves.
+fn push_sync_round(draft: &mut Draft, depth: u32, line: u32) -> Result<(), NoMemory>
+    ensures { OnOk result (draft.new ≡ written line (team_round depth act.near_team act.arrive_sync) draft.old) }
 {
     push_copy(draft, depth, 1, line)?;
-    draft.push(Step::Ask(arrival), line)?;
+    draft.push(Step::NearTeam, line)?;
+    draft.push(Step::Ask(AskStep::ArriveSync), line)?;
+    push_copy(draft, depth, 1, line)?;
+    draft.push(Step::Ask(AskStep::Leave), line)
+}
+
+// The same of CHANGE TEAM, whose team is a child of the current one.
+fn push_change_round(draft: &mut Draft, depth: u32, line: u32) -> Result<(), NoMemory>
+    ensures { OnOk result (draft.new ≡ written line (team_round depth act.child_team act.arrive_change) draft.old) }
+{
+    push_copy(draft, depth, 1, line)?;
+    draft.push(Step::ChildTeam, line)?;
+    draft.push(Step::Ask(AskStep::ArriveChange), line)?;
     push_copy(draft, depth, 1, line)?;
     draft.push(Step::Ask(AskStep::Leave), line)
 }
@@ -159,7 +166,7 @@ pub fn push_sync_team(
     push_expr(draft, env, team, line)?;
     draft.push(Step::NearTeam, line)?;
     push_place(draft, env, stat, line)?;
-    push_team_round(draft, size, AskStep::ArriveSync, line)?;
+    push_sync_round(draft, size, line)?;
     push_settling(draft, stat, 1, &[], line)?;
     push_drop(draft, size + 1, line)
 }
@@ -268,7 +275,7 @@ pub fn push_change(
     push_expr(draft, env, team, line)?;
     draft.push(Step::ChildTeam, line)?;
     push_place(draft, env, stat, line)?;
-    push_team_round(draft, size, AskStep::ArriveChange, line)?;
+    push_change_round(draft, size, line)?;
     push_becoming_current(draft, stat, line)
 }
 

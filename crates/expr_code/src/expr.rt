@@ -14,8 +14,8 @@ use crate::call::{push_calling, push_calling_none, rank_in};
 use crate::draft::Draft;
 use crate::env::Env;
 use crate::function::{
-    Extreme, is_whole, push_extent, push_extreme, push_failed, push_huge, push_is_there,
-    push_local_bounds, push_place_and_value, push_selected_bounds, push_stopped,
+    Extreme, is_whole, push_extent, push_extreme, push_failed, push_huge, push_image_status,
+    push_is_there, push_local_bounds, push_place_and_value, push_selected_bounds, push_stopped,
 };
 use crate::piece::{
     kind_of, optional_size, push_access, push_arithmetic, push_item, push_local_value, push_logic,
@@ -30,7 +30,7 @@ use checked_tree::expr::{
     LogicalOperator, ResultVariable, SelectedTeam, Selector, Subscript, TypedExpr, WrittenOrder,
 };
 use checked_tree::program::Dummy;
-use image_code::step::{AskStep, Step};
+use image_code::step::Step;
 
 /// Appends the code of an expression: it leaves a number, or an array with its evaluation cells. After want of memory nothing is said of the draft.
 #[cycle(expression)]
@@ -721,13 +721,13 @@ fn push_intrinsic(
                 WrittenOrder::Same => {
                     push_expr(draft, env, image, line)?;
                     push_team_of(draft, env, team, line)?;
-                    draft.push(Step::Ask(AskStep::Status), line)
+                    push_image_status(draft, line)
                 }
                 WrittenOrder::Reversed => {
                     push_team_of(draft, env, team, line)?;
                     push_expr(draft, env, image, line)?;
                     draft.push(Step::Bring(1, 1), line)?;
-                    draft.push(Step::Ask(AskStep::Status), line)
+                    push_image_status(draft, line)
                 }
             }
         }

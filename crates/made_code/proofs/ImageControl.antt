@@ -64,7 +64,7 @@ module _ (e : Environment) where
   pub sync_team_turns : (x : t.Expression) (stat : t.OptionalResult) → ranks.IsOfRank e.program.procedures x 0 → ranks.IsOptionalResult e.program.procedures stat → Turns none (control.sync_team e x stat)
   sync_team_turns x stat g h =
       let o = view.optional_size stat in
-      closes (part (scalar_turns e x g) ⨾ acts ended ⨾ part (place_turns e stat h) ⨾ part (copied o 1) ⨾ acts ended ⨾ part (copied o 1) ⨾ acts ended
+      closes (part (scalar_turns e x g) ⨾ acts ended ⨾ part (place_turns e stat h) ⨾ part (copied o 1) ⨾ acts (acts ended) ⨾ part (copied o 1) ⨾ acts ended
       ⨾ part (settled stat 1 o [] (omega arith) (omega arith)) ⨾ part (dropped (o + 1))) (omega arith)
 
   pub form_team_turns : (x : t.Expression) (v : Local) (index : t.OptionalExpression) (stat : t.OptionalResult) (order : WrittenOrder) → ranks.IsOfRank e.program.procedures x 0
@@ -158,7 +158,7 @@ module _ (e : Environment) where
   pub change_team_turns : (x : t.Expression) (stat : t.OptionalResult) → ranks.IsOfRank e.program.procedures x 0 → ranks.IsOptionalResult e.program.procedures stat → Turns none (control.change_team e x stat)
   change_team_turns x stat g h =
       let o = view.optional_size stat in
-      closes (part (scalar_turns e x g) ⨾ acts ended ⨾ part (place_turns e stat h) ⨾ part (copied o 1) ⨾ acts ended ⨾ part (copied o 1) ⨾ acts ended
+      closes (part (scalar_turns e x g) ⨾ acts ended ⨾ part (place_turns e stat h) ⨾ part (copied o 1) ⨾ acts (acts ended) ⨾ part (copied o 1) ⨾ acts ended
       ⨾ part (copied (o + 1) 1) ⨾ acts ended ⨾ part (settled stat 1 o [] (omega arith) (omega arith)) ⨾ part (dropped (o + 1))) (omega arith)
 
   deleted_one : (c : ℕ) → Turns none (control.deleting_one e c)

@@ -300,7 +300,7 @@ module _ (e : Environment) where
     quiet_intrinsic (t.num_images which) k = both (quiet_team which) (one tt refl)
     quiet_intrinsic (t.num_images_of_number n) k = both (quiet_expression n) (one tt refl)
     quiet_intrinsic (t.image_index c sub which o) k = both (quiet_beside o (view.expression e sub) (view.team_of e which) (quiet_expression sub) (quiet_team which)) (one tt refl)
-    quiet_intrinsic (t.image_status i which o) k = both (quiet_as_written o (view.expression e i) (view.team_of e which) (quiet_expression i) (quiet_team which)) (one tt refl)
+    quiet_intrinsic (t.image_status i which o) k = both (quiet_as_written o (view.expression e i) (view.team_of e which) (quiet_expression i) (quiet_team which)) (acts tt refl (one tt refl))
     quiet_intrinsic (t.failed_images which) k = both (quiet_team which) (acts tt refl (one tt refl))
     quiet_intrinsic (t.stopped_images which) k = both (quiet_team which) (acts tt refl (one tt refl))
     quiet_intrinsic (t.number_of_team which) k = both (quiet_team which) (one tt refl)

@@ -1,6 +1,6 @@
 -- An arrival with its departure keeps the order.
-use Rattle.std.proofs.Common.{◌≡◌, ℕ, zero, suc, List, [], ◌∷◌, ◌++◌, length, inl, refl, sym, subst, ap}
-use Rattle.std.specs.Prelude.{ℤ, pos, ◌+ℤ◌, ◌-ℤ◌, map, drop, Option, None, Some}
+use Rattle.std.proofs.Common.{◌≡◌, ℕ, zero, suc, Bool, true, false, ◌||◌, nat_eq, List, [], ◌∷◌, ◌++◌, length, inl, refl, sym, subst, ap}
+use Rattle.std.specs.Prelude.{ℤ, pos, ◌&&◌, ◌+ℤ◌, ◌-ℤ◌, map, drop, Option, None, Some}
 use Rattle.caf_events.specs.declared.ask.Ask.TheVariants as asks
 use Rattle.caf_events.specs.declared.reply.Reply.{Reply}
 use Rattle.caf_events.specs.declared.reply.Reply.TheVariants as replies
@@ -15,10 +15,11 @@ use Rattle.caf_events.specs.Answers.{Answers}
 use Rattle.walk_theory.specs.Language.{goes_to, asking, stuck}
 use Rattle.image_acts.specs.Words.{word}
 use Rattle.image_acts.specs.Acts as a
-use Rattle.image_acts.specs.Acts.{Act, constant, stack, selector, ask}
-use Rattle.image_acts.specs.Core.{Core, Array, Own, with_values}
-use Rattle.image_acts.specs.Taking.{Acted, given, taken, put_down, taking_one, taking_array}
-use Rattle.image_acts.specs.Teams.{current_team, members, member_at}
+use Rattle.image_acts.specs.Acts.{Act, constant, stack, selector, team, ask}
+use Rattle.image_acts.specs.Core.{Core, Array, Own, Team, with_values}
+use Rattle.image_acts.specs.Taking.{Acted, unless, given, taken, put_down, taking_one, taking_array}
+use Rattle.image_acts.specs.Teams.{is_in, team_in, current_team, members, member_at}
+use Rattle.image_acts.specs.Faults.{no_team}
 use Rattle.image_acts.specs.Owning.{own_in}
 use Rattle.image_acts.specs.Replies.{arrival_reply}
 use Rattle.image_acts.specs.Meaning.{missed, settled, effect_of}
@@ -108,15 +109,32 @@ leaves w k c (replies.Round n) After h x = ((inl refl, tt), λ r y. h _)
 leaves w k c (replies.Clash i l) After h x = refl
 leaves w k c r After h x = absurd x
 
-module _ (k : ℕ) (x : a.AskAct) (how : Arriving) (acts : (d : Core) (t : ℤ) (vs : List ℤ) → d.values ≡ t ∷ vs → effect_of (ask x) d ≡ asking (asks.Arrive (record { 0 = word t }) how) (arrival_reply (with_values d vs))) where
+-- a team that was formed by a FORM TEAM of the current team, with this image in it
+abbrev is_child : Core → Option Team → Bool
+is_child c None = false
+is_child c (Some k) = nat_eq k.parent (current_team c) && is_in c.me k.members
+
+-- the team on top, where it is found to be one
+checked : (x : Act) (b : Bool) (d : Core) (After : Due → Core → Type 0) → After (owing None) d → EffectKeeps (settled x (unless no_team b (goes_to d))) After (owing None)
+checked x true d After h = h
+checked x false d After h = refl
+
+module _ (k : ℕ) (y : a.TeamAct) (x : a.AskAct) (how : Arriving) (tests : (d : Core) (t : ℤ) (vs : List ℤ) → d.values ≡ t ∷ vs → (b : Bool) × (effect_of (team y) d ≡ settled (team y) (unless no_team b (goes_to d))))
+    (acts : (d : Core) (t : ℤ) (vs : List ℤ) → d.values ≡ t ∷ vs → effect_of (ask x) d ≡ asking (asks.Arrive (record { 0 = word t }) how) (arrival_reply (with_values d vs))) where
   pub copied_round : (After : Due → Core → Type 0) → ((e : Core) → After (owing None) e) → (c : Core)
-      → PartsKeep (copying k 1) (PartsKeep (doing (ask x ∷ [])) (PartsKeep (copying k 1) (PartsKeep (doing (ask a.leave ∷ [])) After))) (owing None) c
+      → PartsKeep (copying k 1) (PartsKeep (doing (team y ∷ ask x ∷ [])) (PartsKeep (copying k 1) (PartsKeep (doing (ask a.leave ∷ [])) After))) (owing None) c
   copied_round After h c =
-      copied k (PartsKeep (doing (ask x ∷ [])) (PartsKeep (copying k 1) (PartsKeep (doing (ask a.leave ∷ [])) After))) c
-      (λ w ws e. subst (λ o. EffectKeeps o (PartsKeep (copying k 1) (PartsKeep (doing (ask a.leave ∷ [])) After)) (owing None)) (sym (acts (with_values c (w ∷ c.values)) w c.values refl)) (
+      let behind = PartsKeep (copying k 1) (PartsKeep (doing (ask a.leave ∷ [])) After) in
+      copied k (PartsKeep (doing (team y ∷ ask x ∷ [])) behind) c
+      (λ w ws e. (
+      let d = with_values c (w ∷ c.values) in
+      let t = tests d w c.values refl in
+      subst (λ o. EffectKeeps o (PartsKeep (doing (ask x ∷ [])) behind) (owing None)) (sym t.1)
+      (checked (team y) t.0 d (PartsKeep (doing (ask x ∷ [])) behind)
+      (subst (λ o. EffectKeeps o behind (owing None)) (sym (acts d w c.values refl)) (
         (λ y. y, tt),
         λ r y. copied_again k (PartsKeep (doing (ask a.leave ∷ [])) After) (due_after (asks.Arrive (record { 0 = word w }) how) r) (arrival_reply c r) w ws e (leaves w how c r After h y),
-      ))
+      )))))
 
 -- ---- collectives, and SYNC IMAGES
 top : (x : Act) (c : Core) (f : ℤ → Core → Acted) (After : Due → Core → Type 0) → EffectKeeps (missed x) After (owing None) → ((v : ℤ) (e : Core) → EffectKeeps (settled x (f v e)) After (owing None))
@@ -192,9 +210,9 @@ deallocate_round ns c =
     (λ k r x. departs c k r x))
 
 pub sync_team_round : (k : ℕ) (After : Due → Core → Type 0) → ((e : Core) → After (owing None) e) → (c : Core)
-    → PartsKeep (copying k 1) (PartsKeep (doing (ask a.arrive_sync ∷ [])) (PartsKeep (copying k 1) (PartsKeep (doing (ask a.leave ∷ [])) After))) (owing None) c
-sync_team_round k = copied_round k a.arrive_sync arrivals.Sync (λ d t vs e. rw e refl)
+    → PartsKeep (copying k 1) (PartsKeep (doing (team a.near_team ∷ ask a.arrive_sync ∷ [])) (PartsKeep (copying k 1) (PartsKeep (doing (ask a.leave ∷ [])) After))) (owing None) c
+sync_team_round k = copied_round k a.near_team a.arrive_sync arrivals.Sync (λ d t vs e. (is_in (natural t) d.teams || is_child d (team_in (natural t) d.known), rw e refl)) (λ d t vs e. rw e refl)
 
 pub change_team_round : (k : ℕ) (After : Due → Core → Type 0) → ((e : Core) → After (owing None) e) → (c : Core)
-    → PartsKeep (copying k 1) (PartsKeep (doing (ask a.arrive_change ∷ [])) (PartsKeep (copying k 1) (PartsKeep (doing (ask a.leave ∷ [])) After))) (owing None) c
-change_team_round k = copied_round k a.arrive_change arrivals.Change (λ d t vs e. rw e refl)
+    → PartsKeep (copying k 1) (PartsKeep (doing (team a.child_team ∷ ask a.arrive_change ∷ [])) (PartsKeep (copying k 1) (PartsKeep (doing (ask a.leave ∷ [])) After))) (owing None) c
+change_team_round k = copied_round k a.child_team a.arrive_change arrivals.Change (λ d t vs e. (is_child d (team_in (natural t) d.known), rw e refl)) (λ d t vs e. rw e refl)

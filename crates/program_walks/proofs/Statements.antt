@@ -50,8 +50,8 @@ numbers_steady : (ns : List ℕ) (x : Act) → is_frame x ≡ false → Steady (
 numbers_steady [] x f = steady_then f steady_none
 numbers_steady (n ∷ ns) x f = steady_then refl (numbers_steady ns x f)
 
-copied_steady : (k : ℕ) (x : a.AskAct) {q : Parts Act} → Steady q → Steady (copying k 1 ▸ doing (a.ask x ∷ []) ▸ copying k 1 ▸ doing (a.ask a.leave ∷ []) ▸ q)
-copied_steady k x h = steady_both (steady_then refl steady_none) (steady_both (steady_then refl steady_none) (steady_both (steady_then refl steady_none) (steady_both (steady_then refl steady_none) h)))
+copied_steady : (k : ℕ) (y : a.TeamAct) (x : a.AskAct) {q : Parts Act} → Steady q → Steady (copying k 1 ▸ doing (Act.team y ∷ a.ask x ∷ []) ▸ copying k 1 ▸ doing (a.ask a.leave ∷ []) ▸ q)
+copied_steady k y x h = steady_both (steady_then refl steady_none) (steady_both (steady_then refl (steady_then refl steady_none)) (steady_both (steady_then refl steady_none) (steady_both (steady_then refl steady_none) h)))
 
 -- ---- rounds, in which an arrival and a departure stand
 sync_rounds : Ordered (control.round (doing (a.ask a.arrive_sync ∷ [])))
@@ -202,7 +202,7 @@ module _ (e : Environment) where
   sync_team_ordered x stat =
       let tail : Ordered (settling stat 1 [] ▸ dropping (view.optional_size stat + 1)) = settled stat 1 [] (view.optional_size stat + 1) in
       let rounds = sync_team_round (view.optional_size stat) (PartsKeep (settling stat 1 [] ▸ dropping (view.optional_size stat + 1)) IsClear) tail.kept in
-      both (quiet_expression e x) (both (one tt refl) (both (quiet_place e stat) (record { kept = rounds; steady = copied_steady (view.optional_size stat) a.arrive_sync tail.steady })))
+      both (quiet_expression e x) (both (one tt refl) (both (quiet_place e stat) (record { kept = rounds; steady = copied_steady (view.optional_size stat) a.near_team a.arrive_sync tail.steady })))
 
   form_team_ordered : (x : t.Expression) (v : Local) (index : t.OptionalExpression) (stat : t.OptionalResult) (order : WrittenOrder) → Ordered (control.form_team e x v index stat order)
   form_team_ordered x v index stat order =
@@ -244,7 +244,7 @@ module _ (e : Environment) where
       both (quiet_copying (view.optional_size stat + 1) 1) (both (one tt refl) (settled stat 1 [] (view.optional_size stat + 1))) in
       let rounds = change_team_round (view.optional_size stat) (PartsKeep
       (copying (view.optional_size stat + 1) 1 ▸ doing (Act.team a.make_current ∷ []) ▸ settling stat 1 [] ▸ dropping (view.optional_size stat + 1)) IsClear) tail.kept in
-      both (quiet_expression e x) (both (one tt refl) (both (quiet_place e stat) (record { kept = rounds; steady = copied_steady (view.optional_size stat) a.arrive_change tail.steady })))
+      both (quiet_expression e x) (both (one tt refl) (both (quiet_place e stat) (record { kept = rounds; steady = copied_steady (view.optional_size stat) a.child_team a.arrive_change tail.steady })))
 
   quiet_deleting : (ns : List ℕ) (c : ℕ) → Ordered (control.deleting e ns c)
   quiet_deleting [] c = no_parts

@@ -407,7 +407,7 @@ module _ (e : Environment) where
     intrinsic (t.num_images which) k = team_of which ▸ doing (selector a.image_count ∷ [])
     intrinsic (t.num_images_of_number n) k = expression n ▸ doing (selector a.image_count_of_number ∷ [])
     intrinsic (t.image_index c sub which o) k = beside_as_written o (expression sub) (team_of which) ▸ doing (selector (a.image_index c (corank e c)) ∷ [])
-    intrinsic (t.image_status i which o) k = as_written o (expression i) (team_of which) ▸ doing (ask a.status ∷ [])
+    intrinsic (t.image_status i which o) k = as_written o (expression i) (team_of which) ▸ doing (selector a.team_value ∷ ask a.status ∷ [])
     intrinsic (t.failed_images which) k = team_of which ▸ doing (ask a.failed ∷ stack a.take_cells ∷ [])
     intrinsic (t.stopped_images which) k = team_of which ▸ doing (ask a.stopped ∷ stack a.take_cells ∷ [])
     intrinsic (t.number_of_team which) k = team_of which ▸ doing (selector a.team_number ∷ [])
