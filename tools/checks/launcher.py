@@ -70,8 +70,9 @@ def _check_words(checks: Checks) -> None:
 
 
 def _check_without_a_program(checks: Checks) -> None:
-    """Words that are wrong, and a file that can't be read, are answered without a program."""
-    nothing = {**os.environ, "CAF_PROGRAM": "/nonexistent"}
+    """Words that are wrong, and a file that can't be read, are answered without a program, and without any proof."""
+    places = [it for it in os.environ["PATH"].split(":") if not os.path.exists(f"{it}/rt")]
+    nothing = {**os.environ, "CAF_PROGRAM": "/nonexistent", "PATH": ":".join(places)}
     for way, words in (("", ""), ("", "check"), ("--try", "run"), ("--prove", "run -n"), ("", "check absent.f90"),
                        ("--prove", "check docs")):
         wanted = call([checks.program, *words.split()])
