@@ -9,7 +9,7 @@ import signal
 import subprocess
 import termios
 import time
-from typing import List
+from typing import Any, Dict, List
 
 from checks.comparing import LAUNCHER, Checks, Done, call, folder, read, started, write
 from checks.launcher import NEIGHBOUR, stand_in
@@ -59,7 +59,7 @@ def _programs(path: str) -> List[int]:
     return found
 
 
-def _run_of(path: str, **how: object) -> "subprocess.Popen[bytes]":
+def _run_of(path: str, **how: Any) -> "subprocess.Popen[bytes]":
     """Starts a long run, and waits until its program runs."""
     launcher = started([LAUNCHER, *LONG_WORDS, path], stdout=subprocess.PIPE, stderr=subprocess.PIPE, **how)
     for _ in range(400):
@@ -157,7 +157,7 @@ def _await_a_full_pipe(number: int) -> None:
     time.sleep(0.5)
 
 
-def _on_a_terminal(words: List[str], keys: bytes, env: dict) -> Done:
+def _on_a_terminal(words: List[str], keys: bytes, env: Dict[str, str]) -> Done:
     """Calls the launcher on a terminal, where these keys are pressed once the time is told."""
     process, terminal = pty.fork()
     if process == 0:
