@@ -2,7 +2,7 @@
 
 import os
 import signal
-from typing import List, Optional
+from typing import List
 
 from ending import DONE, NO_PROGRAM, READ_FAULT, USAGE, WRITE_FAULT, Caller, end_by
 from given_file import Asked, CannotRead, take_file

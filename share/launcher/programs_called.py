@@ -6,7 +6,8 @@ from typing import Optional
 import programs
 from children import Interrupted
 from ending import NO_PROGRAM, Caller, end_by
-from messages import Answered, Asked, messages
+from given_file import Asked
+from messages import Answered, messages
 from running import run
 from texts import answer, tell, text_of
 

@@ -2,7 +2,7 @@
 form that isn't read."""
 
 import re
-from typing import List, Optional
+from typing import List
 
 from ends import Place
 from tables import Kind, Tables

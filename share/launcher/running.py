@@ -102,6 +102,7 @@ def run(program: str, words: Sequence[str], standard_input: Optional[int]) -> Ou
     outlet = Outlet()
     with interruptible():
         child = _begin(program, words, standard_input)
+        assert child.stdout is not None
         text = child.stdout.fileno()
         try:
             _pass_on(text, outlet, lines)

@@ -5,7 +5,7 @@ empty and doesn't begin with `-`, but `-` itself, which is standard input, is on
 """
 
 import re
-from typing import Dict, NamedTuple, Optional, Sequence, Union
+from typing import Dict, NamedTuple, Optional, Sequence, Set, Union
 
 from texts import is_text
 
@@ -74,7 +74,7 @@ def read_words(words: Sequence[str]) -> Union[Valid, Wrong]:
 
 
 def _read_run(words: Sequence[str]) -> Union[Valid, Wrong]:
-    given = set()
+    given: Set[str] = set()
     place = 1
     while place < len(words) and _may_stand(words[place], given):
         option = words[place]
@@ -89,7 +89,7 @@ def _read_run(words: Sequence[str]) -> Union[Valid, Wrong]:
     return _read_file("run", words, place)
 
 
-def _may_stand(option: str, given: set) -> bool:
+def _may_stand(option: str, given: Set[str]) -> bool:
     """Tells whether a word is an option that may stand behind those that are given."""
     if option == _FAIL:
         return True

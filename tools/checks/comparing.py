@@ -5,7 +5,7 @@ import difflib
 import os
 import subprocess
 import tempfile
-from typing import IO, Iterator, List, NamedTuple, Optional, Sequence, Union
+from typing import IO, Any, Iterator, List, NamedTuple, Sequence, Union
 
 HOME = os.path.dirname(os.path.dirname(os.path.dirname(os.path.abspath(__file__))))
 LAUNCHER = f"{HOME}/caf"
@@ -24,7 +24,7 @@ class Done(NamedTuple):
     status: int
 
 
-def call(command: Sequence[Union[str, bytes]], given: Input = None, folder: str = HOME, **how: object) -> Done:
+def call(command: Sequence[Union[str, bytes]], given: Input = None, folder: str = HOME, **how: Any) -> Done:
     """Calls a command with these bytes, or this file, as its standard input, or with nothing there."""
     how = {"stdout": subprocess.PIPE, "stderr": subprocess.PIPE, "cwd": folder, "timeout": LONGEST, **how}
     if isinstance(given, bytes):
@@ -99,6 +99,6 @@ def write(path: str, data: Union[str, bytes]) -> str:
     return path
 
 
-def started(command: Sequence[str], **how: object) -> "subprocess.Popen[bytes]":
+def started(command: Sequence[str], **how: Any) -> "subprocess.Popen[bytes]":
     """Starts a command in a session of its own."""
     return subprocess.Popen(command, stdin=subprocess.DEVNULL, cwd=HOME, start_new_session=True, **how)

@@ -1,7 +1,6 @@
 """What ./caf answers by itself, what it reads and writes, and where it finds its home."""
 
 import os
-import subprocess
 import sys
 
 from checks.comparing import HOME, LAUNCHER, Checks, call, folder, read, started, with_status, write
@@ -25,6 +24,15 @@ MEASURES = """import resource, subprocess, sys
 status = subprocess.run(sys.argv[1:], stdout=subprocess.DEVNULL).returncode
 print(status, resource.getrusage(resource.RUSAGE_CHILDREN).ru_maxrss)
 """
+# Words that need no program, behind a word of the launcher.
+ANSWERED_BEFORE = (
+    ("", ""),
+    ("", "check"),
+    ("--try", "run"),
+    ("--prove", "run -n"),
+    ("", "check absent.f90"),
+    ("--prove", "check docs"),
+)
 MOST_KILOBYTES = 60000
 NEEDED = b"caf needs Python 3.8 or a later one\n"
 
@@ -70,10 +78,10 @@ def _check_words(checks: Checks) -> None:
 
 
 def _check_without_a_program(checks: Checks) -> None:
-    """Words that are wrong, and a file that can't be read, are answered without a program."""
-    nothing = {**os.environ, "CAF_PROGRAM": "/nonexistent"}
-    for way, words in (("", ""), ("", "check"), ("--try", "run"), ("--prove", "run -n"), ("", "check absent.f90"),
-                       ("--prove", "check docs")):
+    """Words that are wrong, and a file that can't be read, are answered without a program, and without any proof."""
+    places = [it for it in os.environ["PATH"].split(":") if not os.path.exists(f"{it}/rt")]
+    nothing = {**os.environ, "CAF_PROGRAM": "/nonexistent", "PATH": ":".join(places)}
+    for way, words in ANSWERED_BEFORE:
         wanted = call([checks.program, *words.split()])
         got = call([LAUNCHER, *way.split(), *words.split()], env=nothing)
         checks.same(f"./caf {way} {words} is answered without a program", with_status(wanted), with_status(got))

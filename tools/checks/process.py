@@ -9,7 +9,8 @@ import signal
 import subprocess
 import termios
 import time
-from typing import List
+from typing import Any, Dict, List, Tuple
+from unittest import mock
 
 from checks.comparing import LAUNCHER, Checks, Done, call, folder, read, started, write
 from checks.launcher import NEIGHBOUR, stand_in
@@ -18,8 +19,8 @@ from checks.launcher import NEIGHBOUR, stand_in
 # ends.
 LONG = b"integer :: i, s\nprint *, 1\ns = 0\ndo i = 1, 90000000\ns = mod(s + i, 1000)\nend do\nprint *, s\nend\n"
 LONG_WORDS = ["run", "-n", "64", "--order", "0", "--steps", "100000000"]
-# Stand-ins for the program: one writes a line and goes on; one writes more than two
-# pipes take and goes on; one writes after seconds.
+# Stand-ins for the program: one writes a line and goes on; one writes more than two pipes take and goes on; one writes
+# after seconds.
 BEGINS = "import os, time\nos.write(1, b'1: first\\n')\ntime.sleep(60)\n"
 MUCH = 150000
 WRITES_MUCH = f"import os, time\nos.write(1, b'x' * {MUCH})\ntime.sleep(60)\n"
@@ -31,8 +32,7 @@ WIPE = b"\r\x1b[K"
 
 def check_process(checks: Checks) -> None:
     """All of it; nothing is left in the folder of temporary files."""
-    with folder() as work, folder() as temporary:
-        os.environ["TMPDIR"] = temporary
+    with folder() as work, folder() as temporary, mock.patch.dict(os.environ, TMPDIR=temporary):
         path = write(f"{work}/long.f90", LONG)
         _check_signals(checks, path)
         _check_ignored_signal(checks, path)
@@ -43,7 +43,6 @@ def check_process(checks: Checks) -> None:
         _check_interrupt_on_a_terminal(checks, path)
         call([LAUNCHER, "check", "-"], given=b"end\n")
         checks.same("what is left in TMPDIR", "[]", str(os.listdir(temporary)))
-        del os.environ["TMPDIR"]
 
 
 def _programs(path: str) -> List[int]:
@@ -59,7 +58,7 @@ def _programs(path: str) -> List[int]:
     return found
 
 
-def _run_of(path: str, **how: object) -> "subprocess.Popen[bytes]":
+def _run_of(path: str, **how: Any) -> "subprocess.Popen[bytes]":
     """Starts a long run, and waits until its program runs."""
     launcher = started([LAUNCHER, *LONG_WORDS, path], stdout=subprocess.PIPE, stderr=subprocess.PIPE, **how)
     for _ in range(400):
@@ -72,7 +71,7 @@ def _run_of(path: str, **how: object) -> "subprocess.Popen[bytes]":
 def _ended(checks: Checks, what: str, launcher: "subprocess.Popen[bytes]", path: str, status: int) -> Done:
     """Waits for the end of a run, which must come at once, with that status and no process left."""
     begun = time.monotonic()
-    text, said = launcher.communicate(timeout=60)
+    text, said = _last_of(launcher)
     spent = time.monotonic() - begun
     checks.holds(f"{what}: the status is {launcher.returncode}", launcher.returncode == status)
     checks.holds(f"{what}: it ends after {spent:.1f} s", spent < 3)
@@ -85,6 +84,15 @@ def _ended(checks: Checks, what: str, launcher: "subprocess.Popen[bytes]", path:
     for number in left:
         os.kill(number, signal.SIGKILL)
     return Done(text, said, launcher.returncode)
+
+
+def _last_of(launcher: "subprocess.Popen[bytes]") -> Tuple[bytes, bytes]:
+    """Returns what is still written on both streams; a launcher that doesn't end is killed."""
+    try:
+        return launcher.communicate(timeout=20)
+    except subprocess.TimeoutExpired:
+        os.killpg(launcher.pid, signal.SIGKILL)
+        return launcher.communicate()
 
 
 def _check_signals(checks: Checks, path: str) -> None:
@@ -130,7 +138,7 @@ def _check_text_so_far(checks: Checks, path: str) -> None:
         launcher = started([LAUNCHER, "run", path], stdout=subprocess.PIPE, env=env)
         checks.same("what is given is passed on at once", b"1: first\n", os.read(launcher.stdout.fileno(), 100))
         launcher.terminate()
-        got = launcher.communicate(timeout=60)[0]
+        got = _last_of(launcher)[0]
         checks.holds("the launcher of a stand-in ends", launcher.returncode == -signal.SIGTERM and got == b"")
 
 
@@ -141,7 +149,7 @@ def _check_text_that_waits(checks: Checks, path: str) -> None:
         launcher = started([LAUNCHER, "run", path], stdout=subprocess.PIPE, env=env)
         _await_a_full_pipe(launcher.stdout.fileno())
         launcher.terminate()
-        got = launcher.communicate(timeout=60)[0]
+        got = _last_of(launcher)[0]
         checks.holds(f"{len(got)} bytes came of {MUCH} before SIGTERM", len(got) == MUCH)
         checks.holds("the launcher ends by SIGTERM", launcher.returncode == -signal.SIGTERM)
 
@@ -157,7 +165,7 @@ def _await_a_full_pipe(number: int) -> None:
     time.sleep(0.5)
 
 
-def _on_a_terminal(words: List[str], keys: bytes, env: dict) -> Done:
+def _on_a_terminal(words: List[str], keys: bytes, env: Dict[str, str]) -> Done:
     """Calls the launcher on a terminal, where these keys are pressed once the time is told."""
     process, terminal = pty.fork()
     if process == 0:
