@@ -30,6 +30,12 @@ def packed(program: bytes) -> bytes:
     return lzma.compress(program, format=lzma.FORMAT_XZ, check=lzma.CHECK_CRC64, filters=filters)
 
 
+def glibc_of(program: bytes) -> str:
+    """Returns the oldest version of glibc that has all that the program calls of it: the latest one that it names."""
+    named = [(int(one), int(other)) for one, other in re.findall(rb"GLIBC_([0-9]+)\.([0-9]+)\b", program)]
+    return "%d.%d" % max(named, default=(2, 0))
+
+
 def git(home: str, *words: str) -> str:
     """Returns what a command of git says of the checkout."""
     try:
@@ -62,7 +68,7 @@ def pack(home: str) -> Release:
         raise Refused(f"{proof.STAMP} names no kit")
     program = release.read(f"{home}/{proof.PROGRAM}")
     small = packed(program)
-    sums = {"program": release.sum_of(program), "program_bytes": len(program)}
+    sums = {"glibc": glibc_of(program), "program": release.sum_of(program), "program_bytes": len(program)}
     sums.update({"packed": release.sum_of(small), "packed_bytes": len(small)})
     made = Release(sources=told, kit=kit[1], logic=kit[2], commit=commit_of(home), **sums)
     at = f"{home}/{release.FOLDER}"

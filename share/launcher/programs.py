@@ -54,10 +54,11 @@ def released(home: str, told: str | None) -> tuple[Program | None, str]:
         said = release.manifest_of(home)
         if said is None:
             return None, "there is no release"
-        if not release.is_for_this_machine():
-            return None, "the release is for Linux on x86-64"
         if told is not None and said.sources != told:
             return None, "the release is of other sources than these"
+        why = release.why_not_here(said)
+        if why:
+            return None, why
         return Program(release.unpacked(home, said), Kind.RELEASED), ""
     except (release.Damaged, NoProgram) as wrong:
         return None, str(wrong)

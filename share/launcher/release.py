@@ -29,6 +29,7 @@ KEYS = {
     "kit": r"\S+",
     "logic": r"\S+",
     "commit": "[0-9a-f]{40}",
+    "glibc": r"[0-9]{1,4}\.[0-9]{1,4}",
     "program": SUM,
     "program_bytes": NUMBER,
     "packed": SUM,
@@ -42,12 +43,13 @@ class Damaged(Exception):
 
 class Release(NamedTuple):
     """What release/MANIFEST says: sums are sha256 in 64 hexadecimal digits, sizes are in bytes, `commit` is the one
-    whose sources it was built of."""
+    whose sources it was built of, `glibc` the oldest version of the C library under which the program runs."""
 
     sources: str
     kit: str
     logic: str
     commit: str
+    glibc: str
     program: str
     program_bytes: int
     packed: str
@@ -99,9 +101,23 @@ def release_of(home: str) -> Release | None:
     return None
 
 
-def is_for_this_machine() -> bool:
-    """Returns whether the packed program runs here."""
-    return sys.platform == "linux" and os.uname().machine == "x86_64"
+def version_of(text: str) -> tuple[int, ...]:
+    """Returns the numbers of a version such as `2.36`."""
+    return tuple(int(it) for it in re.findall("[0-9]+", text))
+
+
+def why_not_here(release: Release) -> str:
+    """Returns why the packed program doesn't run on this machine, or nothing where it does."""
+    if sys.platform != "linux" or os.uname().machine != "x86_64":
+        return "the release is for Linux on x86-64"
+    try:
+        ours = os.confstr("CS_GNU_LIBC_VERSION") or ""
+    except (OSError, ValueError):
+        ours = ""
+    is_glibc = ours.startswith("glibc ")
+    if is_glibc and version_of(ours) >= version_of(release.glibc):
+        return ""
+    return f"the release needs glibc {release.glibc} or a later one"
 
 
 def packed_bytes(home: str, release: Release) -> bytes:

@@ -16,7 +16,7 @@ from trouble import NoProgram
 
 from tests.checkouts import WithCheckout, put
 
-PROGRAM = "#!/bin/sh\necho released\n" + "# filled up\n" * 1000
+PROGRAM = "#!/bin/sh\necho released\n# GLIBC_2.2.5 GLIBC_2.14 GLIBC_2.4\n" + "# filled up\n" * 1000
 KIT = "rattle-kit-13f logic dac8208d650f15bf"
 
 
@@ -52,6 +52,7 @@ class Packing(WithProof):
         self.assertEqual(made.sources, sources.sum_of_sources(self.home))
         self.assertEqual((made.kit, made.logic), ("rattle-kit-13f", "dac8208d650f15bf"))
         self.assertEqual(made.commit, self.git("rev-parse", "HEAD"))
+        self.assertEqual(made.glibc, "2.14")
         self.assertEqual(made.program, release.sum_of(PROGRAM.encode()))
         self.assertEqual(release.manifest_of(self.home), made)
         self.assertEqual(release.program_bytes(self.home, made), PROGRAM.encode())
@@ -190,6 +191,14 @@ class Running(WithProof):
     def test_another_machine_takes_the_next_one(self) -> None:
         with mock.patch("sys.platform", "darwin"):
             self.assertEqual(programs.find_program(self.home).kind, programs.Kind.PROVED)
+
+    def test_an_older_c_library_is_told(self) -> None:
+        os.remove(f"{self.home}/{proof.STAMP}")
+        for told, runs in (("glibc 2.13", False), ("glibc 2.9", False), ("glibc 2.14", True), ("", False)):
+            with mock.patch("os.confstr", return_value=told), mock.patch("quick.program_of", return_value="/quick"):
+                found = programs.find_program(self.home)
+            self.assertEqual(found.why, "" if runs else "the release needs glibc 2.14 or a later one", told)
+            self.assertEqual(found.kind is programs.Kind.RELEASED, runs)
 
 
 if __name__ == "__main__":
