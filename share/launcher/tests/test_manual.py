@@ -66,6 +66,7 @@ say ok
 .TP
 .B caf make SEED SIZE
 write a source
+.SH OPTIONS
 .TP
 .B \\-n N
 so many images; 4 where it isn't given
