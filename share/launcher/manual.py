@@ -88,6 +88,7 @@ def man_page(text: Help, tables: Tables, version: str) -> str:
         elif isinstance(block, str):
             lines += [".PP", roff(block)]
         else:
+            lines += [".SH OPTIONS"] if block[0].term.startswith("-") else []
             lines += man_list(block)
     lines += [".SH EXIT STATUS"]
     for status in (it for it in tables.entries if it.kind is Kind.STATUS):

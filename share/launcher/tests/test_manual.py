@@ -2,6 +2,7 @@
 
 import subprocess
 import unittest
+from typing import List
 
 import completions
 import manual
@@ -66,6 +67,7 @@ say ok
 .TP
 .B caf make SEED SIZE
 write a source
+.SH OPTIONS
 .TP
 .B \\-n N
 so many images; 4 where it isn't given
@@ -114,7 +116,7 @@ the run has finished
 WORDS = completions.words_of(manual.help_of(TEXT), TABLES)
 
 
-def offered(*words: str) -> list:
+def offered(*words: str) -> List[str]:
     """Returns what bash offers for the last of these words."""
     made = completions.bash_completion(WORDS)
     typed = " ".join(completions.quoted(word) for word in ("caf", *words))
