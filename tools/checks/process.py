@@ -1,15 +1,17 @@
 """How ./caf behaves as a process: signals, a terminal, and what is left of it."""
 
 import array
+import contextlib
 import fcntl
 import os
 import pty
 import re
+import select
 import signal
 import subprocess
 import termios
 import time
-from typing import Any, Dict, List, Tuple
+from typing import Any, Dict, Iterator, List, Tuple
 from unittest import mock
 
 from checks.comparing import LAUNCHER, Checks, Done, call, folder, read, started, write
@@ -25,6 +27,8 @@ BEGINS = "import os, time\nos.write(1, b'1: first\\n')\ntime.sleep(60)\n"
 MUCH = 150000
 WRITES_MUCH = f"import os, time\nos.write(1, b'x' * {MUCH})\ntime.sleep(60)\n"
 WAITS = "import os, time\ntime.sleep(4.5)\nos.write(1, b'1: 4\\n')\n"
+# So many seconds a terminal is awaited.
+SILENCE = 30.0
 # The time on a terminal.
 TICK = re.compile(rb"\r\x1b\[Kcaf: ([0-9]+) s: the program runs")
 WIPE = b"\r\x1b[K"
@@ -32,7 +36,7 @@ WIPE = b"\r\x1b[K"
 
 def check_process(checks: Checks) -> None:
     """All of it; nothing is left in the folder of temporary files."""
-    with folder() as work, folder() as temporary, mock.patch.dict(os.environ, TMPDIR=temporary):
+    with _signals_that_end(), folder() as work, folder() as temporary, mock.patch.dict(os.environ, TMPDIR=temporary):
         path = write(f"{work}/long.f90", LONG)
         _check_signals(checks, path)
         _check_ignored_signal(checks, path)
@@ -43,6 +47,20 @@ def check_process(checks: Checks) -> None:
         _check_interrupt_on_a_terminal(checks, path)
         call([LAUNCHER, "check", "-"], given=b"end\n")
         checks.same("what is left in TMPDIR", "[]", str(os.listdir(temporary)))
+
+
+@contextlib.contextmanager
+def _signals_that_end() -> Iterator[None]:
+    """Lets no call ignore a signal because the check does, as under nohup or behind `&`."""
+    before = {it: signal.getsignal(it) for it in (signal.SIGHUP, signal.SIGINT, signal.SIGTERM)}
+    try:
+        for number, is_now in before.items():
+            if is_now is signal.SIG_IGN:
+                signal.signal(number, signal.SIG_DFL)
+        yield
+    finally:
+        for number, was in before.items():
+            signal.signal(number, was)
 
 
 def _programs(path: str) -> List[int]:
@@ -171,7 +189,7 @@ def _on_a_terminal(words: List[str], keys: bytes, env: Dict[str, str]) -> Done:
     if process == 0:
         os.execve(LAUNCHER, [LAUNCHER, *words], {**env, "TERM": "xterm"})
     text = b""
-    while True:
+    while select.select([terminal], [], [], SILENCE)[0]:
         try:
             piece = os.read(terminal, 1000)
         except OSError:
@@ -182,6 +200,7 @@ def _on_a_terminal(words: List[str], keys: bytes, env: Dict[str, str]) -> Done:
         if keys and TICK.search(text):
             os.write(terminal, keys)
             keys = b""
+    os.close(terminal)
     status = os.waitpid(process, 0)[1]
     return Done(text, b"", os.WEXITSTATUS(status) if os.WIFEXITED(status) else -os.WTERMSIG(status))
 
