@@ -1,11 +1,11 @@
 #!/usr/bin/env python3
 """Tells what each crate takes the gate, in processor seconds: bench/gate_times.py OUT [FOLDER]
 
-Looks at the list of processes each second until it is ended (Ctrl-C or TERM), and writes OUT each half minute and at the end:
-a line for each crate, 'SECONDS CRATE KIND', the dearest first, and a last one with the sum. KIND is proof, tests or edit.
-FOLDER is that of the run: of the processes only those count that work below it (`rt ci` works in the checkout itself,
-`rt ci NAME..` in a copy below /tmp, edits in folders of their own below /tmp); without it all count. What a process takes
-in its last second isn't seen, and beside other work a crate takes up to twice as long as alone.
+Looks at the list of processes each second until it is ended (Ctrl-C or TERM), and writes OUT each half minute and at
+the end: a line for each crate, 'SECONDS CRATE KIND', the dearest first, and a last one with the sum. KIND is proof,
+tests or edit. FOLDER is that of the run: of the processes only those count that work below it (`rt ci` works in the
+checkout itself, `rt ci NAME..` in a copy below /tmp, edits in folders of their own below /tmp); without it all count.
+What a process takes in its last second isn't seen, and beside other work a crate takes up to twice as long as alone.
 """
 
 import os
