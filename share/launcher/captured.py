@@ -30,6 +30,14 @@ def begin(program: str, words: Sequence[str], standard_input: Optional[int]) -> 
     return subprocess.Popen(command, bufsize=0, stdin=given, stdout=subprocess.PIPE, preexec_fn=bound())
 
 
+def end(child: "subprocess.Popen[bytes]") -> None:
+    """Ends a run where it still goes on, and closes its pipe."""
+    child.kill()
+    child.wait()
+    if child.stdout is not None:
+        child.stdout.close()
+
+
 def run_captured(program: str, words: Sequence[str], standard_input: Optional[int] = None) -> Captured:
     """Runs the program and returns what it wrote; raises Interrupted where a signal ends the run, and OSError where the
     program can't be begun."""
@@ -39,8 +47,7 @@ def run_captured(program: str, words: Sequence[str], standard_input: Optional[in
             text = _whole_text(child)
             status = child.wait()
         finally:
-            child.kill()
-            child.wait()
+            end(child)
     return Captured(status if status >= 0 else 128 - status, text_of(text))
 
 
