@@ -5,7 +5,7 @@ It claims nothing of an order that it hasn't tried.
 """
 
 import shlex
-from typing import Dict, Iterator, List, NamedTuple, Set
+from typing import Dict, List, NamedTuple, Set
 
 from captured import Captured, run_captured
 from children import Interrupted, interruptible
@@ -106,7 +106,7 @@ def explore(call: Call) -> int:
     plan = _plan(call.words, base, first)
     explored = Explored(plan)
     runs = Runs(program.path, call.asked.standard_input, processors(), explored.take, explored.tick)
-    jobs = (Job(number, _with(words, trial.words)) for number, trial in enumerate(plan.trials))
+    jobs = [Job(number, _with(words, trial.words)) for number, trial in enumerate(plan.trials)]
     signal_number = _run(runs, jobs)
     explored.progress.wipe()
     answer(told(_table(call, explored)))
@@ -118,7 +118,7 @@ def explore(call: Call) -> int:
     return explored.worst[1]
 
 
-def _run(runs: Runs, jobs: Iterator[Job]) -> int:
+def _run(runs: Runs, jobs: List[Job]) -> int:
     """Makes the runs, and returns the number of the signal that ended them before, or 0."""
     try:
         with interruptible():

@@ -172,10 +172,10 @@ class ManyTest(unittest.TestCase):
         text = f"#!{sys.executable} -S\nimport sys, time\nprint(sys.argv[1], flush=True)\ntime.sleep(int(sys.argv[2]))\n"
         with program(text) as path:
             runs = Runs(path, lambda: None, 2, self.end, lambda: None)
-            self.assertEqual(explore._run(runs, iter([Job(it, [str(it), "0"]) for it in range(5)])), 0)
+            self.assertEqual(explore._run(runs, [Job(it, [str(it), "0"]) for it in range(5)]), 0)
             self.assertEqual(sorted(self.done), [f"{it}\n" for it in range(5)])
             begun = time.monotonic()
-            jobs = iter([Job(0, ["end", "0"]), Job(1, ["b", "60"]), Job(2, ["c", "60"])])
+            jobs = [Job(0, ["end", "0"]), Job(1, ["b", "60"]), Job(2, ["c", "60"])]
             self.assertEqual(explore._run(runs, jobs), signal.SIGTERM)
             self.assertLess(time.monotonic() - begun, 30)
         self.assertEqual(self.done[5:], ["end\n"])
