@@ -6,8 +6,8 @@ from trace import Step
 
 
 def short_text(step: Step) -> str:
-    """Returns what a step does: `x:0[2]=1` defines the cell at the offset 0 of `x` on image 2, `x:0[2]->1` reads it; the
-    image stands there where it is another one. `r2` is the second round of the team. A status other than 0 stands
+    """Returns what a step does: `x:0[2]=1` defines the cell at the offset 0 of `x` on image 2, `x:0[2]->1` reads it;
+    the image stands there where it is another one. `r2` is the second round of the team. A status other than 0 stands
     behind `->`."""
     return _TEXTS.get(step.word, _as_told)(step)
 
@@ -61,7 +61,8 @@ def _joined(step: Step, what: str) -> str:
 
 
 def _arrive(step: Step) -> str:
-    return _joined(step, {"end": "end team", "form": "form team", "change": "change team"}.get(step.ask[2], step.ask[2]))
+    kind = step.ask[2]
+    return _joined(step, f"{kind} team" if kind in ("form", "change", "end") else kind)
 
 
 def _leave(step: Step) -> str:

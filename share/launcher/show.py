@@ -35,7 +35,7 @@ class Choice(NamedTuple):
 
 
 class Layout(NamedTuple):
-    """The widths of the columns: of the stamp, of the step's number, of its line, and of a whole cell; and the images."""
+    """The widths of the stamp, of a step's number, of its line, and of a whole cell; and the images."""
 
     stamp: int
     number: int

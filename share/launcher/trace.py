@@ -51,8 +51,8 @@ _KIND_OF: Dict[str, Kind] = {word: kind for kind, words in _WORDS_OF.items() for
 
 
 class Step(NamedTuple):
-    """A step of the trace: its stamp, image, number and line; the object that was asked, `board`, `own` or the memory of
-    an image, as `m2`; the words of the ask, and the reply."""
+    """A step of the trace: its stamp, image, number and line; the object that was asked, `board`, `own` or the memory
+    of an image, as `m2`; the words of the ask, and the reply."""
 
     stamp: int
     image: int

@@ -169,7 +169,8 @@ class ManyTest(unittest.TestCase):
             os.kill(os.getpid(), signal.SIGTERM)
 
     def test_all_are_made_and_a_signal_ends_all(self) -> None:
-        text = f"#!{sys.executable} -S\nimport sys, time\nprint(sys.argv[1], flush=True)\ntime.sleep(int(sys.argv[2]))\n"
+        text = "import sys, time\nprint(sys.argv[1], flush=True)\ntime.sleep(int(sys.argv[2]))\n"
+        text = f"#!{sys.executable} -S\n{text}"
         with program(text) as path:
             runs = Runs(path, lambda: None, 2, self.end, lambda: None)
             self.assertEqual(explore._run(runs, [Job(it, [str(it), "0"]) for it in range(5)]), 0)
