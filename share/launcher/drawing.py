@@ -32,7 +32,8 @@ svg{font:11px ui-monospace,Menlo,Consolas,monospace;background:#fff}text{fill:#1
 .clash{stroke:#d11;stroke-width:2;stroke-dasharray:6 4;fill:none}
 """
 DARK = """\
-svg{background:#14181d}.heads rect{fill:#14181d}text{fill:#e6e9ed}circle{fill:#b1bac4}.lane,.over{stroke:#4a525c}.stamp text{fill:#8b949e}
+svg{background:#14181d}.heads rect{fill:#14181d}text{fill:#e6e9ed}circle{fill:#b1bac4}
+.lane,.over{stroke:#4a525c}.stamp text{fill:#8b949e}
 .round circle,.pair circle{fill:#6ea3ff}.access circle,.atomic circle{fill:#56c08a}.arrow{stroke:#56c08a}
 .put circle{fill:#f2955c}.arrow.put{stroke:#f2955c}.critical circle,.event circle{fill:#b78af0}.edge{stroke:#b78af0}
 .bad circle{fill:#ff6b6b}.bad text,.waits{fill:#ff8a80}
