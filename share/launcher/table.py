@@ -32,7 +32,7 @@ def told(table: Table) -> str:
     has_orders = any(it[0] for it in table.counts)
     has_workers = any(it[1] for it in table.counts)
     front = (f"{'orders':>8}" if has_orders else "") + (f"{'workers':>9}" if has_workers else "")
-    lines += ["", f"{front}  end"]
+    lines.append(f"{front}  end")
     for number, way in enumerate(table.ways[:MOST_WAYS]):
         orders, workers, _ = table.counts[number]
         counts = (f"{orders:8d}" if has_orders else "") + (f"{workers:9d}" if has_workers else "")
@@ -40,7 +40,7 @@ def told(table: Table) -> str:
     left = table.counts[MOST_WAYS:]
     if left:
         lines.append(f"and {sum(it[0] + it[1] for it in left)} runs with {len(left)} other ends")
-    lines += ["", table.closing]
+    lines.append(table.closing)
     return "".join(f"{it}\n" for it in lines)
 
 

@@ -34,7 +34,8 @@ _ROW = re.compile(r" +([0-9]+)  ([0-9]+) [A-Z]")
 
 
 def check_views(checks: Checks) -> None:
-    """Each step stands in its image's column and once in the page; the table of explore counts what the program does."""
+    """Each step stands in its image's column and once in the page, and the table of explore counts what the program
+    does."""
     for line in SHOWN.splitlines():
         words = line.split()
         trace = text_of(call([checks.program, "run", "--trace", *words]).text)

@@ -40,7 +40,6 @@ print("1: 20\\n2: 20")
 
 BY_SEEDS = """\
 7 orders, SEED 0 to 6
-
   orders  end
        3  5 Race: x, lines 7 and 8
             with 3 different texts
@@ -51,13 +50,11 @@ BY_SEEDS = """\
             caf run -n 2 --order 1 FILE
        2  6 Stuck: image 1 at line 5 (lock), images 2, 3 at line 6 (leave)
             caf run -n 2 --order 2 FILE
-
 Other orders may end otherwise: nothing is said of them.
 """
 
 BOTH = """\
 4 orders, SEED 0 to 3, and 1 run on 1 to 4 workers
-
   orders  workers  end
        2        0  5 Race: x, lines 7 and 8
                      with 2 different texts
@@ -68,13 +65,11 @@ BOTH = """\
                      caf run --order 1 FILE
        1        0  6 Stuck: image 1 at line 5 (lock), images 2, 3 at line 6 (leave)
                      caf run --order 2 FILE
-
 Other orders may end otherwise: nothing is said of them.
 """
 
 WITH_FAILURES = """\
 each of the 3 single failures in order 1
-
   orders  end
        2  0 Finished
             | 1: 20
@@ -82,7 +77,6 @@ each of the 3 single failures in order 1
             caf run --order 1 --fail 1@1 FILE
        1  4 ErrorStop: line 9, code 6001
             caf run --order 1 --fail 2@1 FILE
-
 Other orders, and two failures at once, may end otherwise: nothing is said of them.
 """
 
