@@ -12,6 +12,7 @@ from words import Wrong, read_words
 # The modules of the other answers are read where they are needed: a call that only answers words has to be quick.
 
 HELP_WORDS = ("-h", "--help", "help")
+VIEWS = ("show", "picture", "explore")
 
 
 def main(home: str) -> int:
@@ -51,7 +52,12 @@ def _answer(caller: Caller, words: List[str]) -> int:
 
         return programs_called.prove_alone(caller)
     way = first if first in ("--prove", "--try") else ""
-    return _run(caller, way, words[1:] if way else words)
+    behind = words[1:] if way else words
+    if behind[:1] and behind[0] in VIEWS:
+        from views import view
+
+        return view(caller, way, behind)
+    return _run(caller, way, behind)
 
 
 def _explain(caller: Caller, words: List[str]) -> int:

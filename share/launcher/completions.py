@@ -13,6 +13,10 @@ from typing import List, Sequence, Tuple
 from manual import Help, Item
 from tables import Tables
 
+# How the meaning of an option begins that one of show, picture and explore has beside those of a run.
+_OWN = re.compile("(show|picture|explore): ")
+
+
 def known_words(tables: Tables) -> List[str]:
     """Returns the numbers, names and words that --explain has an entry of, each once, in the order of the tables."""
     words = [word for entry in tables.entries for word in (entry.key, entry.name)] + list(tables.left)
@@ -45,7 +49,8 @@ def words_of(text: Help, tables: Tables) -> Words:
     first = {name_of(it): it for it in reversed(calls)}
     ahead = tuple(name_of(it) for it in calls if it.term.endswith(" WORDS"))
     in_order = tuple(first[name] for name in dict.fromkeys(map(name_of, calls)))
-    return Words(in_order, ahead, tuple(text.items("-")), tuple(known_words(tables)))
+    options = tuple(it for it in text.items("-") if not _OWN.match(it.text))
+    return Words(in_order, ahead, options, tuple(known_words(tables)))
 
 
 BASH = """\
@@ -61,7 +66,7 @@ _caf() {
     fi
     case ${COMP_WORDS[at]} in
     --explain) mapfile -t COMPREPLY < <(compgen -W 'KNOWN' -- "$now") ;;
-    run)
+    run | show | picture | explore)
         if [[ $one == @(TAKE_ONE) || $two == @(TAKE_TWO) ]]; then return; fi
         if [[ $now == -* ]]; then
             mapfile -t COMPREPLY < <(compgen -W 'OPTIONS' -- "$now")
@@ -92,7 +97,7 @@ _caf() {
     fi
     case ${words[at]} in
     --explain) compadd -- KNOWN ;;
-    run)
+    run|show|picture|explore)
         if [[ ${words[CURRENT - 1]} == (TAKE_ONE) || ${words[CURRENT - 2]} == (TAKE_TWO) ]]; then return; fi
         if [[ ${words[CURRENT]} == -* ]]; then _describe -o 'options' options; else _files; fi
         ;;
@@ -155,6 +160,6 @@ def fish_completion(words: Words) -> str:
             lines.append(fish_option(item, "__fish_use_subcommand", more))
         else:
             lines.append(f"complete -c caf -n __fish_use_subcommand -a {name} -d {quoted(item.text)}")
-    lines += [fish_option(item, "'__fish_seen_subcommand_from run'") for item in words.options]
-    lines.append("complete -c caf -n '__fish_seen_subcommand_from run check' -F")
+    lines += [fish_option(item, "'__fish_seen_subcommand_from run show picture explore'") for item in words.options]
+    lines.append("complete -c caf -n '__fish_seen_subcommand_from run show picture explore check' -F")
     return "\n".join(lines) + "\n"

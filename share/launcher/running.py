@@ -121,10 +121,10 @@ def run(program: str, words: Sequence[str], standard_input: Optional[int]) -> Ou
 def _begin(program: str, words: Sequence[str], standard_input: Optional[int]) -> "subprocess.Popen[bytes]":
     """Begins the program, which stays in the terminal's group of this process."""
     command = [os.fsencode(program), *(bytes_of(word) for word in words)]
-    return subprocess.Popen(command, bufsize=0, stdin=standard_input, stdout=subprocess.PIPE, preexec_fn=_bound())
+    return subprocess.Popen(command, bufsize=0, stdin=standard_input, stdout=subprocess.PIPE, preexec_fn=bound())
 
 
-def _bound() -> Callable[[], None]:
+def bound() -> Callable[[], None]:
     """Returns what binds a new process to this one: it is killed where this one ends before it."""
     parent = os.getpid()
     prctl = ctypes.CDLL(None).prctl

@@ -102,3 +102,9 @@ def keep_streams() -> None:
             if closed != stream:
                 os.dup2(closed, stream)
                 os.close(closed)
+
+
+def lines_of(text: str) -> List[str]:
+    """Returns the lines of a text, each of which a line feed ends, and the last one where none does."""
+    lines = text.split("\n")
+    return lines[:-1] if lines[-1] == "" else lines

@@ -179,7 +179,7 @@ class Completions(unittest.TestCase):
     def test_fish(self) -> None:
         made = completions.fish_completion(WORDS).splitlines()
         first = "complete -c caf -n __fish_use_subcommand"
-        run = "complete -c caf -n '__fish_seen_subcommand_from run'"
+        run = "complete -c caf -n '__fish_seen_subcommand_from run show picture explore'"
         self.assertIn(f"{first} -a check -d 'say ok'", made)
         self.assertIn(f"{first} -l try -d 'the same, with nothing proved'", made)
         self.assertIn(f"{first} -l prove -d 'prove all'", made)

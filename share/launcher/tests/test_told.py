@@ -107,7 +107,7 @@ class UsageTest(unittest.TestCase):
 
     def test_reasons(self) -> None:
         table = [
-            ("", 1, "word 1 is missing: the command is run or check or make"),
+            ("", 1, "word 1 is missing: the command is run or check or make or show or picture or explore"),
             ("run -n", 3, "word 3 is missing: it has to be the N of -n"),
             ("run --made 1 4 5", 5, f"word 5 is wrong, 5: {BEHIND_SIZE}"),
             ("run --made 1", 4, "word 4 is missing: it has to be the SIZE of --made"),

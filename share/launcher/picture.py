@@ -1,0 +1,80 @@
+"""The page and the drawing of a run that `caf picture` writes.
+
+The page is page.html with its places filled: it stands alone, and asks nothing of the net.
+"""
+
+import os
+import re
+from typing import Dict, List
+
+from drawing import drawing, escaped, numbers, race_steps
+from segments import segments_of
+from trace import Run
+from views import Seen
+
+_PAGE = os.path.join(os.path.dirname(os.path.abspath(__file__)), "page.html")
+
+# With more steps the page makes the labels of their titles, so that it stays below 2 MB for 10,000 steps.
+MOST_LABELS = 4000
+
+
+def svg(seen: Seen) -> str:
+    """Returns the drawing alone."""
+    return drawing(seen.run, segments_of(seen.run)) + "\n"
+
+
+def page(seen: Seen) -> str:
+    """Returns the page."""
+    with open(_PAGE, encoding="latin-1") as file:
+        text = file.read()
+    segments = segments_of(seen.run)
+    places = {
+        "TITLE": escaped(seen.title),
+        "END": _end(seen.run),
+        "SOURCE": _source(seen),
+        "SEGMENTS": "[" + ",".join(numbers([it.image, it.number, *it.clock]) for it in segments.all) + "]",
+        "OF_STEP": numbers(segments.of_step),
+        "DRAWING": drawing(seen.run, segments, len(seen.run.steps) <= MOST_LABELS),
+    }
+    return re.sub(r"\{\{([A-Z_]+)\}\}", lambda it: places[it[1]], text)
+
+
+def _end(run: Run) -> str:
+    """Returns how the run ended; of a race each access leads to its step."""
+    lines = [f"<p>{escaped(it)}</p>" for it in run.end] or ["<p>finished</p>"]
+    steps = race_steps(run)
+    if run.race and len(steps) == 2:
+        names = [f"image {it.image}, step {it.number}, line {it.line}" for it in (run.race.first, run.race.second)]
+        links = " and ".join(f'<a href="#s{at}">{name}</a>' for at, name in zip(_of_race(run, steps), names))
+        what = f"Race on cell {run.race.cell} of {escaped(run.race.coarray)} of image {run.race.owner}"
+        lines = [f"<p><b>{what}:</b> {links}. Nothing orders their two segments.</p>"]
+    elif run.waits:
+        told = (f"image {it.image} at line {it.line} ({it.word})" for it in run.waits)
+        lines = [f"<p><b>Stuck:</b> these images wait, and none can go on: {', '.join(told)}.</p>"]
+    return f'<div class="end{" wrong" if run.end else ""}">{"".join(lines)}</div>'
+
+
+def _of_race(run: Run, steps: List[int]) -> List[int]:
+    """Returns the two steps of the race in its order, the first access first."""
+    assert run.race is not None
+    first = run.steps[steps[0] - 1]
+    return steps if (first.image, first.number) == run.race.first[:2] else steps[::-1]
+
+
+def _source(seen: Seen) -> str:
+    """Returns the lines of the source, those of steps as buttons; those of the race are marked."""
+    counts: Dict[int, int] = {}
+    for step in seen.run.steps:
+        counts[step.line] = counts.get(step.line, 0) + 1
+    race = [it.line for it in (seen.run.race.first, seen.run.race.second)] if seen.run.race else []
+    waits = [it.line for it in seen.run.waits]
+    lines = []
+    for number, text in enumerate(seen.source, 1):
+        style = ' class="raced"' if number in race + waits else ""
+        code = f"<code>{escaped(text)}</code>"
+        if number in counts:
+            code = f'<button title="{counts[number]} steps">{code}</button>'
+        lines.append(f'<li id="L{number}"{style}>{code}</li>')
+    return "".join(lines) or "<li>The source isn't known: this is a trace.</li>"
+
+

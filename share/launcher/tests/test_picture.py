@@ -1,0 +1,209 @@
+"""Segment order of small traces against what was worked out by hand, and the page of a run: that it parses, that it has
+each step once, and that its numbers are the trace's."""
+
+import html.parser
+import json
+import re
+import unittest
+import xml.etree.ElementTree
+from typing import Dict, List, Optional, Tuple
+
+from picture import page, svg
+from segments import segments_of
+from tests.test_show import RACED, STUCK
+from trace import read_run
+from views import Seen
+
+SYNC = """\
+1 1 2 m1 write x:0 1 > ok
+1 2 2 m2 write x:0 2 > ok
+2 1 3 board arrive 1 sync > round 1
+3 2 3 board arrive 1 sync > round 1
+4 1 3 board leave 1 1 > 0
+5 1 4 m2 read x:0 > 2
+5 2 3 board leave 1 1 > 0
+6 2 5 board stop 0 > ok
+7 1 5 board stop 0 > ok
+"""
+EVENT = """\
+1 1 2 m2 write x:0 1 > ok
+2 1 3 m2 post e:0 > 0
+3 2 4 m2 wait e:0 1 > 0
+4 2 5 m2 read x:0 > 1
+4 1 6 m2 write x:0 2 > ok
+"""
+LOCK = """\
+1 1 2 m1 lock l:0 > 0
+2 1 3 m1 write x:0 1 > ok
+3 1 4 m1 unlock l:0 > 0
+4 2 2 m1 lock l:0 > 0
+5 2 3 m1 read x:0 > 1
+"""
+PAIRS = """\
+1 1 2 board pair 2 > ok
+2 2 2 board pair 1 > ok
+3 1 2 board unpair > 0
+4 2 2 board unpair > 6000
+5 1 3 own print a > ok
+6 2 3 own print b > ok
+"""
+FLAG = """\
+1 1 2 m2 write x:0 1 > ok
+2 1 3 own memory > ok
+3 1 4 m2 atomic define f:0 1 0 > 0
+4 2 5 m2 atomic ref f:0 0 0 > 1
+5 2 6 own memory > ok
+6 2 7 m2 read x:0 > 1
+"""
+GONE = """\
+1 3 2 m1 write x:0 1 > ok
+2 1 3 board arrive 1 sync > round 1
+3 2 3 board arrive 1 sync > round 1
+4 3 0 own fail > ok
+5 3 0 board gone > ok
+6 1 3 board leave 1 1 > 6001
+7 1 4 m1 read x:0 > 1
+"""
+
+
+def before(text: str) -> List[str]:
+    """Returns which steps precede which by their segments, as `1<4`, by their places in the trace."""
+    found = segments_of(read_run(text))
+    own = [found.all[it] for it in found.of_step]
+    pairs = ((at, to) for at in range(len(own)) for to in range(len(own)) if own[at].image != own[to].image)
+    return [f"{at + 1}<{to + 1}" for at, to in pairs if own[at].precedes(own[to])]
+
+
+class SegmentsTest(unittest.TestCase):
+    def test_a_barrier_orders_all_before_it_and_all_behind_it(self) -> None:
+        self.assertEqual(before(SYNC), ["1<8", "2<6", "2<9", "3<8", "4<6", "4<9", "5<8", "7<6", "7<9"])
+
+    def test_a_post_precedes_what_is_behind_the_wait(self) -> None:
+        self.assertEqual(before(EVENT), ["1<4", "2<4"])
+        self.assertEqual([it[:] for it in segments_of(read_run(EVENT)).edges], [("event", 1, 2)])
+
+    def test_an_unlock_precedes_what_is_behind_the_next_lock(self) -> None:
+        self.assertEqual(before(LOCK), ["1<5", "2<5", "3<5"])
+
+    def test_sync_images_in_which_one_had_stopped_orders_nothing(self) -> None:
+        self.assertEqual(before(PAIRS), ["2<5", "4<5"])
+
+    def test_a_flag_hands_on_what_was_completed_before(self) -> None:
+        self.assertEqual(before(FLAG), ["1<6", "2<6"])
+        self.assertEqual(before(FLAG.replace("5 2 6 own memory > ok\n", "")), [])
+        self.assertEqual(before(FLAG.replace("define f:0 1 0 > 0", "ref f:0 0 0 > 0")), [])
+
+    def test_a_status_that_tells_of_a_failed_image_orders_what_that_one_did(self) -> None:
+        self.assertEqual(before(GONE), ["1<7", "3<7", "4<7", "5<7"])
+
+    def test_a_race_has_no_order(self) -> None:
+        self.assertEqual(before(RACED), [])
+
+
+class Read(html.parser.HTMLParser):
+    """Reads a page: that each element is closed in its turn; the titles of its steps; and what stands in the source."""
+
+    VOID = ("meta", "input", "br")
+
+    def __init__(self) -> None:
+        super().__init__()
+        self.open: List[str] = []
+        self.ids: List[str] = []
+        self.titles: Dict[str, str] = {}
+        self.code: List[str] = []
+
+    def handle_starttag(self, tag: str, attrs: List[Tuple[str, Optional[str]]]) -> None:
+        self.ids += [value or "" for name, value in attrs if name == "id"]
+        if tag not in self.VOID:
+            self.open.append(tag)
+
+    def handle_startendtag(self, tag: str, attrs: List[Tuple[str, Optional[str]]]) -> None:
+        pass
+
+    def handle_endtag(self, tag: str) -> None:
+        if not self.open or self.open.pop() != tag:
+            raise AssertionError(f"{tag} is closed out of its turn, at {self.getpos()}")
+
+    def handle_data(self, data: str) -> None:
+        if self.open[-2:] == ["g", "title"]:
+            self.titles[self.ids[-1]] = self.titles.get(self.ids[-1], "") + data
+        if self.open[-1:] == ["code"]:
+            self.code.append(data)
+
+
+def read_page(text: str) -> Read:
+    """Reads a page to its end."""
+    read = Read()
+    read.feed(text)
+    read.close()
+    return read
+
+
+TITLE = re.compile(r"image (\d+) step (\d+) stamp (\d+) line (\d+) (\S+): (.*)")
+
+
+def lines_told(read: Read) -> List[str]:
+    """Returns the lines of the trace that the steps of a page tell, in their order."""
+    lines = []
+    for number in range(1, len(read.titles) + 1):
+        image, _, stamp, line, place, text = TITLE.fullmatch(read.titles[f"s{number}"]).groups()  # type: ignore
+        lines.append(f"{stamp} {image} {line} {place} {text}")
+    return lines
+
+
+def steps_of(text: str) -> List[str]:
+    """Returns the lines of a text that are steps."""
+    return [it for it in text.split("\n") if re.match(r"\d+ \d+ \d+ (m\d+|own|board) ", it)]
+
+
+class PictureTest(unittest.TestCase):
+    def test_the_page_parses_and_has_each_step_once_with_its_numbers(self) -> None:
+        for text in (RACED, STUCK, SYNC, EVENT, LOCK, PAIRS, FLAG, GONE):
+            read = read_page(page(Seen("a title", read_run(text), ["x = 1", "if (x < 2) x = 2"])))
+            self.assertEqual(read.open, [])
+            self.assertEqual(len(read.ids), len(set(read.ids)))
+            self.assertEqual(lines_told(read), steps_of(text))
+
+    def test_what_it_shows_is_escaped(self) -> None:
+        run = read_run("1 1 1 own print </title><script>&\x00 > ok\n")
+        text = page(Seen("caf run <b>.f90", run, ["print *, '</title><script>'", "a < b & c"]))
+        read = read_page(text)
+        self.assertEqual(lines_told(read), ["1 1 1 own print </title><script>&? > ok"])
+        self.assertEqual(read.code, ["print *, '</title><script>'", "a < b & c"])
+        self.assertEqual(text.count("<script"), 1)
+
+    def test_it_asks_nothing_of_the_net(self) -> None:
+        text = page(Seen("a", read_run(RACED), []))
+        outside = "(?:src|href)=\"(?!#)|https?:(?!//www.w3.org/2000/svg)|@import|url\\((?!#)"
+        self.assertEqual(re.findall(outside, text), [])
+
+    def test_the_race_leads_to_its_steps_in_its_order(self) -> None:
+        text = page(Seen("a", read_run(RACED), []))
+        self.assertIn('<a href="#s2">image 2, step 1, line 11</a> and <a href="#s3">image 1, step 2, line 12</a>', text)
+        self.assertEqual(text.count('class="ring"'), 2)
+
+    def test_the_data_are_those_of_the_segments(self) -> None:
+        run = read_run(SYNC)
+        found = segments_of(run)
+        text = page(Seen("a", run, []))
+        told = re.search(r"segments = (\[.*\]), ofStep = (\[.*\]);", text)
+        assert told is not None
+        self.assertEqual(json.loads(told[2]), found.of_step)
+        self.assertEqual(json.loads(told[1]), [[it.image, it.number, *it.clock] for it in found.all])
+
+    def test_the_drawing_alone_is_xml(self) -> None:
+        root = xml.etree.ElementTree.fromstring(svg(Seen("a", read_run(STUCK), [])))
+        steps = [it for it in root.iter("{http://www.w3.org/2000/svg}g") if it.get("id")]
+        self.assertEqual([it.get("id") for it in steps], ["s1", "s2", "s3", "s4"])
+        self.assertEqual(sum(it.get("class") == "waits" for it in root.iter()), 3)
+
+    def test_10000_steps_take_2_mb_at_most(self) -> None:
+        lines = []
+        for at in range(0, 10000, 4):
+            acts = [f"12 m{1 + (image + 1) % 4} write halo:{image} {at} > ok" for image in range(4)]
+            lines += [f"{at + 1} {image} {act}" for image, act in enumerate(acts, 1)]
+        text = page(Seen("a", read_run("\n".join(lines)), []))
+        self.assertEqual(text.count('<g id="s'), 10000)
+        self.assertLess(len(text), 2000000)
+
+
