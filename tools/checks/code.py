@@ -44,5 +44,5 @@ def check_python(checks: Checks) -> None:
         checks.same(f"{path}: lines of more than {LONGEST_LINE} columns", "[]", str(wide))
         checks.holds(f"{path} has {len(lines)} lines", len(lines) <= MOST_LINES)
     tests = [sys.executable, "-B", "-m", "unittest", "discover", "-s", "tests", "-t", "."]
-    done = call(tests, folder=f"{HOME}/share/launcher")
+    done = call(tests, folder=f"{HOME}/share/launcher", timeout=600.0)
     checks.holds(f"the unit tests:\n{done.said.decode(errors='backslashreplace')}", done.status == 0)

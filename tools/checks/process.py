@@ -211,7 +211,9 @@ def _check_terminal(checks: Checks, path: str) -> None:
         env = {**os.environ, "CAF_PROGRAM": stand_in(work, WAITS)}
         got = _on_a_terminal(["run", path], b"", env)
         ticks = [int(it) for it in TICK.findall(got.text)]
-        checks.holds(f"a terminal is told the seconds {ticks}", ticks[:2] == [2, 3] and len(ticks) <= 4)
+        # (a loaded machine may pass a second over, or give the stand-in longer)
+        rise = all(one < other for one, other in zip(ticks, ticks[1:]))
+        checks.holds(f"a terminal is told the seconds {ticks}", ticks[:1] == [2] and len(ticks) > 1 and rise)
         checks.same("the line of the time is wiped", WIPE + b"1: 4\r\n", TICK.sub(b"", got.text))
         checks.same("no terminal is told nothing", b"", call([LAUNCHER, "run", path], env=env).said)
     got = _on_a_terminal(NEIGHBOUR, b"", dict(os.environ))
