@@ -1,6 +1,8 @@
 //! Runs on workers, through the top call: that images run at once and that each memory has a gate of its own, which no
 //! contract says. Rows on workers that end alike in every order are run on the built program (tools/answers.cases).
-//! A hook waits for what another worker does at most so long; what didn't come in that time is a miss.
+//! A hook waits for what another worker does at most so long; what didn't come in that time is a miss. Each test asks too
+//! that every moment of both memories came, from two workers: a run by rotation alone, and gates that never call the hook,
+//! fail it.
 
 ghost use Rattle.std.specs.Prelude.{◌≤◌};
 
@@ -42,6 +44,72 @@ fn note(missed: &AtomicU64, came: bool) {
     }
 }
 
+/// Which worker, counted from 1, came first to each moment of the turns at one memory; 0 where none came.
+#[derive(Drop)]
+struct Moments {
+    before: AtomicU64,
+    holding: AtomicU64,
+    after: AtomicU64,
+}
+
+impl Moments {
+    fn new() -> Moments {
+        Moments {
+            before: AtomicU64::new(0),
+            holding: AtomicU64::new(0),
+            after: AtomicU64::new(0),
+        }
+    }
+
+    fn note(&self, worker: u32, step: HookStep) {
+        let word = match step {
+            HookStep::Before => &self.before,
+            HookStep::Holding => &self.holding,
+            HookStep::After => &self.after,
+        };
+        if word.load(Ordering::SeqCst) == 0 {
+            word.store(u64::from(worker) + 1, Ordering::SeqCst);
+        }
+    }
+
+    fn have_come(&self) -> bool {
+        self.before.load(Ordering::SeqCst) != 0
+            && self.holding.load(Ordering::SeqCst) != 0
+            && self.after.load(Ordering::SeqCst) != 0
+    }
+}
+
+/// The moments of the turns at the memories of images 1 and 2. A run whose images don't run on workers has none.
+#[derive(Drop)]
+struct Turns {
+    first: Moments,
+    second: Moments,
+}
+
+impl Turns {
+    fn new() -> Turns {
+        Turns {
+            first: Moments::new(),
+            second: Moments::new(),
+        }
+    }
+
+    fn note(&self, worker: u32, owner: u32, step: HookStep) {
+        match owner {
+            1 => self.first.note(worker, step),
+            2 => self.second.note(worker, step),
+            _ => {}
+        }
+    }
+
+    // Whether each moment of both memories came, and the first turns at the two were those of two workers.
+    fn are_of_two_workers(&self) -> bool {
+        let first = self.first.before.load(Ordering::SeqCst);
+        let second = self.second.before.load(Ordering::SeqCst);
+        self.first.have_come() && self.second.have_come() && first != second
+    }
+}
+
 /// Ahead of each turn at the memory of image 1 or 2 it waits until another worker is ahead of one at the other's.
 #[derive(Drop)]
 struct Meeting {
@@ -49,25 +117,30 @@ struct Meeting {
     first: AtomicU64,
     second: AtomicU64,
     missed: AtomicU64,
+    turns: Turns,
 }
 
 impl Hook for Meeting {
     /// Waits ahead of a turn at one of the two memories.
     fn at(&self, worker: u32, place: Place, step: HookStep) {
+        let Place::Memory(owner) = place else {
+            return;
+        };
+        self.turns.note(worker, owner.0, step);
         let HookStep::Before = step else {
             return;
         };
         let mine = u64::from(worker) + 1;
-        match place {
-            Place::Memory(owner) if owner.0 == 1 => {
+        match owner.0 {
+            1 => {
                 self.first.store(mine, Ordering::SeqCst);
                 note(&self.missed, comes(&self.second, mine));
             }
-            Place::Memory(owner) if owner.0 == 2 => {
+            2 => {
                 self.second.store(mine, Ordering::SeqCst);
                 note(&self.missed, comes(&self.first, mine));
             }
-            Place::Memory(_) | Place::Board | Place::Own => {}
+            _ => {}
         }
     }
 }
@@ -79,14 +152,16 @@ struct Crossing {
     held: AtomicU64,
     passed: AtomicU64,
     missed: AtomicU64,
+    turns: Turns,
 }
 
 impl Hook for Crossing {
     /// Waits ahead of a turn at the second memory, and within one at the first.
-    fn at(&self, _worker: u32, place: Place, step: HookStep) {
+    fn at(&self, worker: u32, place: Place, step: HookStep) {
         let Place::Memory(owner) = place else {
             return;
         };
+        self.turns.note(worker, owner.0, step);
         match step {
             HookStep::Before if owner.0 == 2 => note(&self.missed, comes(&self.held, 0)),
             HookStep::Holding if owner.0 == 1 => {
@@ -119,9 +194,14 @@ fn writes_of_two_images_overlap(rt: HostRuntime) {
         first: AtomicU64::new(0),
         second: AtomicU64::new(0),
         missed: AtomicU64::new(0),
+        turns: Turns::new(),
     };
     writes(&rt, rt.alloc(), &hook);
     assert!(&rt; hook.missed.load(Ordering::SeqCst) == 0, "no miss");
+    assert!(&rt;
+        hook.turns.are_of_two_workers(),
+        "turns of two workers came"
+    );
 }
 
 #[test]
@@ -130,7 +210,12 @@ fn no_lock_round_both_memories(rt: HostRuntime) {
         held: AtomicU64::new(0),
         passed: AtomicU64::new(0),
         missed: AtomicU64::new(0),
+        turns: Turns::new(),
     };
     writes(&rt, rt.alloc(), &hook);
     assert!(&rt; hook.missed.load(Ordering::SeqCst) == 0, "no miss");
+    assert!(&rt;
+        hook.turns.are_of_two_workers(),
+        "turns of two workers came"
+    );
 }
