@@ -18,8 +18,6 @@ _MADE = ["run", "-n", "2", "--order", "0", "--fail", "2@{}", "--made", "1", "4"]
 _READ = b"1: 4\n"
 _NOTHING = Done(b"", b"", 12)
 _READ_FAULT = b"read fault\nstatus 10\n"
-# The words are read before the call: without memory for them they are taken for none.
-_NO_WORDS = Done(b"usage: word 1\n", b"", 2)
 # What tools/refusing.c tells of a call that it refused.
 _REFUSED = b"refused\n"
 
@@ -136,11 +134,10 @@ def check_memory(checks: Checks, work: str, refusing: str) -> None:
     """Each allocation is refused once, in an ordered run and on two workers: the answer is the run's, or nothing is
     written and the status is 12."""
     for words in (_ORDERED, _ON_WORKERS):
-        is_front, turns = True, 0
-        for turn, got in _turns(checks.program, words, work, refusing, "REFUSE_MEMORY"):
-            turns, is_front = turn, is_front and got == _NO_WORDS
-            is_right = is_front or got in (Done(_READ, b"", 0), _NOTHING)
-            checks.holds(f"{' '.join(words)}: without allocation {turn}: {got}", is_right)
+        turns = 0
+        for turns, got in _turns(checks.program, words, work, refusing, "REFUSE_MEMORY"):
+            is_right = got in (Done(_READ, b"", 0), _NOTHING)
+            checks.holds(f"{' '.join(words)}: without allocation {turns}: {got}", is_right)
         checks.holds(f"{' '.join(words)}: {turns} allocations were refused", turns > 100)
 
 

@@ -10,6 +10,7 @@ use caf_io::std_sink::StdSink;
 use caf_run::top::caf;
 use std::alloc::{AllocError, Global};
 use std::env;
+use std::io::ErrorKind;
 use std::process::ExitCode;
 use std::rt::Env;
 
@@ -25,6 +26,7 @@ const WANT_OF_MEMORY: u8 = 12;
 fn words<R: Env + Alloc<A = Global>>(rt: &R) -> Result<Vec<String>, AllocError> {
     match env::args(rt) {
         Ok(words) => words.skip(1).collect(rt.alloc()),
+        Err(error) if error.kind() == ErrorKind::OutOfMemory => Err(AllocError),
         Err(_) => Ok(Vec::new(rt.alloc())),
     }
 }
