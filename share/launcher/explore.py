@@ -5,7 +5,7 @@ It claims nothing of an order that it hasn't tried.
 """
 
 import shlex
-from typing import Dict, List, NamedTuple, Set
+from typing import Dict, List, NamedTuple, Set, Tuple
 
 from captured import Captured, run_captured
 from children import Interrupted, interruptible
@@ -26,6 +26,9 @@ RUNS = 1000
 MOST_WORKERS = 4
 # One of so many runs is on workers.
 ON_WORKERS = 5
+# Which texts are kept for others that are the same, and how many.
+SHORT = 4096
+MOST_KEPT = 1000
 
 
 class Trial(NamedTuple):
@@ -53,12 +56,12 @@ class Found:
         self.firsts: Dict[bool, int] = {}
         self.texts: Set[int] = set()
 
-    def add(self, number: int, trial: Trial, printed: List[str]) -> None:
-        """Adds a run."""
+    def add(self, number: int, trial: Trial, printed: int) -> None:
+        """Adds a run, with a number of what its images printed."""
         self.ordered += trial.is_ordered
         self.on_workers += not trial.is_ordered
         self.firsts[trial.is_ordered] = min(number, self.firsts.get(trial.is_ordered, number))
-        self.texts.add(hash(tuple(printed)))
+        self.texts.add(printed)
 
     def first(self) -> int:
         """Returns the number of the run that shows it."""
@@ -74,15 +77,23 @@ class Explored:
         self.found: Dict[Way, Found] = {}
         self.worst = (len(plan.trials), DONE)
         self.progress = Progress()
+        self._read: Dict[Captured, Tuple[Way, int]] = {}
 
     def take(self, job: Job, captured: Captured) -> None:
         """Takes the end of a run."""
         self.done += 1
-        way = way_of(captured)
-        printed = read_run(captured.text).printed
+        way, printed = self._read.get(captured) or self._read_anew(captured)
         self.found.setdefault(way, Found()).add(job.number, self.plan.trials[job.number], printed)
         if captured.status != DONE:
             self.worst = min(self.worst, (job.number, captured.status))
+
+    def _read_anew(self, captured: Captured) -> Tuple[Way, int]:
+        """Reads how a run ended, and keeps it for others that end alike, of a short text."""
+        run = read_run(captured.text)
+        read = way_of(captured.status, run), hash(tuple(run.printed))
+        if len(captured.text) <= SHORT and len(self._read) < MOST_KEPT:
+            self._read[captured] = read
+        return read
 
     def tick(self) -> None:
         """Tells a terminal how far the runs are."""
@@ -100,13 +111,17 @@ def explore(call: Call) -> int:
         return NO_PROGRAM
     base = _base(call.words)
     words = _without_orders(call.asked.words_for_program())
-    first = run_captured(program.path, _with(words, ["--trace", *base]), call.asked.standard_input())
+    fails = "--fails" in call.words.own
+    first_words = [*(["--trace"] if fails else []), *base]
+    first = run_captured(program.path, _with(words, first_words), call.asked.standard_input())
     if first.status in NO_RUN or first.status > 128:
         return tell_no_run(call, first)
     plan = _plan(call.words, base, first)
     explored = Explored(plan)
     runs = Runs(program.path, call.asked.standard_input, processors(), explored.take, explored.tick)
     jobs = [Job(number, _with(words, trial.words)) for number, trial in enumerate(plan.trials)]
+    if not fails:
+        explored.take(jobs.pop(0), first)
     signal_number = _run(runs, jobs)
     explored.progress.wipe()
     answer(told(_table(call, explored)))
