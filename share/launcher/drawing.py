@@ -4,13 +4,15 @@ Each step is a group with the id `sN`, N its place in the trace from 1, whose ti
 by these, and so does who tests them.
 """
 
-from typing import Dict, Iterable, List, NamedTuple, Optional, Set, Tuple
+from typing import Dict, Iterable, List, Optional, Sequence, Set, Tuple
 
 from acts import short_text
+from drawn_waits import foot_of, waits
+from places import LEFT, ROW, TOP, Places, escaped, places_of
 from segments import Segments, cells
 from trace import Kind, Run, Step
+from waited_for import Reason
 
-ROW, LANE, TOP, LEFT, FOOT = 26, 178, 44, 46, 40
 LABEL = 24
 _DEFINES = ("write", "atomic", "lock", "trylock", "unlock", "post")
 
@@ -28,7 +30,7 @@ svg{font:11px ui-monospace,Menlo,Consolas,monospace;background:#fff}text{fill:#1
 .access circle,.atomic circle{fill:#2f855a}.put circle{fill:#c05621}.round circle,.pair circle{fill:#3d7be0}
 .collective circle{fill:#0d9488}.lock circle{fill:#b7791f}.critical circle,.event circle{fill:#8a4fd0}
 .bad circle{fill:#d11}.bad text,.waits{fill:#c11}.cross{stroke:#d11;stroke-width:3}
-.waiting{stroke:#d11;stroke-width:3;stroke-dasharray:4 4}.ring{fill:none;stroke:#d11;stroke-width:2.5}
+.waiting{stroke:#d11;stroke-width:3;stroke-dasharray:4 4}.awaited{fill:none;stroke:#d11;stroke-width:1.6}.ring{fill:none;stroke:#d11;stroke-width:2.5}
 .clash{stroke:#d11;stroke-width:2;stroke-dasharray:6 4;fill:none}
 """
 DARK = """\
@@ -40,54 +42,17 @@ svg{background:#14181d}.heads rect{fill:#14181d}text{fill:#e6e9ed}circle{fill:#b
 """
 
 
-class Places(NamedTuple):
-    """Where steps stand: the row of each stamp; the run, and the first step of each failure in it."""
-
-    rows: Dict[int, int]
-    run: Run
-    failures: List[Step]
-
-    def x(self, image: int) -> int:
-        """Returns where an image's lane stands."""
-        return LEFT + 16 + (image - 1) * LANE
-
-    def y(self, step: Step) -> int:
-        """Returns where a step stands."""
-        return TOP + 22 + self.rows[step.stamp] * ROW
-
-    @property
-    def width(self) -> int:
-        """The width of the diagram."""
-        return LEFT + self.run.images * LANE + 12
-
-    @property
-    def foot(self) -> int:
-        """Where the lanes end."""
-        return TOP + 22 + len(self.rows) * ROW
-
-
-def places_of(run: Run) -> Places:
-    """Returns where the steps of a run stand: a row for each stamp that there is."""
-    stamps = sorted({it.stamp for it in run.steps})
-    return Places({stamp: row for row, stamp in enumerate(stamps)}, run, [it for it in run.steps if it.word == "fail"])
-
-
-def escaped(text: str) -> str:
-    """Returns a text as it stands in SVG and HTML. Signs that these don't take are shown as `?`."""
-    kept = "".join(it if it >= " " or it == "\t" else "?" for it in text)
-    return kept.replace("&", "&amp;").replace("<", "&lt;").replace(">", "&gt;").replace('"', "&quot;")
-
-
-def drawing(run: Run, segments: Segments, has_labels: bool = True) -> str:
-    """Returns the diagram; where it has no labels the page makes them of the titles."""
+def drawing(run: Run, segments: Segments, why: Sequence[Reason], has_labels: bool = True) -> str:
+    """Returns the diagram, with why each image of a stuck run waits; where it has no labels the page makes them of the
+    titles."""
     places = places_of(run)
-    size = f'width="{places.width}" height="{places.foot + FOOT}"'
+    size = f'width="{places.width}" height="{places.foot + foot_of(why)}"'
     lines = [f'<svg xmlns="http://www.w3.org/2000/svg" id="run" {size} role="img" aria-label="the steps of the run">']
     lines += [f"<style>{STYLE}@media(prefers-color-scheme:dark){{{DARK}}}</style>", _tip()]
     lines += _lanes(places) + _bands(places) + _bars(places) + _edges(places, segments)
     lines += _arrows(places) + _race(places)
     lines += [_step(places, number, step, has_labels) for number, step in enumerate(run.steps, 1)]
-    return "\n".join(lines + _waits(places) + _heads(places) + ["</svg>"])
+    return "\n".join(lines + waits(places, why) + _heads(places) + ["</svg>"])
 
 
 def _heads(places: Places) -> List[str]:
@@ -254,18 +219,6 @@ def _style(step: Step) -> str:
     if is_end or step.kind is Kind.FAILURE:
         return "bad"
     return "put" if step.word == "write" else step.kind.value
-
-
-def _waits(places: Places) -> List[str]:
-    """Returns, for each image of a stuck run, what it waits for, from its last step to the foot."""
-    last: Dict[int, int] = {it.image: places.y(it) for it in places.run.steps}
-    lines = []
-    for wait in places.run.waits:
-        x = places.x(wait.image)
-        lines.append(f'<path class="waiting" d="M{x} {last.get(wait.image, TOP)}V{places.foot + 6}"/>')
-        text = f"waits: {wait.word}, line {wait.line}"
-        lines.append(f'<text class="waits" x="{x - 6}" y="{places.foot + 24}">{text}</text>')
-    return lines
 
 
 def numbers(values: Iterable[int]) -> str:

@@ -182,6 +182,11 @@ class PictureTest(unittest.TestCase):
         self.assertIn('<a href="#s2">image 2, step 1, line 11</a> and <a href="#s3">image 1, step 2, line 12</a>', text)
         self.assertEqual(text.count('class="ring"'), 2)
 
+    def test_a_stuck_run_says_who_waits_for_whom(self) -> None:
+        text = page(Seen("a", read_run(STUCK), []))
+        self.assertIn('<li><a href="#s1">images 1, 3</a>: line 3, waits for SYNC r1, image 2 hasn\'t come</li>', text)
+        self.assertIn('<li><a href="#s4">image 2</a>: line 8, waits for lock</li>', text)
+
     def test_the_data_are_those_of_the_segments(self) -> None:
         run = read_run(SYNC)
         found = segments_of(run)
@@ -196,6 +201,8 @@ class PictureTest(unittest.TestCase):
         steps = [it for it in root.iter("{http://www.w3.org/2000/svg}g") if it.get("id")]
         self.assertEqual([it.get("id") for it in steps], ["s1", "s2", "s3", "s4"])
         self.assertEqual(sum(it.get("class") == "waits" for it in root.iter()), 3)
+        titles = [it[0].text for it in root.iter() if it.get("class") == "awaited"]
+        self.assertEqual(titles, ["image 1 waits for image 2", "image 3 waits for image 2"])
 
     def test_10000_steps_take_2_mb_at_most(self) -> None:
         lines = []

@@ -46,7 +46,9 @@ STUCK_COLUMNS = """\
 2|==================|                  |1 3 sync r1 ======|
 3|==================|                  |==================|1 0 fail
 4|==================|1 7 lock l:0[1]   |==================|
- !  3 waits: leave  !  8 waits: lock   !  3 waits: leave  |
+ !  3 waits: SYNC   !  8 waits: lock   !  3 waits: SYNC   |
+ !    r1, image 2   !                  !    r1, image 2   |
+ !    hasn't come   !                  !    hasn't come   |
 stuck
 """
 
