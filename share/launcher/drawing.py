@@ -17,9 +17,10 @@ LABEL = 24
 _DEFINES = ("write", "atomic", "lock", "trylock", "unlock", "post")
 
 STYLE = """\
-svg{font:11px ui-monospace,Menlo,Consolas,monospace;background:#fff}text{fill:#1b1f24}circle{fill:#57606a}
-.head{font-size:13px;font-weight:bold}.stamp text{fill:#7d8590;text-anchor:end}
-.lane,.over{stroke:#c3c9d1;stroke-width:1.5}.heads rect{fill:#fff;fill-opacity:.9}
+svg{font:11px ui-monospace,Menlo,Consolas,monospace;background:#fff}circle{fill:#57606a}
+text{fill:#1b1f24;stroke:#fff;stroke-width:3px;stroke-linejoin:round;paint-order:stroke}
+.head{font-size:13px;font-weight:bold}.stamp text{fill:#656d76;text-anchor:end}
+.lane,.over{stroke:#c3c9d1;stroke-width:1.5}.heads rect{fill:#fff}
 .over{stroke-dasharray:2 5}.band{fill:#3d7be0;fill-opacity:.13;stroke:#3d7be0;stroke-opacity:.4}
 .team{fill:#8a4fd0;stroke:#8a4fd0}.all{fill:#0d9488;stroke:#0d9488}
 .stay{stroke:#3d7be0;stroke-width:5;stroke-opacity:.45}.hold{stroke:#d69e2e;stroke-width:5}
@@ -34,11 +35,11 @@ svg{font:11px ui-monospace,Menlo,Consolas,monospace;background:#fff}text{fill:#1
 .clash{stroke:#d11;stroke-width:2;stroke-dasharray:6 4;fill:none}
 """
 DARK = """\
-svg{background:#14181d}.heads rect{fill:#14181d}text{fill:#e6e9ed}circle{fill:#b1bac4}
+svg{background:#14181d}.heads rect{fill:#14181d}text{fill:#e6e9ed;stroke:#14181d}circle{fill:#b1bac4}
 .lane,.over{stroke:#4a525c}.stamp text{fill:#8b949e}
 .round circle,.pair circle{fill:#6ea3ff}.access circle,.atomic circle{fill:#56c08a}.arrow{stroke:#56c08a}
 .put circle{fill:#f2955c}.arrow.put{stroke:#f2955c}.critical circle,.event circle{fill:#b78af0}.edge{stroke:#b78af0}
-.bad circle{fill:#ff6b6b}.bad text,.waits{fill:#ff8a80}
+.bad circle{fill:#ff6b6b}.bad text,.waits{fill:#ff8a80}.waiting,.awaited,.ring,.clash,.cross{stroke:#ff6b6b}
 """
 
 
@@ -168,7 +169,7 @@ def _arrows(places: Places) -> List[str]:
     for step in places.run.steps:
         if step.is_remote:
             x, to, y = places.x(step.image), places.x(step.owner), places.y(step)
-            low = y + 6 + step.image % 4 * 3
+            low = y + 7 + step.image % 4 * 2
             back = 6 if x > to else -6
             if step.word in _DEFINES:
                 put.append(f"M{x} {y}V{low}H{to}m{back} -3L{to} {low}l{back} 3")

@@ -43,9 +43,10 @@ def _lines(reason: Reason) -> List[str]:
 def _arrows(places: Places, reason: Reason) -> List[str]:
     """Returns the arrows from an image that waits to those on whom that depends."""
     image = reason.wait.image
-    y = places.foot + 4 + (image - 1) % 4 * 6
     lines = []
     for other in reason.others[:MOST_ARROWS]:
+        # (those that go past a lane stand below the others)
+        y = places.foot + 4 + (image % 2 + (0 if abs(other - image) == 1 else 2)) * 6
         x, to = places.x(image), places.x(other)
         side = 5 if to > x else -5
         path = f"M{x} {y}H{to - side}m{-side} -4l{side} 4l{-side} 4"

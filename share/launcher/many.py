@@ -11,7 +11,7 @@ import os
 import select
 import signal
 from itertools import islice
-from typing import Callable, Dict, List, NamedTuple, Optional, Sequence
+from typing import Callable, Dict, Iterable, List, NamedTuple, Optional, Sequence
 
 from captured import PIECE, Captured
 from children import ENDING
@@ -105,7 +105,7 @@ def processors() -> int:
     return len(os.sched_getaffinity(0)) if hasattr(os, "sched_getaffinity") else os.cpu_count() or 1
 
 
-def run_many(runs: Runs, jobs: Sequence[Job]) -> None:
+def run_many(runs: Runs, jobs: Iterable[Job]) -> None:
     """Makes the runs, and tells each one as it ends. Those that go on are ended where this is left by an exception.
     Raises OSError where one of them can't be made."""
     group = Group()

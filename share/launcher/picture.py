@@ -53,7 +53,7 @@ def _end(run: Run, why: Sequence[Reason]) -> str:
         what = f"Race on cell {run.race.cell} of {escaped(run.race.coarray)} of image {run.race.owner}"
         lines = [f"<p><b>{what}:</b> {links}. Nothing orders their two segments.</p>"]
     elif why:
-        lines = ["<p><b>Stuck:</b> these images wait, and none can go on.</p>", f"<ul>{_waits(run, why)}</ul>"]
+        lines = [f"<p><b>Stuck:</b> none of these images can go on{_circle(why)}.</p>", f"<ul>{_waits(run, why)}</ul>"]
     return f'<div class="end{" wrong" if run.end else ""}">{"".join(lines)}</div>'
 
 
@@ -66,11 +66,19 @@ def _waits(run: Run, why: Sequence[Reason]) -> str:
     lines = []
     for text, who in told.items():
         name = images(who)
-        lines.append(f'<li><a href="#s{last[who[0]]}">{name}</a>: {text}</li>' if who[0] in last else f"<li>{name}: {text}</li>")
-    names = [f"image {it}" for it in circle(why)]
-    if names:
-        lines.append(f"<li>Each of these waits for the next one: {', '.join([*names, names[0]])}</li>")
+        if who[0] in last:
+            name = f'<a href="#s{last[who[0]]}">{name}</a>'
+        lines.append(f"<li>{name}: {text}</li>")
     return "".join(lines)
+
+
+def _circle(why: Sequence[Reason]) -> str:
+    """Returns which images wait for each other, where there are such ones."""
+    found = circle(why)
+    if not found:
+        return ""
+    last = f"and image {found[-1]} for image {found[0]}"
+    return f"; of images {', '.join(map(str, found))} each waits for the next one, {last}"
 
 
 def _of_race(run: Run, steps: List[int]) -> List[int]:

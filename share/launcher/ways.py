@@ -49,10 +49,10 @@ def _waits(run: Run) -> str:
 
 def images(who: List[int]) -> str:
     """Returns images in words: `images 1, 3 to 6`."""
-    return f"image{'s' if len(who) > 1 else ''} {', '.join(_ranges(sorted(who)))}"
+    return f"image{'s' if len(who) > 1 else ''} {', '.join(ranges(sorted(who)))}"
 
 
-def _ranges(who: List[int]) -> List[str]:
+def ranges(who: List[int], between: str = " to ") -> List[str]:
     """Returns rising numbers, three or more in a row as a range."""
     rows: List[List[int]] = []
     for it in who:
@@ -62,7 +62,7 @@ def _ranges(who: List[int]) -> List[str]:
             rows.append([it])
     told = []
     for row in rows:
-        told += [f"{row[0]} to {row[-1]}"] if len(row) > 2 else [str(it) for it in row]
+        told += [f"{row[0]}{between}{row[-1]}"] if len(row) > 2 else [str(it) for it in row]
     return told
 
 

@@ -73,13 +73,15 @@ Other orders may end otherwise: nothing is said of them.
 
 WITH_FAILURES = """\
 each of the 3 single failures in order 1
-  orders  end
+failures  end
+       1  4 ErrorStop: line 9, code 6001
+            at 2@1
+            caf run --order 1 --fail 2@1 FILE
        2  0 Finished
             | 1: 20
             | 2: 20
+            at 1@1 2@2
             caf run --order 1 --fail 1@1 FILE
-       1  4 ErrorStop: line 9, code 6001
-            caf run --order 1 --fail 2@1 FILE
 Other orders, and two failures at once, may end otherwise: nothing is said of them.
 """
 

@@ -11,6 +11,7 @@ from typing import Dict, List, Optional, Tuple
 from picture import page, svg
 from segments import segments_of
 from tests.test_show import RACED, STUCK
+from tests.test_waited_for import CROSSED, CROSSED_SOURCE
 from trace import read_run
 from views import Seen
 
@@ -186,6 +187,8 @@ class PictureTest(unittest.TestCase):
         text = page(Seen("a", read_run(STUCK), []))
         self.assertIn('<li><a href="#s1">images 1, 3</a>: line 3, waits for SYNC r1, image 2 hasn\'t come</li>', text)
         self.assertIn('<li><a href="#s4">image 2</a>: line 8, waits for lock</li>', text)
+        text = page(Seen("a", read_run("var 2 one = 1\n" + CROSSED), CROSSED_SOURCE))
+        self.assertIn("can go on; of images 1, 2 each waits for the next one, and image 2 for image 1.</p>", text)
 
     def test_the_data_are_those_of_the_segments(self) -> None:
         run = read_run(SYNC)

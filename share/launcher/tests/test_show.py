@@ -100,7 +100,7 @@ class TraceTest(unittest.TestCase):
             ("m2 trylock l:0 > busy", "trylock l:0[2]->busy"),
             ("m1 wait e:0 1 > 0", "wait e:0"),
             ("m1 wait e:0 3 > 0", "wait e:0 3"),
-            ("board arrive 2 sync > round 5", "sync r5 of team 2"),
+            ("board arrive 2 sync > round 5", "sync r5 t2"),
             ("board arrive 1 sync > clash 2 7", "sync->clash 2 7"),
             ("board arrive 1 allocate x(1:4)[1:*] > round 1", "allocate r1"),
             ("board leave 1 2 > 6001", "leave r2->6001"),
