@@ -8,7 +8,8 @@ import re
 from typing import Dict, List, Sequence
 
 from drawing import drawing, numbers, race_steps
-from places import escaped
+from packed_clocks import packed
+from places import LANE, LEFT, ROW, TOP, escaped
 from segments import segments_of
 from trace import Run
 from views import Seen
@@ -17,8 +18,8 @@ from ways import images
 
 _PAGE = os.path.join(os.path.dirname(os.path.abspath(__file__)), "page.html")
 
-# With more steps the page makes the labels of their titles, so that it stays below 2 MB for 10,000 steps.
-MOST_LABELS = 4000
+# Of more steps the drawing is short, so that the page stays below 2 MB for 10,000 steps.
+MOST_WHOLE = 3000
 
 
 def svg(seen: Seen) -> str:
@@ -36,9 +37,11 @@ def page(seen: Seen) -> str:
         "TITLE": escaped(seen.title),
         "END": _end(seen.run, why),
         "SOURCE": _source(seen),
-        "SEGMENTS": "[" + ",".join(numbers([it.image, it.number, *it.clock]) for it in segments.all) + "]",
+        "SEGMENTS": "[" + ",".join(numbers(it) for it in packed(segments.all)) + "]",
         "OF_STEP": numbers(segments.of_step),
-        "DRAWING": drawing(seen.run, segments, why, len(seen.run.steps) <= MOST_LABELS),
+        "IMAGES": str(seen.run.images),
+        "LAYOUT": numbers([LEFT + 16, LANE, TOP + 22, ROW]),
+        "DRAWING": drawing(seen.run, segments, why, len(seen.run.steps) > MOST_WHOLE),
     }
     return re.sub(r"\{\{([A-Z_]+)\}\}", lambda it: places[it[1]], text)
 
