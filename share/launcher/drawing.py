@@ -31,7 +31,8 @@ text{fill:#1b1f24;stroke:#fff;stroke-width:3px;stroke-linejoin:round;paint-order
 .access circle,.atomic circle{fill:#2f855a}.put circle{fill:#c05621}.round circle,.pair circle{fill:#3d7be0}
 .collective circle{fill:#0d9488}.lock circle{fill:#b7791f}.critical circle,.event circle{fill:#8a4fd0}
 .bad circle{fill:#d11}.bad text,.waits{fill:#c11}.cross{stroke:#d11;stroke-width:3}
-.waiting{stroke:#d11;stroke-width:3;stroke-dasharray:4 4}.awaited{fill:none;stroke:#d11;stroke-width:1.6}.ring{fill:none;stroke:#d11;stroke-width:2.5}
+.waiting{stroke:#d11;stroke-width:3;stroke-dasharray:4 4}.awaited{fill:none;stroke:#d11;stroke-width:1.6}
+.ring{fill:none;stroke:#d11;stroke-width:2.5}
 .clash{stroke:#d11;stroke-width:2;stroke-dasharray:6 4;fill:none}
 """
 DARK = """\
@@ -73,8 +74,8 @@ def _tip() -> str:
 
 
 def _lanes(places: Places, is_short: bool) -> List[str]:
-    """Returns the lane of each image: whole up to its end or failure, dotted behind it; and, but in a short drawing, the
-    stamps."""
+    """Returns the lane of each image: whole up to its end or failure, dotted behind it; and, but in a short drawing,
+    the stamps."""
     ends: Dict[int, int] = {}
     for step in places.run.steps:
         if step.word in ("stop", "fail"):
@@ -156,8 +157,8 @@ def _bar(places: Places, kind: str, first: Optional[Step], end: int) -> List[str
 
 
 def _edges(places: Places, segments: Segments, is_short: bool) -> List[str]:
-    """Returns a dashed line from each step to one that it releases: post and wait, unlock and lock, and such. In a short
-    drawing all of a kind are one path."""
+    """Returns a dashed line from each step to one that it releases: post and wait, unlock and lock, and such. In a
+    short drawing all of a kind are one path."""
     drawn: Dict[str, List[str]] = {}
     for edge in segments.edges:
         source, target = places.run.steps[edge.source], places.run.steps[edge.target]

@@ -19,8 +19,8 @@ def foot_of(why: Sequence[Reason]) -> int:
 
 
 def waits(places: Places, why: Sequence[Reason]) -> List[str]:
-    """Returns, for each image of a stuck run, a line from its last step to the foot, what it waits for there, and arrows
-    to those on whom that depends."""
+    """Returns, for each image of a stuck run, a line from its last step to the foot, what it waits for there, and
+    arrows to those on whom that depends."""
     last: Dict[int, int] = {it.image: places.y(it) for it in places.run.steps}
     lines: List[str] = []
     for reason in why:
@@ -28,7 +28,8 @@ def waits(places: Places, why: Sequence[Reason]) -> List[str]:
         lines.append(f'<path class="waiting" d="M{x} {last.get(reason.wait.image, TOP)}V{places.foot + ARROWS - 4}"/>')
         lines += _arrows(places, reason)
         y = places.foot + ARROWS + LINE
-        spans = (f'<tspan x="{x - 6}" y="{y + LINE * at}">{escaped(it)}</tspan>' for at, it in enumerate(_lines(reason)))
+        told = ((y + LINE * at, escaped(it)) for at, it in enumerate(_lines(reason)))
+        spans = (f'<tspan x="{x - 6}" y="{at}">{it}</tspan>' for at, it in told)
         lines.append(f'<text class="waits">{"".join(spans)}</text>')
     return lines
 

@@ -39,8 +39,8 @@ class Trial(NamedTuple):
 
 
 class Plan(NamedTuple):
-    """All runs that are tried: in words; how many, and what gives each one by its number from 0; a closing line; and the
-    image and the step of each one's failure, where they have failures."""
+    """All runs that are tried: in words; how many, and what gives each one by its number from 0; a closing line; and
+    the image and the step of each one's failure, where they have failures."""
 
     told: str
     count: int

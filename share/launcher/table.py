@@ -60,6 +60,7 @@ def _way_lines(table: Table, number: int, way: Way, counts: str) -> List[str]:
     if texts > 1:
         lines.append(f"{blank}    with {texts} different texts")
     if table.failures[number]:
-        lines += [f"{blank}    {it}" for it in wrap("at " + table.failures[number], WIDTH - 4 - len(blank))[:MOST_LINES]]
+        failures = wrap(f"at {table.failures[number]}", WIDTH - 4 - len(blank))
+        lines += [f"{blank}    {it}" for it in failures[:MOST_LINES]]
     is_kept = table.counts[number][0] > 0
     return [*lines, f"{blank}    {table.again[number]}{'' if is_kept else ', perhaps'}"]

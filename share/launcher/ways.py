@@ -21,8 +21,8 @@ class Way(NamedTuple):
 
 
 def way_of(status: int, run: Run) -> Way:
-    """Returns the way in which a run ended with this status. Of a race it has the coarray and the two lines, of a stuck run who waits
-    where, of a fault, an error stop, a clash or a limit the lines and the kind, but no image."""
+    """Returns the way in which a run ended with this status. Of a race it has the coarray and the two lines, of a stuck
+    run who waits where, of a fault, an error stop, a clash or a limit the lines and the kind, but no image."""
     if status == DONE:
         return Way(DONE, "", tuple(run.printed + run.variables))
     return Way(status, _what(run))

@@ -1,5 +1,5 @@
-"""What ./caf explore makes of the examples and of the programs in shown/, against the ends of the program itself; what it
-costs; and how it is stopped."""
+"""What ./caf explore makes of the examples and of the programs in shown/, against the ends of the program itself; what
+it costs; and how it is stopped."""
 
 import os
 import pty

@@ -1,5 +1,5 @@
-"""What ./caf show and ./caf picture make of the examples and of the programs in shown/, against the trace of the program
-itself."""
+"""What ./caf show and ./caf picture make of the examples and of the programs in shown/, against the trace of the
+program itself."""
 
 import re
 from typing import Dict, List

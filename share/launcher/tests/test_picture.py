@@ -239,7 +239,8 @@ class PictureTest(unittest.TestCase):
             told = re.search(r"packed = (\[.*\]), ofStep = (\[.*\]);", page(Seen("a", run, [])))
             assert told is not None
             self.assertEqual(json.loads(told[2]), found.of_step)
-            self.assertEqual(unpacked(json.loads(told[1]), run.images), [(it.image, it.number, it.clock) for it in found.all])
+            wanted = [(it.image, it.number, it.clock) for it in found.all]
+            self.assertEqual(unpacked(json.loads(told[1]), run.images), wanted)
 
     def test_the_drawing_alone_is_xml(self) -> None:
         root = xml.etree.ElementTree.fromstring(svg(Seen("a", read_run(STUCK), [])))
