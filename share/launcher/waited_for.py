@@ -73,7 +73,7 @@ class _Standing:
 
     def _take_held(self, step: Step) -> None:
         """Takes a step at a lock, an event or a construct."""
-        word, cell = step.word, (step.owner, step.ask[-1 if len(step.ask) < 3 else 1])
+        word, cell = step.word, (step.owner, step.ask[1] if step.ask[1:] else "")
         if word in ("lock", "trylock") and step.reply in ("0", "6002"):
             self.locks[cell] = step
         elif word == "free" or (word == "unlock" and step.reply == "0"):
@@ -85,7 +85,7 @@ class _Standing:
             self.inside.pop(step.ask[1], None)
         elif word == "post" and step.reply == "0":
             self.posts[cell] = self.posts.get(cell, 0) + 1
-        elif word == "wait":
+        elif word == "wait" and step.reply == "0":
             self.posts[cell] = self.posts.get(cell, 0) - int(step.ask[2])
         elif word == "create":
             name = f"{step.ask[1]}:"
