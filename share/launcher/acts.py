@@ -7,8 +7,8 @@ from trace import Step
 
 def short_text(step: Step) -> str:
     """Returns what a step does: `x:0[2]=1` defines the cell at the offset 0 of `x` on image 2, `x:0[2]->1` reads it;
-    the image stands there where it is another one. `r2` is the second round of the team. A status other than 0 stands
-    behind `->`."""
+    the image stands there where it is another one. `r2` is the second round of the initial team, `r2 t3` that of team
+    3. A status other than 0 stands behind `->`."""
     return _TEXTS.get(step.word, _as_told)(step)
 
 
@@ -51,7 +51,7 @@ def _wait(step: Step) -> str:
 
 
 def _round(step: Step, number: str) -> str:
-    return f"r{number}" + ("" if step.ask[1] == "1" else f" of team {step.ask[1]}")
+    return f"r{number}" + ("" if step.ask[1] == "1" else f" t{step.ask[1]}")
 
 
 def _joined(step: Step, what: str) -> str:

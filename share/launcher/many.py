@@ -1,18 +1,26 @@
-"""Many runs of the program, some at the same time: a few processes of this one's make them, each one after the other,
-and send their ends back through a pipe."""
+"""Many runs of the program, some at the same time.
 
+They stand in one process group, which the system kills where this process ends before them: a run can't be bound to it
+as a single one is (`bound` of running.py), since all that a process does between its fork and the program costs more
+than most runs.
+"""
+
+import contextlib
+import fcntl
 import os
-import selectors
+import select
 import signal
-from typing import Callable, Dict, Iterator, List, NamedTuple, Optional, Sequence, Tuple
+from itertools import islice
+from typing import Callable, Dict, Iterable, List, NamedTuple, Optional, Sequence
 
-from captured import PIECE, Captured, begin, end
+from captured import PIECE, Captured
 from children import ENDING
-from running import bound
-from texts import text_of
+from texts import bytes_of, text_of
 
-# How often the time is told while the runs go on, in seconds.
-TICK = 0.1
+# How often the time is told while the runs go on, in milliseconds.
+TICK = 100
+# What Python ignores and a program doesn't.
+_RESTORED = (signal.SIGPIPE, signal.SIGXFSZ)
 
 
 class Job(NamedTuple):
@@ -33,28 +41,63 @@ class Runs(NamedTuple):
     tick: Callable[[], None]
 
 
-class Worker:
-    """A process that makes some of the runs: its number, and what it has sent that isn't a whole end yet."""
+class Going(NamedTuple):
+    """A run that goes on: its job, its process, and its text so far."""
 
-    def __init__(self, process: int) -> None:
-        self.process = process
-        self._left = b""
+    job: Job
+    process: int
+    pieces: List[bytes]
 
-    def take(self, piece: bytes) -> Iterator[Tuple[int, Captured]]:
-        """Takes what comes next, and gives the ends that are whole with it, by the numbers of their jobs."""
-        self._left += piece
-        while b"\n" in self._left:
-            head, _, rest = self._left.partition(b"\n")
-            number, status, length = (int(it) for it in head.split())
-            if len(rest) < length:
-                return
-            self._left = rest[length:]
-            yield number, Captured(status, text_of(rest[:length]))
+
+class Group:
+    """The process group of the runs, and a process that does nothing but keep it.
+
+    All of them hold one end of a pipe and this process the other one alone. Where that one closes, which the end of
+    this process does in any case, the system sends SIGKILL to the group.
+    """
+
+    def __init__(self) -> None:
+        self.nothing = os.open(os.devnull, os.O_RDONLY)
+        held, self._own = os.pipe()
+        before = signal.pthread_sigmask(signal.SIG_BLOCK, ENDING)
+        try:
+            self.number = os.fork()
+            if self.number == 0:
+                self._keep(held)
+            os.setpgid(self.number, self.number)
+        finally:
+            signal.pthread_sigmask(signal.SIG_SETMASK, before)
+        fcntl.fcntl(held, fcntl.F_SETOWN, -self.number)
+        fcntl.fcntl(held, fcntl.F_SETSIG, signal.SIGKILL)
+        fcntl.fcntl(held, fcntl.F_SETFL, fcntl.fcntl(held, fcntl.F_GETFL) | fcntl.FASYNC)
+        os.set_inheritable(held, True)
+        self._held = held
+
+    def _keep(self, held: int) -> None:
+        """Keeps the group until this process's end of the pipe closes."""
+        try:
+            os.setpgid(0, 0)
+            os.close(self._own)
+            os.read(held, 1)
+            os.killpg(0, signal.SIGKILL)
+        finally:
+            os._exit(1)
+
+    def begin(self, program: bytes, words: Sequence[bytes], given: Optional[int], text: int) -> int:
+        """Begins the program, whose text goes to a pipe, in the group, and returns its process."""
+        source = self.nothing if given is None else given
+        actions = [(os.POSIX_SPAWN_DUP2, source, 0), (os.POSIX_SPAWN_DUP2, text, 1)]
+        how = {"file_actions": actions, "setpgroup": self.number, "setsigdef": _RESTORED}
+        return os.posix_spawn(program, [program, *words], os.environ, **how)
 
     def end(self) -> None:
-        """Ends it, and the run that it makes."""
-        os.killpg(self.process, signal.SIGKILL)
-        os.waitpid(self.process, 0)
+        """Ends all runs that go on."""
+        os.killpg(self.number, signal.SIGKILL)
+        with contextlib.suppress(ChildProcessError):
+            while True:
+                os.waitpid(-self.number, 0)
+        for number in (self.nothing, self._own, self._held):
+            os.close(number)
 
 
 def processors() -> int:
@@ -62,82 +105,51 @@ def processors() -> int:
     return len(os.sched_getaffinity(0)) if hasattr(os, "sched_getaffinity") else os.cpu_count() or 1
 
 
-def run_many(runs: Runs, jobs: Sequence[Job]) -> None:
+def run_many(runs: Runs, jobs: Iterable[Job]) -> None:
     """Makes the runs, and tells each one as it ends. Those that go on are ended where this is left by an exception.
     Raises OSError where one of them can't be made."""
-    by_number = {it.number: it for it in jobs}
-    workers: Dict[int, Worker] = {}
-    with selectors.DefaultSelector() as selector:
-        try:
-            for place in range(min(runs.at_once, len(jobs))):
-                number = _begin_worker(runs, jobs[place :: runs.at_once], workers)
-                selector.register(number, selectors.EVENT_READ)
-            while selector.get_map():
-                for key, _ in selector.select(TICK):
-                    _read(runs, by_number, workers[key.fd], key.fd, selector)
-                runs.tick()
-        finally:
-            for number, worker in workers.items():
-                worker.end()
-                os.close(number)
-    if by_number:
-        raise OSError("a run couldn't be made")
-
-
-def _read(runs: Runs, jobs: Dict[int, Job], worker: Worker, number: int, selector: selectors.BaseSelector) -> None:
-    """Reads what a worker has sent, and tells the ends in it."""
-    piece = os.read(number, PIECE)
-    if not piece:
-        selector.unregister(number)
-    for job, captured in worker.take(piece):
-        runs.ended(jobs.pop(job), captured)
-
-
-def _begin_worker(runs: Runs, jobs: Sequence[Job], workers: Dict[int, Worker]) -> int:
-    """Begins a process that makes these runs, and returns the descriptor from which its ends are read."""
-    bind = bound()
-    source, target = os.pipe()
-    before = signal.pthread_sigmask(signal.SIG_BLOCK, ENDING)
-    process = os.fork()
-    if process == 0:
-        status = 1
-        try:
-            bind()
-            os.setpgid(0, 0)
-            for number in ENDING:
-                signal.signal(number, signal.SIG_DFL)
-            signal.pthread_sigmask(signal.SIG_SETMASK, before)
-            _make(runs, jobs, target)
-            status = 0
-        finally:
-            os._exit(status)
-    os.close(target)
-    workers[source] = Worker(process)
+    group = Group()
+    going: Dict[int, Going] = {}
     try:
-        os.setpgid(process, process)
+        left, poll = iter(jobs), select.poll()
+        for job in islice(left, runs.at_once):
+            _begin(runs, group, job, going, poll)
+        while going:
+            for number, _ in poll.poll(TICK):
+                piece = os.read(number, PIECE)
+                if piece:
+                    going[number].pieces.append(piece)
+                    continue
+                poll.unregister(number)
+                ended = going.pop(number)
+                captured = _captured(ended, number)
+                for job in islice(left, 1):
+                    _begin(runs, group, job, going, poll)
+                runs.ended(ended.job, captured)
+            runs.tick()
     finally:
-        signal.pthread_sigmask(signal.SIG_SETMASK, before)
-    return source
+        group.end()
+        for number in going:
+            os.close(number)
 
 
-def _make(runs: Runs, jobs: Sequence[Job], target: int) -> None:
-    """Makes the runs one after the other, and sends their ends: a line with number, status and length, and the text."""
-    for job in jobs:
-        status, text = _make_one(runs, job)
-        left = b"%d %d %d\n" % (job.number, status, len(text)) + text
-        while left:
-            left = left[os.write(target, left) :]
-
-
-def _make_one(runs: Runs, job: Job) -> Tuple[int, bytes]:
+def _begin(runs: Runs, group: Group, job: Job, going: Dict[int, Going], poll: "select.poll") -> None:
+    """Begins a run, and has its text awaited."""
     given = runs.standard_input()
-    child = begin(runs.program, job.words, given)
-    if given is not None:
-        os.close(given)
-    assert child.stdout is not None
-    pieces = [b""]
-    while pieces[-1] or len(pieces) == 1:
-        pieces.append(os.read(child.stdout.fileno(), PIECE))
-    status = child.wait()
-    end(child)
-    return status if status >= 0 else 128 - status, b"".join(pieces)
+    source, text = os.pipe()
+    try:
+        process = group.begin(os.fsencode(runs.program), [bytes_of(it) for it in job.words], given, text)
+        going[source] = Going(job, process, [])
+        poll.register(source, select.POLLIN)
+    finally:
+        os.close(text)
+        if given is not None:
+            os.close(given)
+
+
+def _captured(ended: Going, number: int) -> Captured:
+    """Returns what a run that has closed its text wrote, and its status."""
+    os.close(number)
+    status = os.waitpid(ended.process, 0)[1]
+    code = os.WEXITSTATUS(status) if os.WIFEXITED(status) else 128 + os.WTERMSIG(status)
+    return Captured(code, text_of(b"".join(ended.pieces)))

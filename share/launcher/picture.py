@@ -5,22 +5,26 @@ The page is page.html with its places filled: it stands alone, and asks nothing 
 
 import os
 import re
-from typing import Dict, List
+from typing import Dict, List, Sequence
 
-from drawing import drawing, escaped, numbers, race_steps
+from drawing import drawing, numbers, race_steps
+from packed_clocks import packed
+from places import LANE, LEFT, ROW, TOP, escaped
 from segments import segments_of
 from trace import Run
 from views import Seen
+from waited_for import Reason, circle, reasons
+from ways import images
 
 _PAGE = os.path.join(os.path.dirname(os.path.abspath(__file__)), "page.html")
 
-# With more steps the page makes the labels of their titles, so that it stays below 2 MB for 10,000 steps.
-MOST_LABELS = 4000
+# Of more steps the drawing is short, so that the page stays below 2 MB for 10,000 steps.
+MOST_WHOLE = 3000
 
 
 def svg(seen: Seen) -> str:
     """Returns the drawing alone."""
-    return drawing(seen.run, segments_of(seen.run)) + "\n"
+    return drawing(seen.run, segments_of(seen.run), reasons(seen.run, seen.source)) + "\n"
 
 
 def page(seen: Seen) -> str:
@@ -28,19 +32,22 @@ def page(seen: Seen) -> str:
     with open(_PAGE, encoding="latin-1") as file:
         text = file.read()
     segments = segments_of(seen.run)
+    why = reasons(seen.run, seen.source)
     places = {
         "TITLE": escaped(seen.title),
-        "END": _end(seen.run),
+        "END": _end(seen.run, why),
         "SOURCE": _source(seen),
-        "SEGMENTS": "[" + ",".join(numbers([it.image, it.number, *it.clock]) for it in segments.all) + "]",
+        "SEGMENTS": "[" + ",".join(numbers(it) for it in packed(segments.all)) + "]",
         "OF_STEP": numbers(segments.of_step),
-        "DRAWING": drawing(seen.run, segments, len(seen.run.steps) <= MOST_LABELS),
+        "IMAGES": str(seen.run.images),
+        "LAYOUT": numbers([LEFT + 16, LANE, TOP + 22, ROW]),
+        "DRAWING": drawing(seen.run, segments, why, len(seen.run.steps) > MOST_WHOLE),
     }
     return re.sub(r"\{\{([A-Z_]+)\}\}", lambda it: places[it[1]], text)
 
 
-def _end(run: Run) -> str:
-    """Returns how the run ended; of a race each access leads to its step."""
+def _end(run: Run, why: Sequence[Reason]) -> str:
+    """Returns how the run ended; of a race each access leads to its step, of a stuck run each image to its last one."""
     lines = [f"<p>{escaped(it)}</p>" for it in run.end] or ["<p>finished</p>"]
     steps = race_steps(run)
     if run.race and len(steps) == 2:
@@ -48,10 +55,33 @@ def _end(run: Run) -> str:
         links = " and ".join(f'<a href="#s{at}">{name}</a>' for at, name in zip(_of_race(run, steps), names))
         what = f"Race on cell {run.race.cell} of {escaped(run.race.coarray)} of image {run.race.owner}"
         lines = [f"<p><b>{what}:</b> {links}. Nothing orders their two segments.</p>"]
-    elif run.waits:
-        told = (f"image {it.image} at line {it.line} ({it.word})" for it in run.waits)
-        lines = [f"<p><b>Stuck:</b> these images wait, and none can go on: {', '.join(told)}.</p>"]
+    elif why:
+        lines = [f"<p><b>Stuck:</b> none of these images can go on{_circle(why)}.</p>", f"<ul>{_waits(run, why)}</ul>"]
     return f'<div class="end{" wrong" if run.end else ""}">{"".join(lines)}</div>'
+
+
+def _waits(run: Run, why: Sequence[Reason]) -> str:
+    """Returns who waits for what; images that wait at one line for one thing stand together."""
+    last = {it.image: number for number, it in enumerate(run.steps, 1)}
+    told: Dict[str, List[int]] = {}
+    for it in why:
+        told.setdefault(f"line {it.wait.line}, waits for {escaped(it.text)}", []).append(it.wait.image)
+    lines = []
+    for text, who in told.items():
+        name = images(who)
+        if who[0] in last:
+            name = f'<a href="#s{last[who[0]]}">{name}</a>'
+        lines.append(f"<li>{name}: {text}</li>")
+    return "".join(lines)
+
+
+def _circle(why: Sequence[Reason]) -> str:
+    """Returns which images wait for each other, where there are such ones."""
+    found = circle(why)
+    if not found:
+        return ""
+    last = f"and image {found[-1]} for image {found[0]}"
+    return f"; of images {', '.join(map(str, found))} each waits for the next one, {last}"
 
 
 def _of_race(run: Run, steps: List[int]) -> List[int]:

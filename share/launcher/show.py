@@ -6,7 +6,7 @@ and before what an image of a stuck run waits for.
 """
 
 import re
-from typing import Dict, Iterable, List, NamedTuple, Optional, Set, Tuple
+from typing import Dict, Iterable, List, NamedTuple, Optional, Sequence, Set, Tuple
 
 from acts import short_text
 from trace import Kind, Run, Step
@@ -14,7 +14,7 @@ from trace import Kind, Run, Step
 WIDTH = 80
 IMAGES_IN_WIDTH = 4
 NARROWEST, WIDEST = 18, 40
-MOST_LINES = 4
+MOST_LINES, MOST_LINES_OF_WAITS = 4, 12
 _BREAK = re.compile(r" |\[|->|=")
 _OPENING = ("arrive", "gather", "pair")
 _CLOSING = ("leave", "take", "unpair")
@@ -43,13 +43,13 @@ class Layout(NamedTuple):
     cell: int
     images: Tuple[int, ...]
 
-    def cell_lines(self, number: str, line: str, text: str) -> List[str]:
+    def cell_lines(self, number: str, line: str, text: str, most: int = MOST_LINES) -> List[str]:
         """Returns the lines of a cell: the text goes on below where it is too long."""
         front = f"{number:>{self.number}} {line:>{self.line}} "
         room = max(self.cell - len(front), 1)
         pieces = list(_pieces(text, room))
-        if len(pieces) > MOST_LINES:
-            pieces = [*pieces[: MOST_LINES - 1], pieces[MOST_LINES - 1][: room - 2] + ".."]
+        if len(pieces) > most:
+            pieces = [*pieces[: most - 1], pieces[most - 1][: room - 2] + ".."]
         return [front + pieces[0], *(" " * len(front) + it for it in pieces[1:])]
 
 
@@ -71,8 +71,9 @@ class Cell(NamedTuple):
     fill: str = " "
 
 
-def show(run: Run, choice: Choice) -> str:
-    """Returns the columns of a run, and below them how it ended."""
+def show(run: Run, choice: Choice, source: Sequence[str] = ()) -> str:
+    """Returns the columns of a run, and below them how it ended; the lines of the source tell more of what an image of
+    a stuck run waits for."""
     layout = _layout(run, choice)
     lines = _heading(layout)
     waiting: Set[int] = set()
@@ -81,7 +82,7 @@ def show(run: Run, choice: Choice) -> str:
         if chosen:
             lines += _row(layout, str(steps[0].stamp), _cells(layout, run, chosen, waiting))
         _note_waiting(steps, waiting)
-    lines += _waits(layout, run)
+    lines += _waits(layout, run, source)
     return "".join(f"{it}\n" for it in lines + _end(run))
 
 
@@ -157,11 +158,15 @@ def _column(layout: Layout, cell: Cell, number: int) -> str:
     return sign + (text and text + " ").ljust(layout.cell, cell.fill)
 
 
-def _waits(layout: Layout, run: Run) -> List[str]:
-    """Returns the row of those that wait at the end of a stuck run."""
+def _waits(layout: Layout, run: Run, source: Sequence[str]) -> List[str]:
+    """Returns the row of those that wait at the end of a stuck run, with what they wait for, and on whom that
+    depends."""
     if not run.waits:
         return []
-    cells = {it.image: Cell(layout.cell_lines("", str(it.line), f"waits: {it.word}"), True) for it in run.waits}
+    from waited_for import reasons  # here, since few runs are stuck
+
+    told = {it.wait.image: (str(it.wait.line), f"waits: {it.text}") for it in reasons(run, source)}
+    cells = {it: Cell(layout.cell_lines("", *told[it], MOST_LINES_OF_WAITS), True) for it in told}
     return _row(layout, "", cells)
 
 

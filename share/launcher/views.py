@@ -90,7 +90,7 @@ def _show_run(call: Call) -> int:
     if program is None:
         return NO_PROGRAM
     words = call.asked.words_for_program()
-    captured = run_captured(program.path, ["run", "--trace", *words[1:]], call.asked.standard_input())
+    captured = run_captured(program.path, ["run", "--trace", "--vars", *words[1:]], call.asked.standard_input())
     if captured.status in NO_RUN or captured.status > 128:
         return tell_no_run(call, captured)
     title = " ".join(["caf", *call.words.run])
@@ -106,7 +106,7 @@ def _answer_seen(call: Call, seen: Seen) -> int:
     if call.words.command == "show":
         from show import show  # here, since the others don't need it
 
-        answer(show(seen.run, _choice(call.words.own)))
+        answer(show(seen.run, _choice(call.words.own), seen.source))
     else:
         from picture import page, svg  # here, since the others don't need it
 

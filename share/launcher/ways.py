@@ -3,9 +3,8 @@
 import re
 from typing import Dict, List, NamedTuple, Tuple
 
-from captured import Captured
 from ending import DONE
-from trace import Run, read_run
+from trace import Run
 
 _STOPPED = re.compile("error stop image [0-9]+ line ([0-9]+) code (-?[0-9]+)")
 _FAULT = re.compile("fault image [0-9]+ line ([0-9]+) ([^ ]+)")
@@ -21,13 +20,12 @@ class Way(NamedTuple):
     printed: Tuple[str, ...] = ()
 
 
-def way_of(captured: Captured) -> Way:
-    """Returns the way in which a run ended. Of a race it has the coarray and the two lines, of a stuck run who waits
-    where, of a fault, an error stop, a clash or a limit the lines and the kind, but no image."""
-    run = read_run(captured.text)
-    if captured.status == DONE:
+def way_of(status: int, run: Run) -> Way:
+    """Returns the way in which a run ended with this status. Of a race it has the coarray and the two lines, of a stuck
+    run who waits where, of a fault, an error stop, a clash or a limit the lines and the kind, but no image."""
+    if status == DONE:
         return Way(DONE, "", tuple(run.printed + run.variables))
-    return Way(captured.status, _what(run))
+    return Way(status, _what(run))
 
 
 def _what(run: Run) -> str:
@@ -51,10 +49,10 @@ def _waits(run: Run) -> str:
 
 def images(who: List[int]) -> str:
     """Returns images in words: `images 1, 3 to 6`."""
-    return f"image{'s' if len(who) > 1 else ''} {', '.join(_ranges(sorted(who)))}"
+    return f"image{'s' if len(who) > 1 else ''} {', '.join(ranges(sorted(who)))}"
 
 
-def _ranges(who: List[int]) -> List[str]:
+def ranges(who: List[int], between: str = " to ") -> List[str]:
     """Returns rising numbers, three or more in a row as a range."""
     rows: List[List[int]] = []
     for it in who:
@@ -64,7 +62,7 @@ def _ranges(who: List[int]) -> List[str]:
             rows.append([it])
     told = []
     for row in rows:
-        told += [f"{row[0]} to {row[-1]}"] if len(row) > 2 else [str(it) for it in row]
+        told += [f"{row[0]}{between}{row[-1]}"] if len(row) > 2 else [str(it) for it in row]
     return told
 
 

@@ -1,10 +1,11 @@
-"""What ./caf show, ./caf picture and ./caf explore make of the examples, against the trace and the ends of the program
-itself."""
+"""What ./caf show and ./caf picture make of the examples and of the programs in shown/, against the trace of the
+program itself."""
 
 import re
 from typing import Dict, List
 
 from checks.comparing import LAUNCHER, Checks, call
+from checks.explored import check_explored
 from tests.test_picture import lines_told, read_page, steps_of
 from texts import text_of
 
@@ -21,22 +22,45 @@ SHOWN = """\
 -n 8 --order 0 examples/exchange.f90
 -n 16 --order 1 examples/tree-sum.f90
 -n 2 --order 0 --made 1 4
+-n 12 --order 3 tools/checks/shown/halo-grid.f90
+-n 9 --order 2 tools/checks/shown/prefix.f90
+-n 16 --order 5 tools/checks/shown/ring.f90
+-n 6 --order 4 tools/checks/shown/events.f90
+-n 4 --order 2 tools/checks/shown/lock-queue.f90
+-n 8 --order 3 tools/checks/shown/subteams.f90
+-n 5 --order 1 tools/checks/shown/critical.f90
+-n 3 --order 2 tools/checks/shown/atomic-flag.f90
+-n 7 --order 6 tools/checks/shown/collectives.f90
+-n 4 --order 0 tools/checks/shown/without-image-2.f90
+-n 16 --order 3 tools/checks/shown/one-cell.f90
 """
-# Calls of explore.
-EXPLORED = """\
--n 2 --order 0 --runs 12 examples/deadlock.f90
--n 4 --order 3 --runs 10 examples/halo-race.f90
--n 3 --order 0 --fails examples/neighbour.f90
--n 2 --order 0 --fails examples/deadlock.f90
-"""
+# Runs that are stuck, and what is told of it by show and by picture, each in words that follow each other.
+STUCK: Dict[str, List[str]] = {
+    "-n 2 --order 0 examples/deadlock.f90": [
+        "waits: lock right:0[1], held by image 2 since line 11",
+        "waits: lock left:0[1], held by image 1 since line 8",
+    ],
+    "-n 3 --order 0 tools/checks/shown/crosswise.f90": [
+        "waits: lock fork:0[2], held by image 2 since line 8",
+        "waits: lock fork:0[3], held by image 3 since line 8",
+        "waits: lock fork:0[1], held by image 1 since line 8",
+    ],
+    "-n 4 --order 3 tools/checks/shown/images-unmatched.f90": [
+        "waits: SYNC IMAGES, images 2 to 4 haven't come",
+        *["waits: SYNC r1, image 1 hasn't come"] * 3,
+    ],
+    "-n 4 --order 0 tools/checks/shown/few-posts.f90": [
+        "waits: event ready, 3 of 16 posts",
+        *["waits: SYNC r1, image 1 hasn't come"] * 3,
+    ],
+}
 MOST_COLUMNS = 80
-_ROW = re.compile(r" +([0-9]+)  ([0-9]+) [A-Z]")
 
 
 def check_views(checks: Checks) -> None:
-    """Each step stands in its image's column and once in the page, and the table of explore counts what the program
-    does."""
-    for line in SHOWN.splitlines():
+    """Each step stands in its image's column and once in the page, and both say for whom an image waits; and what
+    explore does."""
+    for line in [*SHOWN.splitlines(), *STUCK]:
         words = line.split()
         trace = text_of(call([checks.program, "run", "--trace", *words]).text)
         _check_columns(checks, words, steps_of(trace))
@@ -44,14 +68,15 @@ def check_views(checks: Checks) -> None:
         read = read_page(text_of(got.text))
         checks.same(f"./caf picture {line}: its steps", "\n".join(steps_of(trace)), "\n".join(lines_told(read)))
         checks.same(f"./caf picture {line}: open elements, and the status", "[] 0", f"{read.open} {got.status}")
-    for line in EXPLORED.splitlines():
-        _check_explored(checks, line)
+    for line, wanted in STUCK.items():
+        _check_stuck(checks, line, wanted)
+    check_explored(checks)
 
 
 def _check_columns(checks: Checks, words: List[str], steps: List[str]) -> None:
     """In each column stand the numbers of its image's steps with their lines, in their order."""
     got = call([LAUNCHER, "show", *words])
-    lines = [re.split("[|!]", it) for it in text_of(got.text).split("\n")[2:] if re.match(" *[0-9]*[|!]", it)]
+    lines = [re.split("[|!]", it) for it in text_of(got.text).split("\n")[2:] if re.match(" *[0-9]+[|!]", it)]
     images = int(words[words.index("-n") + 1])
     wanted: Dict[int, List[str]] = {it: [] for it in range(1, images + 1)}
     for step in steps:
@@ -65,36 +90,13 @@ def _check_columns(checks: Checks, words: List[str], steps: List[str]) -> None:
         checks.holds(f"./caf show {words} has {widest} columns", widest <= MOST_COLUMNS)
 
 
-def _trials(checks: Checks, line: str) -> List[List[str]]:
-    """Returns the words of each run of a call of explore."""
-    if "--fails" not in line:
-        images, first, count, file = (line.split()[it] for it in (1, 3, 5, 6))
-        orders = range(int(first), int(first) + int(count))
-        return [["-n", images, "--order", str(it), file] for it in orders]
-    words = [it for it in line.split() if it != "--fails"]
-    counts: Dict[str, int] = {}
-    for step in steps_of(text_of(call([checks.program, "run", "--trace", *words]).text)):
-        image = step.split(" ")[1]
-        counts[image] = counts.get(image, 0) + 1
-    fails = [f"{image}@{number}" for image, count in counts.items() for number in range(1, count + 1)]
-    return [["--fail", it, *words] for it in fails]
-
-
-def _check_explored(checks: Checks, line: str) -> None:
-    """The counts of each status are those of the runs; and the words of each row end with its status."""
-    wanted: Dict[int, int] = {}
-    for words in _trials(checks, line):
-        status = call([checks.program, "run", *words]).status
-        wanted[status] = wanted.get(status, 0) + 1
-    got: Dict[int, int] = {}
-    status = 0
-    for row in text_of(call([LAUNCHER, "explore", *line.split()]).text).split("\n"):
-        found = _ROW.match(row)
-        if found:
-            status = int(found[2])
-            got[status] = got.get(status, 0) + int(found[1])
-        again = re.fullmatch(f" +{re.escape(LAUNCHER)} (run .*)", row)
-        if again:
-            checks.same(f"{row.strip()} again", f"{status}", f"{call([checks.program, *again[1].split()]).status}")
-    checks.same(f"./caf explore {line}", f"{sorted(wanted.items())}", f"{sorted(got.items())}")
-
+def _check_stuck(checks: Checks, line: str, wanted: List[str]) -> None:
+    """The last row of the columns says for whom each image waits, and so does the page."""
+    text = text_of(call([LAUNCHER, "show", *line.split()]).text)
+    last = [it for it in re.split("\n(?= *![^\n]*waits: )", text, 1)[-1].split("\n") if "!" in it]
+    cells = [" ".join(" ".join(it.split("!")[at].split()) for it in last) for at in range(1, len(wanted) + 1)]
+    told = [re.sub(" (\\[[0-9]+\\])", "\\1", it[it.find("waits: ") :].strip()) for it in cells]
+    checks.same(f"./caf show {line}", "\n".join(wanted), "\n".join(told))
+    page = text_of(call([LAUNCHER, "picture", *line.split()]).text)
+    missing = [it for it in wanted if it.replace("waits: ", "waits for ") + "</li>" not in page]
+    checks.same(f"./caf picture {line}: what isn't told of", "[]", str(missing))

@@ -1,8 +1,10 @@
 """What `explore` makes of a program whose ends are known: a stand-in that ends by its words alone."""
 
 import contextlib
+import fcntl
 import os
 import signal
+import subprocess
 import sys
 import tempfile
 import time
@@ -16,6 +18,7 @@ from captured import Captured
 from ending import Caller
 from many import Job, Runs, run_many
 from programs import Kind, Program
+from trace import read_run
 from ways import Way, images, way_of
 
 HOME = os.path.dirname(os.path.dirname(os.path.dirname(os.path.dirname(os.path.abspath(__file__)))))
@@ -70,13 +73,15 @@ Other orders may end otherwise: nothing is said of them.
 
 WITH_FAILURES = """\
 each of the 3 single failures in order 1
-  orders  end
+failures  end
+       1  4 ErrorStop: line 9, code 6001
+            at 2@1
+            caf run --order 1 --fail 2@1 FILE
        2  0 Finished
             | 1: 20
             | 2: 20
+            at 1@1 2@2
             caf run --order 1 --fail 1@1 FILE
-       1  4 ErrorStop: line 9, code 6001
-            caf run --order 1 --fail 2@1 FILE
 Other orders, and two failures at once, may end otherwise: nothing is said of them.
 """
 
@@ -144,12 +149,49 @@ class WaysTest(unittest.TestCase):
             (9, "clash image 3 line 9 against image 1 line 8\n", "line 9 against line 8"),
         ]
         for status, text, what in table:
-            self.assertEqual(way_of(Captured(status, text)), Way(status, what))
-        self.assertEqual(way_of(Captured(0, "1: 3\nvar 1 x = 2\n")), Way(0, "", ("1: 3", "var 1 x = 2")))
+            self.assertEqual(way_of(status, read_run(text)), Way(status, what))
+        self.assertEqual(way_of(0, read_run("1: 3\nvar 1 x = 2\n")), Way(0, "", ("1: 3", "var 1 x = 2")))
 
     def test_images(self) -> None:
         self.assertEqual(images([2]), "image 2")
         self.assertEqual(images([8, 1, 3, 4, 5]), "images 1, 3 to 5, 8")
+
+
+# Makes runs of a program that go on for long, and is killed, behind the process that keeps their group or alone.
+KILLED = f"""
+import os, signal, sys
+sys.path.insert(0, {os.path.dirname(os.path.dirname(os.path.abspath(__file__)))!r})
+import many
+def begun():
+    if os.path.getsize(sys.argv[2]) == 6:
+        if sys.argv[3] == "both":
+            os.kill(groups[0].number, signal.SIGKILL)
+        os.kill(os.getpid(), signal.SIGKILL)
+groups = []
+make = many.Group
+many.Group = lambda: groups.append(make()) or groups[0]
+jobs = [many.Job(it, [sys.argv[2]]) for it in range(6)]
+many.run_many(many.Runs(sys.argv[1], lambda: None, 3, lambda *_: None, begun), jobs)
+"""
+# Holds the file that it is told, writes two bytes to it, and waits.
+LONG = f"""#!{sys.executable} -S
+import fcntl, sys, time
+file = open(sys.argv[1], "ab")
+fcntl.flock(file, fcntl.LOCK_SH)
+file.write(b"it")
+file.flush()
+time.sleep(60)
+"""
+
+
+def is_free(path: str) -> bool:
+    """Tells whether no process holds a file."""
+    with open(path, "rb") as file:
+        try:
+            fcntl.flock(file, fcntl.LOCK_EX | fcntl.LOCK_NB)
+        except BlockingIOError:
+            return False
+    return True
 
 
 class ManyTest(unittest.TestCase):
@@ -174,3 +216,14 @@ class ManyTest(unittest.TestCase):
             self.assertEqual(explore._run(runs, jobs), signal.SIGTERM)
             self.assertLess(time.monotonic() - begun, 30)
         self.assertEqual(self.done[5:], ["end\n"])
+
+    def test_no_run_outlives_the_launcher(self) -> None:
+        for who in ("launcher", "both"):
+            with program(LONG) as path, tempfile.NamedTemporaryFile() as noted:
+                done = subprocess.run([sys.executable, "-c", KILLED, path, noted.name, who], timeout=60, check=False)
+                self.assertEqual(done.returncode, -signal.SIGKILL)
+                self.assertEqual(os.path.getsize(noted.name), 6)
+                ended = time.monotonic() + 20
+                while not is_free(noted.name) and time.monotonic() < ended:
+                    time.sleep(0.02)
+                self.assertTrue(is_free(noted.name), who)

@@ -11,6 +11,7 @@ from typing import Dict, List, Optional, Tuple
 from picture import page, svg
 from segments import segments_of
 from tests.test_show import RACED, STUCK
+from tests.test_waited_for import CROSSED, CROSSED_SOURCE, TEAMS
 from trace import read_run
 from views import Seen
 
@@ -156,6 +157,48 @@ def steps_of(text: str) -> List[str]:
     return [it for it in text.split("\n") if re.match(r"\d+ \d+ \d+ (m\d+|own|board) ", it)]
 
 
+def unpacked(rows: List[List[int]], images: int) -> List[Tuple[int, int, Tuple[int, ...]]]:
+    """Returns the image, the number and the clock of each segment, as the page reads them."""
+    found: List[Tuple[int, int, Tuple[int, ...]]] = []
+    for image, number, back, *told in rows:
+        clock = list(found[-back][2] if back else [0] * images)
+        for place, count in zip(told[::2], told[1::2]):
+            clock[place] = count
+        found.append((image, number, tuple(clock)))
+    return found
+
+
+def accesses(images: int) -> List[str]:
+    """Returns 10,000 steps of images that write to each other's memory."""
+    own = range(1, images + 1)
+    steps = ((at, it) for at in range(10000 // images) for it in own)
+    return [f"{at + 1} {it} 12 m{1 + it % images} write halo:{it} {at} > ok" for at, it in steps]
+
+
+def locks(images: int) -> List[str]:
+    """Returns 10,000 steps of images that take a lock one after the other."""
+    acts = ("lock gate:0 > 0", "read next:0 > 7", "write next:0 8 > ok", "unlock gate:0 > 0")
+    return [f"{at + 1} {1 + at // 4 % images} {11 + at % 4} m1 {acts[at % 4]}" for at in range(10000)]
+
+
+def events(images: int) -> List[str]:
+    """Returns 10,000 steps of images each of which posts to the next one."""
+    lines = []
+    for at in range(5000):
+        other = 1 + (at + 1) % images
+        lines.append(f"{2 * at + 1} {1 + at % images} 31 m{other} post full:0 > 0")
+        lines.append(f"{2 * at + 2} {other} 36 m{other} wait full:0 1 > 0")
+    return lines
+
+
+def rounds(images: int) -> List[str]:
+    """Returns some 10,000 steps of images that meet in SYNC ALL."""
+    asks = [f"board arrive 1 sync > round {at + 1}" for at in range(10000 // images // 2)]
+    pairs = [(it, it.replace("arrive 1 sync > round", "leave 1") + " > 0") for it in asks]
+    lines = [f"{image} 13 {ask}" for pair in pairs for ask in pair for image in range(1, images + 1)]
+    return [f"{at} {it}" for at, it in enumerate(lines, 1)]
+
+
 class PictureTest(unittest.TestCase):
     def test_the_page_parses_and_has_each_step_once_with_its_numbers(self) -> None:
         for text in (RACED, STUCK, SYNC, EVENT, LOCK, PAIRS, FLAG, GONE):
@@ -182,28 +225,34 @@ class PictureTest(unittest.TestCase):
         self.assertIn('<a href="#s2">image 2, step 1, line 11</a> and <a href="#s3">image 1, step 2, line 12</a>', text)
         self.assertEqual(text.count('class="ring"'), 2)
 
+    def test_a_stuck_run_says_who_waits_for_whom(self) -> None:
+        text = page(Seen("a", read_run(STUCK), []))
+        self.assertIn('<li><a href="#s1">images 1, 3</a>: line 3, waits for SYNC r1, image 2 hasn\'t come</li>', text)
+        self.assertIn('<li><a href="#s4">image 2</a>: line 8, waits for lock</li>', text)
+        text = page(Seen("a", read_run("var 2 one = 1\n" + CROSSED), CROSSED_SOURCE))
+        self.assertIn("can go on; of images 1, 2 each waits for the next one, and image 2 for image 1.</p>", text)
+
     def test_the_data_are_those_of_the_segments(self) -> None:
-        run = read_run(SYNC)
-        found = segments_of(run)
-        text = page(Seen("a", run, []))
-        told = re.search(r"segments = (\[.*\]), ofStep = (\[.*\]);", text)
-        assert told is not None
-        self.assertEqual(json.loads(told[2]), found.of_step)
-        self.assertEqual(json.loads(told[1]), [[it.image, it.number, *it.clock] for it in found.all])
+        for text in (SYNC, EVENT, LOCK, PAIRS, FLAG, GONE, TEAMS):
+            run = read_run(text)
+            found = segments_of(run)
+            told = re.search(r"packed = (\[.*\]), ofStep = (\[.*\]);", page(Seen("a", run, [])))
+            assert told is not None
+            self.assertEqual(json.loads(told[2]), found.of_step)
+            wanted = [(it.image, it.number, it.clock) for it in found.all]
+            self.assertEqual(unpacked(json.loads(told[1]), run.images), wanted)
 
     def test_the_drawing_alone_is_xml(self) -> None:
         root = xml.etree.ElementTree.fromstring(svg(Seen("a", read_run(STUCK), [])))
         steps = [it for it in root.iter("{http://www.w3.org/2000/svg}g") if it.get("id")]
         self.assertEqual([it.get("id") for it in steps], ["s1", "s2", "s3", "s4"])
         self.assertEqual(sum(it.get("class") == "waits" for it in root.iter()), 3)
+        titles = [it[0].text for it in root.iter() if it.get("class") == "awaited"]
+        self.assertEqual(titles, ["image 1 waits for image 2", "image 3 waits for image 2"])
 
     def test_10000_steps_take_2_mb_at_most(self) -> None:
-        lines = []
-        for at in range(0, 10000, 4):
-            acts = [f"12 m{1 + (image + 1) % 4} write halo:{image} {at} > ok" for image in range(4)]
-            lines += [f"{at + 1} {image} {act}" for image, act in enumerate(acts, 1)]
-        text = page(Seen("a", read_run("\n".join(lines)), []))
-        self.assertEqual(text.count('<g id="s'), 10000)
-        self.assertLess(len(text), 2000000)
-
-
+        for lines in (accesses(4), locks(16), events(16), rounds(16)):
+            text = page(Seen("a", read_run("\n".join(lines)), []))
+            read = read_page(text)
+            self.assertEqual([read.titles[f"s{number}"] for number in range(1, len(lines) + 1)], lines)
+            self.assertLess(len(text), 2000000)

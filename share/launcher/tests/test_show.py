@@ -46,7 +46,9 @@ STUCK_COLUMNS = """\
 2|==================|                  |1 3 sync r1 ======|
 3|==================|                  |==================|1 0 fail
 4|==================|1 7 lock l:0[1]   |==================|
- !  3 waits: leave  !  8 waits: lock   !  3 waits: leave  |
+ !  3 waits: SYNC   !  8 waits: lock   !  3 waits: SYNC   |
+ !    r1, image 2   !                  !    r1, image 2   |
+ !    hasn't come   !                  !    hasn't come   |
 stuck
 """
 
@@ -98,7 +100,7 @@ class TraceTest(unittest.TestCase):
             ("m2 trylock l:0 > busy", "trylock l:0[2]->busy"),
             ("m1 wait e:0 1 > 0", "wait e:0"),
             ("m1 wait e:0 3 > 0", "wait e:0 3"),
-            ("board arrive 2 sync > round 5", "sync r5 of team 2"),
+            ("board arrive 2 sync > round 5", "sync r5 t2"),
             ("board arrive 1 sync > clash 2 7", "sync->clash 2 7"),
             ("board arrive 1 allocate x(1:4)[1:*] > round 1", "allocate r1"),
             ("board leave 1 2 > 6001", "leave r2->6001"),
