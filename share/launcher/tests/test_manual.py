@@ -45,6 +45,7 @@ TABLES = Tables(
     ],
     {},
     {"real": "integers"},
+    [],
 )
 
 PAGE = """\
