@@ -6,7 +6,7 @@ from typing import Dict, Optional
 
 from blocks import END_WORDS, SHOWN, open_blocks
 from lexing import Token
-from look import Chooser, Found, Look, near
+from look import LEFT_WORDS, Chooser, Found, Look, near
 from texts import bytes_of
 
 _BYTE_ORDER_MARK = "\357\273\277"
@@ -109,7 +109,17 @@ def _bad_character(look: Look) -> Optional[Found]:
         return Found("long-name", {"count": str(count), "name": name.group()[:20]})
     if first == "_":
         return _underscore(look)
-    return _dot(look) if first == "." else _sign(look, first)
+    return (_in_left(look) or _dot(look)) if first == "." else _sign(look, first)
+
+
+def _in_left(look: Look) -> Optional[Found]:
+    """Chooses by the first word of the line, where it is that of a form that isn't read."""
+    found = re.match(r"[ \t]*(?:[0-9]+[ \t]+)?([A-Za-z]+)\b(?![ \t]*=)", look.front)
+    word = found.group(1).lower() if found else ""
+    if found is None or word not in look.tables.left or word in ("all", "any", "count", "sum", "sign", "dim", "value"):
+        return None
+    values = {"word": LEFT_WORDS.get(word, word.upper()), "left": look.tables.left[word]}
+    return Found("in-left", values, Token(word, look.line, found.start(1) + 1, len(word)))
 
 
 def _underscore(look: Look) -> Found:
@@ -161,7 +171,8 @@ def _real(look: Look) -> Found:
     values = {"number": number.group() if number else ".", "left": look.tables.left.get("real", "")}
     for statement in look.statements:
         if statement[0].text in ("real", "double", "complex") and len(statement) > 1 and statement[1].text != "=":
-            return Found("real", {**values, "word": statement[0].text}, statement[0])
+            word = statement[0].text
+            return Found("real", {**values, "word": LEFT_WORDS.get(word, word.upper())}, statement[0])
         if statement[0].line >= look.line:
             break
     return Found("real", values)
@@ -169,7 +180,7 @@ def _real(look: Look) -> Found:
 
 def _too_wide(look: Look) -> Found:
     digits = re.match("[0-9]*", look.rest)
-    return Found("number", {"token": digits.group() if digits else ""})
+    return _in_left(look) or Found("number", {"token": digits.group() if digits else ""})
 
 
 def _not_closed(look: Look) -> Optional[Found]:

@@ -1,10 +1,12 @@
 """What `caf --explain WORD` says: the entries of docs/REFUSALS.md with a number or a name, or what there is in the
 place of a form of Fortran."""
 
+import re
 from typing import List, Optional
 
+from ends import Place
 from excerpts import excerpt
-from tables import Entry, Kind, Tables
+from tables import Case, Entry, Kind, Tables
 from texts import lower
 
 KINDS = (
@@ -12,6 +14,8 @@ KINDS = (
     "or a name of these"
 )
 
+# A place of a sentence.
+_OPEN = re.compile(r"\{[a-z]+\}")
 _TITLES = {Kind.FAULT: "run fault", Kind.CODE: "code of a status", Kind.WAIT: "a stuck image waits for"}
 
 
@@ -39,7 +43,22 @@ def _explained(entry: Entry, tables: Tables) -> List[str]:
         lines.append(f"    what to do: {tables.advice[entry.key]}")
     if entry.example is not None:
         lines += _example(entry.example, entry.place)
+    if entry.kind is Kind.REFUSAL:
+        cases = [case for case in tables.cases if case.number == entry.key and case.word != "-"]
+        lines += [line for case in cases for line in _case(case, tables)]
     return lines
+
+
+def _case(case: Case, tables: Tables) -> List[str]:
+    """Returns the lines of a case: what is said of its example, or its sentence where it has none."""
+    if case.example is None or case.place is None:
+        return [f"    case: {_OPEN.sub('..', case.said[0])}"]
+    from refusals import refusal_said  # here, since only what is said of a refusal needs it
+
+    line, column = (int(it) for it in case.place.split(":"))
+    said = refusal_said(case.number, Place(line, column, ""), [case.example], tables)
+    shown = [f"    {it}" for it in excerpt("    ", case.example, column)]
+    return [f"    case: {said.text}", *shown, *(f"        help: {it}" for it in said.helps)]
 
 
 def _example(text: str, place: Optional[str]) -> List[str]:

@@ -6,7 +6,6 @@ from ending import Caller
 from ends import End, Place, read_end
 from excerpts import excerpt
 from given_file import Asked, why_unread
-from refusals import Said, refusal_said
 from tables import Kind, Tables, read_tables, tables_path
 from texts import NO_MORE_TAKEN
 from usage import usage_message
@@ -50,8 +49,7 @@ def _end_lines(caller: Caller, asked: Asked, told: Sequence[str]) -> List[str]:
     lines = []
     for place in end.places:
         if end.refusal:
-            said = refusal_said(end.refusal, place, source, tables)
-            lines += _refusal_lines(asked.shown_name(), place, _line_of(source, place), end, said, tables)
+            lines += _refusal_lines(asked.shown_name(), place, source, end, tables)
         else:
             lines += _place_lines(asked.shown_name(), place, _line_of(source, place), end)
     if end.hint:
@@ -59,12 +57,13 @@ def _end_lines(caller: Caller, asked: Asked, told: Sequence[str]) -> List[str]:
     return lines
 
 
-def _refusal_lines(
-    shown_name: str, place: Place, source_line: Optional[str], end: End, said: Said, tables: Tables
-) -> List[str]:
+def _refusal_lines(shown_name: str, place: Place, source: List[str], end: End, tables: Tables) -> List[str]:
     """Returns the lines of a refused place: its error, its line, its notes and its helps."""
+    from refusals import refusal_said  # here, since no other message needs it
+
+    said = refusal_said(end.refusal, place, source, tables)
     text = f"error: {said.text} [{end.refusal} {tables.name(Kind.REFUSAL, end.refusal)}]"
-    lines = _place_lines(shown_name, place._replace(text=text), source_line, end)
+    lines = _place_lines(shown_name, place._replace(text=text), _line_of(source, place), end)
     lines += [f"{shown_name}:{line}:{column}: note: {note}" for line, column, note in said.notes]
     return lines + [f"help: {help_}" for help_ in said.helps]
 

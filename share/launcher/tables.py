@@ -47,12 +47,14 @@ class Case(NamedTuple):
 
 class Tables(NamedTuple):
     """All entries in their order; what to do after a status, by its number; what stands in the place of a form of
-    Fortran that isn't read, by its word; and the cases of refusals."""
+    Fortran that isn't read, by its word; the cases of refusals; and what is written in the place of a word of another
+    language."""
 
     entries: List[Entry]
     advice: Dict[str, str]
     left: Dict[str, str]
     cases: List[Case]
+    foreign: Dict[str, str]
 
     def find(self, kind: Kind, key: str) -> Optional[Entry]:
         """Returns the entry of a kind and a key, if there is one."""
@@ -82,6 +84,7 @@ _KINDS = {
 }
 _ADVICE = "What to do"
 _CASES = "Cases of a refusal"
+_FOREIGN = "Words of other languages"
 _LEFT = "What of Fortran isn't read"
 
 
@@ -124,6 +127,8 @@ def _keep_row(tables: Tables, section: str, cells: List[str]) -> None:
         tables.advice[cells[0]] = _plain(cells[1])
     elif section == _LEFT:
         tables.left.update((word, _plain(cells[1])) for word in cells[0].split())
+    elif section == _FOREIGN:
+        tables.foreign.update((word, cells[1]) for word in cells[0].split())
     elif section == _CASES:
         tables.cases.append(_case(cells))
     elif section in _KINDS:
@@ -133,7 +138,7 @@ def _keep_row(tables: Tables, section: str, cells: List[str]) -> None:
 def read_tables(path: str) -> Tables:
     """Reads the tables of a page: below a heading `## SECTION` the lines that begin with `| `, behind the one of
     dashes."""
-    tables = Tables([], {}, {}, [])
+    tables = Tables([], {}, {}, [], {})
     section = ""
     is_behind_dashes = False
     for line in read_file(path).split("\n"):

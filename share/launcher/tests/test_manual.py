@@ -46,6 +46,7 @@ TABLES = Tables(
     {},
     {"real": "integers"},
     [],
+    {},
 )
 
 PAGE = """\
