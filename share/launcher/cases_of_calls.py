@@ -8,7 +8,7 @@ from cases_of_statements import node_at
 from cases_of_values import shown_operand, shown_what
 from look import Chooser, Found, Look
 from names_in_file import Declared, Scope
-from typed import FUNCTIONS, LISTS, SUBROUTINES, Node, parents_of
+from typed import FUNCTIONS, LISTS, SUBROUTINES, Node, parents_of, walk
 
 # Of each intrinsic procedure how few and how many arguments it takes.
 _COUNTS: Dict[str, Tuple[int, int]] = {
@@ -51,6 +51,11 @@ def _call_at(look: Look) -> Optional[Tuple[Node, Node]]:
     return found[-1] if found else None
 
 
+def _reference_at(look: Look, name: str) -> Optional[Node]:
+    """Returns the reference to a procedure that begins at the place."""
+    return next((it for it in walk(look.forest) if it.start == look.at and it.word == name), None)
+
+
 def _callee(look: Look, node: Node) -> Optional[Scope]:
     return look.names.procedure(node.word)
 
@@ -69,13 +74,13 @@ def _counted(count: int) -> str:
 
 def _argument(look: Look) -> Optional[Found]:
     procedure = look.names.procedure(look.word(look.at))
-    if procedure is not None and look.word(look.at - 1) != "=":
-        node = node_at(look)
-        given = len(node.parts) if node else 0
+    if procedure is not None:
         name = look.word(look.at)
-        wanted, count = _counted(len(procedure.dummies)), _counted(given)
-        values = {"name": name, "wanted": wanted, "given": count}
-        return Found("too-few", values, procedure.name) if given < len(procedure.dummies) else None
+        node = _reference_at(look, name)
+        given = len(node.parts) if node else 0
+        values = {"name": name, "wanted": _counted(len(procedure.dummies)), "given": _counted(given)}
+        if given < len(procedure.dummies):
+            return Found("too-few", values, procedure.name)
     call = _call_at(look)
     callee = _callee(look, call[0]) if call else None
     if call is None or callee is None:
@@ -165,6 +170,8 @@ def _atom(look: Look) -> Optional[Found]:
     if node.what.type == "integer" and node.what.kind == 8:
         return Found("kind", values)
     what = shown_what(node.what._replace(kind=4))
+    if node.what.type in ("lock_type", "event_type", "team_type"):
+        return Found("type", {**values, "what": what})
     is_logical = node.what.type == "logical" and name not in _LOGICAL_ATOMS
     return Found("logical", {**values, "what": what}) if is_logical else None
 
@@ -216,11 +223,12 @@ def _intrinsic_argument(look: Look) -> Optional[Found]:
     name = look.word(look.at)
     call = _call_at(look)
     if name in _COUNTS or name in SUBROUTINES:
-        node = node_at(look)
+        reference = _reference_at(look, name)
         least = _COUNTS.get(name, (2, 3))[0]
-        if node and node.word == name and len(node.parts) < least:
+        given = len(reference.parts) if reference else 0
+        if given < least:
             wanted = _counted(least) + ("" if _COUNTS.get(name, (2, 3))[1] == least else " at least")
-            return Found("too-few", {"name": name.upper(), "wanted": wanted, "given": _counted(len(node.parts))})
+            return Found("too-few", {"name": name.upper(), "wanted": wanted, "given": _counted(given)})
     if call is None or call[0].word not in (*FUNCTIONS, *SUBROUTINES):
         return None
     node, part = call

@@ -8,7 +8,7 @@ from blocks import Block, open_blocks
 from cases_of_values import assignment_start, shown_operand, shown_what
 from look import Chooser, Found, Look
 from names_in_file import group_end, is_declaration
-from typed import LISTS, Node, What, parents_of, walk
+from typed import FUNCTIONS, LISTS, SUBROUTINES, Node, What, parents_of, walk
 
 
 
@@ -77,6 +77,8 @@ def _do_variable(look: Look) -> Optional[Found]:
     if found is None:
         return None
     values = {"name": found.token.text}
+    if found.type in ("function", "subroutine"):
+        return Found("procedure", values)
     if found.has("parameter"):
         return Found("constant", values)
     if found.codims:
@@ -235,7 +237,7 @@ def _allocate(look: Look) -> Optional[Found]:
         return None
     values = {"name": found.token.text, "word": look.word(assignment_start(look)).upper()}
     if not found.has("allocatable"):
-        return Found("not-allocatable", values, found.token)
+        return Found("not-allocatable", {**values, **({"array": found.token.text} if found.dims else {})}, found.token)
     has_bounds = look.word(look.at + 1) == "("
     rest = look.statement[look.at + 1 : group_end(look.statement, look.at + 1)] if has_bounds else []
     if found.dims and not has_bounds:
@@ -256,7 +258,7 @@ def _image_list(look: Look) -> Optional[Found]:
     for parent, part in parents_of(look.forest, look.at):
         if parent.form in ("binary", "prefix"):
             return Found("operand", {**values, "operator": parent.word})
-        if parent.form == "reference" and part.form != "binary":
+        if parent.form == "reference" and (look.names.procedure(parent.word) or parent.word in (*FUNCTIONS, *SUBROUTINES)):
             return Found("argument", {**values, "name": parent.word})
     if look.word(look.at - 1) != "=" or is_declaration(look.statement):
         return Found("elsewhere", values)

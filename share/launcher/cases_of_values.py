@@ -5,7 +5,7 @@ from typing import Dict, List, Optional
 
 from lexing import Token
 from look import Chooser, Found, Look, near
-from names_in_file import Declared, group_end, is_declaration, split
+from names_in_file import CLOSING, OPENING, Declared, group_end, is_declaration, split
 from typed import FUNCTIONS, LISTS, LOGICAL_OPERATORS, RELATIONS, Node, Typer, What, parents_of, walk
 
 _SHOWN = {"integer": "an integer", "logical": "logical", "lock_type": "a lock", "event_type": "an event"}
@@ -41,8 +41,9 @@ def _operand(look: Look) -> Optional[Found]:
             continue
         if parent.form in ("binary", "prefix") and part.what.type != ("logical" if wants_logical else "integer"):
             return _of_operator(parent, part, values)
-        if parent.form == "constructor":
-            return _item(parent, part, values)
+        item = _item(parent, part, values) if parent.form == "constructor" else None
+        if item:
+            return item
         is_array = parent.form in ("reference", "name") and look.find(parent.word) is not None
         if part.what.type != "integer" and (is_array or parent.form == "triplet"):
             in_selector = part in (parent.selector or [])
@@ -110,19 +111,15 @@ def _active_loop(look: Look, name: str) -> Optional[Token]:
 
 def _unlike(look: Look, found: Declared) -> Optional[Found]:
     """Chooses for an assignment between unlike types."""
-    depth = 0
-    for index in range(look.at, len(look.words)):
-        depth += (look.word(index) in ("(", "[", "(/")) - (look.word(index) in (")", "]", "/)"))
-        if look.word(index) == "=" and depth == 0:
-            value = Typer(look.names, look.scope, look.statement).at(index + 1)
-            what, left = shown_what(value.what._replace(rank=0, kind=4)), _SHOWN.get(found.type, "")
-            if not what or not left or what == left:
-                return None
-            values = {"name": found.token.text, "left": left, "what": what, "value": shown_operand(look, value)}
-            is_truth = found.type == "logical" and look.word(index + 1) in ("0", "1") and index + 2 == len(look.words)
-            truth = ".true." if look.word(index + 1) == "1" else ".false."
-            return Found("types", {**values, "truth": truth} if is_truth else values)
-    return None
+    place = _behind_equals(look)
+    value = Typer(look.names, look.scope, look.statement).at(place)
+    what, left = shown_what(value.what._replace(rank=0, kind=4)), _SHOWN.get(found.type, "")
+    if place < 0 or not what or not left or what == left:
+        return None
+    values = {"name": found.token.text, "left": left, "what": what, "value": shown_operand(look, value)}
+    is_truth = found.type == "logical" and look.word(place) in ("0", "1") and place + 1 == len(look.words)
+    truth = ".true." if look.word(place) == "1" else ".false."
+    return Found("types", {**values, "truth": truth} if is_truth else values)
 
 
 def _first_value(look: Look) -> Optional[Found]:
@@ -181,10 +178,15 @@ def _cobounds(look: Look, end: int) -> List[List[Token]]:
 
 def _selector(look: Look) -> Optional[Found]:
     name = look.word(look.at)
-    if look.find(name) is None:
+    found = look.find(name)
+    if found is None:
         return None
-    in_allocate = look.word(0) == "allocate"
-    return Found("cobounds" if in_allocate else "selector", {"name": name})
+    in_allocate = look.word(assignment_start(look)) == "allocate" and look.word(look.at - 1) in ("(", ",")
+    if in_allocate and len(look.opened) == 1:
+        return Found("cobounds", {"name": name})
+    is_variable = found.type not in ("function", "subroutine") and not found.has("parameter")
+    return Found("selector", {"name": name, **({"coarray": name} if is_variable else {})})
+
 
 
 def _statement_name(look: Look) -> str:
@@ -240,10 +242,20 @@ def _array_for_scalar(look: Look) -> Optional[Found]:
     start = assignment_start(look)
     name = look.word(start)
     left = look.find(name)
-    is_assigned = look.word(look.at - 1) == "=" and look.word(start + 1) in ("=", "(", "[") and name != "do"
+    is_assigned = look.at == _behind_equals(look) and name != "do"
     if is_assigned and left and not left.has("allocatable"):
         return Found("assigned", {"name": look.shown(start, look.at - 1), "operand": shown_operand(look, node)})
     return Found("array", {"operand": shown_operand(look, node)})
+
+
+def _behind_equals(look: Look) -> int:
+    """Returns the place behind the `=` of the statement that stands in no bracket, or -1."""
+    depth = 0
+    for index, word in enumerate(look.words):
+        depth += (word in OPENING) - (word in CLOSING)
+        if word == "=" and depth == 0:
+            return index + 1
+    return -1
 
 
 def _declared_here(look: Look) -> List[Declared]:

@@ -41,12 +41,12 @@ def _explained(entry: Entry, tables: Tables) -> List[str]:
         lines.append(f"    {'ISO/IEC 1539-1:2018, ' if entry.standard[:1].isdigit() else ''}{entry.standard}")
     if entry.kind is Kind.STATUS and entry.key in tables.advice:
         lines.append(f"    what to do: {tables.advice[entry.key]}")
-    if entry.example is not None:
-        lines += _example(entry.example, entry.place)
+    cases = []
     if entry.kind is Kind.REFUSAL:
         cases = [case for case in tables.cases if case.number == entry.key and case.word != "-"]
-        lines += [line for case in cases for line in _case(case, tables)]
-    return lines
+    if entry.example is not None and not any(case.example for case in cases):
+        lines += _example(entry.example, entry.place)
+    return lines + [line for case in cases for line in _case(case, tables)]
 
 
 def _case(case: Case, tables: Tables) -> List[str]:
@@ -55,10 +55,10 @@ def _case(case: Case, tables: Tables) -> List[str]:
         return [f"    case: {_OPEN.sub('..', case.said[0])}"]
     from refusals import refusal_said  # here, since only what is said of a refusal needs it
 
-    line, column = (int(it) for it in case.place.split(":"))
-    said = refusal_said(case.number, Place(line, column, ""), [case.example], tables)
-    shown = [f"    {it}" for it in excerpt("    ", case.example, column)]
-    return [f"    case: {said.text}", *shown, *(f"        help: {it}" for it in said.helps)]
+    line, column = case.place.split(":")
+    said = refusal_said(case.number, Place(int(line), int(column), ""), [case.example], tables)
+    shown = excerpt(f"    {line:>5}", case.example, int(column))
+    return [f"    case, refused at {case.place}: {said.text}", *shown, *(f"          help: {it}" for it in said.helps)]
 
 
 def _example(text: str, place: Optional[str]) -> List[str]:

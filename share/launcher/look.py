@@ -5,7 +5,7 @@ from functools import cached_property
 from typing import Callable, Dict, Iterable, List, NamedTuple, Optional
 
 from lexing import Spot, Statement, Token, spot_of, statements_of
-from names_in_file import Declared, Names, Scope, names_of
+from names_in_file import CLOSING, OPENING, Declared, Names, Scope, names_of
 from tables import Tables
 from typed import Node, Typer
 
@@ -88,6 +88,17 @@ class Look:
     def forest(self) -> List[Node]:
         """The expressions of the statement."""
         return Typer(self.names, self.scope, self.statement).forest()
+
+    @cached_property
+    def opened(self) -> List[int]:
+        """The places of the brackets that are open before the place, the innermost last."""
+        opened: List[int] = []
+        for index, word in enumerate(self.words[: self.at]):
+            if word in OPENING:
+                opened.append(index)
+            elif word in CLOSING and opened:
+                opened.pop()
+        return opened
 
     def word(self, place: int) -> str:
         """Returns the text of a token of the statement, or nothing."""

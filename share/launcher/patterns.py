@@ -5,7 +5,7 @@ from typing import Dict, Optional
 
 from cases_of_values import assignment_start
 from look import LEFT_WORDS, Chooser, Found, Look, near
-from names_in_file import CLOSING, OPENING
+from names_in_file import CLOSING, OPENING, group_end
 from patterns_of_actions import at_action
 from patterns_of_declarations import at_specification
 from patterns_of_ends import at_branch, at_end, at_procedure, behind_the_program
@@ -16,6 +16,11 @@ _FIRST_WORDS = (
     "select selectcase case endselect critical endcritical change endteam sync form event lock unlock allocate "
     "deallocate print write call exit cycle return stop error fail"
 ).split()
+# What stands in the middle of a statement.
+_MIDDLE = ("+", "-", "*", "/", "**", ",", ")", "==", "/=", ".and.", ".or.", "(", "[", "]")
+# Statements of two words, by their words written as one.
+_OF_TWO_WORDS = "sync all,sync images,sync memory,sync team,event post,event wait,form team,change team,error stop,fail image"
+_AS_ONE = {it.replace(" ", ""): it.upper() for it in _OF_TWO_WORDS.split(",")}
 _JOINED = ("endif", "enddo", "endselect", "endcritical", "endteam")
 
 
@@ -35,6 +40,7 @@ def pattern(look: Look) -> Optional[Found]:
         _first_word,
         at_action,
         _misspelt,
+        _brackets_alone,
         in_expression,
     ):
         found = choose(look)
@@ -46,12 +52,12 @@ def pattern(look: Look) -> Optional[Found]:
 def _label(look: Look) -> Optional[Found]:
     if look.at or look.token is None:
         return None
-    if look.token.is_number():
+    if look.token.is_number() and len(look.words) > 1 and look.statement[1].is_name():
         return Found("label", {"left": look.tables.left.get("label", "")})
     if look.token.is_name():
         return None
     before = look.statements[look.spot.statement - 1] if look.spot and look.spot.statement else []
-    operator = look.token.text in ("+", "-", "*", "/", "**", ",", ")", "==", ".and.", ".or.")
+    operator = look.token.is_number() or look.token.text in _MIDDLE
     if operator and before and before[-1].line < look.line:
         return Found("continuation", {"token": look.token.text, "line": str(before[-1].line)})
     return Found("beginning", {"token": look.token.text})
@@ -88,6 +94,9 @@ def _misspelt(look: Look) -> Optional[Found]:
         depth += (it in OPENING) - (it in CLOSING)
         if it == "=" and depth == 0:
             return None
+    as_one = _AS_ONE.get(word.replace("_", ""))
+    if as_one:
+        return Found("misspelt", {"word": word, "near": as_one})
     found = near(word, [it for it in _FIRST_WORDS if abs(len(it) - len(word)) < 3 and it[0] in (word[0], word[1:2])])
     near_words = _spelled(found, look.word(start + 1)).upper()
     return Found("misspelt", {"word": word, "near": near_words}) if found else None
@@ -102,7 +111,18 @@ def _spelled(word: str, ahead: str) -> str:
     return f"{word} {second}" if second and word in seconds and second in seconds[word].split() else word
 
 
+def _brackets_alone(look: Look) -> Optional[Found]:
+    """Chooses for a name with empty brackets alone."""
+    return _past(look) if look.words[-2:] == ["(", ")"] and look.at == len(look.words) - 1 else None
+
+
 def _past(look: Look) -> Optional[Found]:
+    """Chooses for a statement that needs more, or that is but a name with what stands in its brackets."""
+    start = assignment_start(look)
+    is_name = look.at > start and look.statement[start].is_name() and look.word(start) not in _FIRST_WORDS
+    behind = group_end(look.statement, start + 1) if look.word(start + 1) == "(" else start + 1
+    if is_name and behind == len(look.words) and (look.token is None or look.word(start + 2) == ")"):
+        return Found("name-alone", {"name": look.shown(start, behind)})
     return Found("more") if look.token is None else None
 
 

@@ -5,7 +5,7 @@ from typing import Dict, Optional
 from cases_of_values import assignment_start
 from look import Found, Look, near
 from names_in_file import group_end
-from patterns_of_expressions import open_brackets
+from patterns_of_expressions import PAIRS, pair_of_signs
 from typed import FUNCTIONS, SUBROUTINES
 
 # The words that begin a statement of two words, and those that may follow.
@@ -47,7 +47,7 @@ def _if(look: Look) -> Optional[Found]:
     if look.word(1) != "(":
         return None
     behind = group_end(look.statement, 1)
-    if look.at < behind or open_brackets(look):
+    if look.at < behind or look.opened:
         return _equals(look, 1)
     if look.token is None and look.at == behind:
         return Found("then-missing")
@@ -60,11 +60,12 @@ def _if(look: Look) -> Optional[Found]:
 
 def _equals(look: Look, bracket: int) -> Optional[Found]:
     """Chooses for `=` in a condition whose bracket stands at a place."""
-    if look.word(look.at) == "=" and open_brackets(look)[-1:] == [bracket]:
-        if look.word(look.at - 1) == "=" or look.word(look.at + 1) == "=":
-            return Found("two-signs", {"token": "= =", "instead": "=="})
-        return Found("equals")
-    return None
+    if look.word(look.at) != "=" or look.opened[-1:] != [bracket]:
+        return None
+    instead = PAIRS.get(("=", look.word(look.at + 1)))
+    if instead:
+        return Found("two-signs", {"token": look.shown(look.at, look.at + 2), "instead": instead})
+    return pair_of_signs(look) or Found("equals")
 
 
 def _print(look: Look, start: int) -> Optional[Found]:
@@ -73,8 +74,10 @@ def _print(look: Look, start: int) -> Optional[Found]:
     if place == 1:
         if token is None:
             return Found("print-alone")
+        if token.is_number():
+            return Found("print-label", {"token": token.text})
         items = f"print *, {look.shown(look.at, len(look.words))}"
-        return Found("print-label", {"token": token.text}) if token.is_number() else Found("print-format", {"items": items})
+        return Found("print-format", {"items": items} if token.is_name() else {})
     first = look.word(start + 1)
     if first == "(":
         return Found("print-brackets")
@@ -110,7 +113,7 @@ def _stop(look: Look, start: int) -> Optional[Found]:
     shown = "ERROR STOP" if words == ["error", "stop"] else "STOP"
     if is_code and look.token and look.token.is_literal() and (words[0] == "stop" or words[1:] == ["stop"]):
         return Found("stop-text", {"word": shown})
-    if is_code and look.word(look.at) == ",":
+    if is_code and look.word(look.at) == "," and look.word(look.at + 1) == "quiet":
         return Found("stop-quiet", {"word": shown})
     return None
 
@@ -140,8 +143,9 @@ def _do(look: Look, start: int) -> Optional[Found]:
     if first == "(":
         return Found("do-brackets")
     if place == 2:
-        return Found("do-equals", {"name": first, "token": look.shown(look.at, look.at + 1) or "nothing"})
-    if look.word(start + 2) != "=" or open_brackets(look) or place < 4:
+        values = {"token": look.shown(look.at, look.at + 1)} if look.token else {}
+        return Found("do-equals", {"name": first, **values})
+    if look.word(start + 2) != "=" or look.opened or place < 4:
         return None
     commas = look.words[start + 3 : look.at].count(",")
     if word in (":", "to", "..") and commas == 0:
@@ -224,9 +228,9 @@ def _assignment(look: Look, start: int) -> Optional[Found]:
         return _call_missing(look, start)
     left = look.shown(start, look.at)
     if "=" in look.words[start : look.at]:
-        has_one = word == "=" and not open_brackets(look) and look.word(look.at - 1) != "="
+        has_one = word == "=" and not look.opened and look.word(look.at - 1) != "="
         return Found("second-equals") if has_one else None
-    if open_brackets(look):
+    if look.opened:
         return None
     if look.word(look.at - 1) == ":" and word == "=":
         return Found("colon-equals")

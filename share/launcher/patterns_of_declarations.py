@@ -4,7 +4,6 @@ from typing import Optional
 
 from look import Found, Look, near
 from names_in_file import NAMES_OF_MODULE, Scope, group_end, heading_of, is_declaration
-from patterns_of_expressions import open_brackets
 
 _ATTRIBUTES = ("parameter", "allocatable", "save", "dimension", "codimension", "intent")
 _LEFT_KINDS = {"1": "4", "2": "4", "16": "8"}
@@ -73,18 +72,22 @@ def _implicit(look: Look) -> Optional[Found]:
 def _declaration(look: Look) -> Optional[Found]:
     """Chooses within a declaration that stands where it may."""
     word, before = look.word(look.at), look.word(look.at - 1)
-    if look.at == 1 and word == "*":
+    if look.at == 1 and word == "*" and (look.word(2).isdigit() or look.word(2) == "("):
         kind = _LEFT_KINDS.get(look.word(2), look.word(2))
         shown = f"{look.word(0)} ({kind})" if look.word(0) == "integer" and kind in ("4", "8") else look.word(0)
         return Found("star-kind", {"token": look.shown(0, 3), "instead": shown})
+    if before == ":" and look.words[: look.at].count(":") == 1 and not look.opened:
+        return Found("one-colon")
     has_colons = "::" in look.words
     behind_type = group_end(look.statement, 1) if look.word(1) == "(" else 1
     in_attributes = look.word(behind_type) == "," and (not has_colons or look.at < look.words.index("::"))
-    if in_attributes and before == "," and not open_brackets(look):
+    if in_attributes and before == "," and not look.opened:
         return _attribute(look, word)
     if in_attributes and before in ("(", "in") and "intent" in look.words[look.at - 3 : look.at]:
         return Found("intent", {"token": word})
-    if not has_colons and not open_brackets(look) and word:
+    if not has_colons and not look.opened and word:
+        if word == ":":
+            return Found("one-colon")
         if look.word(behind_type) == "," and look.statement[look.at].is_name() and before != ",":
             return Found("colons-attribute", {"name": word})
         if word == "=" and look.statement[look.at - 1].is_name():
@@ -103,7 +106,7 @@ def _attribute(look: Look, word: str) -> Optional[Found]:
 
 def _entity(look: Look, word: str, before: str) -> Optional[Found]:
     """Chooses within the list of entities."""
-    opened = open_brackets(look)
+    opened = look.opened
     if opened:
         return _bounds(look, word, before)
     if "=" in look.words[: look.at]:
@@ -115,15 +118,21 @@ def _entity(look: Look, word: str, before: str) -> Optional[Found]:
     if token is None:
         return Found("no-entity", {"before": before}) if wants_name else None
     if wants_name and token.is_number():
-        touching = look.at + 1 < len(look.words) and token.end() == look.statement[look.at + 1][1:3]
-        return Found("name-with-digit", {"token": look.shown(look.at, look.at + 1 + touching)})
+        ahead = look.statement[look.at + 1] if look.at + 1 < len(look.words) else None
+        is_one = ahead is not None and ahead.is_name() and token.end() == (ahead.line, ahead.column)
+        return Found("name-with-digit", {"token": look.shown(look.at, look.at + 1 + is_one)})
+    if wants_name and token.text in ("(", "[", "=", ","):
+        return Found("no-entity", {"before": before})
     is_behind_entity = look.statement[look.at - 1].is_name() or before in (")", "]")
     return Found("comma-missing", {"token": word}) if token.is_name() and is_behind_entity else None
 
 
 def _bounds(look: Look, word: str, before: str) -> Optional[Found]:
-    """Chooses within the bounds or cobounds of an entity."""
-    bracket = look.word(open_brackets(look)[-1])
+    """Chooses within the bounds or cobounds of an entity, and within the bracket of a type that isn't closed."""
+    place = look.opened[-1]
+    bracket = look.word(place)
+    if look.opened[0] == 1 and ":" in look.words[: look.at]:
+        return Found("bracket-open", {"bracket": "(", "closing": ")"}, look.statement[1])
     if word == ")" and before == "*" or word == "*" and bracket == "(":
         return Found("assumed-size")
     if bracket in ("[", "(/") and word in ("]", "/)") and before not in ("*", ":", bracket):

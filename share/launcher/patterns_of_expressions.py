@@ -12,18 +12,18 @@ _OPERATORS = ("+", "-", "*", "/", "**", ".and.", ".or.", ".eqv.", ".neqv.", ".no
 _LOOSER = (".and.", ".or.", ".eqv.", ".neqv.", ".not.", ",", "=")
 _CLOSED_BY = {"(": ")", "[": "]", "(/": "/)"}
 _DOTTED = ("and", "or", "not", "eqv", "neqv")
+# Pairs of tokens that mean one sign.
+PAIRS = {
+    ("<", ">"): "/=",
+    ("=", "<"): "<=",
+    ("=", "/"): "/=",
+    ("=", "="): "==",
+    ("==", "="): "==",
+    (">", "="): ">=",
+    ("<", "="): "<=",
+    ("/", "="): "/=",
+}
 _EXPONENT = re.compile("[de][0-9]*")
-
-
-def open_brackets(look: Look) -> List[int]:
-    """Returns the places of the brackets that are open at the place, the innermost last."""
-    opened: List[int] = []
-    for index, word in enumerate(look.words[: look.at]):
-        if word in OPENING:
-            opened.append(index)
-        elif word in CLOSING and opened:
-            opened.pop()
-    return opened
 
 
 def is_operand_end(token: Token) -> bool:
@@ -42,7 +42,10 @@ def in_expression(look: Look) -> Optional[Found]:
     if look.token is None:
         return _past(look)
     before = look.statement[look.at - 1] if look.at else None
-    opened = open_brackets(look)
+    opened = look.opened
+    pair = pair_of_signs(look)
+    if pair and before and is_operand_end(look.statement[look.at - 2]):
+        return pair
     for found in (
         _closing(look, opened),
         _in_brackets(look, opened),
@@ -55,9 +58,19 @@ def in_expression(look: Look) -> Optional[Found]:
     return None
 
 
+def pair_of_signs(look: Look) -> Optional[Found]:
+    """Chooses for a pair of signs that mean one, of which the second stands at the place."""
+    instead = PAIRS.get((look.word(look.at - 1), look.word(look.at)))
+    if instead is None or look.at < 2:
+        return None
+    if instead == "==" and not look.opened and look.word(look.at - 1) == "=":
+        return Found("second-equals")
+    return Found("two-signs", {"token": look.shown(look.at - 1, look.at + 1), "instead": instead})
+
+
 def _past(look: Look) -> Optional[Found]:
     """Chooses for a statement that isn't complete."""
-    opened = open_brackets(look)
+    opened = look.opened
     last = look.statement[-1]
     line = look.source[last.line - 1]
     rest = line[last.column + last.length - 1 :].lstrip(" \t")
@@ -100,13 +113,26 @@ def _in_brackets(look: Look, opened: List[int]) -> Optional[Found]:
     bracket, owner = look.word(opened[-1]), opened[-1] - 1
     is_group = owner < 0 or not (look.statement[owner].is_name() or look.word(owner) == ")")
     if word == "," and bracket == "(" and is_group:
-        is_loop = any(look.word(index + 1) == "=" for index in range(look.at + 1, len(look.words)))
-        return Found("implied-do" if is_loop else "comma-in-brackets")
+        return Found("implied-do" if _has_loop(look) else "comma-in-brackets")
+    if look.word(0) in ("integer", "logical", "type", "allocate"):
+        return None
     if word == "*" and bracket in ("[", "(/") and before in (bracket, ","):
         return Found("star-selector")
     if word == ":" and bracket in ("[", "(/"):
         return Found("range-in-list" if is_group else "range-of-images")
     return None
+
+
+def _has_loop(look: Look) -> bool:
+    """Tells whether `NAME =` stands behind the place in the same bracket."""
+    depth = 0
+    for index in range(look.at, len(look.words)):
+        depth += (look.word(index) in OPENING) - (look.word(index) in CLOSING)
+        if depth < 0:
+            return False
+        if depth == 0 and look.word(index) == "=":
+            return True
+    return False
 
 
 def _wrong_operand(look: Look, before: Optional[Token]) -> Optional[Found]:
@@ -118,8 +144,6 @@ def _wrong_operand(look: Look, before: Optional[Token]) -> Optional[Found]:
         return Found("text")
     if before.text == "/" and token.text == "/":
         return Found("concatenation")
-    if before.text == token.text == "=":
-        return Found("two-signs", {"token": "= =", "instead": "=="})
     if token.text in ("+", "-") and before.text in _OPERATORS and before.text not in RELATIONS:
         return Found("sign", {"token": token.text, "before": before.text})
     if token.text == ".not." and before.text == ".not.":
@@ -141,6 +165,8 @@ def _wrong_operator(look: Look, before: Optional[Token]) -> Optional[Found]:
         return Found("concatenation") if is_joined else Found("text-operand", {"token": word})
     if word == "/" and look.word(look.at + 1) == "/":
         return Found("concatenation")
+    if word == "=>" and look.opened:
+        return Found("two-signs", {"token": word, "instead": ">="})
     return Found("pointer", {"left": look.tables.left.get("pointer", "")}) if word == "=>" else None
 
 
@@ -170,5 +196,5 @@ def _adjacent(look: Look, before: Optional[Token]) -> Optional[Found]:
             return Found("without-dots", {"token": word})
     if before.is_number() and touching:
         return Found("number-name", {"token": look.shown(look.at - 1, look.at + 1)})
-    in_value = "=" in look.words[: look.at] or bool(open_brackets(look)) or look.word(0) in ("print", "write")
+    in_value = "=" in look.words[: look.at] or bool(look.opened) or look.word(0) in ("print", "write")
     return Found("operator-missing", {"token": look.shown(look.at, look.at + 1)}) if in_value else None

@@ -10,6 +10,8 @@ _RANKS = {".eqv.": 1, ".neqv.": 1, ".or.": 2, ".and.": 3, "+": 6, "-": 6, "*": 7
 RELATIONS = ("==", "/=", "<", "<=", ">", ">=")
 LOGICAL_OPERATORS = (".eqv.", ".neqv.", ".or.", ".and.", ".not.")
 _RANKS.update(dict.fromkeys(RELATIONS, 5))
+# The words of statements behind which an expression stands.
+_WORDS = ("if", "elseif", "while", "case", "stop", "call", "images", "team")
 # The most expressions within expressions that are read.
 _DEEPEST = 100
 
@@ -80,6 +82,9 @@ class Typer:
             self.place = 6 if self._text() == "write" else 2
         while self.place < len(self.tokens):
             start = self.place
+            if self._text() in _WORDS and self.names.find(self.scope, self._text()) is None:
+                self.place += 1
+                continue
             node = self.expression(0)
             self.place = max(self.place, start + 1)
             if node.form != "odd":
