@@ -4,8 +4,7 @@ subroutines (53 and 54), intrinsic procedures (59), and of formats (57)."""
 import re
 from typing import Dict, Optional, Tuple
 
-from cases_of_statements import node_at
-from cases_of_values import shown_operand, shown_what
+from cases_of_values import node_at, shown_operand, shown_what
 from look import Chooser, Found, Look
 from names_in_file import Declared, Scope
 from typed import FUNCTIONS, LISTS, SUBROUTINES, Node, parents_of, walk

@@ -8,6 +8,9 @@ from names_in_file import Declared, heading_of, split
 from typed import FUNCTIONS, Typer, What
 
 _GREATEST = 2147483647
+# The greatest rank and corank, and the most cells.
+_MOST = 3
+_MOST_CELLS = 65536
 _INQUIRIES = ("size", "lbound", "ubound", "huge")
 _CONSTANT = ("abs", "mod", "modulo", "min", "max", "int", *_INQUIRIES)
 
@@ -67,7 +70,16 @@ def _initial_value(look: Look) -> Optional[Found]:
         return Found("not-constant", {"name": name, "culprit": culprit})
     if len(declared.value) == 1 and token.is_number() and declared.type == "integer" and declared.kind == 4:
         return Found("too-wide", {"name": name, "token": token.text})
-    return None
+    return _faulty(declared.value) if not culprit else None
+
+
+def _faulty(tokens: Statement) -> Optional[Found]:
+    """Chooses for a constant expression whose value can't be worked out: without a division it leaves its kind."""
+    words = [token.text for token in tokens]
+    if any(pair == ("/", "0") for pair in zip(words, words[1:])):
+        return Found("by-zero")
+    divides = [word for word in words if word in ("/", "mod", "modulo", "**", *_INQUIRIES[:3])]
+    return Found("leaves-kind") if not divides else None
 
 
 def _kind_of_type(look: Look) -> Optional[Found]:
@@ -132,9 +144,11 @@ def _rank(look: Look) -> Optional[Found]:
     if declared is None:
         return None
     values = {"name": declared.token.text, "rank": str(declared.rank()), "corank": str(declared.corank())}
-    if declared.rank() > 3 and declared.corank() > 3:
+    if declared.rank() > _MOST and declared.corank() > _MOST:
         return Found("both", values)
-    return Found("rank" if declared.rank() > 3 else "corank", values) if max(declared.rank(), declared.corank()) > 3 else None
+    if declared.rank() > _MOST:
+        return Found("rank", values)
+    return Found("corank", values) if declared.corank() > _MOST else None
 
 
 def _bound(look: Look) -> Optional[Found]:
@@ -163,7 +177,7 @@ def _bound(look: Look) -> Optional[Found]:
 def _lower(look: Look) -> str:
     """Returns the lower bound before the colon before the place."""
     front = look.statement[: look.at - 1]
-    start = max(index for index, token in enumerate(front) if token.text in ("[", "(", ","))
+    start = max((index for index, token in enumerate(front) if token.text in ("[", "(", ",")), default=-1)
     return "".join(token.text for token in front[start + 1 :])
 
 
@@ -215,7 +229,8 @@ def _in_procedure(look: Look) -> Optional[Found]:
         return None
     values = {"name": declared.token.text}
     if look.token != declared.token:
-        return Found("constant" if declared.has("parameter") else "value", values)
+        is_dummy = any(it.text == declared.token.text for it in look.scope.dummies)
+        return Found("constant" if declared.has("parameter") else "value-of-dummy" if is_dummy else "value", values)
     for case, is_so in (
         ("coarray", bool(declared.codims)),
         ("save", declared.has("save")),
@@ -239,9 +254,8 @@ def _cells(look: Look) -> Optional[Found]:
     if declared is None:
         return None
     values = {"name": declared.token.text}
-    is_coarray = bool(declared.codims)
-    alone = _extent(look, declared) > 65536
-    return Found(("coarray" if is_coarray else "variable") if alone else ("coarrays" if is_coarray else "variables"), values)
+    case = "coarray" if declared.codims else "variable"
+    return Found(case if _extent(look, declared) > _MOST_CELLS else f"{case}s", values)
 
 
 def _extent(look: Look, declared: Declared) -> int:

@@ -32,6 +32,7 @@ _MEANT = {
     "\u3000": "a blank",
 }
 _SIGNS = {"&&": ".and.", "||": ".or.", "|": ".or.", "^": "**", "~": ".not."}
+_OF_NAMES = "abcdefghijklmnopqrstuvwxyzABCDEFGHIJKLMNOPQRSTUVWXYZ0123456789_"
 _DOTTED = "and or not eqv neqv eq ne lt le gt ge true false".split()
 _REAL = re.compile(r"[0-9]*\.[0-9]*(?:[eEdD][+-]?[0-9]+)?(?:_[A-Za-z0-9_]+)?")
 
@@ -105,8 +106,8 @@ def _bad_character(look: Look) -> Optional[Found]:
         return Found("control", {"value": str(ord(first))})
     name = re.search(r"[A-Za-z][A-Za-z0-9_]{62}\Z", look.front)
     if name and re.match("[A-Za-z0-9_]", first):
-        count = 63 + len(re.match("[A-Za-z0-9_]*", look.rest).group())  # type: ignore
-        return Found("long-name", {"count": str(count), "name": name.group()[:20]})
+        more = len(look.rest) - len(look.rest.lstrip(_OF_NAMES))
+        return Found("long-name", {"count": str(63 + more)})
     if first == "_":
         return _underscore(look)
     return (_in_left(look) or _dot(look)) if first == "." else _sign(look, first)
@@ -201,11 +202,12 @@ def _not_closed(look: Look) -> Optional[Found]:
 def _too_deep(look: Look) -> Found:
     if look.rest[:1] in ("(", "["):
         return Found("bracket")
-    words: Dict[str, str] = {"do": "DO", "if": "IF", "select": "SELECT CASE", "critical": "CRITICAL", "change": "CHANGE"}
     word = look.word(look.at + 2 if look.word(look.at + 1) == ":" else look.at)
     before = look.word(look.at - 1)
     begins = look.at == 0 or before == ")"
-    return Found("construct", {"word": words[word]}) if word in words and begins else Found("operand")
+    if begins and word in ("do", "if", *SHOWN, "critical"):
+        return Found("construct", {"word": SHOWN.get(word, word.upper())})
+    return Found("operand")
 
 
 CHOOSERS: Dict[str, Chooser] = {

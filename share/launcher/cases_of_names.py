@@ -1,6 +1,6 @@
 """The cases of names that aren't there or stand twice (20 and 21)."""
 
-from typing import Dict, List, Optional
+from typing import Dict, Iterable, List, Optional
 
 from lexing import Statement, Token
 from look import Chooser, Found, Look, near
@@ -50,8 +50,8 @@ def _of_use(look: Look, name: str) -> Found:
     return Found("module", {"name": name, **_near(name, [MODULE])})
 
 
-def _near(name: str, names: object) -> Dict[str, str]:
-    found = near(name, names)  # type: ignore
+def _near(name: str, names: Iterable[str]) -> Dict[str, str]:
+    found = near(name, names)
     return {"near": found} if found else {}
 
 

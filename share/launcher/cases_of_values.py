@@ -3,6 +3,7 @@ can't stand (37 and 38)."""
 
 from typing import Dict, List, Optional
 
+from blocks import open_blocks
 from lexing import Token
 from look import Chooser, Found, Look, near
 from names_in_file import CLOSING, OPENING, Declared, group_end, is_declaration, split
@@ -30,6 +31,11 @@ def shown_operand(look: Look, node: Node) -> str:
     """Returns an expression in backticks, or `it` where it is long."""
     text = look.shown_node(node)
     return f"`{text}`" if 0 < len(text) <= _LONGEST else "it"
+
+
+def node_at(look: Look) -> Optional[Node]:
+    """Returns the largest expression that begins at the place."""
+    return next((it for it in walk(look.forest) if it.start == look.at and it.form != "keyword"), None)
 
 
 def _operand(look: Look) -> Optional[Found]:
@@ -97,8 +103,6 @@ def _assignment(look: Look) -> Optional[Found]:
 
 def _active_loop(look: Look, name: str) -> Optional[Token]:
     """Returns the first token of an open DO loop of a variable."""
-    from blocks import open_blocks  # here, since only this case needs the constructs
-
     number = look.spot.statement if look.spot else 0
     for block in open_blocks(look.statements, number):
         if block.word == "do":
@@ -202,7 +206,7 @@ def _specifier(look: Look) -> Optional[Found]:
         before = [it.text for it in selector.specifiers if it.column < look.column or it.line < look.line]
         there = ["stat", "team", "team_number"]
     else:
-        start = max(index for index in range(look.at) if look.word(index) == "(")
+        start = look.opened[-1] if look.opened else 0
         before = [look.word(it) for it in range(start, look.at) if look.word(it + 1) == "="]
         there = _SPECIFIERS.get(_statement_name(look), ["stat"])
     values = {"name": name.upper()}
@@ -229,7 +233,8 @@ def assignment_start(look: Look) -> int:
 
 def _array_for_scalar(look: Look) -> Optional[Found]:
     for parent, part in parents_of(look.forest, look.at):
-        values = {"operand": shown_operand(look, part), "operator": parent.word.upper()}
+        is_name = parent.form == "reference"
+        values = {"operand": shown_operand(look, part), "operator": parent.word.upper() if is_name else parent.word}
         if part.what.rank > 0 and parent.form in ("binary", "prefix"):
             return Found("operator", values)
         if part.what.rank > 0 and parent.form == "reference" and parent.word in FUNCTIONS:

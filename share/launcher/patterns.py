@@ -6,21 +6,20 @@ from typing import Dict, Optional
 from cases_of_values import assignment_start
 from look import LEFT_WORDS, Chooser, Found, Look, near
 from names_in_file import CLOSING, OPENING, group_end
-from patterns_of_actions import at_action
+from patterns_of_actions import SECOND_WORDS, at_action
 from patterns_of_declarations import at_specification
 from patterns_of_ends import at_branch, at_end, at_procedure, behind_the_program
 from patterns_of_expressions import in_expression
 
 _FIRST_WORDS = (
-    "integer logical type implicit use program contains subroutine function recursive if else elseif endif end do enddo "
-    "select selectcase case endselect critical endcritical change endteam sync form event lock unlock allocate "
+    "integer logical type implicit use program contains subroutine function recursive if else elseif endif end do "
+    "enddo select selectcase case endselect critical endcritical change endteam sync form event lock unlock allocate "
     "deallocate print write call exit cycle return stop error fail"
 ).split()
 # What stands in the middle of a statement.
 _MIDDLE = ("+", "-", "*", "/", "**", ",", ")", "==", "/=", ".and.", ".or.", "(", "[", "]")
 # Statements of two words, by their words written as one.
-_OF_TWO_WORDS = "sync all,sync images,sync memory,sync team,event post,event wait,form team,change team,error stop,fail image"
-_AS_ONE = {it.replace(" ", ""): it.upper() for it in _OF_TWO_WORDS.split(",")}
+_AS_ONE = {f"{first}{second}": f"{first} {second}".upper() for first, them in SECOND_WORDS.items() for second in them}
 _JOINED = ("endif", "enddo", "endselect", "endcritical", "endteam")
 
 
@@ -106,9 +105,9 @@ def _spelled(word: str, ahead: str) -> str:
     """Returns a first word, with the second one where that is meant too."""
     if word in _JOINED:
         return f"end {word[3:]}"
-    seconds = {"sync": "all images memory team", "event": "post wait", "form": "team", "change": "team", "error": "stop"}
-    second = near(ahead, seconds[word].split()) or ahead if word in seconds else ""
-    return f"{word} {second}" if second and word in seconds and second in seconds[word].split() else word
+    seconds = SECOND_WORDS.get(word, [])
+    second = ahead if ahead in seconds else near(ahead, seconds)
+    return f"{word} {second}" if second else word
 
 
 def _brackets_alone(look: Look) -> Optional[Found]:

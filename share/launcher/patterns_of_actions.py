@@ -1,6 +1,6 @@
 """The patterns of refusal 7 at actions and at the statements that begin a construct."""
 
-from typing import Dict, Optional
+from typing import Dict, List, Optional
 
 from cases_of_values import assignment_start
 from look import Found, Look, near
@@ -9,17 +9,17 @@ from patterns_of_expressions import PAIRS, pair_of_signs
 from typed import FUNCTIONS, SUBROUTINES
 
 # The words that begin a statement of two words, and those that may follow.
-_SECOND_WORDS: Dict[str, str] = {
-    "sync": "all images memory team",
-    "event": "post wait",
-    "form": "team",
-    "change": "team",
-    "fail": "image",
-    "error": "stop",
-    "select": "case",
+SECOND_WORDS: Dict[str, List[str]] = {
+    "sync": ["all", "images", "memory", "team"],
+    "event": ["post", "wait"],
+    "form": ["team"],
+    "change": ["team"],
+    "fail": ["image"],
+    "error": ["stop"],
+    "select": ["case"],
 }
 _WITH_BRACKETS = ("allocate", "deallocate", "lock", "unlock", "critical")
-_WITH_BRACKETS_OF_TWO = ("sync images", "sync team", "form team", "change team", "event post", "event wait", "select case")
+_OF_TWO_WORDS = ("sync images", "sync team", "form team", "change team", "event post", "event wait", "select case")
 _COMPOUND = ("+", "-", "*", "/")
 
 
@@ -157,7 +157,7 @@ def _call(look: Look, start: int) -> Optional[Found]:
     place = look.at - start
     statement = " ".join(look.words[start + 1 : start + 3])
     first = look.word(start + 1)
-    if place == 2 and first in _SECOND_WORDS and look.word(start + 2) in _SECOND_WORDS[first].split():
+    if place == 2 and first in SECOND_WORDS and look.word(start + 2) in SECOND_WORDS[first]:
         return Found("call-of-statement", {"word": statement.upper()})
     return Found("call-alone") if look.token is None and place == 1 else None
 
@@ -167,9 +167,9 @@ def _second_word(look: Look, start: int) -> Optional[Found]:
     first, second = look.word(start), look.word(start + 1)
     if first == "select" and second == "(" and look.at >= group_end(look.statement, start + 1):
         return Found("select-without-case")
-    if first not in _SECOND_WORDS or look.at != start + 1 or second in ("=", "("):
+    if first not in SECOND_WORDS or look.at != start + 1 or second in ("=", "("):
         return None
-    words = _SECOND_WORDS[first].split()
+    words = SECOND_WORDS[first]
     found = words[0] if len(words) == 1 else near(second, words) if second else ""
     values = {"word": first.upper()}
     if second:
@@ -186,7 +186,7 @@ def _brackets(look: Look, start: int) -> Optional[Found]:
         return Found("behind-statement", {"word": "CRITICAL", "token": look.shown(look.at, look.at + 1)})
     if one in _WITH_BRACKETS and look.at == start + 1 and look.word(look.at) != "=":
         return Found("statement-brackets", {"word": one.upper(), "lower": one})
-    if two in _WITH_BRACKETS_OF_TWO and look.at == start + 2:
+    if two in _OF_TWO_WORDS and look.at == start + 2:
         return Found("statement-brackets", {"word": two.upper(), "lower": two})
     if one == "deallocate" and look.word(start + 3) in ("(", "["):
         return Found("deallocate-bounds", {"name": look.word(start + 2)})

@@ -1,5 +1,5 @@
-"""The patterns of refusal 7 at END statements, at ELSE and CASE, at procedures, and at what stands behind the END of the
-program or behind CONTAINS."""
+"""The patterns of refusal 7 at END statements, at ELSE and CASE, at procedures, and at what stands behind the END of
+the program or behind CONTAINS."""
 
 from typing import Dict, List, Optional
 
@@ -40,7 +40,7 @@ def at_end(look: Look) -> Optional[Found]:
     opened = opened_here(look)
     wanted = {"team": "change"}.get(word, word)
     if wanted in END_WORDS and wanted not in _UNITS:
-        return _end_of_construct(opened, wanted, look)
+        return _end_of_construct(opened, wanted)
     if wanted == "" or wanted in _UNITS:
         return _end_of_unit(opened, look)
     right = {"case": "select", "while": "do", "for": "do", "loop": "do"}.get(word)
@@ -54,7 +54,7 @@ def _token(look: Look) -> str:
     return look.shown(look.at, look.at + 1) or "nothing"
 
 
-def _end_of_construct(opened: List[Block], wanted: str, look: Look) -> Optional[Found]:
+def _end_of_construct(opened: List[Block], wanted: str) -> Optional[Found]:
     """Chooses for the END of a construct where another one is open, or none."""
     end = END_WORDS[wanted]
     if wanted not in [block.word for block in opened]:
@@ -124,7 +124,7 @@ def at_branch(look: Look) -> Optional[Found]:
         if inner is None or inner.word != wanted:
             return _part_of_nothing(opened, wanted, look)
         return _case(look) if first == "case" else _else(look, inner)
-    if inner and inner.word == "select" and look.at == 0 and not _parts_of(look, inner, ("case",)):
+    if inner and inner.word == "select" and look.at == 0 and not _parts_of(look, inner, "case"):
         is_default = first == "default"
         return Found("default-without-case" if is_default else "before-case", {"token": first})
     return None
@@ -140,9 +140,9 @@ def _part_of_nothing(opened: List[Block], wanted: str, look: Look) -> Found:
     return Found("part-of-nothing", {"part": shown, "word": _shown(wanted)})
 
 
-def _parts_of(look: Look, block: Block, words: object) -> List[Token]:
-    """Returns the first tokens of the ELSE or CASE statements of an open construct."""
-    parts = []
+def _parts_of(look: Look, block: Block, word: str) -> List[Token]:
+    """Returns the first tokens of the statements of an open construct that begin with a word, ELSE or CASE."""
+    parts: List[Token] = []
     depth = 0
     for statement in _before(look):
         if statement[0] == block.token:
@@ -152,14 +152,14 @@ def _parts_of(look: Look, block: Block, words: object) -> List[Token]:
             depth += 1
         elif closed_by(statement) and depth:
             depth -= 1
-        elif depth == 0 and statement[0].text in words:  # type: ignore
+        elif depth == 0 and statement[0].text == word:
             parts.append(statement[0])
     return parts
 
 
 def _else(look: Look, block: Block) -> Optional[Found]:
     is_else_if = look.word(0) == "elseif" or look.word(1) == "if"
-    elses = [token for token in _parts_of(look, block, ("else",)) if not _is_else_if(look, token)]
+    elses = [token for token in _parts_of(look, block, "else") if not _is_else_if(look, token)]
     if elses:
         return Found("behind-else", {"part": "ELSE IF" if is_else_if else "ELSE"}, elses[0])
     if not is_else_if:

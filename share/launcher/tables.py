@@ -33,8 +33,8 @@ class Entry(NamedTuple):
 
 
 class Case(NamedTuple):
-    """A case of a refusal: the number, the case's word, `-` for all that remain, the sentences of which the first is said
-    whose places are known, its helps, what its note says, and an example with its place where there is one."""
+    """A case of a refusal: the number, the case's word, `-` for all that remain, the sentences of which the first is
+    said whose places are known, its helps, what its note says, and an example with its place where there is one."""
 
     number: str
     word: str

@@ -3,7 +3,7 @@
 from typing import Dict, Iterator, List, NamedTuple, Optional, Tuple
 
 from lexing import Statement, Token
-from names_in_file import CLOSING, KINDS_OF_MODULE, Declared, Names, Scope
+from names_in_file import CLOSING, KINDS_OF_MODULE, Names, Scope
 
 UNKNOWN = -1
 _RANKS = {".eqv.": 1, ".neqv.": 1, ".or.": 2, ".and.": 3, "+": 6, "-": 6, "*": 7, "/": 7, "**": 8}

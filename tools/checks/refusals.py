@@ -17,7 +17,11 @@ _NUMBERS = [str(it) for it in range(1, 60) if it <= 9 or it >= 20]
 
 # Sources that can't stand in a file of cases, each with its answer and what is said.
 _MADE: Dict[bytes, List[str]] = {
-    b"\xef\xbb\xbfend\n": ["1 at 1:1", "error: the file begins with a byte order mark", "help: save it as text without one"],
+    b"\xef\xbb\xbfend\n": [
+        "1 at 1:1",
+        "error: the file begins with a byte order mark",
+        "help: save it as text without one",
+    ],
     b"a = \xff\nend\n": ["1 at 1:5", "error: the byte 255 isn't ASCII, and may stand in a comment alone"],
     b"integer :: a; a =\xc2\xa01\nend\n": ["1 at 1:18", "error: this blank isn't ASCII", "help: write a blank"],
     b"end ! " + b"x" * 1000 + b"\n": [
