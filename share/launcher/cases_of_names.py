@@ -97,8 +97,6 @@ def _undeclared(look: Look, name: str) -> Found:
     if has_brackets:
         known = look.seen_names() + list(FUNCTIONS)
         return Found("no-array-or-function", {"name": name, **_near(name, known)})
-    if name in FUNCTIONS:
-        return Found("no-brackets", {"name": name})
     values = _near(name, look.seen_names()) or {"declared": name}
     return Found("undeclared", {"name": name, **values})
 

@@ -113,7 +113,7 @@ def _team(look: Look) -> Optional[Found]:
     what = shown_what(node.what._replace(rank=0))
     values = {"operand": shown_operand(look, node), "what": what}
     if node.what.type == "team_type":
-        return Found("array", values) if node.what.rank > 0 else Found("elsewhere", values)
+        return Found("elsewhere", values)
     return Found("type", values) if what else None
 
 

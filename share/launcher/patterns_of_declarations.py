@@ -100,7 +100,8 @@ def _attribute(look: Look, word: str) -> Optional[Found]:
         return Found("left", {"word": word.upper(), "left": look.tables.left[word]})
     found = near(word, _ATTRIBUTES)
     if look.token and look.token.is_name():
-        return Found("attribute", {"token": word, **({"near": found.upper()} if found else {})})
+        there = ", ".join(it.upper() for it in _ATTRIBUTES)
+        return Found("attribute", {"token": word, **({"near": found.upper()} if found else {"there": there})})
     return None
 
 

@@ -47,7 +47,7 @@ def at_end(look: Look) -> Optional[Found]:
     values = {"end": f"END {word.upper()}"}
     if right and opened and opened[-1].word == right:
         return Found("no-such-end", {**values, "instead": END_WORDS[right]})
-    return Found("no-such-end", values)
+    return Found("no-such-end", {**values, "other": values["end"]})
 
 
 def _token(look: Look) -> str:

@@ -110,8 +110,13 @@ def check_refusals(checks: Checks) -> None:
     for number in _NUMBERS:
         checks.holds(f"{number} has no source in tools/refusals.cases", any(it.split()[0] == number for it in found))
     for case in names.cases:
+        is_tried = f"{case.number} {case.word}" in found
         if case.number == "7":
-            checks.holds(f"7 {case.word} has no source in tools/refusals.cases", f"7 {case.word}" in found)
+            checks.holds(f"7 {case.word} has no help", bool(case.helps) or case.word in ("more", "-"))
+            checks.holds(f"7 {case.word} has no source in tools/refusals.cases", is_tried)
+        elif case.word != "-":
+            what = f"{case.number} {case.word} has neither an example nor a source in tools/refusals.cases"
+            checks.holds(what, is_tried or case.example is not None)
     _check_table(checks, names)
 
 
