@@ -6,7 +6,7 @@ from typing import Dict, Optional
 
 from blocks import END_WORDS, SHOWN, open_blocks
 from lexing import Token
-from look import LEFT_WORDS, Chooser, Found, Look, near
+from look import COMMON_WORDS, LEFT_WORDS, Chooser, Found, Look, near
 from texts import bytes_of
 
 _BYTE_ORDER_MARK = "\357\273\277"
@@ -117,7 +117,7 @@ def _in_left(look: Look) -> Optional[Found]:
     """Chooses by the first word of the line, where it is that of a form that isn't read."""
     found = re.match(r"[ \t]*(?:[0-9]+[ \t]+)?([A-Za-z]+)\b(?![ \t]*=)", look.front)
     word = found.group(1).lower() if found else ""
-    if found is None or word not in look.tables.left or word in ("all", "any", "count", "sum", "sign", "dim", "value"):
+    if found is None or word not in look.tables.left or word in (*COMMON_WORDS, "type"):
         return None
     values = {"word": LEFT_WORDS.get(word, word.upper()), "left": look.tables.left[word]}
     return Found("in-left", values, Token(word, look.line, found.start(1) + 1, len(word)))

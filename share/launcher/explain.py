@@ -24,7 +24,7 @@ def explain(word: str, tables: Tables) -> Optional[str]:
     wanted = lower(word)
     told = [_explained(entry, tables) for entry in tables.entries if wanted in (lower(entry.key), lower(entry.name))]
     if wanted in tables.left:
-        told.append([f"there is no {wanted.upper()}", f"    {tables.left[wanted]}"])
+        told.append([f"in the place of {wanted.upper()}", f"    {tables.left[wanted]}"])
     if not told:
         return None
     return "\n".join("".join(f"{line}\n" for line in lines) for lines in told)

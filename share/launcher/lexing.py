@@ -13,6 +13,7 @@ _TOKEN = re.compile(
     r"|\.[A-Za-z]+\.|\(/|/\)|\*\*|==|/=|<=|>=|=>|::|[^ \t]"
 )
 _SPELLED = {".eq.": "==", ".ne.": "/=", ".lt.": "<", ".le.": "<=", ".gt.": ">", ".ge.": ">="}
+_BRACKETS = {"(": 1, "[": 1, "(/": 1, ")": -1, "]": -1, "/)": -1}
 
 
 class Token(NamedTuple):
@@ -121,20 +122,25 @@ class _Joiner:
 
 def _cut(text: str, marks: List[Tuple[int, int, int]]) -> Statement:
     """Cuts the text of a statement into tokens."""
-    starts = [mark[0] for mark in marks]
-    tokens = []
+    small = text if "'" in text or '"' in text else lower(text)
+    following = iter(marks[1:])
+    offset, line, column = marks[0] if marks else (0, 0, 0)
+    upcoming = next(following, None)
+    tokens: Statement = []
     depth = 0
-    for found in _TOKEN.finditer(text):
-        offset, line, column = marks[bisect.bisect_right(starts, found.start()) - 1]
-        word = found.group()
-        kept = word if word[0] in "'\"" else lower(word)
-        token = Token(_SPELLED.get(kept, kept), line, column + found.start() - offset, len(word))
-        depth = max(depth + (kept in ("(", "[", "(/")) - (kept in (")", "]", "/)")), 0)
+    for found in _TOKEN.finditer(small):
+        word, start = found.group(), found.start()
+        while upcoming and upcoming[0] <= start:
+            offset, line, column = upcoming
+            upcoming = next(following, None)
+        place = column + start - offset
+        kept = word if word[0] in "'\"" else lower(word) if small is text else word
+        if kept in _BRACKETS:
+            depth = max(depth + _BRACKETS[kept], 0)
         if kept == "::" and depth:
-            half = token._replace(text=":", length=1)
-            tokens += [half, half._replace(column=half.column + 1)]
+            tokens += [Token(":", line, place, 1), Token(":", line, place + 1, 1)]
         else:
-            tokens.append(token)
+            tokens.append(Token(_SPELLED.get(kept, kept), line, place, len(word)))
     return tokens
 
 

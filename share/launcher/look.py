@@ -10,6 +10,8 @@ from tables import Tables
 from typed import Node, Typer
 
 _NEAR = 0.6
+# Words of forms that aren't read which begin a statement that is read, or are likely names of variables.
+COMMON_WORDS = ("all", "any", "count", "sum", "sign", "dim", "value", "quiet", "write")
 # How the words of forms that aren't read are said, where they aren't said alone.
 LEFT_WORDS = {"double": "DOUBLE PRECISION", "go": "GO TO", "goto": "GO TO", "concurrent": "DO CONCURRENT"}
 

@@ -4,7 +4,7 @@ says no more than where the reading ends."""
 from typing import Dict, Optional
 
 from cases_of_values import assignment_start
-from look import LEFT_WORDS, Chooser, Found, Look, near
+from look import COMMON_WORDS, LEFT_WORDS, Chooser, Found, Look, near
 from names_in_file import CLOSING, OPENING, group_end
 from patterns_of_actions import SECOND_WORDS, at_action
 from patterns_of_declarations import at_specification
@@ -62,15 +62,25 @@ def _label(look: Look) -> Optional[Found]:
     return Found("beginning", {"token": look.token.text})
 
 
+def _assigns(look: Look, start: int) -> bool:
+    """Tells whether `=` stands outside of all brackets between a place of the statement and the refused one."""
+    depth = 0
+    for word in look.words[start : look.at + 1]:
+        depth += (word in OPENING) - (word in CLOSING)
+        if word == "=" and depth == 0:
+            return True
+    return False
+
+
 def _first_word(look: Look) -> Optional[Found]:
     """Chooses by a first word that is no word of the language, unless it is a variable's name."""
     start = assignment_start(look)
     word, ahead = look.word(start), look.word(start + 1)
-    if look.at <= start or look.find(word) or ahead == "=" or word == "write":
+    if look.at <= start or look.find(word) or ahead == "=" or _assigns(look, start):
         return None
     if word == "implicit" or (word == "type" and ahead == "("):
         return None
-    if word in look.tables.left and word not in ("all", "any", "count", "sum", "sign", "dim", "value", "quiet"):
+    if word in look.tables.left and word not in COMMON_WORDS:
         case = "derived-type" if word == "type" else "left"
         values = {"word": LEFT_WORDS.get(word, word.upper()), "left": look.tables.left[word]}
         return Found(case, values, look.statement[start])
@@ -88,11 +98,8 @@ def _misspelt(look: Look) -> Optional[Found]:
     word = look.word(start)
     if look.at <= start or look.find(word) or word in _FIRST_WORDS or look.names.procedure(word):
         return None
-    depth = 0
-    for it in look.words[start : look.at + 1]:
-        depth += (it in OPENING) - (it in CLOSING)
-        if it == "=" and depth == 0:
-            return None
+    if _assigns(look, start):
+        return None
     as_one = _AS_ONE.get(word.replace("_", ""))
     if as_one:
         return Found("misspelt", {"word": word, "near": as_one})

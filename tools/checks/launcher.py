@@ -71,7 +71,7 @@ def _check_words(checks: Checks) -> None:
     checks.holds("./caf --version", version.status == 0 and version.text.startswith(b"caf "))
     checks.holds("./caf --explain nothing: status 2", call([LAUNCHER, "--explain", "nothing"]).status == 2)
     checks.holds("./caf --explain: status 2", call([LAUNCHER, "--explain"]).status == 2)
-    checks.holds("./caf --explain real", call([LAUNCHER, "--explain", "real"]).text.startswith(b"there is no REAL\n"))
+    checks.holds("./caf --explain real", call([LAUNCHER, "--explain", "real"]).text.startswith(b"in the place of REAL\n"))
     checks.same("./caf --which", checks.program + "\n", call([LAUNCHER, "--which"]).text)
     checks.same("./caf --try", b"1: 4\n", call([LAUNCHER, "--try", *NEIGHBOUR]).text)
     checks.same("./caf without words", b"usage: word 1\nstatus 2\n", with_status(call([LAUNCHER])))
