@@ -34,6 +34,7 @@ _MEANT = {
 _SIGNS = {"&&": ".and.", "||": ".or.", "|": ".or.", "^": "**", "~": ".not."}
 _OF_NAMES = "abcdefghijklmnopqrstuvwxyzABCDEFGHIJKLMNOPQRSTUVWXYZ0123456789_"
 _DOTTED = "and or not eqv neqv eq ne lt le gt ge true false".split()
+_MEANT_OPERATORS = {"xor": "neqv", "t": "true", "f": "false"}
 _REAL = re.compile(r"[0-9]*\.[0-9]*(?:[eEdD][+-]?[0-9]+)?(?:_[A-Za-z0-9_]+)?")
 
 
@@ -137,6 +138,9 @@ def _sign(look: Look, first: str) -> Found:
     for sign, instead in _SIGNS.items():
         if look.rest.startswith(sign):
             return Found("operator", {"token": sign, "instead": instead})
+    is_number = re.search(r"[0-9)][ \t]*\Z", look.front) or re.match(r"%[ \t]*[0-9(]", look.rest)
+    if first == "%" and is_number:
+        return Found("operator", {"token": first, "instead": "mod(.., ..)"})
     if first == "%":
         return Found("component", {"left": look.tables.left.get("%", "")})
     if first == "#":
@@ -150,7 +154,8 @@ def _dot(look: Look) -> Found:
     before, after = look.front[-1:], look.rest[1:2]
     operator = re.match(r"\.([A-Za-z]+)\.", look.rest)
     if operator:
-        wanted = {"xor": "neqv"}.get(operator.group(1).lower()) or near(operator.group(1).lower(), _DOTTED)
+        name = operator.group(1).lower()
+        wanted = _MEANT_OPERATORS.get(name) or near(name, _DOTTED)
         return Found("dotted", {"token": operator.group(), **({"near": wanted} if wanted else {})})
     if after.isdigit() or (before.isdigit() and not re.search(r"[A-Za-z_][A-Za-z0-9_]*\Z", look.front)):
         return _real(look)

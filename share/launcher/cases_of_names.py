@@ -97,8 +97,22 @@ def _undeclared(look: Look, name: str) -> Found:
     if has_brackets:
         known = look.seen_names() + list(FUNCTIONS)
         return Found("no-array-or-function", {"name": name, **_near(name, known)})
-    values = _near(name, look.seen_names()) or {"declared": name}
+    values = _near(name, look.seen_names()) or {"declaration": _declaration(look, name)}
     return Found("undeclared", {"name": name, **values})
+
+
+def _declaration(look: Look, name: str) -> str:
+    """Returns a declaration of a name that suits the statement of the place."""
+    opening = look.opened[0] if look.opened else 0
+    two = look.words[max(opening - 2, 0) : opening]
+    is_first = look.at == opening + 1
+    if two[-1:] == ["team"] and (is_first or two[0] == "form"):
+        return f"type (team_type) :: {name}"
+    if is_first and two[-1:] in (["lock"], ["unlock"]):
+        return f"type (lock_type) :: {name}[*]"
+    if is_first and two[:1] == ["event"]:
+        return f"type (event_type) :: {name}[*]"
+    return f"integer :: {name}"
 
 
 def _no_subroutine(look: Look, name: str) -> Found:

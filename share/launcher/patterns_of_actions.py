@@ -133,6 +133,8 @@ def _do(look: Look, start: int) -> Optional[Found]:
     if first == "while":
         if place == 2:
             return Found("condition-brackets", {"word": "DO WHILE"})
+        if look.token and look.at == group_end(look.statement, start + 2):
+            return Found("behind-statement", {"word": "DO WHILE (..)", "token": look.shown(look.at, look.at + 1)})
         return _equals(look, start + 2)
     if first == "concurrent":
         return Found("left", {"word": "DO CONCURRENT", "left": look.tables.left.get("concurrent", "")})
@@ -167,6 +169,9 @@ def _second_word(look: Look, start: int) -> Optional[Found]:
     first, second = look.word(start), look.word(start + 1)
     if first == "select" and second == "(" and look.at >= group_end(look.statement, start + 1):
         return Found("select-without-case")
+    if second == "(" and look.word(start + 2) in SECOND_WORDS.get(first, []) and look.at > start + 2:
+        values = {"word": first.upper(), "both": look.shown(start, group_end(look.statement, start + 1))}
+        return Found("second-word", {**values, "near": f"{first} {look.word(start + 2)}".upper()})
     if first not in SECOND_WORDS or look.at != start + 1 or second in ("=", "("):
         return None
     words = SECOND_WORDS[first]
@@ -184,6 +189,8 @@ def _brackets(look: Look, start: int) -> Optional[Found]:
     one, two = look.word(start), " ".join(look.words[start : start + 2])
     if one == "critical" and look.at == start + 1 and look.word(look.at) != "=":
         return Found("behind-statement", {"word": "CRITICAL", "token": look.shown(look.at, look.at + 1)})
+    if one == "critical" and look.word(start + 1) == "(":
+        return Found("critical-brackets")
     if one in _WITH_BRACKETS and look.at == start + 1 and look.word(look.at) != "=":
         return Found("statement-brackets", {"word": one.upper(), "lower": one})
     if two in _OF_TWO_WORDS and look.at == start + 2:
@@ -228,6 +235,8 @@ def _assignment(look: Look, start: int) -> Optional[Found]:
         return _call_missing(look, start)
     left = look.shown(start, look.at)
     if "=" in look.words[start : look.at]:
+        if word == "," and not look.opened and look.word(look.at - 1) not in ("=", ","):
+            return Found("behind-assignment", {"token": word})
         has_one = word == "=" and not look.opened and look.word(look.at - 1) != "="
         return Found("second-equals") if has_one else None
     if look.opened:

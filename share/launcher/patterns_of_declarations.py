@@ -6,6 +6,7 @@ from look import Found, Look, near
 from names_in_file import NAMES_OF_MODULE, Scope, group_end, heading_of, is_declaration
 
 _ATTRIBUTES = ("parameter", "allocatable", "save", "dimension", "codimension", "intent")
+_EXAMPLES = {"dimension": "dimension (10)", "codimension": "codimension [*]", "intent": "intent (in)"}
 _LEFT_KINDS = {"1": "4", "2": "4", "16": "8"}
 
 
@@ -63,6 +64,8 @@ def _use(look: Look) -> Optional[Found]:
 def _implicit(look: Look) -> Optional[Found]:
     if look.word(1) != "none":
         return Found("implicit-other")
+    if look.at == 2:
+        return Found("behind-statement", {"word": "IMPLICIT NONE", "token": look.shown(2, 3)})
     place = look.spot.statement if look.spot else 0
     before = [it for it in range(look.scope.first, place) if look.statements[it][0].text not in ("use", "program")]
     others = [it for it in before if heading_of(look.statements[it]) is None]
@@ -80,9 +83,11 @@ def _declaration(look: Look) -> Optional[Found]:
         return Found("one-colon")
     has_colons = "::" in look.words
     behind_type = group_end(look.statement, 1) if look.word(1) == "(" else 1
-    in_attributes = look.word(behind_type) == "," and (not has_colons or look.at < look.words.index("::"))
+    in_attributes = look.word(behind_type) == "," and (not has_colons or look.at <= look.words.index("::"))
     if in_attributes and before == "," and not look.opened:
         return _attribute(look, word)
+    if in_attributes and before in ("dimension", "codimension", "intent") and not look.opened:
+        return Found("attribute-brackets", {"word": before.upper(), "example": _EXAMPLES[before]})
     if in_attributes and before in ("(", "in") and "intent" in look.words[look.at - 3 : look.at]:
         return Found("intent", {"token": word})
     if not has_colons and not look.opened and word:
@@ -110,7 +115,7 @@ def _entity(look: Look, word: str, before: str) -> Optional[Found]:
     opened = look.opened
     if opened:
         return _bounds(look, word, before)
-    if "=" in look.words[: look.at]:
+    if "=" in look.words[: look.at] and before != ",":
         return None
     token = look.token
     if word == "(" and before in ("]", "/)"):

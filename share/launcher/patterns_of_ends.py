@@ -104,6 +104,9 @@ def at_procedure(look: Look) -> Optional[Found]:
         return Found("before-contains", {"word": look.word(heading).upper()})
     if not contains:
         return None
+    found = _heading(look, heading) if heading is not None and look.token else None
+    if found:
+        return found
     if heading is not None and look.word(heading) == "function" and look.at == heading + 2:
         return Found("function-brackets", {"name": look.word(heading + 1)})
     if first in ("subroutine", "function") and look.at == 1:
@@ -112,6 +115,16 @@ def at_procedure(look: Look) -> Optional[Found]:
     if is_between and heading is None and look.at == 0 and first not in _UNITS:
         return Found("behind-contains", {}, contains[0][0])
     return None
+
+
+def _heading(look: Look, heading: int) -> Optional[Found]:
+    """Chooses for what stands behind the name in the heading of a procedure."""
+    has_brackets = look.word(heading + 2) == "("
+    behind = group_end(look.statement, heading + 2) if has_brackets else heading + 2
+    if look.at == behind and (has_brackets or look.word(heading) == "subroutine"):
+        return Found("behind-statement", {"word": "this heading", "token": _token(look)})
+    is_behind_type = look.word(look.at - 1) in ("integer", "logical")
+    return Found("dummy-type", {"name": _token(look)}) if is_behind_type and heading + 2 < look.at < behind else None
 
 
 def at_branch(look: Look) -> Optional[Found]:
@@ -181,4 +194,6 @@ def _case(look: Look) -> Optional[Found]:
         if look.word(1) == "else":
             return Found("case-else")
         return Found("case-brackets", values)
+    if look.token and look.word(1) == "(" and look.at == group_end(look.statement, 1):
+        return Found("behind-statement", {"word": "CASE (..)", **values})
     return Found("behind-case-default", values) if look.at == 2 and look.word(1) == "default" else None

@@ -143,7 +143,7 @@ def _wrong_operand(look: Look, before: Optional[Token]) -> Optional[Found]:
     if token.is_literal():
         return Found("text")
     if before.text == "/" and token.text == "/":
-        return Found("concatenation")
+        return _double_slash(look)
     if token.text in ("+", "-") and before.text in _OPERATORS and before.text not in RELATIONS:
         return Found("sign", {"token": token.text, "before": before.text})
     if token.text == ".not." and before.text == ".not.":
@@ -162,12 +162,16 @@ def _wrong_operator(look: Look, before: Optional[Token]) -> Optional[Found]:
         return Found("chain", {"token": word})
     if before.is_literal() and word in _OPERATORS:
         is_joined = word == "/" and look.word(look.at + 1) == "/"
-        return Found("concatenation") if is_joined else Found("text-operand", {"token": word})
+        return _double_slash(look) if is_joined else Found("text-operand", {"token": word})
     if word == "/" and look.word(look.at + 1) == "/":
-        return Found("concatenation")
+        return _double_slash(look)
     if word == "=>" and look.opened:
         return Found("two-signs", {"token": word, "instead": ">="})
     return Found("pointer", {"left": look.tables.left.get("pointer", "")}) if word == "=>" else None
+
+
+def _double_slash(look: Look) -> Found:
+    return Found("concatenation" if any(token.is_literal() for token in look.statement) else "double-slash")
 
 
 def _has_relation(look: Look) -> bool:
@@ -195,6 +199,7 @@ def _adjacent(look: Look, before: Optional[Token]) -> Optional[Found]:
         if word in _DOTTED and look.find(word) is None:
             return Found("without-dots", {"token": word})
     if before.is_number() and touching:
-        return Found("number-name", {"token": look.shown(look.at - 1, look.at + 1)})
+        is_coded = before.text == "0" and token.text[0] in "xbo"
+        return Found("not-decimal" if is_coded else "number-name", {"token": look.shown(look.at - 1, look.at + 1)})
     in_value = "=" in look.words[: look.at] or bool(look.opened) or look.word(0) in ("print", "write")
     return Found("operator-missing", {"token": look.shown(look.at, look.at + 1)}) if in_value else None
