@@ -195,6 +195,8 @@ def _format(look: Look) -> Optional[Found]:
         return None
     quote = token.text[0]
     text = token.text[1:-1].replace(quote * 2, quote).strip(" \t")
+    if text.startswith("(") and not text.endswith(")"):
+        return Found("half-brackets", {"token": token.text})
     if not (text.startswith("(") and text.endswith(")")):
         return Found("no-brackets", {"token": token.text})
     items = re.findall(r"(?:'[^']*'|\"[^\"]*\"|\([^)]*\)|[^,'\"(])+", text[1:-1])
@@ -242,7 +244,9 @@ def _intrinsic_argument(look: Look) -> Optional[Found]:
         is_other = bool(keywords) and part.word not in keywords
         return Found("keyword", {**values, "keyword": part.word.upper(), "there": shown}) if is_other else None
     if place >= most:
-        return Found("too-many", {**values, "wanted": _counted(most), "given": _counted(len(node.parts))})
+        least = _COUNTS.get(node.word, (2, 3))[0]
+        wanted = _counted(most) + ("" if least == most else " at most")
+        return Found("too-many", {**values, "wanted": wanted, "given": _counted(len(node.parts))})
     return _wrong_argument(look, node, part, values)
 
 

@@ -60,6 +60,8 @@ def _type(look: Look, name: str) -> Found:
         return _of_module(look, name)
     if name in look.names.used() or look.find(name):
         return Found("no-type", {"name": name})
+    if name in ("integer", "logical"):
+        return Found("intrinsic-type", {"name": name})
     values = {"name": name, **_near(name, TYPES_OF_MODULE)}
     return Found("unknown-type", values if "near" in values else {**values, "left": look.tables.left.get("type", "")})
 

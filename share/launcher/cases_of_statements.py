@@ -88,6 +88,7 @@ def _lock_or_event(look: Look) -> Optional[Found]:
         return None
     what = shown_what(node.what._replace(kind=4, rank=0))
     values = {"operand": shown_operand(look, node), "what": what, "word": _control_words(look)}
+    values.update({"name": node.word} if node.form == "name" else {})
     wanted = "lock_type" if look.number == "48" else "event_type"
     if node.what.type == wanted:
         return Found("array", values) if node.what.rank > 0 else None
@@ -112,6 +113,7 @@ def _team(look: Look) -> Optional[Found]:
         return None
     what = shown_what(node.what._replace(rank=0))
     values = {"operand": shown_operand(look, node), "what": what}
+    values.update({"name": node.word} if node.form == "name" else {})
     if node.what.type == "team_type":
         return Found("elsewhere", values)
     return Found("type", values) if what else None

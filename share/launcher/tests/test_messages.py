@@ -37,7 +37,8 @@ class MessagesTest(unittest.TestCase):
 
     def test_columns_count_bytes_and_carets_characters(self) -> None:
         got = said(3, "! é\n\tprint *, 'é', \xe4\n".encode("utf-8"), "refused 1 at 2:17")
-        self.assertEqual(got[0], "a.f90:2:17: error: `\xc3\xa4` isn't ASCII, and may stand in a comment alone [1 NotAscii]")
+        text = "error: `\xc3\xa4` isn't ASCII, and may stand in a comment alone [1 NotAscii]"
+        self.assertEqual(got[0], f"a.f90:2:17: {text}")
         self.assertEqual(got[1], "    2 | \tprint *, '\xc3\xa9', \xc3\xa4")
         self.assertEqual(got[2], "      | \t              ^")
 
