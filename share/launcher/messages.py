@@ -53,7 +53,7 @@ def _end_lines(caller: Caller, asked: Asked, told: Sequence[str]) -> List[str]:
         else:
             lines += _place_lines(asked.shown_name(), place, _line_of(source, place), end)
     if end.hint:
-        lines.append(f"caf: {caller.called} --explain {end.hint} says more")
+        lines.append(f"{'help' if end.refusal else 'caf'}: {caller.called} --explain {end.hint} says more")
     return lines
 
 

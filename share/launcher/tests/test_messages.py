@@ -66,12 +66,12 @@ class MessagesTest(unittest.TestCase):
             "    2 | logical :: counter",
             "      |            ^",
             "a.f90:1:12: note: `counter` is declared here first",
-            "caf: caf --explain 21 says more",
+            "help: caf --explain 21 says more",
         ]
         self.assertEqual(got, wanted)
         got = said(3, b"integer :: counter\ncouter = 1\n", "refused 20 at 2:1")
         self.assertEqual(got[0], "a.f90:2:1: error: `couter` isn't declared [20 UnknownName]")
-        self.assertEqual(got[3:], ["help: did you mean `counter`?", "caf: caf --explain 20 says more"])
+        self.assertEqual(got[3:], ["help: did you mean `counter`?", "help: caf --explain 20 says more"])
 
     def test_forms_that_are_left_out(self) -> None:
         table = [
