@@ -6,6 +6,7 @@ from typing import List
 
 from blocks import open_blocks
 from ends import Place
+from explain import explain
 from lexing import Spot, spot_of, statements_of
 from look import Look, near
 from names_in_file import names_of
@@ -187,6 +188,16 @@ class RefusalsTest(unittest.TestCase):
         self.assertEqual(got.notes, [(1, 12, "`a` is declared here first")])
         got = said("7", 3, 5, "do\nif (.true.) then\nend do\nend")
         self.assertEqual(got.notes, [(2, 1, "IF begins here")])
+
+    def test_explained(self) -> None:
+        wanted = [
+            "    case, refused at 1:15: EXIT leaves the CRITICAL construct of line 1",
+            "        1 | do; critical; exit; end critical; end do; end",
+            "          |               ^",
+            "          help: let the construct come to its end",
+            "",
+        ]
+        self.assertEqual((explain("42", TABLES) or "").split("\n")[3:], wanted)
 
     def test_what_remains(self) -> None:
         # The place is no operand at all, so no case can be told.
