@@ -1,10 +1,12 @@
 """What `caf --explain WORD` says: the entries of docs/REFUSALS.md with a number or a name, or what there is in the
 place of a form of Fortran."""
 
+import re
 from typing import List, Optional
 
+from ends import Place
 from excerpts import excerpt
-from tables import Entry, Kind, Tables
+from tables import Case, Entry, Kind, Tables
 from texts import lower
 
 KINDS = (
@@ -12,6 +14,8 @@ KINDS = (
     "or a name of these"
 )
 
+# A place of a sentence.
+_OPEN = re.compile(r"\{[a-z]+\}")
 _TITLES = {Kind.FAULT: "run fault", Kind.CODE: "code of a status", Kind.WAIT: "a stuck image waits for"}
 
 
@@ -20,7 +24,7 @@ def explain(word: str, tables: Tables) -> Optional[str]:
     wanted = lower(word)
     told = [_explained(entry, tables) for entry in tables.entries if wanted in (lower(entry.key), lower(entry.name))]
     if wanted in tables.left:
-        told.append([f"there is no {wanted.upper()}", f"    {tables.left[wanted]}"])
+        told.append([f"in the place of {wanted.upper()}", f"    {tables.left[wanted]}"])
     if not told:
         return None
     return "\n".join("".join(f"{line}\n" for line in lines) for lines in told)
@@ -37,9 +41,24 @@ def _explained(entry: Entry, tables: Tables) -> List[str]:
         lines.append(f"    {'ISO/IEC 1539-1:2018, ' if entry.standard[:1].isdigit() else ''}{entry.standard}")
     if entry.kind is Kind.STATUS and entry.key in tables.advice:
         lines.append(f"    what to do: {tables.advice[entry.key]}")
-    if entry.example is not None:
+    cases = []
+    if entry.kind is Kind.REFUSAL:
+        cases = [case for case in tables.cases if case.number == entry.key and case.word != "-"]
+    if entry.example is not None and not any(case.example for case in cases):
         lines += _example(entry.example, entry.place)
-    return lines
+    return lines + [line for case in cases for line in _case(case, tables)]
+
+
+def _case(case: Case, tables: Tables) -> List[str]:
+    """Returns the lines of a case: what is said of its example, or its sentence where it has none."""
+    if case.example is None or case.place is None:
+        return [f"    case: {_OPEN.sub('..', case.said[0])}"]
+    from refusals import refusal_said  # here, since only what is said of a refusal needs it
+
+    line, column = case.place.split(":")
+    said = refusal_said(case.number, Place(int(line), int(column), ""), [case.example], tables)
+    shown = excerpt(f"    {line:>5}", case.example, int(column))
+    return [f"    case, refused at {case.place}: {said.text}", *shown, *(f"          help: {it}" for it in said.helps)]
 
 
 def _example(text: str, place: Optional[str]) -> List[str]:

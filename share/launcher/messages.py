@@ -6,8 +6,7 @@ from ending import Caller
 from ends import End, Place, read_end
 from excerpts import excerpt
 from given_file import Asked, why_unread
-from refusals import left_out, refusal_text
-from tables import read_tables, tables_path
+from tables import Kind, Tables, read_tables, tables_path
 from texts import NO_MORE_TAKEN
 from usage import usage_message
 from uses import use_of
@@ -49,15 +48,24 @@ def _end_lines(caller: Caller, asked: Asked, told: Sequence[str]) -> List[str]:
     source = asked.source().split("\n")
     lines = []
     for place in end.places:
-        text = _line_of(source, place)
         if end.refusal:
-            place = place._replace(text=refusal_text(end.refusal, place, text or "", tables))
-        lines += _place_lines(asked.shown_name(), place, text, end)
-    if end.refusal:
-        lines += left_out(end.refusal, end.places[0], source, tables)
+            lines += _refusal_lines(asked.shown_name(), place, source, end, tables)
+        else:
+            lines += _place_lines(asked.shown_name(), place, _line_of(source, place), end)
     if end.hint:
-        lines.append(f"caf: {caller.called} --explain {end.hint} says more")
+        lines.append(f"{'help' if end.refusal else 'caf'}: {caller.called} --explain {end.hint} says more")
     return lines
+
+
+def _refusal_lines(shown_name: str, place: Place, source: List[str], end: End, tables: Tables) -> List[str]:
+    """Returns the lines of a refused place: its error, its line, its notes and its helps."""
+    from refusals import refusal_said  # here, since no other message needs it
+
+    said = refusal_said(end.refusal, place, source, tables)
+    text = f"error: {said.text} [{end.refusal} {tables.name(Kind.REFUSAL, end.refusal)}]"
+    lines = _place_lines(shown_name, place._replace(text=text), _line_of(source, place), end)
+    lines += [f"{shown_name}:{line}:{column}: note: {note}" for line, column, note in said.notes]
+    return lines + [f"help: {help_}" for help_ in said.helps]
 
 
 def _line_of(source: List[str], place: Place) -> Optional[str]:

@@ -1,86 +1,84 @@
-"""What is said of a refused place: the rule that it breaks with the token there, and what there is in the place of a
-form that isn't read."""
+"""What is said of a refused place: the sentence of its case in docs/REFUSALS.md, with its helps and notes."""
 
+import importlib
 import re
-from typing import List
+from typing import Dict, List, NamedTuple, Optional, Tuple
 
 from ends import Place
+from look import Chooser, Found, Look
 from tables import Kind, Tables
-from texts import lower
 
-_TOKEN = re.compile(r"[A-Za-z][A-Za-z0-9_]*|[0-9]+|\.[A-Za-z]+\.|::|==|/=|<=|>=|\*\*|[!-~]")
-_BYTE_ORDER_MARK = "\357\273\277"
-_WORD_BEFORE = re.compile(r"(concurrent|errmsg|quiet|type)[ (=]*\Z")
-_LAST_WORD = re.compile(r"[a-z]*\Z")
-_ASSIGNMENT = re.compile(r"[ \t]*[a-z][a-z0-9_]*[ \t]*=")
-_EXPONENT = re.compile("[de][0-9]*")
-
-
-def _token_at(text: str, column: int) -> str:
-    """Returns the token that begins in the column of a line, or nothing."""
-    found = _TOKEN.match(text, max(column - 1, 0))
-    return found.group() if found else ""
-
-
-def refusal_text(number: str, place: Place, text: str, tables: Tables) -> str:
-    """Returns the rule that a place breaks. Past a statement's end, and in a file without a statement, 7 has no token
-    to speak of."""
-    token = _token_at(text, place.column)
-    rule = tables.meaning(Kind.REFUSAL, number)
-    said = f" at `{token}`" if token else ""
-    if number == "7" and (place.line, place.column) == (1, 1) and token in ("", "!", ";", "&"):
-        said = ""
-        rule = "the file has no statement"
-    elif number == "7" and not token:
-        rule = "the statement needs more than this"
-    return f"refused{said}: {rule} ({number} {tables.name(Kind.REFUSAL, number)})"
+_PLACE = re.compile(r"\{([a-z]+)\}")
+# From this number on a place lies in a statement that is read.
+_FIRST_RULE = 20
+# The numbers whose cases a module chooses.
+_MODULES = {
+    "cases_of_lines": "1 2 3 4 5 6 8 9",
+    "patterns": "7",
+    "cases_of_names": "20 21",
+    "cases_of_declarations": "22 23 24 25 26 27 28 29 30",
+    "cases_of_values": "31 32 33 34 35 37 38",
+    "cases_of_statements": "36 39 40 48 49 50 51 52 55 56 58",
+    "cases_of_constructs": "41 42 43 44",
+    "cases_of_calls": "45 46 47 53 54 57 59",
+}
 
 
-def left_out(number: str, place: Place, source: List[str], tables: Tables) -> List[str]:
-    """Says what there is in the place of a form of Fortran that isn't read, where the refused line has one."""
-    lines = []
-    if number == "1" and place.line == 1 and source and source[0].startswith(_BYTE_ORDER_MARK):
-        lines.append("caf: the file begins with a byte order mark: save it as text without one")
-    if number not in ("5", "7", "20", "35"):
-        return lines
-    text = lower(source[place.line - 1]) if 0 < place.line <= len(source) else ""
-    word = _word_at(text, place.column, tables) or _word_before(text[: max(place.column - 1, 0)])
-    if not word and number == "7":
-        word = _first_word(text, tables)
-    if word:
-        lines.append(f"caf: there is no {word.upper()}: {tables.left.get(word, '')}")
-    return lines
+class Said(NamedTuple):
+    """What is said of a place: a sentence, helps, notes with their lines and columns, and how many columns the token at
+    the place takes, 1 at least."""
+
+    text: str
+    helps: List[str]
+    notes: List[Tuple[int, int, str]]
+    length: int
 
 
-def _word_at(text: str, column: int, tables: Tables) -> str:
-    """Returns the word of the form by the token in the column of a line, or nothing."""
-    token = _token_at(text, column)
-    before = text[column - 2 : column - 1] if column > 1 else ""
-    if token == "." and (_is_digit(before) or _is_digit(text[column : column + 1])):
-        return "real"
-    if _EXPONENT.fullmatch(token) and _is_digit(before):
-        return "real"
-    if _is_digit(token[:1]) and not text[: max(column - 1, 0)].strip(" \t"):
-        return "label"
-    return token if token in tables.left else ""
+def refusal_said(number: str, place: Place, source: List[str], tables: Tables) -> Said:
+    """Returns what is said of a place that breaks a rule."""
+    look = Look(number, place.line, place.column, source, tables)
+    found = chosen(look)
+    said = _said(found, look) if found else None
+    if said is None:
+        # What is said of all cases that remain.
+        said = _said(Found("-", {"token": look.token.text} if look.token else {}), look)
+    return said or Said(tables.meaning(Kind.REFUSAL, number), [], [], _length(look))
 
 
-def _is_digit(text: str) -> bool:
-    return "0" <= text <= "9"
+def chosen(look: Look) -> Optional[Found]:
+    """Returns the case of a refused place with what stands in the places of its sentences, or nothing where it can't be
+    told. Of all modules of choosers only the one that is needed is read."""
+    is_in_statement = bool(look.statement) or int(look.number) < _FIRST_RULE
+    for name, numbers in _MODULES.items():
+        if is_in_statement and look.number in numbers.split():
+            chooser: Chooser = importlib.import_module(name).CHOOSERS[look.number]
+            return chooser(look)
+    return None
 
 
-def _word_before(front: str) -> str:
-    """Returns the word of the form by the word before the column, or nothing."""
-    if not _WORD_BEFORE.search(front):
-        return ""
-    found = _LAST_WORD.search(front.rstrip(" (="))
-    return found.group() if found else ""
+def _said(found: Found, look: Look) -> Optional[Said]:
+    """Returns what the table says of a case, or nothing where it has no sentence whose places are known."""
+    case = next((it for it in look.tables.cases if (it.number, it.word) == (look.number, found.case)), None)
+    texts = [it for it in (_filled(said, found.values) for said in case.said) if it] if case else []
+    if case is None or not texts:
+        return None
+    helps = [it for it in (_filled(help_, found.values) for help_ in case.helps) if it]
+    note = _filled(case.note, found.values) if case.note else None
+    notes = [(found.note_at.line, found.note_at.column, note)] if found.note_at and note else []
+    return Said(texts[0], helps, notes, _length(look))
 
 
-def _first_word(text: str, tables: Tables) -> str:
-    """Returns the first word of a statement that is no assignment to it, where it is that of a form; else nothing."""
-    if _ASSIGNMENT.match(text):
-        return ""
-    blanks = len(text) - len(text.lstrip(" \t"))
-    token = _token_at(text, blanks + 1)
-    return token if token in tables.left else ""
+def _filled(sentence: str, values: Dict[str, str]) -> Optional[str]:
+    """Returns a sentence with its places filled, or nothing where one isn't known."""
+    if any(name not in values for name in _PLACE.findall(sentence)):
+        return None
+    return _PLACE.sub(lambda found: values[found.group(1)], sentence)
+
+
+def _length(look: Look) -> int:
+    """Returns how many columns the token at the place takes."""
+    if look.number in ("1", "2", "3", "4", "5"):
+        return 1
+    if look.token is None:
+        return 1
+    return max(min(look.token.length, len(look.rest)), 1)

@@ -32,13 +32,29 @@ class Entry(NamedTuple):
     place: Optional[str] = None
 
 
+class Case(NamedTuple):
+    """A case of a refusal: the number, the case's word, `-` for all that remain, the sentences of which the first is
+    said whose places are known, its helps, what its note says, and an example with its place where there is one."""
+
+    number: str
+    word: str
+    said: List[str]
+    helps: List[str]
+    note: str
+    example: Optional[str] = None
+    place: Optional[str] = None
+
+
 class Tables(NamedTuple):
     """All entries in their order; what to do after a status, by its number; what stands in the place of a form of
-    Fortran that isn't read, by its word."""
+    Fortran that isn't read, by its word; the cases of refusals; and what is written in the place of a word of another
+    language."""
 
     entries: List[Entry]
     advice: Dict[str, str]
     left: Dict[str, str]
+    cases: List[Case]
+    foreign: Dict[str, str]
 
     def find(self, kind: Kind, key: str) -> Optional[Entry]:
         """Returns the entry of a kind and a key, if there is one."""
@@ -67,6 +83,8 @@ _KINDS = {
     "Limits": Kind.LIMIT,
 }
 _ADVICE = "What to do"
+_CASES = "Cases of a refusal"
+_FOREIGN = "Words of other languages"
 _LEFT = "What of Fortran isn't read"
 
 
@@ -93,11 +111,26 @@ def _entry(kind: Kind, cells: List[str]) -> Entry:
     return Entry(kind, cells[0], cells[0], _plain(cells[1]))
 
 
+def _sentences(cell: str) -> List[str]:
+    return [] if cell == "-" else cell.split("<br>")
+
+
+def _case(cells: List[str]) -> Case:
+    """Returns the case of a row's cells, whose sentences keep their backticks."""
+    number, word, said, helps, note, example, place = (cell.replace("\\|", "|") for cell in cells)
+    case = Case(number, word, _sentences(said), _sentences(helps), "" if note == "-" else note)
+    return case if place == "-" else case._replace(example=example[1:-1], place=place)
+
+
 def _keep_row(tables: Tables, section: str, cells: List[str]) -> None:
     if section == _ADVICE:
         tables.advice[cells[0]] = _plain(cells[1])
     elif section == _LEFT:
         tables.left.update((word, _plain(cells[1])) for word in cells[0].split())
+    elif section == _FOREIGN:
+        tables.foreign.update((word, cells[1]) for word in cells[0].split())
+    elif section == _CASES:
+        tables.cases.append(_case(cells))
     elif section in _KINDS:
         tables.entries.append(_entry(_KINDS[section], cells))
 
@@ -105,7 +138,7 @@ def _keep_row(tables: Tables, section: str, cells: List[str]) -> None:
 def read_tables(path: str) -> Tables:
     """Reads the tables of a page: below a heading `## SECTION` the lines that begin with `| `, behind the one of
     dashes."""
-    tables = Tables([], {}, {})
+    tables = Tables([], {}, {}, [], {})
     section = ""
     is_behind_dashes = False
     for line in read_file(path).split("\n"):

@@ -45,6 +45,8 @@ TABLES = Tables(
     ],
     {},
     {"real": "integers"},
+    [],
+    {},
 )
 
 PAGE = """\

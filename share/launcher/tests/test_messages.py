@@ -37,7 +37,8 @@ class MessagesTest(unittest.TestCase):
 
     def test_columns_count_bytes_and_carets_characters(self) -> None:
         got = said(3, "! é\n\tprint *, 'é', \xe4\n".encode("utf-8"), "refused 1 at 2:17")
-        self.assertEqual(got[0], "a.f90:2:17: refused: a byte above 127 outside a comment (1 NotAscii)")
+        text = "error: `\xc3\xa4` isn't ASCII, and may stand in a comment alone [1 NotAscii]"
+        self.assertEqual(got[0], f"a.f90:2:17: {text}")
         self.assertEqual(got[1], "    2 | \tprint *, '\xc3\xa9', \xc3\xa4")
         self.assertEqual(got[2], "      | \t              ^")
 
@@ -58,20 +59,34 @@ class MessagesTest(unittest.TestCase):
         got = said(3, b"do\n", "refused 8 at 2:1")
         self.assertEqual(len([it for it in got if " | " in it]), 0)
 
+    def test_a_refusal(self) -> None:
+        got = said(3, b"integer :: counter\nlogical :: counter\n", "refused 21 at 2:12")
+        wanted = [
+            "a.f90:2:12: error: `counter` is declared already [21 DeclaredTwice]",
+            "    2 | logical :: counter",
+            "      |            ^",
+            "a.f90:1:12: note: `counter` is declared here first",
+            "help: caf --explain 21 says more",
+        ]
+        self.assertEqual(got, wanted)
+        got = said(3, b"integer :: counter\ncouter = 1\n", "refused 20 at 2:1")
+        self.assertEqual(got[0], "a.f90:2:1: error: `couter` isn't declared [20 UnknownName]")
+        self.assertEqual(got[3:], ["help: did you mean `counter`?", "help: caf --explain 20 says more"])
+
     def test_forms_that_are_left_out(self) -> None:
         table = [
-            (b"a = 1.5", "refused 5 at 1:6", "REAL"),
-            (b"a = 2d0", "refused 5 at 1:6", "REAL"),
-            (b"real :: a", "refused 7 at 1:6", "REAL"),
-            (b"10 continue", "refused 7 at 1:1", "LABEL"),
-            (b"do concurrent (i = 1:3)", "refused 7 at 1:15", "CONCURRENT"),
-            (b"sync all (errmsg = m)", "refused 35 at 1:11", "ERRMSG"),
-            (b"print *, sum(x)", "refused 20 at 1:10", "SUM"),
+            (b"a = 1.5", "refused 5 at 1:6", "`1.5` is a real number, and there is no REAL"),
+            (b"a = 2d0", "refused 7 at 1:6", "`2d0` is a real number, and there is no REAL"),
+            (b"real :: a", "refused 7 at 1:6", "there is no REAL"),
+            (b"10 continue", "refused 7 at 1:1", "there are no labels"),
+            (b"do concurrent (i = 1:3)", "refused 7 at 1:15", "there is no DO CONCURRENT"),
+            (b"sync all (errmsg = m)", "refused 35 at 1:11", "there is no ERRMSG="),
+            (b"print *, sum(x)", "refused 20 at 1:10", "there is no SUM"),
         ]
-        for source, line, word in table:
+        for source, line, text in table:
             with self.subTest(source=source):
-                self.assertTrue(any(it.startswith(f"caf: there is no {word}: ") for it in said(3, source, line)))
-        for source, line in ((b"real = 3 + * 4", "refused 7 at 1:12"), (b"real :: a", "refused 23 at 1:6")):
+                self.assertIn(f": error: {text} [", said(3, source, line)[0])
+        for source, line in ((b"real = 3 + * 4", "refused 7 at 1:12"), (b"write (6, *) 1", "refused 7 at 1:11")):
             with self.subTest(source=source):
                 self.assertFalse(any("there is no" in it for it in said(3, source, line)))
 

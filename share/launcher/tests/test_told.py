@@ -75,7 +75,7 @@ class TablesTest(unittest.TestCase):
         told = ["refusal 2 TooLong", "    a line", "    a limit", "    example: a long line, refused at 1:99", ""]
         self.assertEqual(explain("toolong", self.tables), "\n".join(told))
         self.assertEqual(explain("3", self.tables), "refusal 3 NoProgram\n    nothing\n    ISO/IEC 1539-1:2018, 6.2\n")
-        self.assertEqual(explain("Double", self.tables), "there is no DOUBLE\n    integers do\n")
+        self.assertEqual(explain("Double", self.tables), "in the place of DOUBLE\n    integers do\n")
         self.assertIsNone(explain("4", self.tables))
         self.assertIsNone(explain("", self.tables))
 
