@@ -37,7 +37,7 @@ class MessagesTest(unittest.TestCase):
 
     def test_columns_count_bytes_and_carets_characters(self) -> None:
         got = said(3, "! é\n\tprint *, 'é', \xe4\n".encode("utf-8"), "refused 1 at 2:17")
-        self.assertEqual(got[0], "a.f90:2:17: refused: a byte above 127 outside a comment (1 NotAscii)")
+        self.assertEqual(got[0], "a.f90:2:17: error: refused: a byte above 127 outside a comment [1 NotAscii]")
         self.assertEqual(got[1], "    2 | \tprint *, '\xc3\xa9', \xc3\xa4")
         self.assertEqual(got[2], "      | \t              ^")
 
@@ -51,8 +51,8 @@ class MessagesTest(unittest.TestCase):
 
     def test_a_long_line_is_cut(self) -> None:
         got = said(3, b"x" * 300 + b"?" + b"y" * 300, "refused 5 at 1:301")
-        self.assertEqual(got[1], "    1 | " + "x" * 60 + "?" + "y" * 59)
-        self.assertEqual(got[2], "      | " + " " * 60 + "^")
+        self.assertEqual(got[1], "    1 | .." + "x" * 44 + "?" + "y" * 43 + "..")
+        self.assertEqual(got[2], "      | " + " " * 46 + "^")
 
     def test_a_place_behind_the_end(self) -> None:
         got = said(3, b"do\n", "refused 8 at 2:1")
@@ -70,16 +70,16 @@ class MessagesTest(unittest.TestCase):
         ]
         for source, line, word in table:
             with self.subTest(source=source):
-                self.assertTrue(any(it.startswith(f"caf: there is no {word}: ") for it in said(3, source, line)))
+                self.assertTrue(any(it.startswith(f"help: there is no {word}: ") for it in said(3, source, line)))
         for source, line in ((b"real = 3 + * 4", "refused 7 at 1:12"), (b"real :: a", "refused 23 at 1:6")):
             with self.subTest(source=source):
                 self.assertFalse(any("there is no" in it for it in said(3, source, line)))
 
     def test_codes(self) -> None:
-        got = said(4, b"stop\n", "error stop image 2 line 1 code 6001")
-        self.assertIn("(STAT_FAILED_IMAGE)", got[0])
-        got = said(4, b"stop\n", "error stop image 2 line 1 code -7")
-        self.assertEqual(got[0], "a.f90:1:1: image 2 ended the run: error stop with code -7")
+        got = said(4, b"sync all\n", "error stop image 2 line 1 code 6001")
+        self.assertIn("[6001 STAT_FAILED_IMAGE]", got[0])
+        got = said(4, b"error stop -7\n", "error stop image 2 line 1 code -7")
+        self.assertEqual(got[0], "a.f90:1:1: error: image 2 executed ERROR STOP, with the code -7 [ErrorStop]")
 
     def test_a_made_source(self) -> None:
         asked = Asked(["run", "--made", "1", "4"])
