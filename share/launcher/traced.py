@@ -54,7 +54,8 @@ class KeptTrace:
         if self._is_lost:
             return
         if self._file is None:
-            yield from b"".join(self._pieces).split(b"\n")
+            *lines, last = b"".join(self._pieces).split(b"\n")
+            yield from lines + [last] * bool(last)
             return
         self._file.seek(0)
         for line in self._file:

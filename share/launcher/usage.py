@@ -107,7 +107,7 @@ def _reason(told: Help, words: Sequence[str], number: int, before: Words) -> str
         limits = range_of(before.option, before.wanted)
         return f"it has to be the {before.wanted} of {before.option}{limits and ', ' + limits}"
     if "--made" in before.given:
-        return "nothing stands behind SIZE, and the options stand before --made"
+        return "nothing stands behind SIZE"
     command = told.commands.get(words[0], Form([], []))
     if command.values:
         return f"nothing stands behind {command.values[-1]}"

@@ -49,7 +49,7 @@ Words below a table.
 """
 
 
-BEHIND_SIZE = "nothing stands behind SIZE, and the options stand before --made"
+BEHIND_SIZE = "nothing stands behind SIZE"
 
 
 class TablesTest(unittest.TestCase):
