@@ -112,7 +112,8 @@ class Nowhere(Outlet):
 
 def run_again(program: str, words: Sequence[str], standard_input: Optional[int], kept: KeptTrace) -> Outcome:
     """Runs the program for the lines of its --vars and --trace, which are kept, and shows nothing of it."""
-    return _run(program, words, standard_input, Nowhere(Cut(kept, False, False)), "the program runs again, to tell more")
+    outlet = Nowhere(Cut(kept, False, False))
+    return _run(program, words, standard_input, outlet, "the program runs again, to tell more")
 
 
 def run(program: str, words: Sequence[str], standard_input: Optional[int], cut: Optional[Cut] = None) -> Outcome:

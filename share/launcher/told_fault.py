@@ -90,7 +90,8 @@ def _selector(line: Line) -> Case:
         return of_name(asked[0], "index", images=_count(images))
     if len(found) == 1:
         return of_name(found[0], "team" if in_team else "selector", images=_count(images))
-    return Case("alone", {"things": " or ".join(it.text for it in found), "images": _count(images)}) if found else Case("unknown")
+    things = " or ".join(it.text for it in found)
+    return Case("alone", {"things": things, "images": _count(images)}) if found else Case("unknown")
 
 
 def _count(images: int) -> str:

@@ -116,7 +116,8 @@ def _bad_argument(scene: Scene, image: int, line: int, text: str) -> Tuple[str, 
     if word == "formteam":
         value = value_of(arguments[0], where) if arguments else None
         if value is not None and value < 1:
-            return "team", f"the team number {arguments[0]}" + ("" if arguments[0] == f"{value}" else f", which is {value}")
+            which = "" if arguments[0] == f"{value}" else f", which is {value}"
+            return "team", f"the team number {arguments[0]}{which}"
         return "team", f"the team number or the NEW_INDEX= of `{text}`"
     if word.startswith("call"):
         return _bad_collective(scene, where, word[4:].upper(), arguments)

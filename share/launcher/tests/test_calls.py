@@ -114,7 +114,8 @@ class CallsTest(unittest.TestCase):
 
     def test_other_spellings(self) -> None:
         words = ["-n", "4", "--order", "3", "--trace"]
-        for given in (["run", "-n4", "--order=3", "--trace", FILE], ["run", FILE, "--trace", "-n", "4", "--order", "3"]):
+        for row in ("-n4 --order=3 --trace FILE", "FILE --trace -n 4 --order 3", "--order 3 -n4 --trace -- FILE"):
+            given = ["run", *row.replace("FILE", FILE).split()]
             with self.subTest(given=given):
                 self.run_program.reset_mock()
                 self.assertEqual(self.call(*given), 0)

@@ -7,7 +7,7 @@ import shutil
 import subprocess
 import tempfile
 import unittest
-from typing import List, Tuple
+from typing import Any, Dict, List, Tuple
 
 HOME = os.path.dirname(os.path.dirname(os.path.dirname(os.path.dirname(os.path.abspath(__file__)))))
 EDITORS = os.path.join(HOME, "docs", "editors")
@@ -40,7 +40,7 @@ def matched(pattern: str, lines: List[str]) -> List[Found]:
     return [(it[1], int(it[2]), int(it[3]), it[4]) for it in read if it]
 
 
-def loaded(name: str):
+def loaded(name: str) -> Any:
     """Returns what a file of docs/editors holds."""
     with open(os.path.join(EDITORS, name), encoding="utf-8") as file:
         return json.load(file)
@@ -65,9 +65,10 @@ class MatchersTest(unittest.TestCase):
         errors = [it for it in self.wanted if it[3] == "error"]
         self.assertEqual(matched(GCC, self.lines), errors)
 
-    def check_pattern(self, pattern) -> None:
+    def check_pattern(self, pattern: Dict[str, Any]) -> None:
         """A pattern finds each place, its text, and the code behind it."""
-        self.assertEqual([pattern[it] for it in ("file", "line", "column", "severity", "message", "code")], list(range(1, 7)))
+        parts = ("file", "line", "column", "severity", "message", "code")
+        self.assertEqual([pattern[it] for it in parts], list(range(1, 7)))
         self.assertEqual(matched(pattern["regexp"], self.lines), self.wanted)
         found = re.match(pattern["regexp"], "a.f90:3:1: error: subscript 4 of `a(4)` isn't within 1 to 3 [Bounds]")
         self.assertEqual(found.groups()[4:], ("subscript 4 of `a(4)` isn't within 1 to 3", "Bounds"))

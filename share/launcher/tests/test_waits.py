@@ -55,7 +55,8 @@ class WaitsTest(unittest.TestCase):
         self.assertEqual([it.others for it in got[:2]], [(Held(3, 4),), (Held(1, 1),)])
 
     def test_posts(self) -> None:
-        text = "1 2 1 m1 post e:0 > 0\n2 2 1 m1 post e:0 > 0\n3 1 2 m1 wait e:0 1 > 0\nstuck image 1 line 3 wait\n"
+        text = "1 2 1 m1 post e:0 > 0\n2 2 1 m1 post e:0 > 0\n3 1 2 m1 wait e:0 1 > 0\n"
+        text += "stuck image 1 line 3 wait\n"
         source = "\n\nevent wait (e, until_count = 2 + 1)\n"
         got = waits(text, source)[0]
         self.assertEqual((got.thing, got.has, got.wants, got.others), ("e", 1, 3, (Held(2, 1),)))
@@ -84,7 +85,8 @@ class WaitsTest(unittest.TestCase):
 
 class SurveyTest(unittest.TestCase):
     def test_what_is_kept(self) -> None:
-        lines = [b"var 1 i = 3", b"var 2 i = 4,5", b"var 1 l = T", b"1 1 2 m1 write x:0 1 > ok", b"1 2 2 m2 read x:0 > 0"]
+        lines = [b"var 1 i = 3", b"var 2 i = 4,5", b"var 1 l = T"]
+        lines += [b"1 1 2 m1 write x:0 1 > ok", b"1 2 2 m2 read x:0 > 0"]
         lines += [b"2 1 3 own print a > b > ok", b"3 1 2 m1 write x:1 1 > ok"]
         found = survey(lines, 2, [(1, 3)])
         self.assertEqual(found.variables, {1: {"i": [3]}, 2: {"i": [4, 5]}})
