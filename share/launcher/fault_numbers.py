@@ -40,7 +40,7 @@ def overflow(line: Line) -> Case:
         return Case("operation of a value" if value is not None else "operation", found, place, len(text))
     if value is not None or (not operators and place):
         return Case("value of a number" if value is not None else "value", found, place, len(text))
-    return Case("expression", found, place, len(text))
+    return Case("expression", found, place, len(text)) if text else Case("unknown")
 
 
 def _limit(kind: int, value: int) -> str:
@@ -87,7 +87,7 @@ def division(line: Line) -> Case:
     """A divisor of zero: the one that is shown to be, or the only one."""
     found = list(_divisors(line))
     zeros = [it for it in found if line.value(it[0]) == 0]
-    chosen = zeros[:1] or (found if len(found) == 1 else [])
+    chosen = zeros[:1] or (found if len(found) == 1 and "**" not in line.text else [])
     if chosen:
         place = line.text.rfind(chosen[0][0])
         return Case("divisor", {"thing": chosen[0][0]}, max(place, 0), len(chosen[0][0]))

@@ -123,7 +123,7 @@ def _again(caller: Caller, words: Sequence[str], code: str) -> List[str]:
         if words[place] in ("--trace", "--vars", "-w") and place < len(words) - 1:
             place += 2 if words[place] == "-w" else 1
             continue
-        left.append(words[place])
+        left.append("FILE" if words[place] in ("-", "/dev/stdin") else words[place])
         place += 1
     call = " ".join(shlex.quote(it) for it in [caller.called, "explore", *left])
     return [f"{read_sentences(caller.home).say('Workers', 'again')}\n{call}"]

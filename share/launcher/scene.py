@@ -4,11 +4,11 @@ from typing import Dict, Iterable, List, NamedTuple, Optional, Sequence, Tuple
 
 from message import Note
 from sentences import Sentences
-from source_text import Source
+from source_text import Declared, Source
 from survey import Survey
 from tables import Tables
 from trace import Step
-from values import Where
+from values import Where, value_of
 from waits import Over
 
 
@@ -34,6 +34,18 @@ class Scene(NamedTuple):
     def where(self, line: int, image: int) -> Where:
         """Returns a line as an image executes it."""
         return Where(self.source, line, image, self.images, self.survey.variables.get(image, {}))
+
+    def first_cosubscript(self, declared: Optional[Declared]) -> Optional[int]:
+        """Returns the cosubscript of image 1 where a coarray has one cosubscript, its bound is shown, and no other team
+        was formed."""
+        standing = self.survey.standing
+        if declared is None or len(standing.members) > 1:
+            return None
+        cobounds = standing.cobounds.get(declared.name, "") if declared.is_allocatable else declared.cobounds
+        lower, sign, upper = cobounds.rpartition(":")
+        if upper != "*":
+            return None
+        return value_of(lower, self.where(0, 1)) if sign else 1
 
     def last(self, image: int) -> Optional[Step]:
         """Returns the last step of an image, if it has made one."""

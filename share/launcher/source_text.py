@@ -134,6 +134,10 @@ class Source:
             name = found[2] if found else name
         return name
 
+    def has_procedure(self, name: str) -> bool:
+        """Tells whether a name is that of a procedure of the source."""
+        return any(found and found[2] == name for found in (_UNIT.match(plain(line)) for line in self.lines))
+
     def declared(self, name: str, number: int) -> Optional[Declared]:
         """Returns what a name is on a line: as its procedure declares it, else the main program."""
         if self._declared is None:

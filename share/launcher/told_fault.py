@@ -15,17 +15,14 @@ def told_fault(scene: Scene, image: int, line: int, kind: str) -> Told:
     """Returns what is said of a run fault of an image."""
     action = scene.source.action(line)
     given = Line(action.text, action.column, scene.where(line, image), scene)
-    finder = _FINDERS.get(kind, _plain)
-    case = finder(given)
+    if kind not in _FINDERS:
+        return Told(line, scene.say("RunFault", "alone", image=image), kind, hint=kind)
+    case = _FINDERS[kind](given)
     text = scene.say(kind, case.name, image=image, statement=action.text, **case.found)
     column = action.column + case.place
     if column > len(scene.source.line(line) or ""):
         return Told(line, text, kind, hint=kind)
     return Told(line, text, kind, column, hint=kind, length=case.length)
-
-
-def _plain(_: Line) -> Case:
-    return Case("alone")
 
 
 def _arrays(line: Line) -> Iterator[Tuple[Reference, Declared]]:
@@ -44,10 +41,11 @@ def _bounds(line: Line) -> Case:
         if declared.is_allocatable:
             bounds = bounds_in(line.scene.survey.standing.allocated.get(it.name, ""), line.where)
         for at, (subscript, (lower, upper)) in enumerate(zip(it.subscripts or [], bounds or []), 1):
-            for text in subscript.split(":"):
+            for text in subscript.split(":")[:2]:
                 value = line.value(text)
                 if value is not None and not lower <= value <= upper and text.strip():
-                    case = "value" if text.strip() == f"{value}" else "value of a name"
+                    is_literal = text.strip() == str(value)
+                    case = "value" if is_literal else "value of a name"
                     case += "" if len(bounds or []) == 1 else " of one"
                     limits = f"{lower} to {upper}"
                     return of_name(it, case, subscript=text.strip(), value=value, number=at, limits=limits)
@@ -68,11 +66,11 @@ def _zero_step(line: Line) -> Case:
     if loop:
         parts = split_list(loop[1])
         return Case("loop", {"thing": parts[2] if len(parts) > 2 else ""})
-    for it in line.references():
-        for subscript in it.subscripts or []:
-            pieces = subscript.split(":")
-            if len(pieces) == 3 and (line.value(pieces[2]) in (0, None)):
-                return of_name(it, "stride", stride=pieces[2].strip())
+    strides = [(it, subscript.split(":")) for it in line.references() for subscript in it.subscripts or []]
+    strides = [(it, pieces) for it, pieces in strides if len(pieces) == 3 and line.value(pieces[2]) in (0, None)]
+    zeros = [(it, pieces) for it, pieces in strides if line.value(pieces[2]) == 0] or strides
+    if len(zeros) == 1 or (zeros and line.value(zeros[0][1][2]) == 0):
+        return of_name(zeros[0][0], "stride", stride=zeros[0][1][2].strip())
     return Case("unknown")
 
 
@@ -84,8 +82,12 @@ def _selector(line: Line) -> Case:
     in_team = len(line.scene.survey.standing.members) > 1
     for it in found:
         value = line.value((it.selector or [""])[0]) if len(it.selector or []) == 1 else None
-        if value is not None and not in_team and not 1 <= value <= images:
+        first = line.scene.first_cosubscript(line.declared(it.name))
+        if value is None or first is None or first <= value < first + images:
+            continue
+        if first == 1:
             return of_name(it, "value", selector=value, images=_count(images))
+        return of_name(it, "cosubscript", selector=value, limits=f"{first} to {first + images - 1}")
     if len(asked) == 1 and not found:
         return of_name(asked[0], "index", images=_count(images))
     if len(found) == 1:
@@ -123,7 +125,7 @@ def _no_team(line: Line) -> Case:
     words = " ".join(line.text.partition("(")[0].split())
     if len(found) == 1:
         return of_name(found[0], "variable")
-    return Case("number") if "team_number" in line.text else Case("statement", {"thing": words.upper()})
+    return Case("number") if "team_number" in line.text else Case("statement", {"thing": words.upper() or "a statement"})
 
 
 def _is_team(declared: Optional[Declared]) -> bool:
@@ -141,7 +143,7 @@ def _is_coarray(line: Line, found: Reference) -> bool:
 
 
 def _depth(line: Line) -> Case:
-    names = [it for it in line.references() if it.subscripts is not None and line.declared(it.name) is None]
+    names = [it for it in line.references() if line.where.source.has_procedure(it.name)]
     called = re.match(r"call[ \t]+(\w+)", line.text, re.ASCII)
     if called:
         return Case("call", {"thing": called[1]})
@@ -160,6 +162,8 @@ def _room(line: Line) -> Case:
 def _shape(line: Line) -> Case:
     """Two shapes: those of the arrays of the statement, where their bounds are shown."""
     told = []
+    if "[" in line.text or any(":" in text for it in line.references() for text in it.subscripts or []):
+        return Case("unknown")
     for it in line.references():
         declared = line.declared(it.name)
         if declared and declared.bounds and it.subscripts is None:

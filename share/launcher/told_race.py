@@ -75,9 +75,7 @@ def cell_of(scene: Scene, race: Race) -> str:
         if subscripts is None:
             return f"cell {race.cell} of {race.coarray} of image {race.owner}"
         name = f"{race.coarray}({','.join(str(it) for it in subscripts)})"
-    is_plain = declared is not None and declared.cobounds.replace("1:*", "*") in ("*", ":")
-    has_teams = len(scene.survey.standing.members) > 1
-    return f"{name}[{race.owner}]" if is_plain and not has_teams else f"{name} of image {race.owner}"
+    return f"{name}[{race.owner}]" if scene.first_cosubscript(declared) == 1 else f"{name} of image {race.owner}"
 
 
 def _bounds(scene: Scene, race: Race) -> Optional[Bounds]:
@@ -129,15 +127,17 @@ def _what_orders(scene: Scene, race: Race) -> List[str]:
     images came there tell it."""
     low, high = sorted((race.first, race.second), key=lambda it: it.line)
     if low.line == high.line:
-        return [scene.say("Race", "critical", line=low.line)]
+        return [scene.say("Race", "critical", line=low.line)] if _may_be_critical(scene, race) else []
     if scene.source.unit(low.line) or scene.source.unit(high.line):
         return []
     paths = _paths(scene.source.lines)
+    if high.line >= len(paths) or not scene.survey.has_steps:
+        return []
     ours, theirs = paths[low.line], paths[high.line]
     depth = 0
     while depth < min(len(ours), len(theirs)) and ours[depth] == theirs[depth]:
         depth += 1
-    if any(it.kind != "do" for it in ours[:depth]):
+    if any(it.kind != "do" for it in ours[:depth]) or "do while" in {it.kind for it in (*ours, *theirs)}:
         return []
     if len(ours) > depth and len(theirs) > depth and ours[depth].line == theirs[depth].line:
         return []
@@ -146,6 +146,14 @@ def _what_orders(scene: Scene, race: Race) -> List[str]:
     if depth and _turn(scene, low) != _turn(scene, high):
         return _next_turn(scene, race, paths, depth)
     return [scene.say("Race", "sync", first=end, second=start)] if end < start else []
+
+
+def _may_be_critical(scene: Scene, race: Race) -> bool:
+    """Tells whether the statement at which both are may stand in a CRITICAL construct: it begins none, and it is no
+    image control statement and no collective subroutine."""
+    text = scene.source.action(race.first.line).text
+    is_plain = re.match(r"call[ \t]+atomic_|print\b|write\b", text, re.ASCII) is not None or _assignment(text) > 0
+    return is_plain and not _OPENS.match(text)
 
 
 def _turn(scene: Scene, side: Side) -> int:
@@ -184,7 +192,8 @@ def _paths(lines: Sequence[str]) -> List[Tuple[Block, ...]]:
         text = plain(line)
         opens = _OPENS.match(text)
         if opens and not (opens[1] == "if" and not _is_block_if(text)):
-            stack.append(Block(opens[1].split()[0], number))
+            is_counted = opens[1] != "do" or "=" in text[opens.end() :].partition("while")[0]
+            stack.append(Block(opens[1].split()[0] if is_counted else "do while", number))
         elif _BRANCH.match(text) and stack:
             branches += 1
             stack[-1] = Block(f"branch {branches}", stack[-1].line)

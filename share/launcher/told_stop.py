@@ -51,7 +51,7 @@ def _has_code(text: str) -> bool:
 
 def _statement(scene: Scene, step: Optional[Step], line: int) -> str:
     """Returns the words of the statement to whose status the image came."""
-    text = scene.source.action(line).text
+    text = scene.source.action(line).text or "a statement"
     if step is None:
         return text
     arrival = scene.survey.standing.arrival.get(step.image)

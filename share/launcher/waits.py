@@ -60,6 +60,7 @@ class Standing:
         self.set_of: Dict[int, List[int]] = {}
         self.over: Dict[int, Over] = {}
         self.allocated: Dict[str, str] = {}
+        self.cobounds: Dict[str, str] = {}
 
     def take(self, step: Step) -> None:
         """Takes the next step."""
@@ -87,8 +88,10 @@ class Standing:
             self.arrived.setdefault((step.word, step.ask[1]), {})[step.image] = step
         if step.word == "arrive" and step.ask[2] == "allocate":
             for it in step.ask[3:]:
-                name, _, bounds = it.partition("[")[0].partition("(")
+                shape, _, cobounds = it.partition("[")
+                name, _, bounds = shape.partition("(")
                 self.allocated[name] = bounds.rstrip(")")
+                self.cobounds[name] = cobounds.rstrip("]")
 
     def _leave(self, step: Step) -> None:
         for team in step.reply.partition(" teams ")[2].split(" "):
