@@ -1,7 +1,7 @@
 """What a call of `caf` does that needs the program."""
 
 import os
-from typing import List, Optional, Sequence
+from typing import List, Optional, Sequence, Tuple
 
 import programs
 from children import Interrupted
@@ -42,16 +42,20 @@ def tell_which(caller: Caller) -> int:
     return 0
 
 
+def _chosen(caller: Caller, way: str) -> Tuple[Optional[programs.Program], int]:
+    """Returns the program that a way leads to; or nothing, and the status with which the call ends."""
+    if way != "--prove":
+        return _find(caller, way), NO_PROGRAM
+    status = prove_alone(caller)
+    return (None, status) if status else (programs.proved_here(caller.home), NO_PROGRAM)
+
+
 def run_program(caller: Caller, way: str, asked: Asked) -> int:
     """Runs the program, tells what its answer means, and returns its status. With the way `--prove` it is proved
     before, with `--try` it is one without proof."""
-    if way == "--prove":
-        status = prove_alone(caller)
-        if status:
-            return status
-    program = programs.proved_here(caller.home) if way == "--prove" else _find(caller, way)
+    program, status = _chosen(caller, way)
     if program is None:
-        return NO_PROGRAM
+        return status
     try:
         answered = _answered(program.path, asked)
     except Interrupted as it:
@@ -63,9 +67,9 @@ def run_program(caller: Caller, way: str, asked: Asked) -> int:
 
 def run_checks(caller: Caller, way: str, files: Sequence[Asked]) -> int:
     """Checks files one by one, tells of each what its answer means, and returns the first status that isn't 0."""
-    program = _find(caller, way)
+    program, status = _chosen(caller, way)
     if program is None:
-        return NO_PROGRAM
+        return status
     told: List[Message] = []
     statuses = [DONE]
     try:

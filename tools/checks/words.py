@@ -42,6 +42,8 @@ def check_words(checks: Checks) -> None:
 def _is_spelt(words: List[str]) -> bool:
     """Tells whether the launcher turns words into others that are valid, or takes them as those of its own."""
     told = spelt(words)
-    if told is None or told.words == words:
+    if told is None:
         return False
-    return told.wants_help or isinstance(read_words(told.words), Valid) or (words[0] == "check" and len(told.files) > 1)
+    are_several = words[0] == "check" and len(told.files) > 1
+    is_turned = told.words != words and isinstance(read_words(told.words), Valid)
+    return told.wants_help or are_several or is_turned

@@ -131,6 +131,11 @@ class CallsTest(unittest.TestCase):
         self.assertEqual(self.answered, ["read fault\n"])
         self.assertEqual(len(self.programs_run()), 3)
 
+    def test_several_files_behind_a_proof(self) -> None:
+        self.assertEqual(self.call("--prove", "check", FILE, FILE), 0)
+        self.prove.assert_called_once_with(HOME)
+        self.assertEqual(self.programs_run(), [("/proved", ["check", FILE])] * 2)
+
     def test_help_behind_a_command(self) -> None:
         self.assertEqual(self.call("run", "--help"), 0)
         self.assertTrue(self.answered[0].startswith("caf runs "))
