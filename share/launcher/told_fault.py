@@ -122,10 +122,10 @@ def _not_established(line: Line) -> Case:
 
 def _no_team(line: Line) -> Case:
     found = [it for it in line.references() if _is_team(line.declared(it.name))]
-    words = " ".join(line.text.partition("(")[0].split())
+    words = " ".join(line.text.partition("(")[0].split()).upper()
     if len(found) == 1:
         return of_name(found[0], "variable")
-    return Case("number") if "team_number" in line.text else Case("statement", {"thing": words.upper() or "a statement"})
+    return Case("number") if "team_number" in line.text else Case("statement", {"thing": words or "a statement"})
 
 
 def _is_team(declared: Optional[Declared]) -> bool:
