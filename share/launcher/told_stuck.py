@@ -13,7 +13,7 @@ def told_stuck(scene: Scene, waits: Sequence[Wait]) -> Told:
     """Returns what is said: the images that wait at one line for one thing stand together, each such group at a place
     of its own, and behind it where it got what is waited for."""
     if scene.survey.has_steps:
-        found = waits_after(scene.survey.standing, waits, scene.source)
+        found = waits_after(scene.survey.standing, waits, scene.source, scene.survey.variables)
     else:
         found = [Waiting(*it, "", ()) for it in waits]
     groups: Dict[Tuple[int, str], List[Waiting]] = {}

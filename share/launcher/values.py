@@ -5,7 +5,7 @@ import ast
 import re
 from typing import Callable, Dict, List, NamedTuple, Optional, Tuple
 
-from source_text import Declared, Source, split_list
+from source_text import Declared, Reference, Source, split_list
 
 Bounds = List[Tuple[int, int]]
 _KIND = re.compile(r"\b([0-9]+)_\w+", re.ASCII)
@@ -67,6 +67,24 @@ def subscripts_at(offset: int, bounds: Bounds) -> Optional[List[int]]:
         found.append(lower + offset % extent)
         offset //= extent
     return found if offset == 0 else None
+
+
+def offset_of(reference: Reference, where: Where) -> Optional[int]:
+    """Returns the offset, from 0, of an element in its array, where its text and the declaration show it."""
+    if reference.subscripts is None:
+        return 0
+    declared = where.source.declared(reference.name, where.line)
+    bounds = bounds_of(declared, where) if declared else None
+    if not bounds or len(bounds) != len(reference.subscripts):
+        return None
+    place, step = 0, 1
+    for (lower, upper), text in zip(bounds, reference.subscripts):
+        value = value_of(text, where)
+        if value is None:
+            return None
+        place += (value - lower) * step
+        step *= upper - lower + 1
+    return place
 
 
 def _tree(text: str) -> ast.expr:

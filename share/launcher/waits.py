@@ -4,13 +4,14 @@ The step for which an image waits isn't in the trace, for it isn't made. What is
 ended are. The line of the source tells which lock or event is meant, where there is more than one.
 """
 
-from typing import Dict, Iterable, List, NamedTuple, Optional, Tuple
+from typing import Dict, Iterable, List, NamedTuple, Optional, Sequence, Tuple
 
 from source_text import Reference, Source, references
 from trace import Run, Step, Wait
-from values import Where, value_of
+from values import Where, offset_of, value_of
 
 _GOT = ("0", "6002")
+Variables = Dict[int, Dict[str, List[int]]]
 
 
 class Held(NamedTuple):
@@ -161,26 +162,32 @@ def waits_of(run: Run, source: Optional[Source] = None, images: int = 0) -> List
     return waits_after(standing, run.waits, source or Source(""))
 
 
-def waits_after(standing: Standing, waits: Iterable[Wait], source: Source) -> List[Waiting]:
-    """Returns what each image waits for after the steps that were taken."""
+def waits_after(
+    standing: Standing, waits: Sequence[Wait], source: Source, variables: Optional[Variables] = None
+) -> List[Waiting]:
+    """Returns what each image waits for after the steps that were taken. The values of each image's variables tell
+    which lock or event a statement means, where they are known."""
     lines = {it.image: it.line for it in waits}
-    return [_waiting(standing, it, source, lines) for it in waits]
+    found = []
+    for it in waits:
+        where = Where(source, it.line, it.image, standing.images, (variables or {}).get(it.image, {}))
+        found.append(_waiting(standing, it, where, lines))
+    return found
 
 
-def _waiting(standing: Standing, wait: Wait, source: Source, lines: Dict[int, int]) -> Waiting:
+def _waiting(standing: Standing, wait: Wait, where: Where, lines: Dict[int, int]) -> Waiting:
     """Returns what an image waits for; those that haven't come are told with the lines at which they wait."""
     image = wait.image
     if wait.word in ("leave", "take") and image in standing.arrival:
         arrival = standing.arrival[image]
         others = tuple(Held(it, lines.get(it, 0)) for it in standing.not_come(arrival))
-        return Waiting(*wait, statement_of(arrival, source), others)
+        return Waiting(*wait, statement_of(arrival, where.source), others)
     if wait.word == "unpair":
         others = tuple(Held(it, lines.get(it, 0)) for it in standing.not_paired(image))
         return Waiting(*wait, "SYNC IMAGES", others)
     if wait.word == "enter":
         inside = standing.inside.get(standing.constructs.get(wait.line, ""))
         return Waiting(*wait, "CRITICAL", (inside,) if inside else ())
-    where = Where(source, wait.line, image, standing.images, {})
     if wait.word == "lock":
         return _lock_waiting(standing, wait, where)
     return _event_waiting(standing, wait, where)
@@ -218,7 +225,9 @@ def _lock_waiting(standing: Standing, wait: Wait, where: Where) -> Waiting:
     held = [(it, holder) for it, holder in standing.locks.items() if holder.image != wait.image]
     found = [(it, holder) for it, holder in held if not name or it.split(" ")[1].partition(":")[0] == name]
     owner = _selected(named, where) if named else None
+    offset = offset_of(named, where) if named else None
     told = [it for it in found if owner is None or it[0].startswith(f"{owner} ")] or found
+    told = [it for it in told if offset is None or it[0].endswith(f":{offset}")] or told
     thing = name
     has_teams = len(standing.members) > 1
     if len(told) == 1 and named and named.subscripts is None and not has_teams:
@@ -233,7 +242,8 @@ def _event_waiting(standing: Standing, wait: Wait, where: Where) -> Waiting:
     named = _named_at(where)
     name = named.text if named else ""
     front = f"{wait.image} {named.name if named else ''}:"
-    cells = [it for it in standing.posts if it.startswith(front)]
+    offset = offset_of(named, where) if named else None
+    cells = [it for it in standing.posts if it.startswith(front) and (offset is None or it == f"{front}{offset}")]
     has = standing.posts[cells[0]] if len(cells) == 1 else 0
     wanted = where.source.action(where.line).text.partition("until_count")[2].partition("=")[2]
     wants: Optional[int] = 1

@@ -45,6 +45,13 @@ class WaitsTest(unittest.TestCase):
         text = LOCKS.replace("stuck", "2 2 5 m2 unlock l:0 > 0\nstuck", 1)
         self.assertEqual([it.others for it in waits(text, LOCKS_SOURCE)], [(), (Held(1, 3),)])
 
+    def test_locks_of_an_array(self) -> None:
+        text = "1 1 3 m1 lock l:0 > 0\n1 2 3 m1 lock l:1 > 0\nstuck image 1 line 4 lock\nstuck image 3 line 5 lock\n"
+        source = "type (lock_type) :: l(0:1)[*]\n\n\nlock (l(1)[1])\nlock (l(k)[1])\n"
+        got = waits(text, source)
+        self.assertEqual([it.thing for it in got], ["l(1)[1]", "l(k)[1]"])
+        self.assertEqual([it.others for it in got], [(Held(2, 3),), (Held(1, 3), Held(2, 3))])
+
     def test_only_the_members_of_a_team_are_awaited(self) -> None:
         got = waits(TEAMS)
         self.assertEqual((got[0].thing, got[0].others), ("CHANGE TEAM", (Held(2, 3),)))
