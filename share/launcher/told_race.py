@@ -1,7 +1,7 @@
 """What is said of a race: the cell by its subscripts, what both images do with it, and what would order the two."""
 
 import re
-from typing import List, NamedTuple, Optional, Sequence, Tuple
+from typing import Dict, List, NamedTuple, Optional, Sequence, Tuple
 
 from scene import Scene, Told
 from source_text import Reference, closing, plain, references
@@ -49,7 +49,7 @@ def told_race(scene: Scene, race: Race) -> Told:
     return Told(race.first.line, text, "Race", column, (note,), tuple(helps), "Race", length)
 
 
-def _access(scene: Scene, race: Race, side: Side, step: Optional[Step]) -> "dict[str, object]":
+def _access(scene: Scene, race: Race, side: Side, step: Optional[Step]) -> Dict[str, object]:
     """Returns the parts of what is said of one access."""
     verb = verb_of(step) if step else use_of(race.coarray, scene.source.line(side.line) or "").verb
     return {"image": side.image, "verb": verb, "step": side.number}
