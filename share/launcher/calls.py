@@ -5,7 +5,10 @@ import signal
 from typing import List
 
 from ending import DONE, NO_PROGRAM, READ_FAULT, USAGE, WRITE_FAULT, Caller, end_by
-from given_file import Asked, CannotRead, take_file
+from given_file import STANDARD_INPUT, Asked, CannotRead, GivenFile, take_file
+from message import FORMS, Message
+from report import report
+from spelling import OPTION, spelt, take_form
 from texts import NO_MORE_TAKEN, NothingMoreTaken, answer, keep_streams, tell, text_of, words_of_call
 from words import Wrong, read_words
 
@@ -33,8 +36,12 @@ def main(home: str) -> int:
         return NO_PROGRAM
 
 
-def _answer(caller: Caller, words: List[str]) -> int:
+def _answer(caller: Caller, given: List[str]) -> int:
     """Answers the words: those of the launcher, or else those of the program."""
+    words, form = take_form(given)
+    if form is None:
+        return _tell_wrong_form(caller, given)
+    caller = caller._replace(form=form)
     first = words[0] if words else ""
     if first in HELP_WORDS or first == "--version":
         from help import help_text, version_text
@@ -52,12 +59,34 @@ def _answer(caller: Caller, words: List[str]) -> int:
 
         return programs_called.prove_alone(caller)
     way = first if first in ("--prove", "--try") else ""
-    behind = words[1:] if way else words
-    if behind[:1] and behind[0] in VIEWS:
+    return _answer_command(caller, way, words[1:] if way else words)
+
+
+def _answer_command(caller: Caller, way: str, words: List[str]) -> int:
+    """Answers the words of a command, in the program's spelling where they come to a valid list by it."""
+    told = spelt(words)
+    if told and told.wants_help:
+        from help import help_text
+
+        answer(help_text(caller.home))
+        return DONE
+    if words[:1] and words[0] in VIEWS:
         from views import view
 
-        return view(caller, way, behind)
-    return _run(caller, way, behind)
+        return view(caller, way, told.words if told else words)
+    if told and told.words[0] == "check" and _are_several(told.files):
+        return _check_files(caller, way, told.files)
+    if not told or told.words == words:
+        return _run(caller, way, words)
+    read = read_words(told.words)
+    if not isinstance(read, Wrong):
+        return _run(caller, way, told.words)
+    from usage import usage_told
+
+    raw = read_words(words)
+    answer(f"usage: word {raw.word if isinstance(raw, Wrong) else read.word}\n")
+    report(caller, usage_told(caller, told.words, read.word, True), USAGE)
+    return USAGE
 
 
 def _explain(caller: Caller, words: List[str]) -> int:
@@ -76,6 +105,35 @@ def _explain(caller: Caller, words: List[str]) -> int:
     return DONE
 
 
+def _are_several(files: List[str]) -> bool:
+    """Tells whether these are several files to check; standard input can be read once."""
+    are_named = all(not isinstance(read_words(["check", it]), Wrong) for it in files)
+    return len(files) > 1 and are_named and files.count(STANDARD_INPUT) < 2
+
+
+def _check_files(caller: Caller, way: str, files: List[str]) -> int:
+    """Checks files one by one; the status is that of the first one that isn't ok."""
+    import programs_called
+
+    asked = []
+    for it in files:
+        words = ["check", it]
+        try:
+            asked.append(Asked(words, 1, take_file(it)))
+        except CannotRead:
+            asked.append(Asked(words, None, GivenFile(it, it)))
+    return programs_called.run_checks(caller, way, asked)
+
+
+def _tell_wrong_form(caller: Caller, words: List[str]) -> int:
+    """Answers a form of messages that there isn't, as the program answers these words."""
+    read = read_words(words)
+    number = read.word if isinstance(read, Wrong) else len(words) + 1
+    answer(f"usage: word {number}\n")
+    tell(f"caf: {OPTION} is followed by {', '.join(FORMS[:-1])} or {FORMS[-1]}\n")
+    return USAGE
+
+
 def _run(caller: Caller, way: str, words: List[str]) -> int:
     """Runs the program with words that are valid and whose FILE can be read; the answer to others needs no program."""
     read = read_words(words)
@@ -87,7 +145,7 @@ def _run(caller: Caller, way: str, words: List[str]) -> int:
             asked = Asked(words, read.file, take_file(words[read.file]))
         except CannotRead as wrong:
             answer("read fault\n")
-            tell(f"caf: {wrong}\n")
+            report(caller, [Message(str(wrong), "ReadFault", status=READ_FAULT)], READ_FAULT)
             return READ_FAULT
     import programs_called
 

@@ -12,10 +12,12 @@ WRITE_FAULT = 11
 
 
 class Caller(NamedTuple):
-    """Who calls: the top of the checkout or of the installed tree, and the command as it was called."""
+    """Who calls: the top of the checkout or of the installed tree, the command as it was called, and the form of the
+    messages: text, json or sarif."""
 
     home: str
     called: str
+    form: str = "text"
 
 
 def end_by(number: int) -> NoReturn:

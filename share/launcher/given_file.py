@@ -62,6 +62,11 @@ class Asked(NamedTuple):
             words[self.place] = self.file.word
         return words
 
+    def options(self) -> Sequence[str]:
+        """Returns the words before FILE, or those before what stands in its place."""
+        end = len(self.words) if self.place is None else self.place
+        return self.words[:end]
+
     def standard_input(self) -> Optional[int]:
         """Returns a descriptor of what is kept for the program's standard input, or nothing."""
         return self.file.standard_input() if self.file else None

@@ -1,97 +1,129 @@
-"""What an answer of the program means, in messages of the form FILE:LINE:COL: TEXT, each with its line and a caret."""
+"""What an answer of the program means: messages, each with its place, its line and what helps."""
 
+import shlex
 from typing import List, NamedTuple, Optional, Sequence
 
 from ending import Caller
-from ends import End, Place, read_end
-from excerpts import excerpt
+from ends import End, Place, read_ends
 from given_file import Asked, why_unread
-from tables import Kind, Tables, read_tables, tables_path
+from message import Message, Note
+from report import rendered
 from texts import NO_MORE_TAKEN
-from usage import usage_message
-from uses import use_of
+from traced import KeptTrace
+
+# The ends for which the trace is asked: of a refusal or of wrong words there is none, and a limit needs none.
+TRACED = ("fault", "stop", "clash", "stuck", "race")
+_CAF = len("caf: ")
 
 
 class Answered(NamedTuple):
-    """What the program answered: its status, and the lines of its text that tell how the run ended."""
+    """What the program answered: its status, the lines of its text that tell how the run ended, and the run's trace,
+    where it was kept."""
 
     status: int
     lines: Sequence[str]
+    trace: Optional[KeptTrace] = None
 
 
 def messages(caller: Caller, asked: Asked, answered: Answered) -> str:
-    """Returns what an answer means, as lines; nothing where it needs no word."""
+    """Returns what an answer means, in the form that the caller wants; nothing where it needs no word."""
+    return rendered(caller, messages_of(caller, asked, answered), answered.status)
+
+
+def messages_of(caller: Caller, asked: Asked, answered: Answered) -> List[Message]:
+    """Returns what an answer means."""
     status = answered.status
     if 2 <= status <= 9:
-        lines = _end_lines(caller, asked, answered.lines)
-    elif status == 10:
-        lines = [f"caf: {why_unread(asked.path(), asked.shown_name())}"]
-    elif status == 11:
-        lines = [NO_MORE_TAKEN]
-    elif status == 12:
-        lines = ["caf: there was no memory for the next step"]
-    elif status == 13:
-        lines = [f"caf: {asked.shown_name()} has more than 1,048,576 bytes"]
-    elif status > 128:
-        lines = [f"caf: the program was ended from outside, by signal {status - 128}"]
-    else:
-        lines = []
-    return "".join(f"{line}\n" for line in lines)
+        return _end_messages(caller, asked, answered)
+    texts = {
+        11: NO_MORE_TAKEN[_CAF:],
+        12: "there was no memory for the next step",
+        13: f"{asked.shown_name()} has more than 1,048,576 bytes",
+    }
+    if status == 10:
+        return [Message(why_unread(asked.path(), asked.shown_name()), "ReadFault", status=10)]
+    if status > 128:
+        return [Message(f"the program was ended from outside, by signal {status - 128}", "Signal", status=status)]
+    names = {11: "WriteFault", 12: "NoMemory", 13: "TooLong"}
+    return [Message(texts[status], names[status], status=status)] if status in texts else []
 
 
-def _end_lines(caller: Caller, asked: Asked, told: Sequence[str]) -> List[str]:
+def _end_messages(caller: Caller, asked: Asked, answered: Answered) -> List[Message]:
     """Returns what the lines of an end mean."""
+    ends = read_ends(answered.lines)
+    if not ends:
+        return []
+    if ends[0].kind == "usage":
+        from usage import usage_told  # here, since most calls don't need it
+
+        return usage_told(caller, asked.words, ends[0].number(0))
+    if ends[0].kind == "refused":
+        return [_refusal(caller, asked, ends[0])]
+    return [_run_message(caller, asked, answered, ends)]
+
+
+def _refusal(caller: Caller, asked: Asked, end: End) -> Message:
+    """Returns what is said of a refusal. A number below 20 is that of a status too, so the hint has the name."""
+    from refusals import refusal_said  # here, since a run needs none of it
+    from source_text import Source
+    from tables import Kind, read_tables, tables_path
+
     tables = read_tables(tables_path(caller.home))
-    end = read_end(told, tables)
-    if end.wrong_word:
-        return usage_message(caller, asked.words, end.wrong_word).split("\n")[:-1]
-    source = asked.source().split("\n")
-    lines = []
-    for place in end.places:
-        if end.refusal:
-            lines += _refusal_lines(asked.shown_name(), place, source, end, tables)
-        else:
-            lines += _place_lines(asked.shown_name(), place, _line_of(source, place), end)
-    if end.hint:
-        lines.append(f"{'help' if end.refusal else 'caf'}: {caller.called} --explain {end.hint} says more")
-    return lines
+    number, line, column = end.found[0], end.number(1), end.number(2)
+    source = Source(asked.source())
+    said = refusal_said(number, Place(line, column, ""), source.lines, tables)
+    name = tables.name(Kind.REFUSAL, number)
+    hint = name if int(number) < 20 else number
+    return Message(
+        said.text,
+        f"{number} {name}",
+        asked.shown_name(),
+        line,
+        column,
+        said.length,
+        source.line(line),
+        notes=tuple(Note(at, place, text, source.line(at)) for at, place, text in said.notes),
+        helps=(*said.helps, f"{caller.called} --explain {hint} says more"),
+        status=3,
+    )
 
 
-def _refusal_lines(shown_name: str, place: Place, source: List[str], end: End, tables: Tables) -> List[str]:
-    """Returns the lines of a refused place: its error, its line, its notes and its helps."""
-    from refusals import refusal_said  # here, since no other message needs it
+def _run_message(caller: Caller, asked: Asked, answered: Answered, ends: Sequence[End]) -> Message:
+    """Returns what is said of the end of a run."""
+    from scene import first_column  # here, since a check needs none of it
+    from told import told_end
 
-    said = refusal_said(end.refusal, place, source, tables)
-    text = f"error: {said.text} [{end.refusal} {tables.name(Kind.REFUSAL, end.refusal)}]"
-    lines = _place_lines(shown_name, place._replace(text=text), _line_of(source, place), end)
-    lines += [f"{shown_name}:{line}:{column}: note: {note}" for line, column, note in said.notes]
-    return lines + [f"help: {help_}" for help_ in said.helps]
-
-
-def _line_of(source: List[str], place: Place) -> Optional[str]:
-    """Returns the line of a place, where the source has it; behind its last line feed it has none."""
-    if not 0 < place.line <= len(source) or (place.line == len(source) and source[-1] == ""):
-        return None
-    return source[place.line - 1]
-
-
-def _place_lines(shown_name: str, place: Place, source_line: Optional[str], end: End) -> List[str]:
-    """Returns the lines of a place; those of a race tell what the line does with the coarray."""
-    text, column = place.text, place.column
-    if end.coarray:
-        use = use_of(end.coarray, source_line or "")
-        text = text.replace("%s", use.verb, 1)
-        column = use.column
-    if place.line == 0:
-        return [f"{shown_name}: {text}"]
-    if column == 0:
-        column = _first_column(source_line or "")
-    lines = [f"{shown_name}:{place.line}:{column}: {text}"]
-    if source_line is not None:
-        lines += excerpt(f"{place.line:5d}", source_line, column)
-    return lines
+    told, scene = told_end(caller.home, asked, answered.trace, ends)
+    text = scene.source.line(told.line)
+    helps = [*told.helps, *_again(caller, asked.words, told.code)]
+    helps.append(f"{caller.called} --explain {told.hint} says more")
+    return Message(
+        told.text,
+        told.code,
+        asked.shown_name(),
+        told.line,
+        told.column or first_column(text or ""),
+        told.length,
+        text,
+        notes=told.notes,
+        helps=tuple(helps),
+        status=answered.status,
+    )
 
 
-def _first_column(text: str) -> int:
-    """Returns the column of the first character that isn't a blank, or the one behind the last."""
-    return len(text) - len(text.lstrip(" \t")) + 1
+def _again(caller: Caller, words: Sequence[str], code: str) -> List[str]:
+    """Returns how a run on workers is looked for again; an error stop of the program itself shows in any order."""
+    from sentences import read_sentences
+    from words import is_on_workers
+
+    if not is_on_workers(words) or code in ("statements", "words"):
+        return []
+    left, place = [], 1
+    while place < len(words):
+        if words[place] in ("--trace", "--vars", "-w") and place < len(words) - 1:
+            place += 2 if words[place] == "-w" else 1
+            continue
+        left.append("FILE" if words[place] in ("-", "/dev/stdin") else words[place])
+        place += 1
+    call = " ".join(shlex.quote(it) for it in [caller.called, "explore", *left])
+    return [f"{read_sentences(caller.home).say('Workers', 'again')}\n{call}"]

@@ -1,15 +1,20 @@
 """What a call of `caf` does that needs the program."""
 
 import os
-from typing import Optional
+from typing import List, Optional, Sequence, Tuple
 
 import programs
 from children import Interrupted
-from ending import NO_PROGRAM, Caller, end_by
+from ending import DONE, NO_PROGRAM, READ_FAULT, Caller, end_by
+from ends import read_ends
 from given_file import Asked
-from messages import Answered, messages
-from running import run
-from texts import answer, tell, text_of
+from message import Message
+from messages import TRACED, Answered, messages_of
+from report import report
+from running import run, run_again
+from texts import answer, text_of
+from traced import Cut, KeptTrace
+from words import is_on_workers
 
 
 def _find(caller: Caller, way: str) -> Optional[programs.Program]:
@@ -17,7 +22,7 @@ def _find(caller: Caller, way: str) -> Optional[programs.Program]:
     try:
         return programs.find_program(caller.home, unproved=way == "--try")
     except programs.NoProgram as wrong:
-        tell(text_of(os.fsencode(f"caf: {wrong}\n")))
+        report(caller, [Message(text_of(os.fsencode(str(wrong))), "NoProgram", status=NO_PROGRAM)], NO_PROGRAM)
         return None
 
 
@@ -37,22 +42,78 @@ def tell_which(caller: Caller) -> int:
     return 0
 
 
+def _chosen(caller: Caller, way: str) -> Tuple[Optional[programs.Program], int]:
+    """Returns the program that a way leads to; or nothing, and the status with which the call ends."""
+    if way != "--prove":
+        return _find(caller, way), NO_PROGRAM
+    status = prove_alone(caller)
+    return (None, status) if status else (programs.proved_here(caller.home), NO_PROGRAM)
+
+
 def run_program(caller: Caller, way: str, asked: Asked) -> int:
     """Runs the program, tells what its answer means, and returns its status. With the way `--prove` it is proved
     before, with `--try` it is one without proof."""
-    if way == "--prove":
-        status = prove_alone(caller)
-        if status:
-            return status
-    program = programs.proved_here(caller.home) if way == "--prove" else _find(caller, way)
+    program, status = _chosen(caller, way)
     if program is None:
-        return NO_PROGRAM
+        return status
     try:
-        outcome = run(program.path, asked.words_for_program(), asked.standard_input())
+        answered = _answered(program.path, asked)
     except Interrupted as it:
         end_by(it.number)
-    tell(messages(caller, asked, Answered(outcome.status, outcome.lines)))
+    told = messages_of(caller, asked, answered) + _closing(program)
+    report(caller, told, answered.status)
+    return answered.status
+
+
+def run_checks(caller: Caller, way: str, files: Sequence[Asked]) -> int:
+    """Checks files one by one, tells of each what its answer means, and returns the first status that isn't 0."""
+    program, status = _chosen(caller, way)
+    if program is None:
+        return status
+    told: List[Message] = []
+    statuses = [DONE]
+    try:
+        for asked in files:
+            answered = _checked(program.path, asked)
+            told += messages_of(caller, asked, answered)
+            statuses += [answered.status] if answered.status else []
+    except Interrupted as it:
+        end_by(it.number)
+    status = statuses[1] if len(statuses) > 1 else DONE
+    report(caller, told + _closing(program), status)
+    return status
+
+
+def _checked(path: str, asked: Asked) -> Answered:
+    """Checks a file; one that can't be read, which has no place among the words, is answered as the program does."""
+    if asked.place is None:
+        answer("read fault\n")
+        return Answered(READ_FAULT, ["read fault"])
+    outcome = run(path, asked.words_for_program(), asked.standard_input())
+    return Answered(outcome.status, outcome.lines)
+
+
+def _closing(program: programs.Program) -> List[Message]:
+    """Returns what is said last of a call that ran this program."""
     closing = programs.closing_words(program)
-    if closing:
-        tell(f"caf: {closing}\n")
-    return outcome.status
+    return [Message(closing, "Unproved", severity="note")] if closing else []
+
+
+def _answered(path: str, asked: Asked) -> Answered:
+    """Runs the program. A run on workers is asked for its trace, which is cut off where the call didn't ask for it: no
+    other run is the same one. One in a stated order is run again for it, where its end is told by it."""
+    words = asked.words_for_program()
+    kept = KeptTrace()
+    has_trace = is_on_workers(words)
+    cut = Cut(kept, "--vars" in asked.options(), "--trace" in asked.options()) if has_trace else None
+    outcome = run(path, _traced(asked, words, ["--trace"]) if has_trace else words, asked.standard_input(), cut)
+    if not has_trace and any(it.kind in TRACED for it in read_ends(outcome.lines)):
+        again = run_again(path, _traced(asked, words, ["--trace", "--vars"]), asked.standard_input(), kept)
+        if again != outcome:
+            kept = KeptTrace()
+    return Answered(outcome.status, outcome.lines, kept)
+
+
+def _traced(asked: Asked, words: Sequence[str], options: Sequence[str]) -> List[str]:
+    """Returns the words of a run with these options."""
+    return [words[0], *(it for it in options if it not in asked.options()), *words[1:]]

@@ -15,6 +15,7 @@ from children import ENDING, PR_SET_PDEATHSIG, Interrupted, interruptible
 from ends import WORDS
 from progress import Progress
 from texts import NothingMoreTaken, await_output, bytes_of, text_of, write_out
+from traced import Cut, KeptTrace
 
 PIECE = 1 << 20
 # So many bytes at least a pipe takes at once where it takes any.
@@ -65,11 +66,18 @@ class EndLines:
 
 
 class Outlet:
-    """Standard output, and what is still to be written there."""
+    """Standard output, and what is still to be written there; what is cut off the text doesn't come there."""
 
-    def __init__(self) -> None:
+    def __init__(self, cut: Optional[Cut] = None) -> None:
         self.left = memoryview(b"")
+        self._cut = cut
         self._atom = PIECE if stat.S_ISREG(os.fstat(1).st_mode) else ATOM
+
+    def shown(self, piece: bytes) -> bytes:
+        """Returns what of the next piece of the text comes here; an empty piece is its end."""
+        if self._cut is None:
+            return piece
+        return self._cut.take(piece) if piece else self._cut.rest()
 
     def put(self, piece: bytes) -> None:
         """Writes a piece."""
@@ -91,21 +99,42 @@ class Outlet:
             self.left = self.left[write_out(self.left[: self._atom]) :]
 
 
-def run(program: str, words: Sequence[str], standard_input: Optional[int]) -> Outcome:
+class Nowhere(Outlet):
+    """Takes a text of which only what is cut off is wanted."""
+
+    def put(self, piece: bytes) -> None:
+        """Lets a piece go."""
+
+    def put_now(self, piece: bytes) -> bool:
+        """Lets a piece go."""
+        return True
+
+
+def run_again(program: str, words: Sequence[str], standard_input: Optional[int], kept: KeptTrace) -> Outcome:
+    """Runs the program for the lines of its --vars and --trace, which are kept, and shows nothing of it."""
+    outlet = Nowhere(Cut(kept, False, False))
+    return _run(program, words, standard_input, outlet, "the program runs again, to tell more")
+
+
+def run(program: str, words: Sequence[str], standard_input: Optional[int], cut: Optional[Cut] = None) -> Outcome:
     """Runs the program with these words and returns how it ended.
 
-    Its text goes to standard output byte for byte. Raises NothingMoreTaken where that takes no more, Interrupted where
-    a signal ends the run, and OSError where the program can't be begun; the program has ended then, and its text so far
-    is written.
+    Its text goes to standard output byte for byte, but for what is cut off. Raises NothingMoreTaken where that takes no
+    more, Interrupted where a signal ends the run, and OSError where the program can't be begun; the program has ended
+    then, and its text so far is written.
     """
+    return _run(program, words, standard_input, Outlet(cut), "the program runs")
+
+
+def _run(program: str, words: Sequence[str], standard_input: Optional[int], outlet: Outlet, phase: str) -> Outcome:
+    """Runs the program, whose text goes to the outlet."""
     lines = EndLines()
-    outlet = Outlet()
     with interruptible():
         child = _begin(program, words, standard_input)
         assert child.stdout is not None
         text = child.stdout.fileno()
         try:
-            _pass_on(text, outlet, lines)
+            _pass_on(text, outlet, lines, phase)
             status = child.wait()
         except Interrupted:
             child.kill()
@@ -137,29 +166,30 @@ def bound() -> Callable[[], None]:
     return bind
 
 
-def _pass_on(text: int, outlet: Outlet, lines: EndLines) -> None:
+def _pass_on(text: int, outlet: Outlet, lines: EndLines, phase: str) -> None:
     """Passes the whole text on. Until it comes a terminal is told how long the program runs."""
     progress = Progress()
     try:
-        _await_text(text, progress)
+        _await_text(text, progress, phase)
     finally:
         progress.wipe()
     while True:
         piece = os.read(text, PIECE)
+        shown = outlet.shown(piece)
+        lines.take(shown)
+        outlet.put(shown)
         if not piece:
             return
-        lines.take(piece)
-        outlet.put(piece)
 
 
-def _await_text(text: int, progress: Progress) -> None:
+def _await_text(text: int, progress: Progress, phase: str) -> None:
     """Waits until some of the text can be read, or its end."""
     poll = select.poll()
     poll.register(text, select.POLLIN)
     if not progress.is_terminal:
         poll.poll()
         return
-    progress.change("the program runs")
+    progress.change(phase)
     wait = FIRST_SIGN
     while not poll.poll(wait):
         wait = NEXT_SIGN
@@ -178,8 +208,10 @@ def _is_in_front() -> bool:
 
 def _pass_rest(text: int, outlet: Outlet) -> None:
     """Passes on what the program that has ended gave before, as far as standard output takes it at once."""
-    piece = b""
-    while outlet.put_now(piece):
+    shown = b""
+    while outlet.put_now(shown):
         piece = os.read(text, PIECE)
+        shown = outlet.shown(piece)
         if not piece:
+            outlet.put_now(shown)
             return

@@ -3,9 +3,13 @@
 import re
 from typing import Dict, List, NamedTuple, Optional, Sequence, Set
 
-from ending import Caller
+from ending import USAGE, Caller
 from excerpts import excerpt
 from help import help_words
+from message import Message
+from render_text import WIDTH, wrapped
+from report import rendered
+from words import range_of
 
 _VALUE = re.compile("[A-Z][A-Z@]*")
 _RIVAL = re.compile("not beside (-[-a-z]+)")
@@ -100,17 +104,21 @@ def _reason(told: Help, words: Sequence[str], number: int, before: Words) -> str
     if number == 1:
         return "the command is " + " or ".join(told.commands)
     if before.wanted is not None:
-        return f"it has to be the {before.wanted} of {before.option}"
+        limits = range_of(before.option, before.wanted)
+        return f"it has to be the {before.wanted} of {before.option}{limits and ', ' + limits}"
     if "--made" in before.given:
-        return "nothing stands behind SIZE, and the options stand before --made"
+        return "nothing stands behind SIZE"
     command = told.commands.get(words[0], Form([], []))
     if command.values:
         return f"nothing stands behind {command.values[-1]}"
     if number > len(words):
         return "it has to be FILE"
-    if before.has_file:
-        return "nothing stands behind FILE, and the options stand before it"
-    return _reason_of_word(told, words[0], words[number - 1], before.given)
+    word = words[number - 1]
+    if before.has_file and not word.startswith("-"):
+        return "there is a FILE before it"
+    if before.has_file and word in told.options:
+        return "no value stands behind it"
+    return _reason_of_word(told, words[0], word, before.given)
 
 
 def _reason_of_word(told: Help, command: str, word: str, given: Set[str]) -> str:
@@ -127,26 +135,40 @@ def _reason_of_word(told: Help, command: str, word: str, given: Set[str]) -> str
 
 
 def usage_message(caller: Caller, words: Sequence[str], number: int) -> str:
-    """Returns what is said of words that are wrong at that number."""
-    lines = usage_lines(words, number, help_words(caller.home))
-    return "".join(f"{line}\n" for line in [*lines, f"caf: {caller.called} --help has every word"])
+    """Returns what is said of words that are wrong at that number, in the form that the caller wants."""
+    return rendered(caller, usage_told(caller, words, number), USAGE)
+
+
+def usage_told(caller: Caller, words: Sequence[str], number: int, is_spelt: bool = False) -> List[Message]:
+    """Returns what is said of words that are wrong at that number: the wrong word with its reason, the words of the
+    call with a caret below it, the form of its command (all forms where it has none), and the line of its option. Words
+    that are spelt for the program aren't told by number: the call has others."""
+    text, *lines = usage_lines(words, number, help_words(caller.home))
+    if is_spelt and number <= len(words):
+        text = text.partition(", ")[2].replace(":", " is wrong:", 1)
+    helps = (f"{caller.called} --help has every word",)
+    return [Message(text, "Usage", shown=tuple(lines), helps=helps, status=USAGE)]
 
 
 def usage_lines(words: Sequence[str], number: int, help_text: str) -> List[str]:
-    """Returns the wrong word with its reason, the words of the call with a caret below it, the form of its command (all
-    forms where it has none), and the line of its option."""
+    """Returns the lines of what is said."""
     told = read_help(help_text)
     before = _read_words(told, words, number)
     why = _reason(told, words, number, before)
-    if number > len(words):
-        what = "missing"
-    else:
-        what = f"wrong, {words[number - 1] or repr('')}"
+    what = "missing" if number > len(words) else f"wrong, {words[number - 1] or repr('')}"
     front = " ".join(["caf", *words[: number - 1]])
-    lines = [f"caf: word {number} is {what}{': ' + why if why else ''}"]
+    lines = [f"word {number} is {what}{': ' + why if why else ''}"]
     lines += excerpt("    ", " ".join(["caf", *words]), len(front) + 2)
     command = told.commands.get(words[0]) if words else None
-    lines += told.lines if number == 1 else (command.lines if command else [""])
+    forms = list(told.lines) if number == 1 else (list(command.lines) if command else [""])
     if before.wanted is not None and before.option in told.options:
-        lines += told.options[before.option].lines
-    return lines
+        forms += told.options[before.option].lines
+    return lines + [line for it in forms for line in _wrapped(it)]
+
+
+def _wrapped(line: str) -> List[str]:
+    """Returns a line of the help text in lines of at most 100 columns: the second column goes on below itself."""
+    found = re.match(r"    \S+(?: \S+)*  +", line)
+    if not found or len(line) <= WIDTH:
+        return [line]
+    return wrapped(line[found.end() :], found[0], " " * found.end())

@@ -11,6 +11,8 @@ from texts import is_text
 
 GREATEST_SEED = 2147483647
 GREATEST_SIZE = 4096
+GREATEST_STEPS = 100000000
+DEFAULT_IMAGES = 4
 
 _NUMBER = re.compile("0|[1-9][0-9]*")
 
@@ -24,6 +26,10 @@ class Range(NamedTuple):
     def has(self, word: str) -> bool:
         """Tells whether a word is one of them in decimal, without a sign and without a leading zero."""
         return _NUMBER.fullmatch(word) is not None and len(word) < 20 and self.least <= int(word) <= self.greatest
+
+    def told(self) -> str:
+        """Returns the range in words."""
+        return f"{self.least} to {self.greatest}"
 
 
 class Valid(NamedTuple):
@@ -48,7 +54,7 @@ _NUMBERS: Dict[str, Range] = {
     "-n": Range(1, 64),
     "-w": Range(1, 64),
     "--order": SEED,
-    "--steps": Range(1, 100000000),
+    "--steps": Range(1, GREATEST_STEPS),
 }
 _FLAGS = ("--trace", "--vars")
 # The one option that may stand more than once, and what stands behind it: I@K.
@@ -57,6 +63,36 @@ _FAIL_IMAGE = Range(1, 64)
 _FAIL_STEP = Range(1, 1000000)
 # Of these two only one may stand.
 _RIVALS = {"-w": "--order", "--order": "-w"}
+
+
+def range_of(option: str, value: str) -> str:
+    """Returns the numbers that may stand behind an option or a command as its value, in words; nothing where others
+    tell them."""
+    if option == _FAIL:
+        return f"I {_FAIL_IMAGE.told()} and K {_FAIL_STEP.told()}"
+    found = _NUMBERS.get(option) or {"SEED": SEED, "SIZE": SIZE}.get(value)
+    return found.told() if found else ""
+
+
+def options_of(words: Sequence[str]) -> Dict[str, str]:
+    """Returns the options of valid words of a run with their values; of one that stands twice the last."""
+    found: Dict[str, str] = {}
+    place = 1
+    while place < len(words) and (words[place] in _NUMBERS or words[place] in _FLAGS or words[place] == _FAIL):
+        has_value = words[place] not in _FLAGS
+        found[words[place]] = words[place + 1] if has_value else ""
+        place += 1 + has_value
+    return found
+
+
+def is_on_workers(words: Sequence[str]) -> bool:
+    """Tells whether valid words are those of a run on workers."""
+    return words[:1] == ["run"] and "--order" not in options_of(words)
+
+
+def images_asked(words: Sequence[str]) -> int:
+    """Returns how many images valid words of a run ask for."""
+    return int(options_of(words).get("-n", DEFAULT_IMAGES))
 
 
 def read_words(words: Sequence[str]) -> Union[Valid, Wrong]:

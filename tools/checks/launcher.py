@@ -6,7 +6,7 @@ import sys
 from checks.comparing import HOME, LAUNCHER, Checks, call, folder, read, started, with_status, write
 
 HELP_WORDS = """run check make -n -w --order --steps --fail --trace --vars --made FILE --try --prove --which --explain
---version Statuses"""
+--version --message-format Statuses"""
 NEIGHBOUR = ["run", "-n", "4", "--order", "0", "examples/neighbour.f90"]
 # A program whose trace is long, and which ends by a fault in its last statement.
 TRACED = b"integer :: i, x[*]\ndo i = 1, 20000\nx = i\nend do\nx = x / (x - x)\nend\n"
@@ -145,7 +145,7 @@ def _check_long_text(checks: Checks) -> None:
         got = call([LAUNCHER, *TRACED_WORDS, path])
         checks.holds("the long text is long", len(own.text) > 2000000)
         checks.holds("a long text is the program's", with_status(own) == with_status(got))
-        checks.holds("the end of a long text is told", b":5:1: run fault of image 1: an integer division" in got.said)
+        checks.holds("the end of a long text is told", b":5:9: error: `(x - x)` is 0 on image 1" in got.said)
 
 
 def _check_much_text(checks: Checks) -> None:
@@ -171,7 +171,7 @@ def _check_home(checks: Checks) -> None:
         for command in (f"{work}/a tree/bin/caf", f"{work}/linked", f"{home}/caf"):
             got = call([command, "check", f"{HOME}/examples/undeclared.f90"], folder="/", env=env)
             checks.same(command, b"refused 20 at 1:1\nstatus 3\n", with_status(got))
-            checks.holds(f"{command} tells its name", f"caf: {command} --explain 20".encode() in got.said)
+            checks.holds(f"{command} tells its name", f"help: {command} --explain 20".encode() in got.said)
         env["PATH"] = f"{work}/a tree/bin:{env['PATH']}"
         got = call(["sh", "-c", "caf run " + " ".join(NEIGHBOUR[1:])], env=env)
         checks.same("caf on the path", b"1: 4\nstatus 0\n", with_status(got))

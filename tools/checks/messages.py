@@ -14,6 +14,9 @@ from texts import bytes_of, text_of
 from uses import use_of
 from words import Valid, read_words
 
+# No run comes to the last stamp, and a lock that is acquired ends no run.
+NEVER_AN_END = ("stamp", "6002")
+MOST_COLUMNS = 100
 _HEAD = re.compile(r"== ([^:]*): status ([0-9]+), (.*)")
 
 
@@ -37,24 +40,49 @@ def cases() -> Iterator[Case]:
 
 
 def check_messages(checks: Checks) -> None:
-    """The messages of each case. Where the program ends with the status of the case, its answer is that of the case,
-    and the launcher says both."""
+    """Of each case the program's answer, where it takes the words as they are, and what the launcher answers and says.
+    The source that stands for one that is too long has its messages alone."""
     with folder() as work:
         os.symlink(LAUNCHER, f"{work}/caf")
         os.chdir(work)
         for case in cases():
             write("a.f90", bytes_of(case.parts["source"]))
-            answered = Answered(case.status, case.parts["text"].split("\n"))
-            said = messages(Caller(HOME, "./caf"), _asked(case.words), answered)
-            checks.same(f"messages of {case.name}", bytes_of(case.parts["said"]), bytes_of(said))
             own = call([checks.program, *case.words], folder=work)
+            got = call(["./caf", *case.words], folder=work)
             if own.status == case.status:
                 checks.same(f"the answer of {case.name}", bytes_of(case.parts["text"]), own.text)
-                got = call(["./caf", *case.words], folder=work)
+            if got.status == case.status:
                 checks.same(f"./caf of {case.name}", bytes_of(case.parts["text"]), got.text)
                 checks.same(f"what ./caf says of {case.name}", bytes_of(case.parts["said"]), got.said)
+            else:
+                checks.same(f"the status of {case.name}", "13 0", f"{case.status} {got.status}")
+                answered = Answered(case.status, case.parts["text"].split("\n"))
+                said = messages(Caller(HOME, "./caf"), _asked(case.words), answered)
+                checks.same(f"messages of {case.name}", bytes_of(case.parts["said"]), bytes_of(said))
         os.chdir(HOME)
+    _check_cases(checks)
     _check_uses(checks)
+
+
+def _check_cases(checks: Checks) -> None:
+    """There is a case for each status that has a message, each run fault, each wait, each limit and each code with
+    which a run can end; and no line of a message is wider than 100 columns, but for what is refused."""
+    texts = "".join(case.parts["text"] for case in cases())
+    entries = tables.read_tables(tables.tables_path(HOME)).entries
+    forms = {
+        Kind.FAULT: r"fault image \d+ line \d+ {}\n",
+        Kind.WAIT: r"stuck image \d+ line \d+ {}\n",
+        Kind.LIMIT: r"limit image \d+ line \d+ {} ",
+        Kind.CODE: r"error stop image \d+ line \d+ code {}\n",
+    }
+    for entry in entries:
+        if entry.kind in forms and entry.key not in NEVER_AN_END:
+            found = re.search(forms[entry.kind].format(entry.key), texts)
+            checks.holds(f"a case of {entry.kind.value} {entry.key}", found is not None)
+    for case in cases():
+        is_free = case.status == 3 or "--message-format" in " ".join(case.words)
+        widest = max((len(it) for it in case.parts["said"].split("\n")), default=0)
+        checks.holds(f"{case.name} is {widest} columns wide", widest <= MOST_COLUMNS or is_free)
 
 
 def _asked(words: List[str]) -> Asked:

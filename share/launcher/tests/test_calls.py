@@ -1,6 +1,7 @@
 """Which words lead to which program, and what is said behind its run."""
 
 import contextlib
+import json
 import os
 import signal
 import unittest
@@ -9,12 +10,14 @@ from unittest import mock
 
 import calls
 import programs_called
+import report
 from children import Interrupted
 from ending import Caller
 from programs import Kind, NoProgram, Program
 from running import Outcome
 
 HOME = os.path.dirname(os.path.dirname(os.path.dirname(os.path.dirname(os.path.abspath(__file__)))))
+FILE = os.path.join(HOME, "examples", "empty.f90")
 FOUND = Program("/found", Kind.RELEASED)
 UNPROVED = Program("/unproved", Kind.UNPROVED)
 PROVED = Program("/proved", Kind.PROVED)
@@ -30,8 +33,9 @@ class CallsTest(unittest.TestCase):
         self.proved_here = self.put(mock.patch("programs.proved_here", return_value=PROVED))
         self.prove = self.put(mock.patch("prove.prove", return_value=0))
         self.run_program = self.put(mock.patch("programs_called.run", return_value=Outcome(0, [])))
-        for module in (calls, programs_called):
+        for module in (calls, report):
             self.put(mock.patch.object(module, "tell", side_effect=self.said.append))
+        for module in (calls, programs_called):
             self.put(mock.patch.object(module, "answer", side_effect=self.answered.append))
 
     def put(self, patch: "mock._patch[mock.MagicMock]") -> mock.MagicMock:
@@ -51,7 +55,7 @@ class CallsTest(unittest.TestCase):
         self.assertEqual(self.call("make", "1", "4"), 0)
         self.assertEqual(self.programs_run(), [("/found", ["make", "1", "4"])])
         self.find.assert_called_once_with(HOME, unproved=False)
-        self.assertEqual(self.said, [""])
+        self.assertEqual(self.said, [])
 
     def test_its_end_is_told(self) -> None:
         self.run_program.return_value = Outcome(12, [])
@@ -64,8 +68,9 @@ class CallsTest(unittest.TestCase):
         self.assertEqual(self.call("--try", "make", "1", "4"), 12)
         self.find.assert_called_once_with(HOME, unproved=True)
         self.assertEqual(self.programs_run(), [("/unproved", ["make", "1", "4"])])
-        self.assertEqual(self.said[0], "caf: there was no memory for the next step\n")
-        self.assertRegex(self.said[1], r"\Acaf: this program is built without proof.*\n\Z")
+        first, last = "".join(self.said).splitlines()
+        self.assertEqual(first, "caf: there was no memory for the next step")
+        self.assertRegex(last, r"\Acaf: this program is built without proof")
 
     def test_no_program(self) -> None:
         self.find.side_effect = NoProgram("there is no program")
@@ -106,6 +111,41 @@ class CallsTest(unittest.TestCase):
                 self.assertEqual(self.answered, [text])
         self.prove.assert_not_called()
         self.find.assert_not_called()
+
+    def test_other_spellings(self) -> None:
+        words = ["-n", "4", "--order", "3", "--trace"]
+        for row in ("-n4 --order=3 --trace FILE", "FILE --trace -n 4 --order 3", "--order 3 -n4 --trace -- FILE"):
+            given = ["run", *row.replace("FILE", FILE).split()]
+            with self.subTest(given=given):
+                self.run_program.reset_mock()
+                self.assertEqual(self.call(*given), 0)
+                self.assertEqual(sorted(self.programs_run()[0][1]), sorted(["run", *words, FILE]))
+
+    def test_a_run_on_workers_is_traced(self) -> None:
+        self.assertEqual(self.call("run", "-n", "2", FILE), 0)
+        self.assertEqual(self.programs_run(), [("/found", ["run", "--trace", "-n", "2", FILE])])
+
+    def test_several_files(self) -> None:
+        self.run_program.side_effect = [Outcome(0, []), Outcome(3, ["refused 7 at 1:1"]), Outcome(13, ["too long"])]
+        self.assertEqual(self.call("check", FILE, FILE, "/nonexistent", FILE), 3)
+        self.assertEqual(self.answered, ["read fault\n"])
+        self.assertEqual(len(self.programs_run()), 3)
+
+    def test_several_files_behind_a_proof(self) -> None:
+        self.assertEqual(self.call("--prove", "check", FILE, FILE), 0)
+        self.prove.assert_called_once_with(HOME)
+        self.assertEqual(self.programs_run(), [("/proved", ["check", FILE])] * 2)
+
+    def test_help_behind_a_command(self) -> None:
+        self.assertEqual(self.call("run", "--help"), 0)
+        self.assertTrue(self.answered[0].startswith("caf runs "))
+
+    def test_forms_of_messages(self) -> None:
+        self.assertEqual(self.call("check", "/nonexistent", "--message-format", "json"), 10)
+        told = json.loads("".join(self.said))
+        self.assertEqual((told["code"], told["text"]), ("ReadFault", "there is no file /nonexistent"))
+        self.assertEqual(self.call("--message-format=xml", "check", FILE), 2)
+        self.assertEqual(self.answered[-1], "usage: word 1\n")
 
     def test_a_signal_ends_the_call_by_itself(self) -> None:
         self.run_program.side_effect = Interrupted(signal.SIGTERM)

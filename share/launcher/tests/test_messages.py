@@ -52,8 +52,8 @@ class MessagesTest(unittest.TestCase):
 
     def test_a_long_line_is_cut(self) -> None:
         got = said(3, b"x" * 300 + b"?" + b"y" * 300, "refused 5 at 1:301")
-        self.assertEqual(got[1], "    1 | " + "x" * 60 + "?" + "y" * 59)
-        self.assertEqual(got[2], "      | " + " " * 60 + "^")
+        self.assertEqual(got[1], "    1 | .." + "x" * 44 + "?" + "y" * 43 + "..")
+        self.assertEqual(got[2], "      | " + " " * 46 + "^")
 
     def test_a_place_behind_the_end(self) -> None:
         got = said(3, b"do\n", "refused 8 at 2:1")
@@ -64,8 +64,10 @@ class MessagesTest(unittest.TestCase):
         wanted = [
             "a.f90:2:12: error: `counter` is declared already [21 DeclaredTwice]",
             "    2 | logical :: counter",
-            "      |            ^",
+            "      |            ^~~~~~~",
             "a.f90:1:12: note: `counter` is declared here first",
+            "    1 | integer :: counter",
+            "      |            ^",
             "help: caf --explain 21 says more",
         ]
         self.assertEqual(got, wanted)
@@ -91,10 +93,42 @@ class MessagesTest(unittest.TestCase):
                 self.assertFalse(any("there is no" in it for it in said(3, source, line)))
 
     def test_codes(self) -> None:
-        got = said(4, b"stop\n", "error stop image 2 line 1 code 6001")
-        self.assertIn("(STAT_FAILED_IMAGE)", got[0])
-        got = said(4, b"stop\n", "error stop image 2 line 1 code -7")
-        self.assertEqual(got[0], "a.f90:1:1: image 2 ended the run: error stop with code -7")
+        got = said(4, b"sync all\n", "error stop image 2 line 1 code 6001")
+        self.assertIn("[6001 STAT_FAILED_IMAGE]", got[0])
+        got = said(4, b"error stop -7\n", "error stop image 2 line 1 code -7")
+        self.assertEqual(got[0], "a.f90:1:1: error: image 2 executed ERROR STOP, with the code -7 [ErrorStop]")
+
+    def test_ends_without_a_trace_or_a_source(self) -> None:
+        race = "race on x:1 of image 2: image 2 event 1 line 2, image 1 event 3 line 4"
+        rows = [
+            (5, race, "race on cell 1 of x of image 2: image 2 uses it here, in its step 1 [Race]"),
+            (6, "stuck image 1 line 2 lock", "image 1 waits for a lock that another image holds [Stuck]"),
+            (8, "fault image 1 line 2 Bounds", "a subscript leaves its bounds on image 1 [Bounds]"),
+            (8, "fault image 1 line 2 Overflow", "a number leaves its kind on image 1 [Overflow]"),
+            (9, "clash image 2 line 2 against image 1 line 3", "image 2 is here, and image 1 at another statement"),
+            (4, "error stop image 1 line 2 code 6000", "a statement of image 1 needed an image that had stopped"),
+            (7, "limit image 1 line 2 statements 100000001", "image 1 has executed 100,000,000 statements"),
+        ]
+        for status, line, wanted in rows:
+            with self.subTest(line=line):
+                got = said(status, b"", line)
+                self.assertTrue(got[0].startswith("a.f90:2:1: error: "), got)
+                self.assertIn(wanted, got[0])
+
+    def test_a_limit_that_no_option_raises(self) -> None:
+        got = said(7, b"do\n", "limit image 1 line 1 statements 100000001")
+        self.assertIn("help: --steps allows no more", got)
+        got = said(7, b"do\n", "limit image 1 line 1 statements 60000001")
+        self.assertIn("help: --steps 100000000 allows more, if the loop comes to an end", got)
+        got = said(7, b"do\n", "limit image 1 line 1 words 262145")
+        self.assertTrue(got[3].startswith("help: no option allows more"))
+
+    def test_a_run_on_workers_tells_how_to_look_for_it(self) -> None:
+        asked = Asked(["run", "-w", "2", "--trace", "-n", "3", "-"], 6, GivenFile("/dev/stdin", "<stdin>", b"stop\n"))
+        told = messages(Caller(HOME, "caf"), asked, Answered(8, ["fault image 1 line 1 Shape"]))
+        self.assertIn("\n    caf explore -n 3 FILE\n", told)
+        asked = Asked(["run", "--order", "2", "a"], 3, GivenFile("a", "a", b"stop\n"))
+        self.assertNotIn("explore", messages(Caller(HOME, "caf"), asked, Answered(8, ["fault image 1 line 1 Shape"])))
 
     def test_a_made_source(self) -> None:
         asked = Asked(["run", "--made", "1", "4"])

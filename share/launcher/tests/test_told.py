@@ -49,7 +49,7 @@ Words below a table.
 """
 
 
-BEHIND_SIZE = "nothing stands behind SIZE, and the options stand before --made"
+BEHIND_SIZE = "nothing stands behind SIZE"
 
 
 class TablesTest(unittest.TestCase):
@@ -92,9 +92,16 @@ class ExcerptTest(unittest.TestCase):
         self.assertEqual(excerpt("  ", "ab", 9)[1], "   |   ^")
         self.assertEqual(excerpt("  ", "", 0)[1], "   | ^")
 
-    def test_a_line_of_121(self) -> None:
-        self.assertEqual(excerpt("", "x" * 121, 80)[0], " | " + "x" * 120)
-        self.assertEqual(excerpt("", "y" * 20 + "x" * 101, 81)[0], " | " + "x" * 101)
+    def test_a_long_line(self) -> None:
+        self.assertEqual(excerpt("", "x" * 92, 80)[0], " | " + "x" * 92)
+        self.assertEqual(excerpt("", "x" * 93, 1), [" | " + "x" * 90 + "..", " | ^"])
+        self.assertEqual(excerpt("", "x" * 93, 93), [" | .." + "x" * 90, " | " + " " * 91 + "^"])
+        self.assertEqual(excerpt("", "x" * 200, 100), [" | .." + "x" * 88 + "..", " | " + " " * 46 + "^"])
+
+    def test_lengths(self) -> None:
+        self.assertEqual(excerpt("", "a = b1 + c", 5, 2)[1], " |     ^~")
+        self.assertEqual(excerpt("", "\xc3\xa9 b", 1, 2)[1], " | ^")
+        self.assertEqual(excerpt("", "a", 1, 9)[1], " | ^")
 
     def test_small_letters(self) -> None:
         self.assertEqual(lower("AZ\xc4[\x9d"), "az\xc4[\x9d")
@@ -108,12 +115,16 @@ class UsageTest(unittest.TestCase):
     def test_reasons(self) -> None:
         table = [
             ("", 1, "word 1 is missing: the command is run or check or make or show or picture or explore"),
-            ("run -n", 3, "word 3 is missing: it has to be the N of -n"),
+            ("run -n", 3, "word 3 is missing: it has to be the N of -n, 1 to 64"),
             ("run --made 1 4 5", 5, f"word 5 is wrong, 5: {BEHIND_SIZE}"),
-            ("run --made 1", 4, "word 4 is missing: it has to be the SIZE of --made"),
+            ("run --made 1", 4, "word 4 is missing: it has to be the SIZE of --made, 1 to 4096"),
             ("make 1 4 5", 4, "word 4 is wrong, 5: nothing stands behind SIZE"),
-            ("make x 4", 2, "word 2 is wrong, x: it has to be the SEED of make"),
+            ("make x 4", 2, "word 2 is wrong, x: it has to be the SEED of make, 0 to 2147483647"),
             ("run --trace --trace", 3, "word 3 is wrong, --trace: --trace stands twice"),
+            ("run --fail 3", 3, "word 3 is wrong, 3: it has to be the I@K of --fail, I 1 to 64 and K 1 to 1000000"),
+            ("run a b", 3, "word 3 is wrong, b: there is a FILE before it"),
+            ("run a -n", 3, "word 3 is wrong, -n: no value stands behind it"),
+            ("run a --step", 3, "word 3 is wrong, --step: there is no such option"),
         ]
         for words, number, wanted in table:
             with self.subTest(words=words):
