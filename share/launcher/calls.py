@@ -92,12 +92,13 @@ def _answer_command(caller: Caller, way: str, words: List[str]) -> int:
 def _explain(caller: Caller, words: List[str]) -> int:
     """Prints what docs/REFUSALS.md says of a word."""
     from explain import KINDS, explain
+    from sentences import read_sentences
     from tables import read_tables, tables_path
 
     if len(words) != 1:
         tell(f"caf: --explain takes one word of docs/REFUSALS.md: {KINDS}\n")
         return USAGE
-    said = explain(words[0], read_tables(tables_path(caller.home)))
+    said = explain(words[0], read_tables(tables_path(caller.home)), read_sentences(caller.home))
     if said is None:
         tell(f"caf: docs/REFUSALS.md has no {words[0]}; it has {KINDS}\n")
         return USAGE

@@ -1,11 +1,13 @@
-"""What `caf --explain WORD` says: the entries of docs/REFUSALS.md with a number or a name, or what there is in the
-place of a form of Fortran."""
+"""What `caf --explain WORD` says: the entries of docs/REFUSALS.md with a number or a name, each with the sentences that
+its messages have, or what there is in the place of a form of Fortran."""
 
 import re
 from typing import List, Optional
 
 from ends import Place
 from excerpts import excerpt
+from render_text import wrapped
+from sentences import Sentences
 from tables import Case, Entry, Kind, Tables
 from texts import lower
 
@@ -19,10 +21,11 @@ _OPEN = re.compile(r"\{[a-z]+\}")
 _TITLES = {Kind.FAULT: "run fault", Kind.CODE: "code of a status", Kind.WAIT: "a stuck image waits for"}
 
 
-def explain(word: str, tables: Tables) -> Optional[str]:
+def explain(word: str, tables: Tables, sentences: Sentences) -> Optional[str]:
     """Returns what is said of a word, or nothing where the tables don't have it."""
     wanted = lower(word)
-    told = [_explained(entry, tables) for entry in tables.entries if wanted in (lower(entry.key), lower(entry.name))]
+    entries = [it for it in tables.entries if wanted in (lower(it.key), lower(it.name))]
+    told = [_explained(it, tables) + _sentences(it, sentences) for it in entries]
     if wanted in tables.left:
         told.append([f"in the place of {wanted.upper()}", f"    {tables.left[wanted]}"])
     if not told:
@@ -47,6 +50,13 @@ def _explained(entry: Entry, tables: Tables) -> List[str]:
     if entry.example is not None and not any(case.example for case in cases):
         lines += _example(entry.example, entry.place)
     return lines + [line for case in cases for line in _case(case, tables)]
+
+
+def _sentences(entry: Entry, sentences: Sentences) -> List[str]:
+    """Returns the lines of what messages say of an entry, with names in braces for what they find in the source and in
+    the trace of the run."""
+    found = sentences.of_entry(entry)
+    return [line for it in found for line in wrapped(it.words, f"    {it.role}: ", " " * len(f"    {it.role}: "))]
 
 
 def _case(case: Case, tables: Tables) -> List[str]:

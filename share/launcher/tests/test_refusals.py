@@ -11,6 +11,7 @@ from lexing import Spot, spot_of, statements_of
 from look import Look, near
 from names_in_file import names_of
 from refusals import Said, chosen, refusal_said
+from sentences import Sentences
 from tables import read_tables, tables_path
 from typed import Typer, What
 
@@ -197,7 +198,7 @@ class RefusalsTest(unittest.TestCase):
             "          help: let the construct come to its end",
             "",
         ]
-        self.assertEqual((explain("42", TABLES) or "").split("\n")[3:], wanted)
+        self.assertEqual((explain("42", TABLES, Sentences({})) or "").split("\n")[3:], wanted)
 
     def test_what_remains(self) -> None:
         # The place is no operand at all, so no case can be told.

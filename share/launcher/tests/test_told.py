@@ -3,11 +3,13 @@
 import os
 import tempfile
 import unittest
+from typing import List, Optional
 
 from ending import Caller
 from excerpts import excerpt
 from explain import explain
 from given_file import MOST_BYTES, Asked, CannotRead, GivenFile, take_file
+from sentences import Sentences, read_sentences
 from tables import Kind, read_tables, tables_path
 from texts import lower
 from usage import read_help, usage_message
@@ -66,23 +68,60 @@ class TablesTest(unittest.TestCase):
         self.assertEqual(self.tables.name(Kind.REFUSAL, "9"), "")
         self.assertEqual(self.tables.left, {"real": "integers do", "double": "integers do"})
 
+    def explained(self, word: str) -> Optional[str]:
+        """Returns what is said of a word of the page, which has no sentences."""
+        return explain(word, self.tables, Sentences({}))
+
     def test_explained(self) -> None:
         told = ["status 0 Finished", "    it has finished", "    standard output: ok", "    what to do: be glad", ""]
-        self.assertEqual(explain("FINISHED", self.tables), "\n".join(told))
+        self.assertEqual(self.explained("FINISHED"), "\n".join(told))
         told = ["refusal 1 NotAscii", "    a byte", "    ISO/IEC 1539-1:2018, 6.1", "    example, refused at 1:5:"]
         told += ["        1 | a = b", "          |     ^", ""]
-        self.assertEqual(explain("1", self.tables), "\n".join(told))
+        self.assertEqual(self.explained("1"), "\n".join(told))
         told = ["refusal 2 TooLong", "    a line", "    a limit", "    example: a long line, refused at 1:99", ""]
-        self.assertEqual(explain("toolong", self.tables), "\n".join(told))
-        self.assertEqual(explain("3", self.tables), "refusal 3 NoProgram\n    nothing\n    ISO/IEC 1539-1:2018, 6.2\n")
-        self.assertEqual(explain("Double", self.tables), "in the place of DOUBLE\n    integers do\n")
-        self.assertIsNone(explain("4", self.tables))
-        self.assertIsNone(explain("", self.tables))
+        self.assertEqual(self.explained("toolong"), "\n".join(told))
+        self.assertEqual(self.explained("3"), "refusal 3 NoProgram\n    nothing\n    ISO/IEC 1539-1:2018, 6.2\n")
+        self.assertEqual(self.explained("Double"), "in the place of DOUBLE\n    integers do\n")
+        self.assertIsNone(self.explained("4"))
+        self.assertIsNone(self.explained(""))
 
     def test_a_word_of_more_than_one_entry(self) -> None:
-        told = explain("5", read_tables(tables_path(HOME))) or ""
+        told = explain("5", read_tables(tables_path(HOME)), read_sentences(HOME)) or ""
         heads = [part.split("\n")[0] for part in told.split("\n\n")]
         self.assertEqual(heads, ["status 5 Race", "refusal 5 BadCharacter"])
+
+    def told_of(self, word: str, role: str) -> List[str]:
+        """Returns the sentences of a role that are said of a word."""
+        told = explain(word, read_tables(tables_path(HOME)), read_sentences(HOME)) or ""
+        front = f"    {role}: "
+        return [line[len(front) :] for line in told.split("\n") if line.startswith(front)]
+
+    def test_sentences_of_an_entry(self) -> None:
+        own = "image {image} executed ERROR STOP"
+        stat = "STAT= would take the status, and the image would go on"
+        waits = "image {image} waits for the CRITICAL construct, {holders}"
+        limit = "the stamps of the steps of image {image} have come to {count}, the last one"
+        table = [
+            ("ErrorStop", "case", [f"{own}, with the code {{code}}", own]),
+            ("ErrorStop", "help", []),
+            ("6004", "help", [stat]),
+            ("enter", "case", [waits]),
+            ("wait", "note", ["image {image} posted it last here"]),
+            ("stamp", "case", [limit]),
+            ("stamp", "help", ["no option allows more"]),
+            ("RunFault", "case", ["a run fault of image {image}"]),
+        ]
+        for word, role, wanted in table:
+            with self.subTest(word=word, role=role):
+                self.assertEqual(self.told_of(word, role), wanted)
+        self.assertEqual(len(self.told_of("Race", "help")), 2)
+        self.assertEqual(len(self.told_of("CoBounds", "case")), len(set(self.told_of("CoBounds", "case"))))
+
+    def test_each_sentence_is_explained(self) -> None:
+        tables, sentences = read_tables(tables_path(HOME)), read_sentences(HOME)
+        found = {said.words for entry in tables.entries for said in sentences.of_entry(entry)}
+        missing = [case for case, said in sentences.rows.items() if not any(it.endswith(said) for it in found)]
+        self.assertEqual(missing, [("Workers", "again")])
 
 
 class ExcerptTest(unittest.TestCase):
