@@ -1,15 +1,12 @@
 """What is said of an error stop: that of the program itself, or the status that no STAT= took, with the images that
 have stopped or failed, or that hold the lock."""
 
-import re
-from typing import Dict, List, Optional, Sequence, Tuple
+from typing import Dict, List, Optional, Tuple
 
 from message import Note
 from scene import Scene, Told, images_said, joined
-from source_text import references, split_list
 from tables import Kind
 from trace import Step
-from values import Where, value_of
 from waits import Over, statement_of
 
 STOPPED, FAILED = "6000", "6001"
@@ -38,8 +35,10 @@ def told_stop(scene: Scene, image: int, line: int, code: str) -> Told:
         said = scene.say("ErrorStop", code, holder=holder, **found)
         return Told(line, said, named, notes=tuple(notes), helps=helps, hint=code)
     if code == "6006":
-        case, thing = _bad_argument(scene, image, line, text)
-        said = scene.say("ErrorStop", f"6006 {case}", image=image, thing=thing)
+        from told_argument import bad_argument  # here, since the others don't need it
+
+        case, told = bad_argument(scene, image, line, text)
+        said = scene.say("ErrorStop", f"6006 {case}", image=image, **told)
         return Told(line, said, named, helps=helps, hint=code)
     said = scene.say("ErrorStop", f"{code} alone", meaning=entry.meaning, **found)
     return Told(line, said, named, helps=helps, hint=code)
@@ -101,51 +100,3 @@ def _lock(scene: Scene, step: Step) -> Tuple[str, str, List[Note]]:
         return thing, "", []
     holder = f"held by {'itself' if held.image == step.image else f'image {held.image}'} since line {held.line}"
     return thing, holder, [scene.note(held.line, f"image {held.image} acquired it here")]
-
-
-def _bad_argument(scene: Scene, image: int, line: int, text: str) -> Tuple[str, str]:
-    """Returns which argument isn't taken, as far as the line shows it."""
-    first, _, inside = text.partition("(")
-    word = "".join(first.split())
-    arguments = split_list(inside.rpartition(")")[0])
-    where = scene.where(line, image)
-    if word == "syncimages":
-        return _bad_set(scene, where, arguments[0] if arguments else "")
-    if word in ("allocate", "deallocate"):
-        return word, next((it.name for it in references(inside)), "")
-    if word == "formteam":
-        value = value_of(arguments[0], where) if arguments else None
-        if value is not None and value < 1:
-            which = "" if arguments[0] == f"{value}" else f", which is {value}"
-            return "team", f"the team number {arguments[0]}{which}"
-        return "team", f"the team number or the NEW_INDEX= of `{text}`"
-    if word.startswith("call"):
-        return _bad_collective(scene, where, word[4:].upper(), arguments)
-    return "other", text
-
-
-def _bad_collective(scene: Scene, where: Where, name: str, arguments: Sequence[str]) -> Tuple[str, str]:
-    """Returns which argument a collective subroutine doesn't take: its image, or else its result leaves its kind."""
-    roots = [it for it in arguments if re.match(r"(result|source)_image[ \t]*=", it)]
-    roots = [it.partition("=")[2].strip() for it in roots] or [it for it in arguments[1:2] if "=" not in it]
-    value = value_of(roots[0], where) if roots else None
-    if value is not None and not 1 <= value <= scene.images:
-        return "root", f"{name} of image {where.image} names image {value}"
-    if value is not None or not roots:
-        return "result", f"the result of {name}"
-    return "root or result", name
-
-
-def _bad_set(scene: Scene, where: Where, text: str) -> Tuple[str, str]:
-    """Returns which image of SYNC IMAGES stands twice or isn't there."""
-    text = text.strip().replace("(/", "[").replace("/)", "]")
-    parts = split_list(text[1:-1]) if text.startswith("[") else [text]
-    values = [value_of(it, where) for it in parts]
-    if len(values) == 1 and text in where.variables:
-        values = [*where.variables[text]]
-    for it in values:
-        if it is not None and not 1 <= it <= scene.images:
-            return "absent", f"image {it}"
-        if it is not None and values.count(it) > 1:
-            return "twice", f"image {it}"
-    return "set", text
