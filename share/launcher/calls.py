@@ -6,8 +6,8 @@ from typing import List
 
 from ending import DONE, NO_PROGRAM, READ_FAULT, USAGE, WRITE_FAULT, Caller, end_by
 from given_file import STANDARD_INPUT, Asked, CannotRead, GivenFile, take_file
-from message import FORMS, Message
-from report import report
+from message import FORMS, TEXT, Message
+from report import report, tell_as, tell_rest
 from spelling import OPTION, spelt, take_form
 from texts import NO_MORE_TAKEN, NothingMoreTaken, answer, keep_streams, tell, text_of, words_of_call
 from words import Wrong, read_words
@@ -22,17 +22,22 @@ def main(home: str) -> int:
     """Answers the call and returns its status."""
     keep_streams()
     caller = Caller(home, text_of(os.environb.get(b"CAF_CALLED", b"")) or "./caf")
+    given = words_of_call()
+    caller = caller._replace(form=take_form(given)[1] or TEXT)
+    tell_as(caller)
     try:
-        return _answer(caller, words_of_call())
+        return tell_rest(caller, _answer(caller, given))
     except NothingMoreTaken as wrong:
         if not wrong.is_quiet:
-            tell(f"{NO_MORE_TAKEN}\n")
+            text = NO_MORE_TAKEN[len("caf: ") :]
+            report(caller, [Message(text, "WriteFault", status=WRITE_FAULT)], WRITE_FAULT)
         return WRITE_FAULT
     except KeyboardInterrupt:
         end_by(signal.SIGINT)
     except OSError as wrong:
         where = f"{os.fsdecode(wrong.filename)}: " if wrong.filename else ""
-        tell(text_of(os.fsencode(f"caf: {where}{wrong.strerror}\n")))
+        text = text_of(os.fsencode(f"{where}{wrong.strerror}"))
+        report(caller, [Message(text, "NoProgram", status=NO_PROGRAM)], NO_PROGRAM)
         return NO_PROGRAM
 
 
@@ -96,11 +101,13 @@ def _explain(caller: Caller, words: List[str]) -> int:
     from tables import read_tables, tables_path
 
     if len(words) != 1:
-        tell(f"caf: --explain takes one word of docs/REFUSALS.md: {KINDS}\n")
+        text = f"--explain takes one word of docs/REFUSALS.md: {KINDS}"
+        report(caller, [Message(text, "Usage", status=USAGE)], USAGE)
         return USAGE
     said = explain(words[0], read_tables(tables_path(caller.home)), read_sentences(caller.home))
     if said is None:
-        tell(f"caf: docs/REFUSALS.md has no {words[0]}; it has {KINDS}\n")
+        text = f"docs/REFUSALS.md has no {words[0]}; it has {KINDS}"
+        report(caller, [Message(text, "Usage", status=USAGE)], USAGE)
         return USAGE
     answer(said)
     return DONE

@@ -11,14 +11,13 @@ from captured import Captured, run_captured
 from children import Interrupted, interruptible
 from ending import DONE, NO_PROGRAM, end_by
 from many import Job, Runs, processors, run_many
-from programs import closing_words
 from progress import Progress
 from table import Table, told
 from tables import read_tables, tables_path
-from texts import answer, tell
+from texts import answer
 from trace import read_run
 from view_words import ViewWords
-from views import NO_RUN, Call, find, tell_no_run
+from views import NO_RUN, Call, find, tell_closing, tell_no_run
 from ways import Way, ranges, way_of
 from words import GREATEST_SEED
 
@@ -134,9 +133,7 @@ def explore(call: Call) -> int:
     answer(told(_table(call, explored)))
     if signal_number:
         end_by(signal_number)
-    closing = closing_words(program)
-    if closing:
-        tell(f"caf: {closing}\n")
+    tell_closing(call, program, explored.worst[1])
     return explored.worst[1]
 
 

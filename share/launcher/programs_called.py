@@ -17,7 +17,7 @@ from traced import Cut, KeptTrace
 from words import is_on_workers
 
 
-def _find(caller: Caller, way: str) -> Optional[programs.Program]:
+def find_for(caller: Caller, way: str) -> Optional[programs.Program]:
     """Returns the program to run, or nothing where there is none, which is told."""
     try:
         return programs.find_program(caller.home, unproved=way == "--try")
@@ -35,7 +35,7 @@ def prove_alone(caller: Caller) -> int:
 
 def tell_which(caller: Caller) -> int:
     """Prints the path of the program that a call runs, and returns the status."""
-    program = _find(caller, "")
+    program = find_for(caller, "")
     if program is None:
         return NO_PROGRAM
     answer(text_of(os.fsencode(program.path)) + "\n")
@@ -45,7 +45,7 @@ def tell_which(caller: Caller) -> int:
 def _chosen(caller: Caller, way: str) -> Tuple[Optional[programs.Program], int]:
     """Returns the program that a way leads to; or nothing, and the status with which the call ends."""
     if way != "--prove":
-        return _find(caller, way), NO_PROGRAM
+        return find_for(caller, way), NO_PROGRAM
     status = prove_alone(caller)
     return (None, status) if status else (programs.proved_here(caller.home), NO_PROGRAM)
 
@@ -60,7 +60,7 @@ def run_program(caller: Caller, way: str, asked: Asked) -> int:
         answered = _answered(program.path, asked)
     except Interrupted as it:
         end_by(it.number)
-    told = messages_of(caller, asked, answered) + _closing(program)
+    told = messages_of(caller, asked, answered) + closing(program)
     report(caller, told, answered.status)
     return answered.status
 
@@ -80,7 +80,7 @@ def run_checks(caller: Caller, way: str, files: Sequence[Asked]) -> int:
     except Interrupted as it:
         end_by(it.number)
     status = statuses[1] if len(statuses) > 1 else DONE
-    report(caller, told + _closing(program), status)
+    report(caller, told + closing(program), status)
     return status
 
 
@@ -93,10 +93,10 @@ def _checked(path: str, asked: Asked) -> Answered:
     return Answered(outcome.status, outcome.lines)
 
 
-def _closing(program: programs.Program) -> List[Message]:
+def closing(program: programs.Program) -> List[Message]:
     """Returns what is said last of a call that ran this program."""
-    closing = programs.closing_words(program)
-    return [Message(closing, "Unproved", severity="note")] if closing else []
+    text = programs.closing_words(program)
+    return [Message(text, "Unproved", severity="note")] if text else []
 
 
 def _answered(path: str, asked: Asked) -> Answered:

@@ -62,7 +62,8 @@ class TextRenderer:
         """Returns the lines of a message: one without a file is said by caf itself."""
         code = f" [{message.code}]" if message.code else ""
         if not message.file:
-            lines = [f"caf: {message.text}"]
+            first, *more = message.text.split("\n")
+            lines = [*wrapped(first, "caf: "), *more]
         else:
             front = self._front(message.file, message.line, message.column, message.severity)
             lines = [f"{front} {message.text}{code}"]

@@ -1,10 +1,15 @@
 """Messages in the form that the caller wants, on standard error."""
 
-from typing import Sequence
+import os
+from typing import List, Sequence
 
+import trouble
 from ending import Caller
-from message import JSON, SARIF, Message
-from texts import tell
+from message import JSON, SARIF, TEXT, Message
+from texts import tell, text_of
+
+# What was told as lines where one log is asked for, and the log hasn't been written yet.
+_kept: List[Message] = []
 
 
 def rendered(caller: Caller, messages: Sequence[Message], status: int) -> str:
@@ -27,6 +32,29 @@ def rendered(caller: Caller, messages: Sequence[Message], status: int) -> str:
 
 def report(caller: Caller, messages: Sequence[Message], status: int) -> None:
     """Tells the messages of a call."""
-    text = rendered(caller, messages, status)
+    text = rendered(caller, [*_kept, *messages], status)
+    _kept.clear()
     if text:
         tell(text)
+
+
+def tell_as(caller: Caller) -> None:
+    """Lets the lines that the launcher tells of a build or a proof stand in the form that the caller wants: as notes,
+    those of a log with the next messages."""
+    if caller.form != TEXT:
+        trouble.teller = lambda text: _tell_line(caller, text)
+
+
+def _tell_line(caller: Caller, text: str) -> None:
+    note = Message(text_of(os.fsencode(text)), "Progress", severity="note")
+    if caller.form == SARIF:
+        _kept.append(note)
+    else:
+        report(caller, [note], 0)
+
+
+def tell_rest(caller: Caller, status: int) -> int:
+    """Tells what is kept for a log where no messages of the call came behind it, and returns the status."""
+    if _kept:
+        report(caller, [], status)
+    return status

@@ -18,8 +18,8 @@ _NOTES = (("Race", "second"), ("Stuck", "posted"), ("Clash", "there"))
 
 
 class Sentence(NamedTuple):
-    """A sentence of an entry: whether it is the text of a message, stands at a further place or helps, as `case`, `note`
-    or `help`; and its words, with the names in braces."""
+    """A sentence of an entry: `case` where it is the text of a message, `note` where it stands at a further place, or
+    `help`; and its words, with the names in braces."""
 
     role: str
     words: str

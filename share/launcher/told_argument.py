@@ -51,15 +51,15 @@ def _bad_team(scene: Scene, image: int) -> str:
         given = [index for _, index in members if index]
         for other, index in members:
             if index and not 1 <= index <= len(members):
-                return f"the NEW_INDEX= {index} of image {other}, in a team of {len(members)}"
+                return f"NEW_INDEX={index} of image {other}, in a team of {len(members)}"
             if given.count(index) > 1:
-                return f"the NEW_INDEX= {index} of {images_said([who for who, it in members if it == index])}"
+                return f"NEW_INDEX={index} of {images_said([who for who, it in members if it == index])}"
     return ""
 
 
 def _bad_collective(scene: Scene, where: Where, name: str, arguments: Sequence[str]) -> Bad:
-    """Returns whether a collective subroutine doesn't take its image, or its result leaves its kind. An image that isn't
-    there is found before the image comes to the others, so the trace has no step of it."""
+    """Returns whether a collective subroutine doesn't take its image, or its result leaves its kind. An image that
+    isn't there is found before this image comes to the others, so the trace has no step of it."""
     roots = [it for it in arguments if re.match(r"(result|source)_image[ \t]*=", it)]
     roots = [it.partition("=")[2].strip() for it in roots] or [it for it in arguments[1:2] if "=" not in it]
     found: Dict[str, object] = {"thing": name, "root": roots[0] if roots else ""}

@@ -5,9 +5,8 @@ from typing import Dict, List, NamedTuple, Optional, Sequence, Set
 
 from ending import USAGE, Caller
 from excerpts import excerpt
-from help import help_words
+from help import help_lines, help_words
 from message import Message
-from render_text import WIDTH, wrapped
 from report import rendered
 from words import range_of
 
@@ -163,12 +162,4 @@ def usage_lines(words: Sequence[str], number: int, help_text: str) -> List[str]:
     forms = list(told.lines) if number == 1 else (list(command.lines) if command else [""])
     if before.wanted is not None and before.option in told.options:
         forms += told.options[before.option].lines
-    return lines + [line for it in forms for line in _wrapped(it)]
-
-
-def _wrapped(line: str) -> List[str]:
-    """Returns a line of the help text in lines of at most 100 columns: the second column goes on below itself."""
-    found = re.match(r"    \S+(?: \S+)*  +", line)
-    if not found or len(line) <= WIDTH:
-        return [line]
-    return wrapped(line[found.end() :], found[0], " " * found.end())
+    return lines + [line for it in forms for line in help_lines(it)]

@@ -1,6 +1,5 @@
 """What `caf show`, `caf picture` and `caf explore` do with their words, up to the run that they show."""
 
-import os
 from typing import Dict, List, NamedTuple, Optional, Tuple
 
 import programs
@@ -8,8 +7,11 @@ from captured import Captured, run_captured
 from children import Interrupted
 from ending import DONE, NO_PROGRAM, READ_FAULT, USAGE, Caller, end_by
 from given_file import Asked, CannotRead, take_file
-from messages import Answered, messages
-from texts import answer, lines_of, tell, text_of
+from message import Message
+from messages import Answered, messages_of
+from programs_called import closing, find_for
+from report import report
+from texts import answer, lines_of
 from trace import Kind, Run, is_trace, read_run
 from view_words import OWN, ViewWords, read_view_words
 from words import Wrong
@@ -41,10 +43,10 @@ def view(caller: Caller, way: str, words: List[str]) -> int:
     """Answers the words of a call that begins with one of the three, and returns its status."""
     read = read_view_words(words)
     if isinstance(read, Wrong):
-        from usage import usage_message  # here, since most calls don't need it
+        from usage import usage_told  # here, since most calls don't need it
 
         answer(f"usage: word {read.word}\n")
-        tell(usage_message(caller, words, read.word))
+        report(caller, usage_told(caller, words, read.word), USAGE)
         return USAGE
     asked = Asked(read.run)
     if read.file is not None:
@@ -52,7 +54,7 @@ def view(caller: Caller, way: str, words: List[str]) -> int:
             asked = Asked(read.run, read.file, take_file(read.run[read.file]))
         except CannotRead as wrong:
             answer("read fault\n")
-            tell(f"caf: {wrong}\n")
+            report(caller, [Message(str(wrong), "ReadFault", status=READ_FAULT)], READ_FAULT)
             return READ_FAULT
     call = Call(caller, way, read, asked)
     try:
@@ -67,25 +69,29 @@ def view(caller: Caller, way: str, words: List[str]) -> int:
 
 def find(call: Call) -> Optional[programs.Program]:
     """Returns the program that the call runs, or nothing where there is none, which is told."""
-    try:
-        return programs.find_program(call.caller.home, unproved=call.way == "--try")
-    except programs.NoProgram as wrong:
-        tell(text_of(os.fsencode(f"caf: {wrong}\n")))
-        return None
+    return find_for(call.caller, call.way)
 
 
 def tell_no_run(call: Call, captured: Captured) -> int:
     """Passes on the answer of a call that made no run, with what it means, and returns its status."""
     answer(captured.text)
-    tell(messages(call.caller, call.asked, Answered(captured.status, lines_of(captured.text))))
+    answered = Answered(captured.status, lines_of(captured.text))
+    report(call.caller, messages_of(call.caller, call.asked, answered), captured.status)
     return captured.status
+
+
+def tell_closing(call: Call, program: programs.Program, status: int) -> None:
+    """Tells what is said last of a call that ran this program and ends with this status."""
+    report(call.caller, closing(program), status)
 
 
 def _show_run(call: Call) -> int:
     """Shows a run: that of a trace which FILE holds, or else one that is made now."""
     source = call.asked.source()
     if is_trace(source):
-        return _answer_seen(call, Seen(call.asked.shown_name(), read_run(source), []))
+        status = _answer_seen(call, Seen(call.asked.shown_name(), read_run(source), []))
+        report(call.caller, [], status)
+        return status
     program = find(call)
     if program is None:
         return NO_PROGRAM
@@ -95,9 +101,7 @@ def _show_run(call: Call) -> int:
         return tell_no_run(call, captured)
     title = " ".join(["caf", *call.words.run])
     status = _answer_seen(call, Seen(title, read_run(captured.text), lines_of(source)))
-    closing = programs.closing_words(program)
-    if closing:
-        tell(f"caf: {closing}\n")
+    tell_closing(call, program, status)
     return status
 
 

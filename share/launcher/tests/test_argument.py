@@ -33,7 +33,7 @@ class Collectives(unittest.TestCase):
         table = [
             ("call co_sum(a, k)", "var 1 k = 5", "CO_SUM of image 1 names image 5, which isn't there"),
             ("call co_sum(a, k)", "var 1 n = 5", "CO_SUM of image 1 names an image that isn't there, by `k`"),
-            ("call co_max(a, result_image = 2)", "var 1 k = 1", "CO_MAX of image 1 names an image that isn't there, by `2`"),
+            ("call co_max(a, 2)", "var 1 k = 1", "CO_MAX of image 1 names an image that isn't there, by `2`"),
         ]
         for call, variable, wanted in table:
             with self.subTest(call=call, variable=variable):
@@ -78,20 +78,21 @@ class Teams(unittest.TestCase):
     FRONT = "integer :: k\n"
 
     def test_what_the_images_give(self) -> None:
-        front = "FORM TEAM of image 1 doesn't take the"
+        front = "FORM TEAM of image 1 doesn't take"
         table = [
-            ("0 0", "1 0", f"{front} team number 0"),
-            ("1 0", "-1 0", f"{front} team number -1 of image 2"),
-            ("1 1", "1 1", f"{front} NEW_INDEX= 1 of images 1 and 2"),
-            ("1 1", "1 3", f"{front} NEW_INDEX= 3 of image 2, in a team of 2"),
-            ("4 1", "5 2", f"{front} NEW_INDEX= 2 of image 2, in a team of 1"),
-            ("1 1", "1 0", f"{front} arguments of `form team(k, t)`"),
+            ("0 0", "1 0", f"{front} the team number 0"),
+            ("1 0", "-1 0", f"{front} the team number -1 of image 2"),
+            ("1 1", "1 1", f"{front} NEW_INDEX=1 of images 1 and 2"),
+            ("1 1", "1 3", f"{front} NEW_INDEX=3 of image 2, in a team of 2"),
+            ("4 1", "5 2", f"{front} NEW_INDEX=2 of image 2, in a team of 1"),
+            ("1 1", "1 0", f"{front} the arguments of `form team(k, t)`"),
         ]
         for first, second, wanted in table:
             arrivals = [f"1 {it} 2 board arrive 1 form {ask} > round 3" for it, ask in ((1, first), (2, second))]
+            steps = [*arrivals, "3 1 2 board leave 1 1 > 6006"]
             with self.subTest(first=first, second=second):
-                self.assertEqual(said(f"{self.FRONT}form team(k, t)", *arrivals, "3 1 2 board leave 1 1 > 6006"), wanted)
-        self.assertEqual(said(f"{self.FRONT}form team(k, t)", "var 1 k = 0"), f"{front} team number k, which is 0")
+                self.assertEqual(said(f"{self.FRONT}form team(k, t)", *steps), wanted)
+        self.assertEqual(said(f"{self.FRONT}form team(k, t)", "var 1 k = 0"), f"{front} the team number k, which is 0")
 
 
 if __name__ == "__main__":

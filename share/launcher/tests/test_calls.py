@@ -5,12 +5,14 @@ import json
 import os
 import signal
 import unittest
-from typing import Iterator, List, Tuple
+from typing import Any, Dict, Iterator, List, Tuple
 from unittest import mock
 
 import calls
 import programs_called
 import report
+import trouble
+from captured import Captured
 from children import Interrupted
 from ending import Caller
 from programs import Kind, NoProgram, Program
@@ -68,7 +70,7 @@ class CallsTest(unittest.TestCase):
         self.assertEqual(self.call("--try", "make", "1", "4"), 12)
         self.find.assert_called_once_with(HOME, unproved=True)
         self.assertEqual(self.programs_run(), [("/unproved", ["make", "1", "4"])])
-        first, last = "".join(self.said).splitlines()
+        first, last, *_ = "".join(self.said).splitlines()
         self.assertEqual(first, "caf: there was no memory for the next step")
         self.assertRegex(last, r"\Acaf: this program is built without proof")
 
@@ -147,6 +149,61 @@ class CallsTest(unittest.TestCase):
         self.assertEqual(self.call("--message-format=xml", "check", FILE), 2)
         self.assertEqual(self.answered[-1], "usage: word 1\n")
 
+    def told(self) -> List[Dict[str, Any]]:
+        """Returns the messages that were told as JSON, which are forgotten then."""
+        lines = "".join(self.said).splitlines()
+        self.said.clear()
+        return [json.loads(it) for it in lines]
+
+    def test_troubles_in_another_form(self) -> None:
+        self.find.side_effect = NoProgram("there is no program")
+        table = [
+            (["show", FILE], 1, "NoProgram", "there is no program"),
+            (["explore", FILE], 1, "NoProgram", "there is no program"),
+            (["picture", "/nonexistent"], 10, "ReadFault", "there is no file /nonexistent"),
+            (["run", FILE], 1, "NoProgram", "there is no program"),
+            (["show", "-n"], 2, "Usage", "word 3 is missing: it has to be the N of -n, 1 to 64"),
+        ]
+        self.put(mock.patch("views.answer", side_effect=self.answered.append))
+        for words, status, code, text in table:
+            with self.subTest(words=words):
+                self.assertEqual(self.call(*words, "--message-format=json"), status)
+                found = [(it["code"], it["text"], it["status"], it["severity"]) for it in self.told()]
+                self.assertEqual(found, [(code, text, status, "error")])
+                self.assertEqual(self.call("--message-format", "sarif", *words), status)
+                (log,) = self.told()
+                self.assertEqual(log["runs"][0]["results"][0]["ruleId"], code)
+                self.assertEqual(log["runs"][0]["invocations"][0]["exitCode"], status)
+        self.assertEqual(self.call("--message-format=json", "--explain", "nothing"), 2)
+        self.assertEqual(self.told()[0]["code"], "Usage")
+
+    def test_a_run_that_is_shown(self) -> None:
+        self.find.return_value = UNPROVED
+        self.put(mock.patch("views.answer", side_effect=self.answered.append))
+        self.put(mock.patch("explore.answer", side_effect=self.answered.append))
+        run = self.put(mock.patch("views.run_captured", return_value=Captured(0, "1 1 1 own stop 0 > ok\n")))
+        for words in (["show", FILE], ["picture", "--svg", FILE]):
+            self.assertEqual(self.call(*words, "--message-format=json"), 0)
+            self.assertEqual([(it["code"], it["severity"]) for it in self.told()], [("Unproved", "note")])
+            self.assertEqual(self.call(*words, "--message-format=sarif"), 0)
+            self.assertEqual([it["ruleId"] for it in self.told()[0]["runs"][0]["results"]], ["Unproved"])
+        run.return_value = Captured(3, "refused 7 at 1:1\n")
+        self.assertEqual(self.call("show", FILE, "--message-format=json"), 3)
+        self.assertEqual([it["line"] for it in self.told()], [1])
+
+    def test_lines_of_a_build(self) -> None:
+        self.put(mock.patch.object(trouble, "teller", None))
+        for form in ("json", "sarif"):
+            caller = Caller(HOME, "caf", form)
+            report.tell_as(caller)
+            trouble.say("building")
+            self.assertEqual(report.tell_rest(caller, 1), 1)
+            told = self.told()[0]
+            text = told["text"] if form == "json" else told["runs"][0]["results"][0]["message"]["text"]
+            self.assertEqual(text, "building")
+        self.assertEqual(report.tell_rest(caller, 1), 1)
+        self.assertEqual(self.said, [])
+
     def test_a_signal_ends_the_call_by_itself(self) -> None:
         self.run_program.side_effect = Interrupted(signal.SIGTERM)
         with mock.patch("programs_called.end_by", side_effect=SystemExit) as ends:
@@ -161,7 +218,7 @@ class MainTest(unittest.TestCase):
     def raising(self, wrong: BaseException) -> Iterator[List[str]]:
         """Lets the answer raise this, and gives what is said."""
         said: List[str] = []
-        with mock.patch("calls._answer", side_effect=wrong), mock.patch("calls.tell", side_effect=said.append):
+        with mock.patch("calls._answer", side_effect=wrong), mock.patch("report.tell", side_effect=said.append):
             yield said
 
     def test_standard_output_that_takes_no_more(self) -> None:
