@@ -27,7 +27,7 @@ def explain(word: str, tables: Tables, sentences: Sentences) -> Optional[str]:
     entries = [it for it in tables.entries if wanted in (lower(it.key), lower(it.name))]
     told = [_explained(it, tables) + _sentences(it, sentences) for it in entries]
     if wanted in tables.left:
-        told.append([f"in the place of {wanted.upper()}", f"    {tables.left[wanted]}"])
+        told.append([f"in the place of {wanted.upper()}", *_indented("", tables.left[wanted])])
     if not told:
         return None
     return "\n".join("".join(f"{line}\n" for line in lines) for lines in told)
@@ -37,13 +37,13 @@ def _explained(entry: Entry, tables: Tables) -> List[str]:
     """Returns the lines of an entry."""
     title = _TITLES.get(entry.kind, entry.kind.value)
     name = "" if entry.name == entry.key else f" {entry.name}"
-    lines = [f"{title} {entry.key}{name}", f"    {entry.meaning}"]
+    lines = [f"{title} {entry.key}{name}", *_indented("", entry.meaning)]
     if entry.output is not None:
-        lines.append(f"    standard output: {entry.output}")
+        lines += _indented("standard output: ", entry.output)
     if entry.standard is not None:
         lines.append(f"    {'ISO/IEC 1539-1:2018, ' if entry.standard[:1].isdigit() else ''}{entry.standard}")
     if entry.kind is Kind.STATUS and entry.key in tables.advice:
-        lines.append(f"    what to do: {tables.advice[entry.key]}")
+        lines += _indented("what to do: ", tables.advice[entry.key])
     cases = []
     if entry.kind is Kind.REFUSAL:
         cases = [case for case in tables.cases if case.number == entry.key and case.word != "-"]
@@ -55,20 +55,25 @@ def _explained(entry: Entry, tables: Tables) -> List[str]:
 def _sentences(entry: Entry, sentences: Sentences) -> List[str]:
     """Returns the lines of what messages say of an entry, with names in braces for what they find in the source and in
     the trace of the run."""
-    found = sentences.of_entry(entry)
-    return [line for it in found for line in wrapped(it.words, f"    {it.role}: ", " " * len(f"    {it.role}: "))]
+    return [line for it in sentences.of_entry(entry) for line in _indented(f"{it.role}: ", it.words)]
 
 
 def _case(case: Case, tables: Tables) -> List[str]:
     """Returns the lines of a case: what is said of its example, or its sentence where it has none."""
     if case.example is None or case.place is None:
-        return [f"    case: {_OPEN.sub('..', case.said[0])}"]
+        return _indented("case: ", _OPEN.sub("..", case.said[0]))
     from refusals import refusal_said  # here, since only what is said of a refusal needs it
 
     line, column = case.place.split(":")
     said = refusal_said(case.number, Place(int(line), int(column), ""), [case.example], tables)
     shown = excerpt(f"    {line:>5}", case.example, int(column))
-    return [f"    case, refused at {case.place}: {said.text}", *shown, *(f"          help: {it}" for it in said.helps)]
+    helps = (line for it in said.helps for line in _indented("help: ", it, 10))
+    return [*_indented(f"case, refused at {case.place}: ", said.text), *shown, *helps]
+
+
+def _indented(front: str, text: str, margin: int = 4) -> List[str]:
+    """Returns a text in lines of at most 100 columns, the first one behind other words."""
+    return wrapped(text, f"{' ' * margin}{front}", " " * (margin + 4))
 
 
 def _example(text: str, place: Optional[str]) -> List[str]:
