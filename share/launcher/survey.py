@@ -1,7 +1,7 @@
 """What the trace of a run shows at its end: one pass over its lines, which keeps little of them."""
 
 import re
-from typing import Dict, Iterable, List, Optional, Sequence, Tuple
+from typing import Dict, Iterable, List, Optional, Sequence, Set, Tuple
 
 from trace import Step
 from waits import Standing
@@ -11,6 +11,7 @@ _TELLING = set(
     b"arrive leave gather pair lock trylock unlock free post wait enter exit stop fail create delete".split()
 )
 _VARIABLE = re.compile(rb"var ([0-9]+) ([a-z]\w*) = (-?[0-9]+(?:,-?[0-9]+)*)")
+_UNALLOCATED = re.compile(rb"var ([0-9]+) ([a-z]\w*) = unallocated")
 # Values of arrays with more elements aren't kept.
 _MOST_VALUES = 4096
 
@@ -19,7 +20,8 @@ Number = Tuple[int, int]
 
 class Survey:
     """What a trace shows: where each image stands; the last two steps of each image; the steps that were asked for, by
-    image and number, and how often the image had come to its line by then; and the values of variables."""
+    image and number, and how often the image had come to its line by then; the values of variables, and which aren't
+    allocated."""
 
     def __init__(self, images: int) -> None:
         self.standing = Standing(images)
@@ -27,6 +29,7 @@ class Survey:
         self.chosen: Dict[Number, Step] = {}
         self.turns: Dict[Number, int] = {}
         self.variables: Dict[int, Dict[str, List[int]]] = {}
+        self.unallocated: Dict[int, Set[str]] = {}
         self.has_steps = False
 
     def before_last(self, image: int) -> Optional[Step]:
@@ -96,6 +99,9 @@ def step_of(line: bytes, number: int) -> Step:
 
 
 def _keep_variable(found: Survey, line: bytes) -> None:
+    absent = _UNALLOCATED.fullmatch(line)
+    if absent:
+        found.unallocated.setdefault(int(absent[1]), set()).add(absent[2].decode("ascii"))
     read = _VARIABLE.fullmatch(line)
     if read and read[3].count(b",") < _MOST_VALUES:
         values = [int(it) for it in read[3].split(b",")]

@@ -20,7 +20,7 @@ def bad_argument(scene: Scene, image: int, line: int, text: str) -> Bad:
     if word == "syncimages":
         return _bad_set(scene, where, arguments[0] if arguments else "")
     if word in ("allocate", "deallocate"):
-        return word, {"thing": next((it.name for it in references(inside)), "")}
+        return _bad_object(scene, image, word, [it.partition("(")[0].strip() for it in arguments if "=" not in it])
     if word == "formteam":
         value = value_of(arguments[0], where) if arguments else None
         if value is not None and value < 1:
@@ -30,6 +30,18 @@ def bad_argument(scene: Scene, image: int, line: int, text: str) -> Bad:
     if word.startswith("call"):
         return _bad_collective(scene, where, word[4:].upper(), arguments)
     return "other", {"thing": text}
+
+
+def _bad_object(scene: Scene, image: int, word: str, names: Sequence[str]) -> Bad:
+    """Returns which variable is allocated already, or isn't; or that the image has no room for what it allocates."""
+    absent, present = scene.survey.unallocated.get(image, set()), scene.survey.variables.get(image, {})
+    if word == "deallocate":
+        return word, {"thing": next((it for it in names if it in absent), " and ".join(names))}
+    known = [it for it in names if it in present]
+    if known:
+        return word, {"thing": known[0]}
+    is_room = bool(names) and all(it in absent for it in names)
+    return "room" if is_room else "allocate of no value", {"thing": " and ".join(names)}
 
 
 def _bad_team(scene: Scene, image: int) -> str:

@@ -25,6 +25,34 @@ def said(source: str, *shown: str) -> str:
     return told_stop(scene, 1, number, "6006").text
 
 
+class Objects(unittest.TestCase):
+    FRONT = "integer, allocatable :: a(:), b(:)\n"
+
+    def test_allocate(self) -> None:
+        table = [
+            ("allocate (a(3))", ["var 1 a = 0,0"], "image 1 allocates a, which is allocated already"),
+            (
+                "allocate (b(3), a(2), stat=k)",
+                ["var 1 a = 0,0", "var 1 b = unallocated"],
+                "image 1 allocates a, which is allocated already",
+            ),
+            (
+                "allocate (a(70000))",
+                ["var 1 a = unallocated"],
+                "image 1 allocates a, and has no room for so many cells",
+            ),
+            ("allocate (a(7))", ["var 1 b = 0"], "ALLOCATE of a on image 1 got the status 6006"),
+            (
+                "deallocate (b, a)",
+                ["var 1 a = unallocated", "var 1 b = 0"],
+                "image 1 deallocates a, which isn't allocated",
+            ),
+        ]
+        for call, variables, wanted in table:
+            with self.subTest(call=call, variables=variables):
+                self.assertEqual(said(self.FRONT + call, *variables), wanted)
+
+
 class Collectives(unittest.TestCase):
     FRONT = "integer :: a, k, n\n"
     STEPS = ("1 1 2 board gather 1 sum 1 I4 1 > round 1", "2 1 2 board take 1 1 > 6006")
