@@ -18,7 +18,7 @@ from release import release_of
 from trouble import NoProgram, say
 
 __all__ = ["Kind", "NoProgram", "Program", "closing_words", "find_program", "proved_here", "release_of"]
-PROVE = "./caf --prove builds the proved one (one to two hours, up to 30 GB of disk)"
+PROVE = "./caf --prove builds the proved one (two to three hours, up to 30 GB of disk)"
 
 
 class Kind(enum.Enum):

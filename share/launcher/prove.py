@@ -92,7 +92,7 @@ def run_told(home: str) -> int:
     progress = Progress()
     told = Told(len(sources.crates_listed(home)), progress)
     progress.say(
-        f"proving {told.total} crates by rt ci: one to two hours from nothing on four processors, and\n"
+        f"proving {told.total} crates by rt ci: two to three hours from nothing on four processors, and\n"
         "    up to 30 GB of disk; what is proved is kept, and interrupted, the next call goes on"
     )
     progress.enter(told.state())

@@ -78,7 +78,7 @@ class TheLastLine(unittest.TestCase):
         self.assertEqual(
             words,
             "this program is built without proof, since there is no release; ./caf --prove builds the proved one "
-            "(one to two hours, up to 30 GB of disk)",
+            "(two to three hours, up to 30 GB of disk)",
         )
 
     def test_where_it_was_asked_for(self) -> None:
