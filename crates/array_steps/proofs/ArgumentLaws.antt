@@ -88,7 +88,7 @@ module _ (m : Kept) (x : ℕ) where
 
   -- an array as a value
   abbrev copied : Option Local → Acted
-  copied o = given o (λ l. unless room (has_extents l && nat_le (elements_in m.core.arrays + length l.elements) 262144) (goes_to (with_array (record { extents = extents_of_bounds l; elements = l.elements }) m.core)))
+  copied o = given o (λ l. unless room (has_extents l && nat_le (elements_in m.core.arrays + length l.elements) 524288) (goes_to (with_array (record { extents = extents_of_bounds l; elements = l.elements }) m.core)))
 
   pub out_missing : array ≡ None → Acts m (call_effect (a.copy_out x) m.core) m actings.Stuck
   out_missing h = subst (λ o. Acts m (copied o) m actings.Stuck) (sym h) (refl, refl)
@@ -104,22 +104,22 @@ module _ (m : Kept) (x : ℕ) where
   full_of true f = (refl, refl)
   full_of false f = (refl, refl)
 
-  out_full_of : (o : Option Local) (bs : List (ℤ × ℤ)) → bounds_in o ≡ Some bs → 262144 < elements_in m.core.arrays + local_size o → Acts m (copied o) m (actings.Fault 11)
+  out_full_of : (o : Option Local) (bs : List (ℤ × ℤ)) → bounds_in o ≡ Some bs → 524288 < elements_in m.core.arrays + local_size o → Acts m (copied o) m (actings.Fault 11)
   out_full_of None bs h l = absurd (cc)
-  out_full_of (Some k) bs h l = rw (lt-leb (elements_in m.core.arrays + length k.elements) 262144 l) (full_of (has_extents k) (goes_to (with_array (record { extents = extents_of_bounds k; elements = k.elements }) m.core)))
+  out_full_of (Some k) bs h l = rw (lt-leb (elements_in m.core.arrays + length k.elements) 524288 l) (full_of (has_extents k) (goes_to (with_array (record { extents = extents_of_bounds k; elements = k.elements }) m.core)))
 
-  pub out_full : (bs : List (ℤ × ℤ)) → bounds_in array ≡ Some bs → 262144 < elements_in m.core.arrays + local_size array → Acts m (call_effect (a.copy_out x) m.core) m (actings.Fault 11)
+  pub out_full : (bs : List (ℤ × ℤ)) → bounds_in array ≡ Some bs → 524288 < elements_in m.core.arrays + local_size array → Acts m (call_effect (a.copy_out x) m.core) m (actings.Fault 11)
   out_full bs h l = out_full_of array bs h l
 
-  copied_out_of : (e : Kept) (o : Option Local) (bs : List (ℤ × ℤ)) (ns : List ℕ) → bounds_in o ≡ Some bs → nat_lt (spread_of bs) 9223372036854775808 ≡ true → elements_in m.core.arrays + local_size o ≤ 262144 → ns ≡ map extent_of bs
+  copied_out_of : (e : Kept) (o : Option Local) (bs : List (ℤ × ℤ)) (ns : List ℕ) → bounds_in o ≡ Some bs → nat_lt (spread_of bs) 9223372036854775808 ≡ true → elements_in m.core.arrays + local_size o ≤ 524288 → ns ≡ map extent_of bs
       → ((l : Local) → o ≡ Some l → e ≡ with_core m (with_array (record { extents = ns; elements = l.elements }) m.core)) → Acts m (copied o) e actings.Done
   copied_out_of e None bs ns h w l i g = absurd (cc)
   copied_out_of e (Some k) bs ns h w l i g =
       let q : k.bounds ≡ bs = cc in
       let t : has_extents k ≡ true = ap (λ t. nat_lt (spread_of t) 9223372036854775808) q ∙ w in
       let j : ns ≡ extents_of_bounds k = i ∙ ap (λ t. map extent_of t) (sym q) in
-      rw (t, le-leb (elements_in m.core.arrays + length k.elements) 262144 l) (refl, g k refl ∙ ap (λ (us : List ℕ). with_core m (with_array (record { extents = us; elements = k.elements }) m.core)) j)
+      rw (t, le-leb (elements_in m.core.arrays + length k.elements) 524288 l) (refl, g k refl ∙ ap (λ (us : List ℕ). with_core m (with_array (record { extents = us; elements = k.elements }) m.core)) j)
 
-  pub copied_out : (e : Kept) (bs : List (ℤ × ℤ)) (ns : List ℕ) → bounds_in array ≡ Some bs → nat_lt (spread_of bs) 9223372036854775808 ≡ true → elements_in m.core.arrays + local_size array ≤ 262144 → ns ≡ map extent_of bs
+  pub copied_out : (e : Kept) (bs : List (ℤ × ℤ)) (ns : List ℕ) → bounds_in array ≡ Some bs → nat_lt (spread_of bs) 9223372036854775808 ≡ true → elements_in m.core.arrays + local_size array ≤ 524288 → ns ≡ map extent_of bs
       → ((l : Local) → array ≡ Some l → e ≡ with_core m (with_array (record { extents = ns; elements = l.elements }) m.core)) → Acts m (call_effect (a.copy_out x) m.core) e actings.Done
   copied_out e bs ns h w l i g = copied_out_of e array bs ns h w l i g

@@ -24,8 +24,8 @@ module _ (m : Kept) (s : Scope) (x : ℕ) where
   bounds_of e w (Some l) bs h g = (let k : bs ≡ l.bounds = cc in subst (λ t. Acts m (bounds_on_top t m.core) e w) k g)
 
   module _ (ns vs : List ℤ) (h : bounds_in (array_in s x m.core) ≡ Some (pairs_in ns)) (i : vs ≡ pairs_numbers (pairs_in ns)) where
-    pub bounds_full : 262144 < elements_in m.core.arrays + length vs → Acts m (bounds_effect (a.bounds s x) m.core) m (actings.Fault 11)
-    bounds_full l = (let j = ap length i in bounds_of m (actings.Fault 11) (array_in s x m.core) (pairs_in ns) h (rw (lt-leb (elements_in m.core.arrays + length (pairs_numbers (pairs_in ns))) 262144 (omega arith)) (refl, refl)))
+    pub bounds_full : 524288 < elements_in m.core.arrays + length vs → Acts m (bounds_effect (a.bounds s x) m.core) m (actings.Fault 11)
+    bounds_full l = (let j = ap length i in bounds_of m (actings.Fault 11) (array_in s x m.core) (pairs_in ns) h (rw (lt-leb (elements_in m.core.arrays + length (pairs_numbers (pairs_in ns))) 524288 (omega arith)) (refl, refl)))
 
-    pub bounds_put : (e : Kept) → elements_in m.core.arrays + length vs ≤ 262144 → e ≡ with_core m (with_array (row_of vs) m.core) → Acts m (bounds_effect (a.bounds s x) m.core) e actings.Done
-    bounds_put e l g = (let j = ap length i in bounds_of e actings.Done (array_in s x m.core) (pairs_in ns) h (rw (le-leb (elements_in m.core.arrays + length (pairs_numbers (pairs_in ns))) 262144 (omega arith)) (refl, g ∙ ap (λ (t : List ℤ). with_core m (with_array (row_of t) m.core)) i)))
+    pub bounds_put : (e : Kept) → elements_in m.core.arrays + length vs ≤ 524288 → e ≡ with_core m (with_array (row_of vs) m.core) → Acts m (bounds_effect (a.bounds s x) m.core) e actings.Done
+    bounds_put e l g = (let j = ap length i in bounds_of e actings.Done (array_in s x m.core) (pairs_in ns) h (rw (le-leb (elements_in m.core.arrays + length (pairs_numbers (pairs_in ns))) 524288 (omega arith)) (refl, g ∙ ap (λ (t : List ℤ). with_core m (with_array (row_of t) m.core)) i)))

@@ -17,7 +17,7 @@ pub earlier_joined : (a b c : ℕ) → earlier (earlier a b) c ≡ earlier a (ea
 earlier_joined a b c = grind (arith, nat_tests)
 
 -- an image that no failure is of doesn't fail
-pub none_of : (fails : List FailAt) (i : ℕ) → AllByRecursion IsOfImage fails → (i ≡ 0) ⊎ (64 < i) → first_failure fails i ≡ 0
+pub none_of : (fails : List FailAt) (i : ℕ) → AllByRecursion IsOfImage fails → (i ≡ 0) ⊎ (256 < i) → first_failure fails i ≡ 0
 none_of [] i all odd = refl
 none_of (f ∷ fails) i ((low, high), all) odd =
     let rest = none_of fails i all odd in
@@ -39,10 +39,10 @@ pub first_all : (fails : List FailAt) (k i first : ℕ) → length fails ≤ k �
 first_all fails k i first all = ap (earlier first) (at_drop_all (λ l. first_failure l i) fails k all) ∙ earlier_none first
 
 -- events by image, from image 1 on, are those of the images
-pub by_images : (fails : List FailAt) (events : List ℕ) → AllByRecursion IsOfImage fails → length events ≡ 64 → ((j : ℕ) → j < 64 → get_or events j 0 ≡ first_failure fails (j + 1))
+pub by_images : (fails : List FailAt) (events : List ℕ) → AllByRecursion IsOfImage fails → length events ≡ 256 → ((j : ℕ) → j < 256 → get_or events j 0 ≡ first_failure fails (j + 1))
     → (i : ℕ) → fails_at events i ≡ first_failure fails i
 by_images fails events all count each zero = sym (none_of fails 0 all (inl refl))
-by_images fails events all count each (suc j) = elim (cases_lt j 64) [
+by_images fails events all count each (suc j) = elim (cases_lt j 256) [
   | inl low ↦ let next : j + 1 ≡ suc j = omega arith in unwrap_or-slice_get events j 0 ∙ (rw next at (each j low))
   | inr above ↦ unwrap_or-slice_get events j 0 ∙ get_or_past events j 0 (omega arith) ∙ sym (none_of fails (suc j) all (inr (omega arith)))
 ]

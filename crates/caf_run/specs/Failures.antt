@@ -2,9 +2,9 @@
 use Rattle.std.specs.Prelude.{ℕ, ◌≤◌, List, [], ◌∷◌, min, ◌==◌, if◌then◌else◌}
 use Rattle.caf_words.specs.declared.command.FailAt.{FailAt}
 
--- a failure of an image from 1 to 64
+-- a failure of an image from 1 to 256
 abbrev pub IsOfImage : FailAt → Type 0
-IsOfImage f = (1 ≤ f.image) × (f.image ≤ 64)
+IsOfImage f = (1 ≤ f.image) × (f.image ≤ 256)
 
 -- the earlier of two events by their numbers, where 0 is none
 abbrev pub earlier : ℕ → ℕ → ℕ

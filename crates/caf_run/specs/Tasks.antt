@@ -1,5 +1,5 @@
 -- What the words ask of a source: to check it, or to run it; and which source they name.
-use Rattle.std.specs.Prelude.{ℕ, ◌≤◌, List, length, min, ⊤}
+use Rattle.std.specs.Prelude.{ℕ, ◌≤◌, ◌/◌, List, length, min, ⊤}
 use Rattle.std.specs.List.{AllByRecursion}
 use Rattle.caf_words.specs.Usages.{Word}
 use Rattle.caf_words.specs.Words.{Origin, IsRun, IsCheck, IsInput}
@@ -33,10 +33,10 @@ NamesFile words file = NamesSource words (from_file file)
 abbrev pub NamesNoFile : List Word → Type 0
 NamesNoFile words = (file : Word) → NamesFile words file → ⊥
 
--- a run is on 1 to 64 images, of 100,000,000 statements at most, and its failures are of such images
+-- a run is on 1 to 256 images, of 100,000,000 statements at most, and its failures are of such images
 pub record IsRunTask (o : Options) (fails : List FailAt) : Type 0 where
   pub least : 1 ≤ o.images
-  pub most : o.images ≤ 64
+  pub most : o.images ≤ 256
   pub steps : o.steps ≤ 100000000
   pub failures : AllByRecursion IsOfImage fails
 
@@ -49,9 +49,10 @@ abbrev pub way_of : words.Way → ℕ → Way
 way_of (told.Order seed) images = Order seed
 way_of (told.Workers workers) images = Workers (min workers images)
 
--- what a run is told: the images, the limit and the way of the options; the limit of an image's recorded words is 262,144
+-- what a run is told: the images, the limit and the way of the options; the limit of an image's recorded words is its share of
+-- the 16,777,216 of the run
 abbrev pub told_of : Options → Told
-told_of o = record { images = o.images; limit = o.steps; words = 262144; way = way_of o.way o.images }
+told_of o = record { images = o.images; limit = o.steps; words = 16777216 / o.images; way = way_of o.way o.images }
 
 -- the words ask for the task, of the source that the input tells
 abbrev pub AsksOf : List Word → Task → Input → Type 0

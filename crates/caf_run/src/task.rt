@@ -1,6 +1,6 @@
 //! What a call asks of a source.
 
-ghost use Rattle.std.specs.Prelude.{◌≡◌};
+ghost use Rattle.std.specs.Prelude.{◌≡◌, ◌≤◌};
 ghost use Rattle.caf_run.specs.Tasks as spec;
 
 use caf_base::limits::RECORDED_WORDS;
@@ -22,14 +22,15 @@ pub enum Task {
     },
 }
 
-/// What a run is told: the images, the limit and the way of the options, and the limit of an image's recorded words.
+/// What a run is told: the images, the limit and the way of the options, and an image's share of the words that a run records.
 pub fn told_of(options: Options) -> Told
+    requires { 1 ≤ options.images }
     ensures { result ≡ spec.told_of options }
 {
     Told {
         images: options.images,
         limit: options.steps,
-        words: RECORDED_WORDS as u32,
+        words: RECORDED_WORDS / options.images,
         way: way_of(options.way, options.images),
     }
 }

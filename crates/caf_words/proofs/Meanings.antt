@@ -108,10 +108,10 @@ one_meaning words (Make seed size) (Make seed' size') first second =
     let same = one_make words seed size seed' size' first second in
     cc (same.0, same.1)
 
--- a run is on 1 to 64 images of 1 to 100000000 statements
+-- a run is on 1 to 256 images of 1 to 100000000 statements
 pub record IsWithin (n s : ℕ) : Type 0 where
   pub least_images : 1 ≤ n
-  pub most_images : n ≤ 64
+  pub most_images : n ≤ 256
   pub least_steps : 1 ≤ s
   pub most_steps : s ≤ 100000000
 
@@ -135,9 +135,9 @@ pub run_within : (words : List Word) (o : Options) (fails : List FailAt) (origin
 run_within words o fails origin run =
     rest_within nothing run.rest o fails origin run.options (record { least_images = omega arith; most_images = omega arith; least_steps = omega arith; most_steps = omega arith })
 
--- its failures are of images from 1 to 64
+-- its failures are of images from 1 to 256
 abbrev pub IsOfImage : FailAt → Type 0
-IsOfImage f = (1 ≤ f.image) × (f.image ≤ 64)
+IsOfImage f = (1 ≤ f.image) × (f.image ≤ 256)
 
 option_images : (g h : Given) (words : List Word) (some more : List FailAt) → IsOption g words h some → AllByRecursion IsOfImage more → AllByRecursion IsOfImage (some ++ more)
 option_images g _ _ _ more (images n free low high) all = all

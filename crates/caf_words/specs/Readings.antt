@@ -69,7 +69,7 @@ pub record IsNoOption (g : Given) (word : Word) : Type 0 where
 
 -- a word gives an option its value; these options are given then, and these failures are named
 abbrev pub Gives : Given → Key → Word → Given → List FailAt → Type 0
-Gives g keys.Images word h named = (n : ℕ) × (word ≡ decimal n) × (1 ≤ n) × (n ≤ 64) × (h ≡ record g { images = Some n }) × (named ≡ [])
+Gives g keys.Images word h named = (n : ℕ) × (word ≡ decimal n) × (1 ≤ n) × (n ≤ 256) × (h ≡ record g { images = Some n }) × (named ≡ [])
 Gives g keys.Workers word h named = (n : ℕ) × (word ≡ decimal n) × (1 ≤ n) × (n ≤ 64) × (h ≡ record g { workers = Some n }) × (named ≡ [])
 Gives g keys.Order word h named = (s : ℕ) × (word ≡ decimal s) × (s ≤ 2147483647) × (h ≡ record g { order = Some s }) × (named ≡ [])
 Gives g keys.Steps word h named = (n : ℕ) × (word ≡ decimal n) × (1 ≤ n) × (n ≤ 100000000) × (h ≡ record g { steps = Some n }) × (named ≡ [])

@@ -26,11 +26,11 @@ abbrev pub IsFileName : Word → Type 0
 IsFileName [] = ⊥
 IsFileName (c ∷ cs) = c ≢ 45
 
--- a failure is said as I@K: image I, from 1 to 64, fails at its event number K, from 1 to 1000000
+-- a failure is said as I@K: image I, from 1 to 256, fails at its event number K, from 1 to 1000000
 pub record IsFailure (word : Word) (f : FailAt) : Type 0 where
   pub form : word ≡ decimal f.image ++ 64 ∷ decimal f.step
   pub least_image : 1 ≤ f.image
-  pub most_image : f.image ≤ 64
+  pub most_image : f.image ≤ 256
   pub least_step : 1 ≤ f.step
   pub most_step : f.step ≤ 1000000
 
@@ -51,7 +51,7 @@ nothing = record { images = None; workers = None; order = None; steps = None; tr
 -- One option that may come next, as its words; what is given with it, and the failures that it names. Each stands once at most, but --fail, and -w and --order exclude each other.
 -- Numbers are in decimal: without a sign, and without a leading zero other than `0` itself.
 pub data IsOption (g : Given) : List Word → Given → List FailAt → Type 0 where
-  images : (n : ℕ) → g.images ≡ None → 1 ≤ n → n ≤ 64 → IsOption g (codes "-n" ∷ decimal n ∷ []) (record g { images = Some n }) []
+  images : (n : ℕ) → g.images ≡ None → 1 ≤ n → n ≤ 256 → IsOption g (codes "-n" ∷ decimal n ∷ []) (record g { images = Some n }) []
   workers : (n : ℕ) → g.workers ≡ None → g.order ≡ None → 1 ≤ n → n ≤ 64 → IsOption g (codes "-w" ∷ decimal n ∷ []) (record g { workers = Some n }) []
   order : (s : ℕ) → g.order ≡ None → g.workers ≡ None → s ≤ 2147483647 → IsOption g (codes "--order" ∷ decimal s ∷ []) (record g { order = Some s }) []
   steps : (n : ℕ) → g.steps ≡ None → 1 ≤ n → n ≤ 100000000 → IsOption g (codes "--steps" ∷ decimal n ∷ []) (record g { steps = Some n }) []
@@ -91,7 +91,7 @@ pub data IsRest : Given → List Word → Options → List FailAt → Origin →
   option_next : (g h : Given) (option : List Word) (named : List FailAt) (rest : List Word) (o : Options) (fails : List FailAt) (origin : Origin) → IsOption g option h named → IsRest h rest o fails origin
       → IsRest g (option ++ rest) o (named ++ fails) origin
 
--- the words are `run OPTIONS FILE` or `run OPTIONS --made SEED SIZE`: -n N (1 to 64; 4 where it isn't given), -w W (1 to 64; 4 where it isn't given) or --order SEED (0 to 2147483647) or neither,
+-- the words are `run OPTIONS FILE` or `run OPTIONS --made SEED SIZE`: -n N (1 to 256; 4 where it isn't given), -w W (1 to 64; 4 where it isn't given) or --order SEED (0 to 2147483647) or neither,
 -- --steps N (1 to 100000000; 1000000 where it isn't given), --fail I@K, which may stand more than once, --trace and --vars
 pub record IsRun (words : List Word) (o : Options) (fails : List FailAt) (origin : Origin) : Type 0 where
   pub rest : List Word

@@ -43,7 +43,7 @@ pub enum Way {
 /// A failure: an image fails at an event of its own.
 #[derive(Clone, Copy)]
 pub struct FailAt {
-    /// The image, from 1 to 64. Where a run has fewer images, nothing fails.
+    /// The image, from 1 to 256. Where a run has fewer images, nothing fails.
     pub image: u32,
     /// The number of the event, from 1 to 1,000,000. Of several failures of one image the earliest counts.
     pub step: u32,
@@ -52,7 +52,7 @@ pub struct FailAt {
 /// What a run is told by its options.
 #[derive(Clone, Copy)]
 pub struct Options {
-    /// How many images there are, from 1 to 64.
+    /// How many images there are, from 1 to 256.
     pub images: u32,
     pub way: Way,
     /// How many statements an image executes at most, from 1 to 100,000,000.

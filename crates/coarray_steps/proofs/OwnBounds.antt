@@ -57,31 +57,31 @@ module _ (m : Kept) (k : ℕ) where
   bounds_missing h = missing_by (own_at m.core.coarrays k) h
 
   module _ (ns : List ℤ) where
-    full_by : (o : Option Own) → Some ns ≡ option_map (λ p. pairs_numbers p.bounds) o → 262144 < elements_in m.core.arrays + length ns → Acts m (told o) m (actings.Fault 11)
+    full_by : (o : Option Own) → Some ns ≡ option_map (λ p. pairs_numbers p.bounds) o → 524288 < elements_in m.core.arrays + length ns → Acts m (told o) m (actings.Fault 11)
     full_by None h l = absurd (cc)
     full_by (Some o) h l =
         let e : ns ≡ pairs_numbers o.bounds = cc in
-        let f : 262144 < elements_in m.core.arrays + length (pairs_numbers o.bounds) = subst (λ vs. 262144 < elements_in m.core.arrays + length vs) e l in
-        rw (lt-leb (elements_in m.core.arrays + length (pairs_numbers o.bounds)) 262144 f) (refl, refl)
+        let f : 524288 < elements_in m.core.arrays + length (pairs_numbers o.bounds) = subst (λ vs. 524288 < elements_in m.core.arrays + length vs) e l in
+        rw (lt-leb (elements_in m.core.arrays + length (pairs_numbers o.bounds)) 524288 f) (refl, refl)
 
-    pub bounds_full : Some ns ≡ option_map (λ p. pairs_numbers p.bounds) (own_at m.core.coarrays k) → 262144 < elements_in m.core.arrays + length ns → Acts m (bounds_effect (a.co_bounds k) m.core) m (actings.Fault 11)
+    pub bounds_full : Some ns ≡ option_map (λ p. pairs_numbers p.bounds) (own_at m.core.coarrays k) → 524288 < elements_in m.core.arrays + length ns → Acts m (bounds_effect (a.co_bounds k) m.core) m (actings.Fault 11)
     bounds_full h l = full_by (own_at m.core.coarrays k) h l
 
     bounds_by : (o : Option Own) → Some ns ≡ option_map (λ p. pairs_numbers p.bounds) o → own_bounds o ≡ ns
     bounds_by None h = absurd (cc)
     bounds_by (Some o) h = cc
 
-    pub bounds_fit : Some ns ≡ option_map (λ p. pairs_numbers p.bounds) (own_at m.core.coarrays k) → elements_in m.core.arrays + length ns ≤ 262144 → elements_in m.core.arrays + length (own_bounds (own_at m.core.coarrays k)) ≤ 262144
-    bounds_fit h l = subst (λ vs. elements_in m.core.arrays + length vs ≤ 262144) (sym (bounds_by (own_at m.core.coarrays k) h)) l
+    pub bounds_fit : Some ns ≡ option_map (λ p. pairs_numbers p.bounds) (own_at m.core.coarrays k) → elements_in m.core.arrays + length ns ≤ 524288 → elements_in m.core.arrays + length (own_bounds (own_at m.core.coarrays k)) ≤ 524288
+    bounds_fit h l = subst (λ vs. elements_in m.core.arrays + length vs ≤ 524288) (sym (bounds_by (own_at m.core.coarrays k) h)) l
 
-    told_by : (e : Kept) (o : Option Own) → Some ns ≡ option_map (λ p. pairs_numbers p.bounds) o → elements_in m.core.arrays + length ns ≤ 262144 → e ≡ with_core m (with_array (row_of (own_bounds o)) m.core) → Acts m (told o) e actings.Done
+    told_by : (e : Kept) (o : Option Own) → Some ns ≡ option_map (λ p. pairs_numbers p.bounds) o → elements_in m.core.arrays + length ns ≤ 524288 → e ≡ with_core m (with_array (row_of (own_bounds o)) m.core) → Acts m (told o) e actings.Done
     told_by e None h l g = absurd (cc)
     told_by e (Some o) h l g =
         let q : ns ≡ pairs_numbers o.bounds = cc in
-        let f : elements_in m.core.arrays + length (pairs_numbers o.bounds) ≤ 262144 = subst (λ vs. elements_in m.core.arrays + length vs ≤ 262144) q l in
-        rw (le-leb (elements_in m.core.arrays + length (pairs_numbers o.bounds)) 262144 f) (refl, g)
+        let f : elements_in m.core.arrays + length (pairs_numbers o.bounds) ≤ 524288 = subst (λ vs. elements_in m.core.arrays + length vs ≤ 524288) q l in
+        rw (le-leb (elements_in m.core.arrays + length (pairs_numbers o.bounds)) 524288 f) (refl, g)
 
-    pub bounds_told : (e : Kept) → Some ns ≡ option_map (λ p. pairs_numbers p.bounds) (own_at m.core.coarrays k) → elements_in m.core.arrays + length ns ≤ 262144
+    pub bounds_told : (e : Kept) → Some ns ≡ option_map (λ p. pairs_numbers p.bounds) (own_at m.core.coarrays k) → elements_in m.core.arrays + length ns ≤ 524288
         → e ≡ with_core m (with_array (row_of (own_bounds (own_at m.core.coarrays k))) m.core) → Acts m (bounds_effect (a.co_bounds k) m.core) e actings.Done
     bounds_told e h l g = told_by e (own_at m.core.coarrays k) h l g
 

@@ -5,9 +5,11 @@ ghost use Rattle.crew.specs.Crews.{members_of};
 ghost use Rattle.crew.specs.Dealt.{run_of, passes_of, NoneShort};
 
 use crate::member::{Member, Worker};
+use crate::resting::Pause;
 use caf_base::refusal::NoMemory;
 use image_core::run::ImageRun;
 use image_gate::passes::Passes;
+use image_turns::looks::Spin;
 use std::alloc::Global;
 
 /// Each image with its passes, in the order of both.
@@ -23,7 +25,12 @@ pub(crate) fn members<M: Drop>(
     let mut members = Vec::with_capacity(alloc, images.len())?;
     for run in images {
         let passes = passes.remove(0);
-        members.push(Member { run, passes })?;
+        members.push(Member {
+            run,
+            passes,
+            pause: Pause::None,
+            spin: Spin::none(),
+        })?;
     }
     Ok(members)
 }
@@ -82,7 +89,11 @@ fn take<M: Drop>(
     ensures passes { OnOk result (passes.new.items ≡ passes.old.items ++ map passes_of members.items) }
 {
     for member in members {
-        let Member { run, passes: pass } = member;
+        let Member {
+            run,
+            passes: pass,
+            ..
+        } = member;
         images.push(run)?;
         passes.push(pass)?;
     }

@@ -6,5 +6,6 @@
 
 mod dealing;
 mod member;
+mod resting;
 pub mod running;
 mod worker;

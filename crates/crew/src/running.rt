@@ -21,7 +21,8 @@ use std::sync::Wait;
 use std::thread::Threads;
 
 /// Runs the images of these parts on so many workers, and gives the parts back where each worker has come to its end: all its images have ended, one of them made a step that ends the
-/// run, or in 1,000 rounds in a row none could step. The call may wait for the workers. Conditions: there is a worker, the parts are sound and no step has been made, and the programs go on whatever the
+/// run, or no image of any worker could step. The call may wait for the workers. Conditions: there is a worker, the
+/// parts are sound and no step has been made, and the programs go on whatever the
 /// reply to their ask is. On refusal the parts are given up.
 pub fn run_crew<
     R: Threads + Wait + Sync,

@@ -1,34 +1,103 @@
 //! What a worker does, and all workers at the same time.
 
-ghost use Rattle.std.specs.Prelude.{IfOk};
+ghost use Rattle.std.specs.Prelude.{IfOk, IsTrue};
 ghost use Rattle.image_turns.specs.Turns.{HearsEvery, ArePassesOf, StaysOn};
 ghost use Rattle.image_turns.specs.Waits.{Waits};
-ghost use Rattle.crew.specs.Crews.{HavePasses, GoOn, IsThrough, IsDone, AllHavePasses, AreDone};
+ghost use Rattle.crew.specs.Crews.{HavePasses, GoOn, SomeEnded, IsThrough, IsDone, AllHavePasses, AreDone};
 
 use crate::member::{Member, Worker};
+use crate::resting::{Pace, Pause, Round, both, is_paused, pause_of, refused, rests, round_of};
 use caf_base::hook::Hook;
 use caf_base::refusal::NoMemory;
 use caf_events::object::Object;
 use caf_events::walker::{Next, Walker};
-use crossbeam_utils::Backoff;
+use image_core::run::ImageRun;
 use image_gate::gates::Gates;
-use image_turns::turns::run_image;
+use image_turns::turns::{Told, run_image, run_some};
 use std::sync::Wait;
 use std::thread;
 use std::thread::Threads;
 
-/// After so many rounds in a row in which none of its images could step a worker gives them back.
-const QUIET_ROUNDS: u32 = 1_000;
+/// So many steps an image makes at most in one round.
+const QUANTUM: u32 = 512;
 
-/// What a round over a worker's images came to.
-#[derive(Clone, Copy)]
-pub(crate) enum Round {
-    /// One of them made a step.
-    Moved,
-    /// None of them could.
-    Quiet,
-    /// All of them have ended, or one made a step that ends the run.
-    Done,
+// What an image does without a step.
+fn stand_of<M: Walker>(run: &ImageRun<M>, pause: Pause) -> Round {
+    match run.want() {
+        Next::Ended => Round::Done,
+        Next::Ask(_) => {
+            if let Pause::Looks { .. } = pause {
+                Round::Looks
+            } else {
+                Round::Quiet
+            }
+        }
+    }
+}
+
+// Runs an image of a worker for a while, where it isn't held.
+fn run_part<R: Wait, M: Walker, O: Object, B: Object, H: Hook>(
+    rt: &R,
+    gates: &Gates<O, B>,
+    member: &mut Member<M>,
+    worker: u32,
+    hook: &H,
+    last: &mut Told,
+) -> Result<Round, NoMemory>
+    requires passes { ArePassesOf gates.now.board gates.now.memories.items member.old.run member.old.passes }
+    requires hears { HearsEvery M.step M.hears }
+    ensures stays { StaysOn M.Walker gates.now.board gates.now.memories.items member.old.run member.old.passes member.new.run member.new.passes }
+{
+    if is_paused(gates.news(), &mut member.pause, last) {
+        return Ok(stand_of(&member.run, member.pause));
+    }
+    let run = &mut member.run;
+    let ran = run_some(
+        rt,
+        gates,
+        run,
+        &mut member.passes,
+        worker,
+        hook,
+        QUANTUM,
+        &mut member.spin,
+    )?;
+    *last = refused(&ran, *last);
+    member.pause = pause_of(&ran, member.spin.same);
+    Ok(round_of(&ran, stand_of(&member.run, Pause::None)))
+}
+
+// One round over a worker's images.
+fn run_round<R: Wait, M: Walker, O: Object, B: Object, H: Hook>(
+    rt: &R,
+    gates: &Gates<O, B>,
+    members: &mut Vec<Member<M>>,
+    worker: u32,
+    hook: &H,
+) -> Result<Round, NoMemory>
+    requires passes { HavePasses gates.now.board gates.now.memories.items members.old.items }
+    requires hears { HearsEvery M.step M.hears }
+    ensures stays { GoOn M.Walker gates.now.board gates.now.memories.items members.old.items members.new.items }
+{
+    let mut round = Round::Done;
+    let mut last = Told::nowhere();
+    for j in 0..members.len() {
+        let part = run_part(rt, gates, &mut members[j], worker, hook, &mut last)?;
+        round = both(round, part);
+    }
+    Ok(round)
+}
+
+// Whether one of these images made a step that ends the run.
+fn has_ended<M: Walker>(members: &Vec<Member<M>>) -> bool
+    ensures { IsTrue result → SomeEnded members.now.items }
+{
+    for j in 0..members.len() {
+        if members[j].run.ended_run() {
+            return true;
+        }
+    }
+    false
 }
 
 // Runs an image of a worker until it must wait or has ended. True where it made a step.
@@ -47,43 +116,9 @@ fn run_member<R: Wait, M: Walker, O: Object, B: Object, H: Hook>(
     run_image(rt, gates, &mut member.run, &mut member.passes, worker, hook)
 }
 
-// One round over a worker's images. It ends early where one of them makes a step that ends the run.
-fn run_round<R: Wait, M: Walker, O: Object, B: Object, H: Hook>(
-    rt: &R,
-    gates: &Gates<O, B>,
-    members: &mut Vec<Member<M>>,
-    worker: u32,
-    hook: &H,
-) -> Result<Round, NoMemory>
-    requires passes { HavePasses gates.now.board gates.now.memories.items members.old.items }
-    requires hears { HearsEvery M.step M.hears }
-    ensures stays { GoOn M.Walker gates.now.board gates.now.memories.items members.old.items members.new.items }
-    ensures through { IfOk result (λ _. IsThrough O.Object B.Object gates.now.board gates.now.memories.items M.Walker members.new.items) }
-{
-    let mut moved = false;
-    let mut ended = true;
-    for j in 0..members.len() {
-        if run_member(rt, gates, &mut members[j], worker, hook)? {
-            moved = true;
-        }
-        if members[j].run.ended_run() {
-            return Ok(Round::Done);
-        }
-        if let Next::Ask(_) = members[j].run.want() {
-            ended = false;
-        }
-    }
-    Ok(if ended {
-        Round::Done
-    } else if moved {
-        Round::Moved
-    } else {
-        Round::Quiet
-    })
-}
-
-// Runs a worker's images round by round, until all have ended, one makes a step that ends the run, or none could step in many rounds.
-fn run_members<R: Wait, M: Walker, O: Object, B: Object, H: Hook>(
+// The last round of a worker: each image makes its steps until it must wait or has ended, but for those behind one
+// that makes a step that ends the run.
+fn run_out<R: Wait, M: Walker, O: Object, B: Object, H: Hook>(
     rt: &R,
     gates: &Gates<O, B>,
     members: &mut Vec<Member<M>>,
@@ -93,24 +128,57 @@ fn run_members<R: Wait, M: Walker, O: Object, B: Object, H: Hook>(
     requires passes { HavePasses gates.now.board gates.now.memories.items members.old.items }
     requires hears { HearsEvery M.step M.hears }
     ensures stays { GoOn M.Walker gates.now.board gates.now.memories.items members.old.items members.new.items }
+    ensures through { IfOk result (λ _. IsThrough O.Object B.Object gates.now.board gates.now.memories.items M.Walker members.new.items) }
+{
+    for j in 0..members.len() {
+        run_member(rt, gates, &mut members[j], worker, hook)?;
+        if members[j].run.ended_run() {
+            return Ok(());
+        }
+    }
+    Ok(())
+}
+
+// The end of a worker: where none of its images made a step that ends the run, each is asked once more.
+fn settle<R: Wait, M: Walker, O: Object, B: Object, H: Hook>(
+    rt: &R,
+    gates: &Gates<O, B>,
+    members: &mut Vec<Member<M>>,
+    worker: u32,
+    hook: &H,
+) -> Result<(), NoMemory>
+    requires passes { HavePasses gates.now.board gates.now.memories.items members.old.items }
+    requires hears { HearsEvery M.step M.hears }
+    ensures stays { GoOn M.Walker gates.now.board gates.now.memories.items members.old.items members.new.items }
+    ensures through { IfOk result (λ _. IsThrough O.Object B.Object gates.now.board gates.now.memories.items M.Walker members.new.items) }
+{
+    if has_ended(members) {
+        gates.news().finish();
+        return Ok(());
+    }
+    run_out(rt, gates, members, worker, hook)
+}
+
+// Runs a worker's images round by round, until all have ended, one makes a step that ends the run, or none of any
+// worker could step.
+fn run_members<R: Wait, M: Walker, O: Object, B: Object, H: Hook>(
+    rt: &R,
+    gates: &Gates<O, B>,
+    members: &mut Vec<Member<M>>,
+    worker: u32,
+    workers: usize,
+    hook: &H,
+) -> Result<(), NoMemory>
+    requires passes { HavePasses gates.now.board gates.now.memories.items members.old.items }
+    requires hears { HearsEvery M.step M.hears }
+    ensures stays { GoOn M.Walker gates.now.board gates.now.memories.items members.old.items members.new.items }
     ensures done { IfOk result (λ _. IsThrough O.Object B.Object gates.now.board gates.now.memories.items M.Walker members.new.items) }
 {
-    let backoff = Backoff::new();
-    let mut quiet = 0;
+    let mut pace = Pace::new(workers);
     for _ in rt.forever() {
-        match run_round(rt, gates, members, worker, hook)? {
-            Round::Done => return Ok(()),
-            Round::Moved => {
-                quiet = 0;
-                backoff.reset();
-            }
-            Round::Quiet => {
-                if quiet >= QUIET_ROUNDS - 1 {
-                    return Ok(());
-                }
-                quiet += 1;
-                backoff.snooze();
-            }
+        let round = run_round(rt, gates, members, worker, hook)?;
+        if has_ended(members) || rests(rt, gates.news(), members, round, &mut pace) {
+            return settle(rt, gates, members, worker, hook);
         }
     }
     unreachable!()
@@ -121,6 +189,7 @@ fn run_worker<R: Wait, M: Walker, O: Object, B: Object, H: Hook>(
     rt: &R,
     gates: &Gates<O, B>,
     worker: Worker<M>,
+    workers: usize,
     hook: &H,
 ) -> Worker<M>
     requires passes { HavePasses gates.now.board gates.now.memories.items worker.members.items }
@@ -132,7 +201,10 @@ fn run_worker<R: Wait, M: Walker, O: Object, B: Object, H: Hook>(
         mut members,
         ..
     } = worker;
-    match run_members(rt, gates, &mut members, number, hook) {
+    gates.news().start();
+    let ran = run_members(rt, gates, &mut members, number, workers, hook);
+    gates.news().end();
+    match ran {
         Ok(()) => Worker {
             number,
             members,
@@ -163,13 +235,14 @@ pub(crate) fn run_workers<
     requires hears { HearsEvery M.step M.hears }
     ensures { IfOk result (λ done. AreDone O.Object B.Object gates.now.board gates.now.memories.items M.Walker workers.items done.items) }
 {
+    let count = workers.len();
     let done = thread::map_vec(
         rt,
         workers,
         &|worker: Worker<M>| -> Worker<M>
             requires { HavePasses gates.now.board gates.now.memories.items worker.members.items × HearsEvery M.step M.hears }
             ensures { IsDone O.Object B.Object gates.entry.now.board gates.entry.now.memories.items M.Walker worker result }
-        { run_worker(rt, gates, worker, hook) },
+        { run_worker(rt, gates, worker, count, hook) },
     )?;
     Ok(done)
 }

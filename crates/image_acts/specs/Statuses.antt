@@ -40,9 +40,9 @@ abbrev pub most_items : ℕ
 most_items = 131072
 
 -- The most elements of the array values that are being evaluated: 65,536 are counted at most; a return, a load or a reply puts down as many before they are counted, one of
--- them at a time; six bounds stand for each of 64 levels in 257 bodies (98,688), and the 64 images of a SYNC IMAGES (*) in each of these (16,448), with a reply's 257 more.
+-- them at a time; six bounds stand for each of 64 levels in 257 bodies (98,688), and the 256 images of a SYNC IMAGES (*) in each of these bodies (65,792), with a reply's 257 more.
 abbrev pub most_elements : ℕ
-most_elements = 262144
+most_elements = 524288
 
 -- the greatest iteration count that is kept: no run comes to it
 abbrev pub most_iterations : ℕ

@@ -30,10 +30,10 @@ pub room_for_two : (m i j : Kept) (n : ℕ) (v : ℤ) → 2 ≤ n → n ≤ leng
 room_for_two m i j n v s t h f g = (let l = length-drop n m.core.values in subst (λ (k : Kept). length k.core.values < k.rooms.numbers) (sym (put_for m i j n v f g)) (omega arith))
 
 -- the values of a read, for which there is never room for more than 262,144
-fewer : (n k : ℕ) → n ≤ 262144 → min n (min k (2 ^ 64 - 1)) ≡ min n k
+fewer : (n k : ℕ) → n ≤ 524288 → min n (min k (2 ^ 64 - 1)) ≡ min n k
 fewer n k h = omega arith
 
-pub values_are : (n : ℕ) (p : Place) (r : Reply) → n ≤ 262144 → values_heard n (min (cells_of p) (2 ^ 64 - 1)) r ≡ values_in n p r
+pub values_are : (n : ℕ) (p : Place) (r : Reply) → n ≤ 524288 → values_heard n (min (cells_of p) (2 ^ 64 - 1)) r ≡ values_in n p r
 values_are n p (replies.Values vs) h = refl
 values_are n p replies.Done h = ap (λ k. replicate k (pos 0)) (fewer n (cells_of p) h)
 values_are n p replies.Dead h = ap (λ k. replicate k (pos 0)) (fewer n (cells_of p) h)
@@ -55,7 +55,7 @@ pub read_put : (m i j e : Kept) (n cells : ℕ) (es : List ℕ) (p : Place) (r :
     → e ≡ with_core m (read_reply p (with_values m.core (drop n m.core.values)) r)
 read_put m i j e n cells es p r x y f g h =
     let d = with_values m.core (drop n m.core.values) in
-    let few : spare d ≤ 262144 = omega arith in
+    let few : spare d ≤ 524288 = omega arith in
     h ∙ ap (λ (k : Kept). with_core k (with_status r k.core)) (g ∙ ap (λ (k : Kept). with_core k (with_array (record { extents = es; elements = values_heard (spare k.core) cells r }) k.core)) f)
     ∙ ap (λ ns. with_core m (with_status r (with_array (record { extents = ns; elements = values_heard (spare d) cells r }) d))) x
     ∙ ap (λ k. with_core m (with_status r (with_array (record { extents = extents_of p; elements = values_heard (spare d) k r }) d))) y
@@ -69,7 +69,7 @@ array_put m i e x r f g = g ∙ ap (λ (k : Kept). with_core k (with_status r k.
 row_long : (n : ℕ) (vs : List Value) → length (take n (map number_of vs)) ≡ min n (length vs)
 row_long n vs = simp (length-take, length-map) refl
 
-pub row_put : (m e : Kept) (n s : ℕ) (vs : List Value) → s + elements_in m.core.arrays ≡ 262144 → n ≡ min (length vs) s → e ≡ with_core m (with_array (record { extents = n ∷ []; elements = take (spare m.core) (map number_of vs) }) m.core)
+pub row_put : (m e : Kept) (n s : ℕ) (vs : List Value) → s + elements_in m.core.arrays ≡ 524288 → n ≡ min (length vs) s → e ≡ with_core m (with_array (record { extents = n ∷ []; elements = take (spare m.core) (map number_of vs) }) m.core)
     → e ≡ with_core m (with_array (row (take (spare m.core) (map number_of vs)) (length (take (spare m.core) (map number_of vs)))) m.core)
 row_put m e n s vs f g h =
     let l = row_long (spare m.core) vs in

@@ -10,6 +10,7 @@ ghost use Rattle.image_gate.specs.Fabrics.{AreOf, IsNewFabric, images_to, desk_o
 
 use crate::closing::{begin_closing, finish_all, take_all};
 use crate::gates::Gates;
+use crate::news::News;
 use crate::opening::{open_gates, split_all};
 use crate::passes::Passes;
 use caf_base::refusal::NoMemory;
@@ -45,13 +46,18 @@ impl<O: Object, B: Object> Fabric<O, B> {
         requires memories { Each (λ o. O.history o ≡ []) memories.items }
         ensures { IfOk result (λ r. IsNewFabric memories.items board r.0.gates.board r.0.gates.memories.items r.1.items) }
     {
+        let news = News::new(alloc, memories.len())?;
         let count = memories.len() as u32;
         let (board, mut board_desk) = Gate::new(alloc, board, count)?;
         let (memories, mut desks) = open_gates(alloc, memories, count)?;
         let passes = split_all(alloc, &board, &mut board_desk, &memories, &mut desks)?;
         Ok((
             Fabric {
-                gates: Gates { board, memories },
+                gates: Gates {
+                    board,
+                    memories,
+                    news,
+                },
                 board_desk,
                 desks,
             },
@@ -84,7 +90,12 @@ impl<O: Object, B: Object> Fabric<O, B> {
             board_desk,
             desks,
         } = self;
-        let Gates { board, memories } = gates;
+        let Gates {
+            board,
+            memories,
+            news,
+        } = gates;
+        drop(news);
         let mut board = board.closing(board_desk);
         let mut closings = begin_closing(alloc, memories, desks)?;
         take_all(&mut board, &mut closings, passes);

@@ -72,18 +72,18 @@ module _ (m : Kept) where
   pub no_array_to_append : (v : ℤ) (vs : List ℤ) → m.core.values ≡ v ∷ vs → length m.core.arrays < 1 → Acts m (stack_effect a.append m.core) m actings.Stuck
   no_array_to_append v vs h l = append_with m actings.Stuck v vs h (lacks_of v vs m.core.arrays l)
 
-  append_full_of : (v : ℤ) (vs : List ℤ) (xs : List Array) → 1 ≤ length xs → 262144 ≤ elements_in m.core.arrays → Acts m (append_on v vs xs) m (actings.Fault 11)
+  append_full_of : (v : ℤ) (vs : List ℤ) (xs : List Array) → 1 ≤ length xs → 524288 ≤ elements_in m.core.arrays → Acts m (append_on v vs xs) m (actings.Fault 11)
   append_full_of v vs [] h l = absurd (omega arith)
-  append_full_of v vs (y ∷ ys) h l = rw (lt-leb (elements_in m.core.arrays + 1) 262144 (omega arith)) (refl, refl)
+  append_full_of v vs (y ∷ ys) h l = rw (lt-leb (elements_in m.core.arrays + 1) 524288 (omega arith)) (refl, refl)
 
-  pub append_full : (v : ℤ) (vs : List ℤ) → m.core.values ≡ v ∷ vs → 1 ≤ length m.core.arrays → 262144 ≤ elements_in m.core.arrays → Acts m (stack_effect a.append m.core) m (actings.Fault 11)
+  pub append_full : (v : ℤ) (vs : List ℤ) → m.core.values ≡ v ∷ vs → 1 ≤ length m.core.arrays → 524288 ≤ elements_in m.core.arrays → Acts m (stack_effect a.append m.core) m (actings.Fault 11)
   append_full v vs h l f = append_with m (actings.Fault 11) v vs h (append_full_of v vs m.core.arrays l f)
 
-  appended_of : (e : Kept) (v : ℤ) (vs : List ℤ) (xs : List Array) → 1 ≤ length xs → elements_in m.core.arrays < 262144 → e ≡ with_core m (with_arrays (with_values m.core vs) (with_element v xs)) → Acts m (append_on v vs xs) e actings.Done
+  appended_of : (e : Kept) (v : ℤ) (vs : List ℤ) (xs : List Array) → 1 ≤ length xs → elements_in m.core.arrays < 524288 → e ≡ with_core m (with_arrays (with_values m.core vs) (with_element v xs)) → Acts m (append_on v vs xs) e actings.Done
   appended_of e v vs [] h l g = absurd (omega arith)
-  appended_of e v vs (y ∷ ys) h l g = rw (le-leb (elements_in m.core.arrays + 1) 262144 (omega arith)) (refl, g)
+  appended_of e v vs (y ∷ ys) h l g = rw (le-leb (elements_in m.core.arrays + 1) 524288 (omega arith)) (refl, g)
 
-  pub appended : (e : Kept) (v : ℤ) (vs : List ℤ) → m.core.values ≡ v ∷ vs → 1 ≤ length m.core.arrays → elements_in m.core.arrays < 262144 → e ≡ with_core m (with_arrays (with_values m.core vs) (with_element v m.core.arrays)) → Acts m (stack_effect a.append m.core) e actings.Done
+  pub appended : (e : Kept) (v : ℤ) (vs : List ℤ) → m.core.values ≡ v ∷ vs → 1 ≤ length m.core.arrays → elements_in m.core.arrays < 524288 → e ≡ with_core m (with_arrays (with_values m.core vs) (with_element v m.core.arrays)) → Acts m (stack_effect a.append m.core) e actings.Done
   appended e v vs h l f g = append_with e actings.Done v vs h (appended_of e v vs m.core.arrays l f g)
 
   -- the one element

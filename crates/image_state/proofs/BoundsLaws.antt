@@ -124,20 +124,20 @@ module _ (m : Kept) where
     pub section_missing : length m.core.values < 0 + place_size r → Acts m (bounds_effect (a.section_bounds r) m.core) m actings.Stuck
     section_missing h = took_none m m.core (place_size r) bounded (omega arith)
 
-    pub section_full : (es : List ℕ) → 0 + place_size r ≤ length m.core.values → es ≡ extents_of (place_in (place_at 0 r m.core.values)) → 262144 < elements_in m.core.arrays + 2 * length es → Acts m (bounds_effect (a.section_bounds r) m.core) m (actings.Fault 11)
+    pub section_full : (es : List ℕ) → 0 + place_size r ≤ length m.core.values → es ≡ extents_of (place_in (place_at 0 r m.core.values)) → 524288 < elements_in m.core.arrays + 2 * length es → Acts m (bounds_effect (a.section_bounds r) m.core) m (actings.Fault 11)
     section_full es h i l =
         let ns = extents_of (place_in (place_at 0 r m.core.values)) in
         let k = pairs_long ns in
         let j = ap length i in
-        took m m (actings.Fault 11) m.core (place_size r) bounded (omega arith) (rw (lt-leb (elements_in m.core.arrays + length (pairs_numbers (from_one ns))) 262144 (omega arith)) (refl, refl))
+        took m m (actings.Fault 11) m.core (place_size r) bounded (omega arith) (rw (lt-leb (elements_in m.core.arrays + length (pairs_numbers (from_one ns))) 524288 (omega arith)) (refl, refl))
 
-    pub section_bounded : (e : Kept) (es : List ℕ) (n : ℕ) → 0 + place_size r ≤ length m.core.values → es ≡ extents_of (place_in (place_at 0 r m.core.values)) → elements_in m.core.arrays + 2 * length es ≤ 262144 → n ≡ place_size r
+    pub section_bounded : (e : Kept) (es : List ℕ) (n : ℕ) → 0 + place_size r ≤ length m.core.values → es ≡ extents_of (place_in (place_at 0 r m.core.values)) → elements_in m.core.arrays + 2 * length es ≤ 524288 → n ≡ place_size r
         → e ≡ with_core m (with_array (row_of (pairs_numbers (from_one es))) (with_values m.core (drop n m.core.values))) → Acts m (bounds_effect (a.section_bounds r) m.core) e actings.Done
     section_bounded e es n h i l j g =
         let ns = extents_of (place_in (place_at 0 r m.core.values)) in
         let k = pairs_long ns in
         let q = ap length i in
-        took m e actings.Done m.core (place_size r) bounded (omega arith) (rw (le-leb (elements_in m.core.arrays + length (pairs_numbers (from_one ns))) 262144 (omega arith)) (
+        took m e actings.Done m.core (place_size r) bounded (omega arith) (rw (le-leb (elements_in m.core.arrays + length (pairs_numbers (from_one ns))) 524288 (omega arith)) (
           refl,
           g ∙ ap (λ (t : ℕ). with_core m (with_array (row_of (pairs_numbers (from_one es))) (with_values m.core (drop t m.core.values)))) j
               ∙ ap (λ (ks : List ℕ). with_core m (with_array (row_of (pairs_numbers (from_one ks))) (with_values m.core (drop (place_size r) m.core.values)))) i,
@@ -147,19 +147,19 @@ module _ (m : Kept) where
   pub value_missing : length m.core.arrays < 1 → Acts m (bounds_effect a.value_bounds m.core) m actings.Stuck
   value_missing h = untaken_array m.core (λ x d. bounds_on_top (from_one x.extents) d) m.core.arrays h
 
-  value_full_of : (xs : List Array) → 1 ≤ length xs → 262144 < elements_in (drop 1 xs) + length (pairs_numbers (from_one (extents_on_top xs))) → Acts m (elim xs [ [] ↦ stuck | y ∷ ys ↦ bounds_on_top (from_one y.extents) (with_arrays m.core ys) ]) m (actings.Fault 11)
+  value_full_of : (xs : List Array) → 1 ≤ length xs → 524288 < elements_in (drop 1 xs) + length (pairs_numbers (from_one (extents_on_top xs))) → Acts m (elim xs [ [] ↦ stuck | y ∷ ys ↦ bounds_on_top (from_one y.extents) (with_arrays m.core ys) ]) m (actings.Fault 11)
   value_full_of [] h l = absurd (omega arith)
-  value_full_of (y ∷ ys) h l = rw (lt-leb (elements_in ys + length (pairs_numbers (from_one y.extents))) 262144 l) (refl, refl)
+  value_full_of (y ∷ ys) h l = rw (lt-leb (elements_in ys + length (pairs_numbers (from_one y.extents))) 524288 l) (refl, refl)
 
-  pub value_full : (es : List ℕ) → 1 ≤ length m.core.arrays → es ≡ extents_on_top m.core.arrays → 262144 < elements_in (drop 1 m.core.arrays) + 2 * length es → Acts m (bounds_effect a.value_bounds m.core) m (actings.Fault 11)
+  pub value_full : (es : List ℕ) → 1 ≤ length m.core.arrays → es ≡ extents_on_top m.core.arrays → 524288 < elements_in (drop 1 m.core.arrays) + 2 * length es → Acts m (bounds_effect a.value_bounds m.core) m (actings.Fault 11)
   value_full es h i l = (let k = pairs_long (extents_on_top m.core.arrays) in let j = ap length i in value_full_of m.core.arrays h (omega arith))
 
-  value_of : (e : Kept) (xs : List Array) → 1 ≤ length xs → elements_in (drop 1 xs) + length (pairs_numbers (from_one (extents_on_top xs))) ≤ 262144
+  value_of : (e : Kept) (xs : List Array) → 1 ≤ length xs → elements_in (drop 1 xs) + length (pairs_numbers (from_one (extents_on_top xs))) ≤ 524288
       → e ≡ with_core m (with_array (row_of (pairs_numbers (from_one (extents_on_top xs)))) (with_arrays m.core (drop 1 xs))) → Acts m (elim xs [ [] ↦ stuck | y ∷ ys ↦ bounds_on_top (from_one y.extents) (with_arrays m.core ys) ]) e actings.Done
   value_of e [] h l g = absurd (omega arith)
-  value_of e (y ∷ ys) h l g = rw (le-leb (elements_in ys + length (pairs_numbers (from_one y.extents))) 262144 l) (refl, g)
+  value_of e (y ∷ ys) h l g = rw (le-leb (elements_in ys + length (pairs_numbers (from_one y.extents))) 524288 l) (refl, g)
 
-  pub value_bounded : (e : Kept) (es : List ℕ) → 1 ≤ length m.core.arrays → es ≡ extents_on_top m.core.arrays → elements_in (drop 1 m.core.arrays) + 2 * length es ≤ 262144
+  pub value_bounded : (e : Kept) (es : List ℕ) → 1 ≤ length m.core.arrays → es ≡ extents_on_top m.core.arrays → elements_in (drop 1 m.core.arrays) + 2 * length es ≤ 524288
       → e ≡ with_core m (with_array (row_of (pairs_numbers (from_one es))) (with_arrays m.core (drop 1 m.core.arrays))) → Acts m (bounds_effect a.value_bounds m.core) e actings.Done
   value_bounded e es h i l g =
       let k = pairs_long (extents_on_top m.core.arrays) in

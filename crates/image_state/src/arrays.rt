@@ -59,8 +59,8 @@ impl ImageState {
 
     /// Whether there is no room for a further element.
     fn is_array_full(&self) -> bool
-        ensures full { IsTrue result → 262144 ≤ elements_in self.now.core.arrays }
-        ensures not { IsFalse result → elements_in self.now.core.arrays < 262144 }
+        ensures full { IsTrue result → 524288 ≤ elements_in self.now.core.arrays }
+        ensures not { IsFalse result → elements_in self.now.core.arrays < 524288 }
     {
         self.arrays.total() >= MOST_ELEMENTS
     }
@@ -68,7 +68,7 @@ impl ImageState {
     /// Puts an element behind those of the top array.
     fn add_element(&mut self, v: i64)
         requires there { 0 < length self.old.core.arrays }
-        requires room { elements_in self.old.core.arrays < 262144 }
+        requires room { elements_in self.old.core.arrays < 524288 }
         ensures { self.new ≡ with_core self.old (with_arrays self.old.core (with_element v self.old.core.arrays)) }
     {
         self.arrays.add(v);
@@ -78,7 +78,7 @@ impl ImageState {
     fn move_element(&mut self, v: i64)
         requires value { 0 < length self.old.core.values }
         requires there { 0 < length self.old.core.arrays }
-        requires room { elements_in self.old.core.arrays < 262144 }
+        requires room { elements_in self.old.core.arrays < 524288 }
         ensures { self.new ≡ with_core self.old (with_arrays (with_values self.old.core (drop 1 self.old.core.values)) (with_element v self.old.core.arrays)) }
     {
         self.drop_top(1);

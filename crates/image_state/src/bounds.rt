@@ -117,7 +117,7 @@ impl ImageState {
     /// Begins an array value with the bounds of these extents.
     fn begin_bounds(&mut self, extents: Extents)
         requires place { length self.old.core.arrays < self.old.rooms.arrays }
-        requires room { elements_in self.old.core.arrays + 2 * length (listed extents) ≤ 262144 }
+        requires room { elements_in self.old.core.arrays + 2 * length (listed extents) ≤ 524288 }
         ensures { self.new ≡ with_core self.old (with_array (row_of (pairs_numbers (from_one (listed extents)))) self.old.core) }
     {
         self.arrays.begin_bounds(extents);
@@ -145,7 +145,7 @@ impl ImageState {
     #[tactic(auto, using(crate::proofs::BoundsLaws::top_and_others))]
     fn spare_beneath(&self) -> usize
         requires { 0 < length self.now.core.arrays }
-        ensures { result + elements_in (drop 1 self.now.core.arrays) ≡ 262144 }
+        ensures { result + elements_in (drop 1 self.now.core.arrays) ≡ 524288 }
     {
         self.spare() + self.elements().len()
     }

@@ -68,7 +68,7 @@ impl ImageState {
     /// Begins an array value with the bounds of a coarray, a lower and an upper one for each dimension.
     pub fn begin_own_bounds(&mut self, coarray: u32)
         requires place { length self.old.core.arrays < self.old.rooms.arrays }
-        requires room { elements_in self.old.core.arrays + length (own_bounds (own_at self.old.core.coarrays coarray)) ≤ 262144 }
+        requires room { elements_in self.old.core.arrays + length (own_bounds (own_at self.old.core.coarrays coarray)) ≤ 524288 }
         ensures { self.new ≡ with_core self.old (with_array (row_of (own_bounds (own_at self.old.core.coarrays coarray))) self.old.core) }
     {
         match self.coarrays.bounds(coarray) {

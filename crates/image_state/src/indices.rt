@@ -12,7 +12,7 @@ use crate::state::{ImageState, MOST_ELEMENTS};
 impl ImageState {
     /// For how many elements there is room.
     pub fn spare(&self) -> usize
-        ensures { result + elements_in self.now.core.arrays ≡ 262144 }
+        ensures { result + elements_in self.now.core.arrays ≡ 524288 }
     {
         MOST_ELEMENTS - self.arrays.total()
     }
@@ -20,7 +20,7 @@ impl ImageState {
     /// Begins an array value with the numbers from 1 to n.
     pub fn begin_counted(&mut self, n: u32)
         requires place { length self.old.core.arrays < self.old.rooms.arrays }
-        requires room { elements_in self.old.core.arrays + n ≤ 262144 }
+        requires room { elements_in self.old.core.arrays + n ≤ 524288 }
         ensures { self.new ≡ with_core self.old (with_arrays self.old.core (row_of (counted_from 1 n) ∷ self.old.core.arrays)) }
     {
         self.arrays.begin_counted(n);
@@ -30,7 +30,7 @@ impl ImageState {
     #[tactic(auto, using(crate::proofs::IndexLaws::take_kept, crate::proofs::IndexLaws::take_within))]
     pub fn begin_indices(&mut self, indices: &[u32])
         requires { length self.old.core.arrays < self.old.rooms.arrays }
-        ensures { self.new ≡ with_core self.old (with_arrays self.old.core (row_of (take (262144 - elements_in self.old.core.arrays) (map (λ n. pos n) indices.now)) ∷ self.old.core.arrays)) }
+        ensures { self.new ≡ with_core self.old (with_arrays self.old.core (row_of (take (524288 - elements_in self.old.core.arrays) (map (λ n. pos n) indices.now)) ∷ self.old.core.arrays)) }
     {
         let kept = lesser(indices.len(), self.spare());
         self.arrays.begin_row(&indices[..kept]);

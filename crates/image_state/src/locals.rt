@@ -143,7 +143,7 @@ impl ImageState {
         requires there { HasCells (array_in (scope_of scope) x self.old.core) (place_in place.now) }
         requires few { length place.now ≤ 7 }
         requires place { length self.old.core.arrays < self.old.rooms.arrays }
-        requires room { elements_in self.old.core.arrays + cells_of (place_in place.now) ≤ 262144 }
+        requires room { elements_in self.old.core.arrays + cells_of (place_in place.now) ≤ 524288 }
         ensures { (vs : List ℤ) → loaded (array_in (scope_of scope) x self.old.core) (place_in place.now) ≡ found vs
             → self.new ≡ with_core self.old (with_array (record { extents = extents_of (place_in place.now); elements = vs }) self.old.core) }
     {
@@ -156,7 +156,7 @@ impl ImageState {
     pub fn copy_out(&mut self, scope: Scope, x: u32, extents: Extents)
         requires there { is_some (array_in (scope_of scope) x self.old.core) ≡ true }
         requires place { length self.old.core.arrays < self.old.rooms.arrays }
-        requires room { elements_in self.old.core.arrays + local_size (array_in (scope_of scope) x self.old.core) ≤ 262144 }
+        requires room { elements_in self.old.core.arrays + local_size (array_in (scope_of scope) x self.old.core) ≤ 524288 }
         ensures { (l : Local) → array_in (scope_of scope) x self.old.core ≡ Some l
             → self.new ≡ with_core self.old (with_array (record { extents = listed extents; elements = l.elements }) self.old.core) }
     {

@@ -43,7 +43,7 @@ impl ImageState {
     /// Begins an array value of rank one with these numbers.
     pub fn begin_numbers(&mut self, numbers: &[i64])
         requires place { length self.old.core.arrays < self.old.rooms.arrays }
-        requires room { elements_in self.old.core.arrays + length numbers.now ≤ 262144 }
+        requires room { elements_in self.old.core.arrays + length numbers.now ≤ 524288 }
         ensures { self.new ≡ with_core self.old (with_array (row_of numbers.now) self.old.core) }
     {
         begin_row(&mut self.arrays, numbers);

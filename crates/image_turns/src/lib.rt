@@ -4,4 +4,5 @@
 //! its passes have seen of each object (`StaysOn`).
 #![tactic(auto)]
 
+pub mod looks;
 pub mod turns;

@@ -40,15 +40,15 @@ module _ (m : Kept) where
   indices_told e h g = told_of e m.core.arrays h g
 
 module _ (m : Kept) (n : ℕ) where
-  pub every_full : n ≡ length (members m.core (current_team m.core)) → 262144 < elements_in m.core.arrays + n → Acts m (bounds_effect a.every_index m.core) m (actings.Fault 11)
-  every_full e h = (let f : 262144 < elements_in m.core.arrays + length (members m.core (current_team m.core)) = omega arith in rw (lt-leb (elements_in m.core.arrays + length (members m.core (current_team m.core))) 262144 f) (refl, refl))
+  pub every_full : n ≡ length (members m.core (current_team m.core)) → 524288 < elements_in m.core.arrays + n → Acts m (bounds_effect a.every_index m.core) m (actings.Fault 11)
+  every_full e h = (let f : 524288 < elements_in m.core.arrays + length (members m.core (current_team m.core)) = omega arith in rw (lt-leb (elements_in m.core.arrays + length (members m.core (current_team m.core))) 524288 f) (refl, refl))
 
-  pub every_told : (e : Kept) → n ≡ length (members m.core (current_team m.core)) → elements_in m.core.arrays + n ≤ 262144 → e ≡ with_core m (with_arrays m.core (row_of (counted_from 1 n) ∷ m.core.arrays)) → Acts m (bounds_effect a.every_index m.core) e actings.Done
+  pub every_told : (e : Kept) → n ≡ length (members m.core (current_team m.core)) → elements_in m.core.arrays + n ≤ 524288 → e ≡ with_core m (with_arrays m.core (row_of (counted_from 1 n) ∷ m.core.arrays)) → Acts m (bounds_effect a.every_index m.core) e actings.Done
   every_told e f h g =
       let k : ℕ = length (members m.core (current_team m.core)) in
-      let l : elements_in m.core.arrays + k ≤ 262144 = omega arith in
+      let l : elements_in m.core.arrays + k ≤ 524288 = omega arith in
       let r : row_of (counted_from 1 n) ≡ row (counted_from 1 k) k = ap (row (counted_from 1 n)) (counted_long 1 n) ∙ ap (λ j. row (counted_from 1 j) j) f in
-      rw (le-leb (elements_in m.core.arrays + k) 262144 l) (refl, g ∙ ap (λ (x : Array). with_core m (with_arrays m.core (x ∷ m.core.arrays))) r)
+      rw (le-leb (elements_in m.core.arrays + k) 524288 l) (refl, g ∙ ap (λ (x : Array). with_core m (with_arrays m.core (x ∷ m.core.arrays))) r)
 
 -- a number after another one that it differs from, and an index after another one
 module _ (v d : ℤ) where

@@ -1,7 +1,6 @@
 -- The first seat: the start, a split, a join and the end.
-use Rattle.std.proofs.Common.{◌≡◌, ◌≢◌, ℕ, zero, suc, ◌+◌, ◌^◌, ◌<◌, ◌≤◌, List, [], ◌∷◌, ◌++◌, ◌⊎◌, inl, inr, length, map, set, refl, ap, sym, ◌∙◌, subst, arith, length-set, Option, Some}
+use Rattle.std.proofs.Common.{◌≡◌, ◌≢◌, ℕ, zero, suc, ◌<◌, List, [], ◌∷◌, ◌++◌, ◌⊎◌, inl, inr, true, false, length, map, set, refl, ap, sym, ◌∙◌, subst, arith, length-set, Option, Some}
 use Rattle.std.proofs.lemmas.Bool.{cases_eq}
-use Rattle.std.proofs.lemmas.List.{length-append}
 use mathlib.Core.Option as math
 use mathlib.Core.Option.{some-injective, some-ne-none}
 use lib.ListN.{get_elem?}
@@ -9,13 +8,12 @@ use Rattle.atomic_table.specs.Table.{State, Splits, Joins, Final, Seen, opening}
 use Rattle.atomic_table.proofs.Lists.{at_set, set_here, set_else, at_longer}
 use Rattle.caf_events.specs.declared.event.Entry.{Entry}
 use Rattle.trace_theory.specs.Entries.{of, Each}
-use Rattle.trace_theory.proofs.Snocs.{each_last}
 use Rattle.turn_gate.specs.Lists.{image_of}
 use Rattle.turn_gate.specs.declared.view.View.{View}
 use Rattle.turn_gate.specs.declared.view.Kept.{Kept}
-use Rattle.turn_gate.specs.Gates.{At, StartsWith, NotIn, AreAmong, waits_at, waiting, first_view, IsMember, Sits, Desk, Keeps, with_image, newcomer, gathered, spent_view}
-use Rattle.turn_gate.proofs.Lists.{each_all, each_front, apart_more}
-use Rattle.turn_gate.proofs.Seats.{waiting_set, same_at, is_there}
+use Rattle.turn_gate.specs.Gates.{At, StartsWith, NotIn, AreAmong, first_view, IsMember, Sits, Desk, Keeps, with_image, newcomer, gathered, spent_view}
+use Rattle.turn_gate.proofs.Lists.{each_all, each_front}
+use Rattle.turn_gate.proofs.Seats.{same_at, is_there}
 use Rattle.turn_gate.proofs.Steps.{true_or}
 
 at_end : {V : Type 0} → (l : List V) (a b : V) (j : ℕ) → At (l ++ a ∷ []) j b → At l j b ⊎ ((j ≡ length l) × (a ≡ b))
@@ -23,10 +21,6 @@ at_end [] a b zero e = inr (refl, some-injective a b e)
 at_end [] a b (suc j) e = absurd (some-ne-none b (sym e))
 at_end (x ∷ xs) a b zero e = inl e
 at_end (x ∷ xs) a b (suc j) e = elim (at_end xs a b j e) [ inl t ↦ inl t | inr t ↦ inr (let n = t.0 in omega arith, t.1) ]
-
-waiting_more : (vs : List View) (v : View) → v.number ≡ 0 → waiting (vs ++ v ∷ []) ≡ waiting vs
-waiting_more [] v h = ap (λ n. waits_at n + 0) h
-waiting_more (x ∷ xs) v h = ap (λ n. waits_at x.number + n) (waiting_more xs v h)
 
 only : {V : Type 0} {f : V} (j : ℕ) (v : V) → At (f ∷ []) j v → (j ≡ 0) × (f ≡ v)
 only {V} {f} zero v e = (refl, some-injective f v e)
@@ -37,61 +31,56 @@ module _ {O : Type 0} (history : O → List Entry) (like : O → Type 0) (record
   K = Keeps history like recorded
 
   module _ (s : State (Option O) View) (k : K s) (f' : View) (views : List View)
-      (olds : (j : ℕ) (u : View) → At views j u → 0 < u.number → At s.views j u)
-      (stays : (j : ℕ) (u : View) → At s.views j u → 0 < u.number → At views j u) where
-    rebuilt : At views 0 f' → waiting views ≡ waiting s.views → Desk k.log f' → length views ≤ suc (length f'.images)
-        → ((j : ℕ) (u : View) → At views j u → Sits k.drawn k.served k.log f' u)
+      (olds : (j : ℕ) (u : View) → At views j u → u.turn ≡ true → At s.views j u)
+      (stays : (j : ℕ) (u : View) → At s.views j u → u.turn ≡ true → At views j u) where
+    rebuilt : At views 0 f' → Desk k.log f'
+        → ((j : ℕ) (u : View) → At views j u → Sits k.log f' u)
         → ((i j : ℕ) (v w : View) → At views i v → At views j w → 0 < v.image → v.image ≡ w.image → i ≡ j)
         → K record { words = s.words; homes = s.homes; views = views }
-    rebuilt first count desk few sits no_two = record {
-      drawn = k.drawn;
-      served = k.served;
+    rebuilt first desk sits no_two = record {
       log = k.log;
       f = f';
-      words = k.words;
-      tickets = k.tickets ∙ ap (λ n. k.served + n) (sym count);
       first = first;
       desk = desk;
-      few = few;
       sits = sits;
       no_two = no_two;
-      alone = λ i j v w a b pos e. k.alone i j v w (olds i v a pos) (olds j w b (omega arith)) pos e;
       slot = elim k.slot [
         | inl h ↦ inl (record {
+          word = h.word;
           object = h.object;
           home = h.home;
           is_like = h.is_like;
           history_is = h.history_is;
-          none_out = λ j u p. true_or u.turn (λ t. let n = ((sits j u p).turn t).0 in let no = h.none_out j u (olds j u p (omega arith)) in absurd (cc));
+          none_out = λ j u p. true_or u.turn (λ t. let no = h.none_out j u (olds j u p t) in absurd (cc));
         })
-        | inr out ↦ let n = ((k.sits out.seat out.holder out.sits).turn out.turn).0 in inr (record {
+        | inr out ↦ inr (record {
+          word = out.word;
           home = out.home;
           seat = out.seat;
           holder = out.holder;
-          sits = stays out.seat out.holder out.sits (omega arith);
+          sits = stays out.seat out.holder out.sits out.turn;
           turn = out.turn;
+          alone = λ j u p t. out.alone j u (olds j u p t) t;
         })
       ];
       good = k.good;
     }
 
-  first_idle : (s : State (Option O) View) (k : K s) → k.f.number ≡ 0
+  first_idle : (s : State (Option O) View) (k : K s) → k.f.turn ≡ false
   first_idle s k = (k.sits 0 k.f k.first).idle k.desk.image
 
   -- what holds of the first seat holds after a change of its lists
-  first_sits : (s : State (Option O) View) (k : K s) (f' : View) → f'.image ≡ k.f.image → f'.number ≡ k.f.number → f'.turn ≡ k.f.turn → f'.seen ≡ k.f.seen → Sits k.drawn k.served k.log f' f'
-  first_sits s k f' a b c d =
-      let h = k.sits 0 k.f k.first in
+  first_sits : (s : State (Option O) View) (k : K s) (f' : View) → f'.image ≡ k.f.image → f'.turn ≡ k.f.turn → f'.seen ≡ k.f.seen → Sits k.log f' f'
+  first_sits s k f' a b c =
       let z = first_idle s k in
       let i = k.desk.image in record {
-        range = λ pos. absurd (omega arith);
-        turn = λ t. (let n = (h.turn (sym c ∙ t)).0 in absurd (omega arith));
+        turn = λ t. absurd (cc);
         idle = λ e. b ∙ z;
-        front = subst (λ l. StartsWith k.log l) (sym d) h.front;
+        front = subst (λ l. StartsWith k.log l) (sym c) (k.sits 0 k.f k.first).front;
         member = λ pos. absurd (omega arith);
       }
 
-  module _ (s : State (Option O) View) (k : K s) (i : ℕ) (pos : 0 < i) (small : i < 2 ^ 32) (new : NotIn i k.f.images) where
+  module _ (s : State (Option O) View) (k : K s) (i : ℕ) (new : NotIn i k.f.images) where
     data_of : (j : ℕ) (u : View) → At (set s.views 0 (with_image i k.f) ++ newcomer i k.f ∷ []) j u
         → ((j ≢ 0) × At s.views j u) ⊎ ((j ≡ 0) × (with_image i k.f ≡ u)) ⊎ ((j ≡ length s.views) × (newcomer i k.f ≡ u))
     data_of j u p = elim (at_end (set s.views 0 (with_image i k.f)) (newcomer i k.f) u j p) [
@@ -114,34 +103,28 @@ module _ {O : Type 0} (history : O → List Entry) (like : O → Type 0) (record
         (λ j u p up. elim (data_of j u p) [
           | inl x ↦ x.1
           | inr y ↦ elim y [
-            | inl x ↦ let n = ap (λ (v : View). v.number) x.1 in absurd (omega arith)
-            | inr x ↦ let n = ap (λ (v : View). v.number) x.1 in absurd (omega arith)
+            | inl x ↦ let n : k.f.turn ≡ u.turn = ap (λ (v : View). v.turn) x.1 in absurd (cc)
+            | inr x ↦ let n : false ≡ u.turn = ap (λ (v : View). v.turn) x.1 in absurd (cc)
           ]
         ])
-        (λ j u p up. at_longer (set s.views 0 fw) (nw ∷ []) j u (set_else s.views 0 j fw (λ e. let n = ap (λ (v : View). v.number) (same_at s.views 0 u k.f (subst (λ x. At s.views x u) e p) k.first) in absurd (omega arith)) ∙ p))
+        (λ j u p up. at_longer (set s.views 0 fw) (nw ∷ []) j u (set_else s.views 0 j fw (λ e. let n = ap (λ (v : View). v.turn) (same_at s.views 0 u k.f (subst (λ x. At s.views x u) e p) k.first) in absurd (cc)) ∙ p))
         (at_longer (set s.views 0 fw) (nw ∷ []) 0 fw (set_here s.views 0 fw there))
-        (waiting_more (set s.views 0 fw) nw refl ∙ (let w = waiting_set s.views 0 k.f fw k.first in omega arith))
         (record {
           image = k.desk.image;
-          apart = apart_more k.f.images i k.desk.apart new;
-          small = each_last (λ x. (0 < x) × (x < 2 ^ 32)) k.f.images i k.desk.small (pos, small);
           kept = k.desk.kept;
           known = each_all (λ x. NotIn x.image k.f.images → ⊥) (λ x. NotIn x.image (k.f.images ++ i ∷ []) → ⊥) (λ x old no. old (each_front (λ y. y ≢ x.image) k.f.images i no).0) k.f.kept k.desk.known;
           others = λ x no. k.desk.others x (each_front (λ y. y ≢ x) k.f.images i no).0;
         })
-        (let a = length-append (set s.views 0 fw) (nw ∷ []) in let b = length-set s.views 0 fw in let c = length-append k.f.images (i ∷ []) in let d = k.few in omega arith)
         (λ j u p. elim (data_of j u p) [
           | inl x ↦ let h = k.sits j u x.1 in record {
-            range = h.range;
             turn = h.turn;
             idle = h.idle;
             front = h.front;
             member = λ live. (let m = h.member live in record { own = m.own; listed = λ no. m.listed (each_front (λ y. y ≢ u.image) k.f.images i no).0; free = m.free });
           }
           | inr y ↦ elim y [
-            | inl x ↦ subst (λ (v : View). Sits k.drawn k.served k.log fw v) x.1 (first_sits s k fw refl refl refl refl)
-            | inr x ↦ subst (λ (v : View). Sits k.drawn k.served k.log fw v) x.1 (record {
-              range = λ up. absurd (omega arith);
+            | inl x ↦ subst (λ (v : View). Sits k.log fw v) x.1 (first_sits s k fw refl refl refl)
+            | inr x ↦ subst (λ (v : View). Sits k.log fw v) x.1 (record {
               turn = λ t. absurd (cc);
               idle = λ e. refl;
               front = fs.front;
@@ -173,14 +156,14 @@ module _ {O : Type 0} (history : O → List Entry) (like : O → Type 0) (record
           ]
         ])
 
-  pub splits : (id : ℕ) (v : View) (i : ℕ) → id ≡ 0 → 0 < i → i < 2 ^ 32 → NotIn i v.images → Splits K id v (with_image i v) (newcomer i v)
-  splits id v i zero_id pos small new s k at =
+  pub splits : (id : ℕ) (v : View) (i : ℕ) → id ≡ 0 → NotIn i v.images → Splits K id v (with_image i v) (newcomer i v)
+  splits id v i zero_id new s k at =
       let same : v ≡ k.f = same_at s.views 0 v k.f (subst (λ j. At s.views j v) zero_id at) k.first in
       subst (λ (j : ℕ). K record { words = s.words; homes = s.homes; views = set s.views j (with_image i v) ++ newcomer i v ∷ [] }) (sym zero_id)
       (subst (λ (u : View). K record { words = s.words; homes = s.homes; views = set s.views 0 (with_image i u) ++ newcomer i u ∷ [] }) (sym same)
-      (split_keeps s k i pos small (subst (λ (u : View). NotIn i u.images) same new)))
+      (split_keeps s k i (subst (λ (u : View). NotIn i u.images) same new)))
 
-  module _ (s : State (Option O) View) (k : K s) (other : ℕ) (w : View) (apart : ¬ (other ≡ 0)) (at : At s.views other w) (live : 0 < w.image) (idle : w.number ≡ 0) where
+  module _ (s : State (Option O) View) (k : K s) (other : ℕ) (w : View) (apart : ¬ (other ≡ 0)) (at : At s.views other w) (live : 0 < w.image) (idle : w.turn ≡ false) where
     member_is : IsMember k.log k.f w
     member_is = (k.sits other w at).member live
 
@@ -199,42 +182,35 @@ module _ {O : Type 0} (history : O → List Entry) (like : O → Type 0) (record
         let nw : View = spent_view in
         let m = member_is in
         let mine = k.sits other w at in
-        let fw_at : At (set s.views 0 fw) other w = set_else s.views 0 other fw apart ∙ at in
         rebuilt s k fw (set (set s.views 0 fw) other nw)
         (λ j u p up. elim (old_of j u p) [
           | inl x ↦ x.2
           | inr y ↦ elim y [
-            | inl x ↦ let n = ap (λ (v : View). v.number) x.1 in absurd (omega arith)
-            | inr x ↦ let n = ap (λ (v : View). v.number) x.1 in absurd (omega arith)
+            | inl x ↦ let n : k.f.turn ≡ u.turn = ap (λ (v : View). v.turn) x.1 in absurd (cc)
+            | inr x ↦ let n : false ≡ u.turn = ap (λ (v : View). v.turn) x.1 in absurd (cc)
           ]
         ])
         (λ j u p up.
-        let not_first : j ≢ 0 = λ e. (let n = ap (λ (v : View). v.number) (same_at s.views 0 u k.f (subst (λ x. At s.views x u) e p) k.first) in absurd (omega arith)) in
-        let not_other : j ≢ other = λ e. (let n = ap (λ (v : View). v.number) (same_at s.views other u w (subst (λ x. At s.views x u) e p) at) in absurd (omega arith)) in
+        let not_first : j ≢ 0 = λ e. (let n = ap (λ (v : View). v.turn) (same_at s.views 0 u k.f (subst (λ x. At s.views x u) e p) k.first) in absurd (cc)) in
+        let not_other : j ≢ other = λ e. (let n = ap (λ (v : View). v.turn) (same_at s.views other u w (subst (λ x. At s.views x u) e p) at) in absurd (cc)) in
         set_else (set s.views 0 fw) other j nw not_other ∙ set_else s.views 0 j fw not_first ∙ p)
         (set_else (set s.views 0 fw) other 0 nw (λ e. apart (sym e)) ∙ set_here s.views 0 fw there)
-        (let a = waiting_set s.views 0 k.f fw k.first in let b = waiting_set (set s.views 0 fw) other w nw fw_at in let c : waits_at w.number ≡ 0 = ap waits_at idle in omega arith)
         (record {
           image = k.desk.image;
-          apart = k.desk.apart;
-          small = k.desk.small;
           kept = ((m.own, mine.front), k.desk.kept);
           known = (m.listed, k.desk.known);
           others = k.desk.others;
         })
-        (let a = length-set (set s.views 0 fw) other nw in let b = length-set s.views 0 fw in let d = k.few in omega arith)
         (λ j u p. elim (old_of j u p) [
           | inl x ↦ let h = k.sits j u x.2 in record {
-            range = h.range;
             turn = h.turn;
             idle = h.idle;
             front = h.front;
             member = λ live'. (let r = h.member live' in let ne = x.1 in record { own = r.own; listed = r.listed; free = (λ e. ne (k.no_two j other u w x.2 at live' (sym e)), r.free) });
           }
           | inr y ↦ elim y [
-            | inl x ↦ subst (λ (v : View). Sits k.drawn k.served k.log fw v) x.1 (first_sits s k fw refl refl refl refl)
-            | inr x ↦ subst (λ (v : View). Sits k.drawn k.served k.log fw v) x.1 (record {
-              range = λ up. absurd (omega arith);
+            | inl x ↦ subst (λ (v : View). Sits k.log fw v) x.1 (first_sits s k fw refl refl refl)
+            | inr x ↦ subst (λ (v : View). Sits k.log fw v) x.1 (record {
               turn = λ t. absurd (cc);
               idle = λ e. refl;
               front = (k.log, refl);
@@ -258,7 +234,7 @@ module _ {O : Type 0} (history : O → List Entry) (like : O → Type 0) (record
           ]
         ])
 
-  pub joins : (id : ℕ) (v : View) (other : ℕ) (w : View) → id ≡ 0 → 0 < w.image → w.number ≡ 0 → Joins K id v other w (gathered v w) spent_view
+  pub joins : (id : ℕ) (v : View) (other : ℕ) (w : View) → id ≡ 0 → 0 < w.image → w.turn ≡ false → Joins K id v other w (gathered v w) spent_view
   joins id v other w zero_id live idle s k at apart after =
       let same : v ≡ k.f = same_at s.views 0 v k.f (subst (λ j. At s.views j v) zero_id at) k.first in
       let at_w : At s.views other w = sym (set_else s.views id other (gathered v w) apart) ∙ after in
@@ -266,27 +242,21 @@ module _ {O : Type 0} (history : O → List Entry) (like : O → Type 0) (record
       (subst (λ (u : View). K record { words = s.words; homes = s.homes; views = set (set s.views 0 (gathered u w)) other spent_view }) (sym same)
       (join_keeps s k other w (λ e. apart (e ∙ sym zero_id)) at_w live idle))
 
-  pub opens : (start : O) → like start → history start ≡ [] → recorded [] → K (opening (0 ∷ 0 ∷ 0 ∷ []) (Some start ∷ []) first_view)
+  pub opens : (start : O) → like start → history start ≡ [] → recorded [] → K (opening (0 ∷ []) (Some start ∷ []) first_view)
   opens start same empty good = record {
-    drawn = 0;
-    served = 0;
     log = [];
     f = first_view;
-    words = refl;
-    tickets = refl;
     first = refl;
-    desk = record { image = refl; apart = tt; small = tt; kept = tt; known = tt; others = λ i no. refl };
-    few = omega arith;
-    sits = λ j v p. subst (λ (u : View). Sits 0 0 [] first_view u) (only j v p).1 (record {
-      range = λ pos. absurd (omega arith);
+    desk = record { image = refl; kept = tt; known = tt; others = λ i no. refl };
+    sits = λ j v p. subst (λ (u : View). Sits [] first_view u) (only j v p).1 (record {
       turn = λ t. absurd (cc);
       idle = λ e. refl;
       front = ([], refl);
       member = λ pos. absurd (omega arith);
     });
     no_two = λ i j v w a b pos e. (only i v a).0 ∙ sym (only j w b).0;
-    alone = λ i j v w a b pos e. (only i v a).0 ∙ sym (only j w b).0;
     slot = inl (record {
+      word = refl;
       object = start;
       home = refl;
       is_like = same;
@@ -331,9 +301,9 @@ module _ {O : Type 0} (history : O → List Entry) (like : O → Type 0) (record
         }
         | inr out ↦
             let hs = k.sits out.seat out.holder out.sits in
-            let n = (hs.turn out.turn).0 in
+            let on = out.turn in
             elim (cases_eq out.holder.image 0) [
-              | inl e ↦ let no = hs.idle e in absurd (omega arith)
+              | inl e ↦ let no = hs.idle e in absurd (cc)
               | inr ne ↦ let m = hs.member (omega arith) in absurd (m.listed (subst (λ (u : View). NotIn out.holder.image u.images) same (none_missing out.holder.image v back (subst (λ (u : View). Each (λ x. x.image ≢ out.holder.image) u.kept) (sym same) m.free))))
             ]
       ])

@@ -1,28 +1,12 @@
 -- Lists of seats, and one seat that changes.
-use Rattle.std.proofs.Common.{◌≡◌, ◌≢◌, ℕ, zero, suc, ◌+◌, ◌%◌, ◌^◌, ◌<◌, ◌≤◌, List, [], ◌∷◌, ◌⊎◌, inl, inr, length, set, ap, sym, ◌∙◌, subst, arith, length-set, Option}
+use Rattle.std.proofs.Common.{◌≡◌, ◌≢◌, ℕ, zero, suc, ◌<◌, List, [], ◌∷◌, ◌⊎◌, inl, inr, length, set, ap, sym, ◌∙◌, subst, arith, Option}
 use mathlib.Core.Option as math
 use mathlib.Core.Option.{some-injective, some-ne-none}
 use Rattle.atomic_table.specs.Table.{State}
 use Rattle.atomic_table.proofs.Lists.{at_set, set_else}
 use Rattle.caf_events.specs.declared.event.Entry.{Entry}
 use Rattle.turn_gate.specs.declared.view.View.{View}
-use Rattle.turn_gate.specs.Gates.{At, waits_at, waiting, Sits, Desk, AtHome, IsOut, Keeps}
-
-pub next_mod : (n : ℕ) → (n % 2 ^ 64 + 1) % 2 ^ 64 ≡ suc n % 2 ^ 64
-next_mod n = omega arith
-
-waits_most : (n : ℕ) → waits_at n ≤ 1
-waits_most zero = omega arith
-waits_most (suc n) = omega arith
-
-pub waiting_set : (vs : List View) (i : ℕ) (v w : View) → At vs i v → waiting (set vs i w) + waits_at v.number ≡ waiting vs + waits_at w.number
-waiting_set [] i v w e = absurd (some-ne-none v (sym e))
-waiting_set (x ∷ xs) zero v w e = let is : waits_at x.number ≡ waits_at v.number = ap (λ (m : View). waits_at m.number) (some-injective x v e) in omega arith
-waiting_set (x ∷ xs) (suc i) v w e = let r = waiting_set xs i v w e in omega arith
-
-pub waiting_most : (vs : List View) → waiting vs ≤ length vs
-waiting_most [] = omega arith
-waiting_most (x ∷ xs) = let r = waiting_most xs in let m = waits_most x.number in omega arith
+use Rattle.turn_gate.specs.Gates.{At, Sits, Desk, AtHome, IsOut, Keeps}
 
 pub same_at : (vs : List View) (i : ℕ) (v w : View) → At vs i v → At vs i w → v ≡ w
 same_at vs i v w a b = some-injective v w (sym a ∙ b)
@@ -50,45 +34,24 @@ module _ {O : Type 0} where
       ]
     ]
 
-    module _ (fresh : (j : ℕ) (u : View) → j ≢ id → At s.views j u → 0 < w.number → u.number ≢ w.number) where
-      alone_after : (i j : ℕ) (a b : View) → At (set s.views id w) i a → At (set s.views id w) j b → 0 < a.number → a.number ≡ b.number → i ≡ j
-      alone_after i j a b p q pos same = elim (at_set s.views id i w a p) [
-        | inl x ↦ elim (at_set s.views id j w b q) [
-          | inl y ↦ x.0 ∙ sym y.0
-          | inr y ↦ let n = ap (λ (u : View). u.number) x.1 in absurd (fresh j b y.0 y.1 (omega arith) (omega arith))
-        ]
-        | inr x ↦ elim (at_set s.views id j w b q) [
-          | inl y ↦ let n = ap (λ (u : View). u.number) y.1 in absurd (fresh i a x.0 x.1 (omega arith) (omega arith))
-          | inr y ↦ k.alone i j a b x.1 y.1 pos same
-        ]
-      ]
-
-      -- what the other seats know stays, and the rule holds of the one that changed
-      pub moved : (words : List ℕ) (homes : List (math.Option (Option O))) (drawn served : ℕ) (log : List Entry)
-          → words ≡ drawn % 2 ^ 64 ∷ served % 2 ^ 64 ∷ length log ∷ []
-          → drawn ≡ served + waiting (set s.views id w)
-          → Desk log k.f
-          → Sits drawn served log k.f w
-          → ((j : ℕ) (u : View) → j ≢ id → At s.views j u → Sits k.drawn k.served k.log k.f u → Sits drawn served log k.f u)
-          → AtHome history like log homes (set s.views id w) ⊎ IsOut homes (set s.views id w)
-          → recorded log
-          → Keeps history like recorded record { words = words; homes = homes; views = set s.views id w }
-      moved words homes drawn served log words_are counted desk mine others slot good = record {
-        drawn = drawn;
-        served = served;
-        log = log;
-        f = k.f;
-        words = words_are;
-        tickets = counted;
-        first = set_else s.views id 0 w (λ e. not_first (sym e)) ∙ k.first;
-        desk = desk;
-        few = (let l = length-set s.views id w in let m = k.few in omega arith);
-        sits = λ j u p. elim (at_set s.views id j w u p) [
-          | inl x ↦ subst (λ (z : View). Sits drawn served log k.f z) x.1 mine
-          | inr x ↦ others j u x.0 x.1 (k.sits j u x.1)
-        ];
-        no_two = no_two_after;
-        alone = alone_after;
-        slot = slot;
-        good = good;
-      }
+    -- what the other seats know stays, and the rule holds of the one that changed
+    pub moved : (words : List ℕ) (homes : List (math.Option (Option O))) (log : List Entry)
+        → Desk log k.f
+        → Sits log k.f w
+        → ((j : ℕ) (u : View) → j ≢ id → At s.views j u → Sits k.log k.f u → Sits log k.f u)
+        → AtHome history like log record { words = words; homes = homes; views = set s.views id w } ⊎ IsOut log record { words = words; homes = homes; views = set s.views id w }
+        → recorded log
+        → Keeps history like recorded record { words = words; homes = homes; views = set s.views id w }
+    moved words homes log desk mine others slot good = record {
+      log = log;
+      f = k.f;
+      first = set_else s.views id 0 w (λ e. not_first (sym e)) ∙ k.first;
+      desk = desk;
+      sits = λ j u p. elim (at_set s.views id j w u p) [
+        | inl x ↦ subst (λ (z : View). Sits log k.f z) x.1 mine
+        | inr x ↦ others j u x.0 x.1 (k.sits j u x.1)
+      ];
+      no_two = no_two_after;
+      slot = slot;
+      good = good;
+    }

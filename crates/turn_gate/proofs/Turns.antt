@@ -13,7 +13,7 @@ use Rattle.turn_gate.specs.declared.view.View.{View}
 use Rattle.turn_gate.specs.declared.turn.Turn.{Turn}
 use Rattle.turn_gate.specs.declared.turn.Turn.TheVariants.{Done, NotYet, Full, NoMemory}
 use Rattle.turn_gate.specs.Gates.{IsLike, IsRecorded}
-use Rattle.turn_gate.specs.Steps.{Holds, holding, drawn_view}
+use Rattle.turn_gate.specs.Steps.{Holds, holding}
 use Rattle.turn_gate.specs.Turns.{Steps, Answers, MayRecord}
 use Rattle.turn_gate.proofs.Lists.{last_same, few_entries}
 
@@ -30,7 +30,7 @@ module _ {M : Type 0} (ready : M → List Entry → ℕ → Ask → Bool) (reply
         rises = rises_more stamp_of 0 h (entry image e) r.rises (omega arith);
       }
 
-  short_enough : (h : List Entry) (image : ℕ) (ask : Ask) (line after : ℕ) (e : EventParts) → IsRecorded ready reply made h → Steps ready reply made h image ask line after e → length h + 1 < 2 ^ 64
+  short_enough : (h : List Entry) (image : ℕ) (ask : Ask) (line after : ℕ) (e : EventParts) → IsRecorded ready reply made h → Steps ready reply made h image ask line after e → length h + 1 < 2 ^ 63
   short_enough h image ask line after e r s = let n = few_entries h r.rises in let last = last_same 0 h in let b = s.below.1 in omega arith
 
   may_record : (h : List Entry) (image : ℕ) (ask : Ask) (line after : ℕ) (turn : Turn) → IsRecorded ready reply made h → Answers ready reply made h image ask line after turn → MayRecord ready reply made h image turn
@@ -52,14 +52,14 @@ pub recorded_first : {M : Type 0} (ready : M → List Entry → ℕ → Ask → 
 recorded_first ready reply made = record { served = tt; rises = tt }
 
 module _ {M O : Type 0} (made : O → M) (history : O → List Entry) (ready : M → List Entry → ℕ → Ask → Bool) (reply : M → List Entry → ℕ → Ask → Reply)
-    (start : O) (me0 me1 me2 : Me (Option O) View) (n : ℕ) (o : O)
-    (drawn : me1 ≡ (drawn_view me0.0 n, me0.1)) (h : Holds history (λ x. IsLike made start x × IsRecorded ready reply (made start) (history x)) me1 me2) (in_hand : me2.1 ≡ (0, Some o) ∷ []) where
+    (start : O) (me0 me1 : Me (Option O) View) (o : O)
+    (h : Holds history (λ x. IsLike made start x × IsRecorded ready reply (made start) (history x)) me0 me1) (in_hand : me1.1 ≡ (0, Some o) ∷ []) where
   object_is : h.object ≡ o
-  object_is = same_object me2.1 h.object o (ap (λ (m : Me (Option O) View). m.1) h.me_is) in_hand
+  object_is = same_object me1.1 h.object o (ap (λ (m : Me (Option O) View). m.1) h.me_is) in_hand
 
   -- with the object in hand
-  pub view_is : me2.0 ≡ holding (drawn_view me0.0 n) (history o)
-  view_is = ap (λ (m : Me (Option O) View). m.0) h.me_is ∙ ap (λ (m : Me (Option O) View). holding m.0 (history h.object)) drawn ∙ ap (λ x. holding (drawn_view me0.0 n) (history x)) object_is
+  pub view_is : me1.0 ≡ holding me0.0 (history o)
+  view_is = ap (λ (m : Me (Option O) View). m.0) h.me_is ∙ ap (λ x. holding me0.0 (history x)) object_is
 
   pub like_is : made o ≡ made start
   like_is = subst (λ x. made x ≡ made start) object_is h.is_known.0
@@ -72,6 +72,6 @@ module _ {M O : Type 0} (made : O → M) (history : O → List Entry) (ready : M
     answers_is = subst (λ (m : M). Answers ready reply m (history o) image ask line after turn) like_is a
 
     -- what is recorded, of the view with the object in hand
-    pub may : (v : View) → v ≡ me2.0 → MayRecord ready reply (made start) v.seen image turn
+    pub may : (v : View) → v ≡ me1.0 → MayRecord ready reply (made start) v.seen image turn
     may v same = subst (λ l. MayRecord ready reply (made start) l image turn) (sym (ap (λ (u : View). u.seen) (same ∙ view_is)))
         (may_record ready reply (made start) (history o) image ask line after turn recorded_is answers_is)

@@ -1,5 +1,5 @@
 -- What holds of a gate at every moment: of its words, of its slot, and of what each seat knows.
-use Rattle.std.specs.Prelude.{ℕ, zero, suc, ◌≡◌, ◌≢◌, ◌+◌, ◌%◌, ◌^◌, ◌<◌, ◌≤◌, ◌⊎◌, Bool, true, false, List, [], ◌∷◌, ◌++◌, length, Option, Some}
+use Rattle.std.specs.Prelude.{ℕ, suc, ◌≡◌, ◌≢◌, ◌*◌, ◌<◌, ◌⊎◌, Bool, true, false, List, [], ◌∷◌, ◌++◌, length, Option, Some}
 use Rattle.caf_events.specs.declared.ask.Ask.{Ask}
 use Rattle.caf_events.specs.declared.reply.Reply.{Reply}
 use Rattle.caf_events.specs.declared.event.Entry.{Entry}
@@ -28,24 +28,9 @@ NotIn i xs = Each (λ x. x ≢ i) xs
 abbrev pub AreAmong : List ℕ → List ℕ → Type 0
 AreAmong xs ys = Each (λ x. NotIn x ys → ⊥) xs
 
--- no number twice
-abbrev pub Apart : List ℕ → Type 0
-Apart [] = Unit {0}
-Apart (x ∷ xs) = NotIn x xs × Apart xs
-
--- 1 where the seat has a ticket
-abbrev pub waits_at : ℕ → ℕ
-waits_at zero = 0
-waits_at (suc n) = 1
-
--- how many tickets are out
-abbrev pub waiting : List View → ℕ
-waiting [] = 0
-waiting (v ∷ vs) = waits_at v.number + waiting vs
-
 -- the first seat at the start
 abbrev pub first_view : View
-first_view = record { image = 0; number = 0; turn = false; seen = []; own = []; images = []; kept = [] }
+first_view = record { image = 0; turn = false; seen = []; own = []; images = []; kept = [] }
 
 -- the object was made with what the gate's first one was made with
 abbrev pub IsLike : {M O : Type 0} → (O → M) → O → O → Type 0
@@ -63,68 +48,62 @@ pub record IsMember (log : List Entry) (f v : View) : Type 0 where
   pub free : Each (λ x. x.image ≢ v.image) f.kept
 
 -- what holds of each seat, also of the first one and of those that were given back
-pub record Sits (drawn served : ℕ) (log : List Entry) (f v : View) : Type 0 where
-  pub range : 0 < v.number → (served < v.number) × (v.number ≤ drawn)
-  pub turn : v.turn ≡ true → (v.number ≡ suc served) × (v.seen ≡ log)
-  pub idle : v.image ≡ 0 → v.number ≡ 0
+pub record Sits (log : List Entry) (f v : View) : Type 0 where
+  pub turn : v.turn ≡ true → v.seen ≡ log
+  pub idle : v.image ≡ 0 → v.turn ≡ false
   pub front : StartsWith log v.seen
   pub member : 0 < v.image → IsMember log f v
 
 -- the images of the first seat's list, and what it knows of those whose seats were given back
 pub record Desk (log : List Entry) (f : View) : Type 0 where
   pub image : f.image ≡ 0
-  pub apart : Apart f.images
-  pub small : Each (λ i. (0 < i) × (i < 2 ^ 32)) f.images
   pub kept : Each (λ x. (of image_of x.image log ≡ x.own) × StartsWith log x.seen) f.kept
   pub known : Each (λ x. NotIn x.image f.images → ⊥) f.kept
   pub others : (i : ℕ) → NotIn i f.images → of image_of i log ≡ []
 
--- no seat holds the slot: the object is in it, and its history is the recorded one
-pub record AtHome {O : Type 0} (history : O → List Entry) (like : O → Type 0) (log : List Entry) (homes : List (math.Option (Option O))) (views : List View) : Type 0 where
+-- no seat holds the slot: the word is twice the number of entries, the object is in the slot, and its history is the recorded one
+pub record AtHome {O : Type 0} (history : O → List Entry) (like : O → Type 0) (log : List Entry) (s : State (Option O) View) : Type 0 where
+  pub word : s.words ≡ 2 * length log ∷ []
   pub object : O
-  pub home : homes ≡ math.some (Some object) ∷ []
+  pub home : s.homes ≡ math.some (Some object) ∷ []
   pub is_like : like object
   pub history_is : history object ≡ log
-  pub none_out : (k : ℕ) (v : View) → At views k v → v.turn ≡ false
+  pub none_out : (k : ℕ) (v : View) → At s.views k v → v.turn ≡ false
 
--- a seat holds the slot
-pub record IsOut {O : Type 0} (homes : List (math.Option (Option O))) (views : List View) : Type 0 where
-  pub home : homes ≡ math.none ∷ []
+-- one seat holds the slot: the word is one more
+pub record IsOut {O : Type 0} (log : List Entry) (s : State (Option O) View) : Type 0 where
+  pub word : s.words ≡ suc (2 * length log) ∷ []
+  pub home : s.homes ≡ math.none ∷ []
   pub seat : ℕ
   pub holder : View
-  pub sits : At views seat holder
+  pub sits : At s.views seat holder
   pub turn : holder.turn ≡ true
+  pub alone : (k : ℕ) (v : View) → At s.views k v → v.turn ≡ true → k ≡ seat
 
--- the rule: drawn and served tickets without end, and the recorded history
+-- the rule: the recorded history, and one seat has the turn or none
 pub record Keeps {O : Type 0} (history : O → List Entry) (like : O → Type 0) (recorded : List Entry → Type 0) (s : State (Option O) View) : Type 0 where
-  pub drawn : ℕ
-  pub served : ℕ
   pub log : List Entry
   pub f : View
-  pub words : s.words ≡ drawn % 2 ^ 64 ∷ served % 2 ^ 64 ∷ length log ∷ []
-  pub tickets : drawn ≡ served + waiting s.views
   pub first : At s.views 0 f
   pub desk : Desk log f
-  pub few : length s.views ≤ suc (length f.images)
-  pub sits : (k : ℕ) (v : View) → At s.views k v → Sits drawn served log f v
+  pub sits : (k : ℕ) (v : View) → At s.views k v → Sits log f v
   pub no_two : (j k : ℕ) (v w : View) → At s.views j v → At s.views k w → 0 < v.image → v.image ≡ w.image → j ≡ k
-  pub alone : (j k : ℕ) (v w : View) → At s.views j v → At s.views k w → 0 < v.number → v.number ≡ w.number → j ≡ k
-  pub slot : AtHome history like log s.homes s.views ⊎ IsOut s.homes s.views
+  pub slot : AtHome history like log s ⊎ IsOut log s
   pub good : recorded log
 
 -- the views of the two seats after a split for image i
 abbrev pub with_image : ℕ → View → View
-with_image i f = record { image = f.image; number = f.number; turn = f.turn; seen = f.seen; own = f.own; images = f.images ++ i ∷ []; kept = f.kept }
+with_image i f = record { image = f.image; turn = f.turn; seen = f.seen; own = f.own; images = f.images ++ i ∷ []; kept = f.kept }
 
 abbrev pub newcomer : ℕ → View → View
-newcomer i f = record { image = i; number = 0; turn = false; seen = f.seen; own = []; images = []; kept = [] }
+newcomer i f = record { image = i; turn = false; seen = f.seen; own = []; images = []; kept = [] }
 
 -- the views of the two seats after a seat was given back
 abbrev pub kept_of : View → Kept
 kept_of v = record { image = v.image; seen = v.seen; own = v.own }
 
 abbrev pub gathered : View → View → View
-gathered f v = record { image = f.image; number = f.number; turn = f.turn; seen = f.seen; own = f.own; images = f.images; kept = kept_of v ∷ f.kept }
+gathered f v = record { image = f.image; turn = f.turn; seen = f.seen; own = f.own; images = f.images; kept = kept_of v ∷ f.kept }
 
 abbrev pub spent_view : View
-spent_view = record { image = 0; number = 0; turn = false; seen = []; own = []; images = []; kept = [] }
+spent_view = record { image = 0; turn = false; seen = []; own = []; images = []; kept = [] }

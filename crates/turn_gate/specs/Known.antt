@@ -21,12 +21,11 @@ view_of (v ∷ vs) = v
 abbrev pub known : ℕ → TableId → View → Known
 known image gate v = record { gate = gate; image = image; seen = v.seen; own = v.own; images = v.images }
 
--- the seat of a pass between two turns: it has no ticket
+-- the seat of a pass between two turns
 pub record Rests (image id : ℕ) (views : List View) : Type 0 where
   pub view : View
   pub one : views ≡ view ∷ []
   pub image_is : view.image ≡ image
-  pub number : view.number ≡ 0
   pub turn : view.turn ≡ false
   pub first : image ≡ 0 → id ≡ 0
   pub kept : view.kept ≡ []

@@ -8,7 +8,7 @@ use Rattle.caf_events.specs.Histories.{last_stamp_of}
 use Rattle.trace_theory.specs.Entries.{of}
 use Rattle.turn_gate.specs.Lists.{image_of, entry}
 use Rattle.turn_gate.specs.Gates.{StartsWith, IsRecorded}
-use Rattle.turn_gate.specs.Steps.{noted}
+use Rattle.turn_gate.specs.Steps.{noted, rested}
 use Rattle.turn_gate.specs.declared.view.View.{View}
 use Rattle.turn_gate.specs.declared.turn.Turn.{Turn}
 use Rattle.turn_gate.specs.declared.turn.Turn.TheVariants.{Done, NotYet, Full, NoMemory}
@@ -28,12 +28,12 @@ history_by (NotYet back) image h = h
 history_by (Full back last) image h = h
 history_by (NoMemory back) image h = h
 
--- the seat's view with one more entry, where an event was made
+-- the seat's view after a turn: with one more entry, where an event was made
 abbrev pub noted_by : Turn → ℕ → View → View
 noted_by (Done e) image v = noted v (entry image e)
-noted_by (NotYet back) image v = v
-noted_by (Full back last) image v = v
-noted_by (NoMemory back) image v = v
+noted_by (NotYet back) image v = rested v
+noted_by (Full back last) image v = rested v
+noted_by (NoMemory back) image v = rested v
 
 module _ {M : Type 0} (ready : M → List Entry → ℕ → Ask → Bool) (reply : M → List Entry → ℕ → Ask → Reply) (made : M) where
   -- the event of an ask for which the object was ready after the history h: the reply that is due there, and a stamp above both last ones
@@ -49,9 +49,9 @@ module _ {M : Type 0} (ready : M → List Entry → ℕ → Ask → Bool) (reply
   Answers h image ask line after (Full back last) = (back ≡ ask) × IsFull after h last
   Answers h image ask line after (NoMemory back) = back ≡ ask
 
-  -- where an event was made, it may be recorded behind what was seen, and the count doesn't wrap
+  -- where an event was made, it may be recorded behind what was seen, and the word doesn't wrap
   abbrev pub MayRecord : List Entry → ℕ → Turn → Type 0
-  MayRecord seen image (Done e) = (length seen + 1 < 2 ^ 64) × IsRecorded ready reply made (seen ++ entry image e ∷ [])
+  MayRecord seen image (Done e) = (length seen + 1 < 2 ^ 63) × IsRecorded ready reply made (seen ++ entry image e ∷ [])
   MayRecord seen image (NotYet back) = Unit {0}
   MayRecord seen image (Full back last) = Unit {0}
   MayRecord seen image (NoMemory back) = Unit {0}

@@ -1,6 +1,6 @@
 //! The lock's start, the seats of images, and its end.
 
-ghost use Rattle.std.specs.Prelude.{◌≡◌, ℕ, ◌<◌, [], ◌∷◌, map, IfOk};
+ghost use Rattle.std.specs.Prelude.{◌≡◌, ℕ, ◌<◌, false, [], ◌∷◌, map, IfOk};
 ghost use Rattle.turn_gate.specs.Gates.{IsLike, IsRecorded, NotIn, AreAmong, first_view, with_image, newcomer, gathered};
 ghost use Rattle.turn_gate.specs.Closings.{Closes, kept_image};
 
@@ -29,7 +29,7 @@ impl<O: Object> Lock<O> {
         let start = Snapshot::of(&object);
         let mut slots = Vec::new(alloc);
         slots.push(Some(object))?;
-        match Table::new(alloc, &[0, 0, 0], slots, &start) {
+        match Table::new(alloc, &[0], slots, &start) {
             Ok((table, seat)) => Ok((Lock { table }, seat)),
             Err(refused) => {
                 let Refused { slots: _ } = refused;
@@ -45,7 +45,7 @@ impl<O: Object> Lock<O> {
         image: ImageNo,
     ) -> Seat<Option<O>, View>
         requires seat { (first.old.table_id ≡ self.now.table.shared.table_id) × (first.old.id ≡ 0) }
-        requires image { (image.0 ≡ J.number) × (0 < image.0) × NotIn image.0 first.old.me.0.images }
+        requires image { (image.0 ≡ J.number) × NotIn image.0 first.old.me.0.images }
         ensures first { (first.new.table_id ≡ first.old.table_id) × (first.new.id ≡ first.old.id) × (first.new.me ≡ (with_image image.0 first.old.me.0, first.old.me.1)) }
         ensures seat { (result.table_id ≡ first.old.table_id) × (result.me ≡ (newcomer image.0 first.old.me.0, [])) }
     {
@@ -59,7 +59,7 @@ impl<O: Object> Lock<O> {
         image: ImageNo,
     ) -> Seat<Option<O>, View>
         requires seat { (first.old.table_id ≡ self.now.table.shared.table_id) × (first.old.id ≡ 0) }
-        requires image { (0 < image.0) × NotIn image.0 first.old.me.0.images }
+        requires image { NotIn image.0 first.old.me.0.images }
         ensures first { (first.new.table_id ≡ first.old.table_id) × (first.new.id ≡ first.old.id) × (first.new.me ≡ (with_image image.0 first.old.me.0, first.old.me.1)) }
         ensures seat { (result.table_id ≡ first.old.table_id) × (result.me ≡ (newcomer image.0 first.old.me.0, [])) }
     {
@@ -69,7 +69,7 @@ impl<O: Object> Lock<O> {
     /// Join: an image's seat is given back.
     pub(crate) fn give_back(&self, first: &mut Seat<Option<O>, View>, other: Seat<Option<O>, View>)
         requires seat { (first.old.table_id ≡ self.now.table.shared.table_id) × (first.old.id ≡ 0) }
-        requires other { (other.table_id ≡ self.now.table.shared.table_id) × (0 < other.me.0.image) × (other.me.0.number ≡ 0) × (other.me.1 ≡ []) }
+        requires other { (other.table_id ≡ self.now.table.shared.table_id) × (0 < other.me.0.image) × (other.me.0.turn ≡ false) × (other.me.1 ≡ []) }
         ensures first { (first.new.table_id ≡ first.old.table_id) × (first.new.id ≡ first.old.id) × (first.new.me ≡ (gathered first.old.me.0 other.me.0, first.old.me.1)) }
     {
         self.table.shared.join_seat::<Gather>(first, other);

@@ -1,13 +1,13 @@
-//! The lock round an object: a seat draws a ticket, waits for its turn, takes the object out of the slot, records what was done, puts the object
-//! back and passes the turn on.
+//! The lock round an object: a seat seizes the turn, takes the object out of the slot, puts it back and gives the
+//! turn up.
 
-ghost use Rattle.std.specs.Prelude.{◌≡◌, ℕ, ◌+◌, ◌-◌, ◌%◌, ◌^◌, ◌<◌, ◌++◌, List, [], ◌∷◌, length, true, false, Some, None};
+ghost use Rattle.std.specs.Prelude.{◌≡◌, ℕ, ◌+◌, ◌%◌, ◌^◌, ◌<◌, ◌++◌, List, [], ◌∷◌, length, true, false, Some, None, MatchBool};
 ghost use Rattle.turn_gate.specs.Lists.{entry};
 ghost use Rattle.turn_gate.specs.Gates.{IsLike, IsRecorded};
-ghost use Rattle.turn_gate.specs.Steps.{Holds, drawn_view, noted, done_view};
-ghost use Rattle.turn_gate.specs.Turns.{MayRecord, SameSeat, Tells, noted_by};
+ghost use Rattle.turn_gate.specs.Steps.{Holds, noted, rested};
+ghost use Rattle.turn_gate.specs.Turns.{MayRecord, SameSeat, Tells, history_by, noted_by};
 
-use crate::rule::{Draw, GateRule, Noted, Record, Serve, Taken, Watch};
+use crate::rule::{GateRule, Leave, Noted, Record, Seize, Taken};
 use crate::turn::{Turn, serve_at};
 use crate::view::View;
 use atomic_table::{Seat, Table};
@@ -22,12 +22,8 @@ use std::marker::Brand;
 use std::snapshot::Snapshot;
 use std::sync::Wait;
 
-// The words of the table, and its slot.
-pub(crate) const TICKET: usize = 0;
-
-pub(crate) const SERVING: usize = 1;
-
-pub(crate) const ENTRIES: usize = 2;
+// The word of the table, and its slot.
+pub(crate) const STATE: usize = 0;
 
 pub(crate) const OBJECT: usize = 0;
 
@@ -42,56 +38,62 @@ pub(crate) fn out_of<O>(slot: Option<O>) -> O
     }
 }
 
-/// A ticket lock: the words ticket, serving and entry count, and one slot, which holds the object while no seat has the turn.
+/// A lock of one word, twice the number of entries and one more while a seat has the turn, and one slot, which holds
+/// the object while no seat has it.
 #[derive(Drop)]
 pub struct Lock<O: Object> {
     pub(crate) table: Table<Option<O>, View, Snapshot<O>, GateRule<O>, Global>,
-    ghost sized: { (table.shared.table_id.words ≡ 3) × (table.shared.table_id.slots ≡ 1) },
+    ghost sized: { (table.shared.table_id.words ≡ 1) × (table.shared.table_id.slots ≡ 1) },
 }
 
 impl<O: Object> Lock<O> {
-    // Draw: the seat gets the next ticket.
-    fn draw(&self, seat: &mut Seat<Option<O>, View>) -> u64
-        requires seat { seat.old.table_id ≡ self.now.table.shared.table_id }
-        requires live { 0 < seat.old.me.0.image }
-        requires idle { seat.old.me.0.number ≡ 0 }
-        ensures seat { (seat.new.table_id ≡ seat.old.table_id) × (seat.new.id ≡ seat.old.id) }
-        ensures drawn { (n : ℕ) × (result ≡ n % 2 ^ 64) × (seat.new.me ≡ (drawn_view seat.old.me.0 n, seat.old.me.1)) }
-    {
-        self.table.shared.fetch_add::<Draw>(seat, TICKET, 1)
-    }
-
-    // Watch, until the seat's own number is served. This is the one place where a gate waits.
-    fn await_as<R: Wait, J: Taken<O>>(&self, rt: &R, seat: &mut Seat<Option<O>, View>, ticket: u64)
+    // Seize: where the word is still as it was read, and even, it is one more, and the seat has the turn. True where
+    // it has.
+    fn try_seize_as<J: Taken<O>>(&self, seat: &mut Seat<Option<O>, View>, state: u64) -> bool
         requires known { (o : O) → IsLike O.made self.now.table.shared.key.value o → IsRecorded O.ready_after O.reply_after (O.made self.now.table.shared.key.value) (O.history o) → J.known o }
         requires seat { seat.old.table_id ≡ self.now.table.shared.table_id }
         requires live { 0 < seat.old.me.0.image }
-        requires ticket { (0 < seat.old.me.0.number) × (ticket ≡ (seat.old.me.0.number - 1) % 2 ^ 64) }
+        requires even { state % 2 ≡ 0 }
         requires off { (seat.old.me.0.turn ≡ false) × (seat.old.me.1 ≡ []) }
         ensures seat { (seat.new.table_id ≡ seat.old.table_id) × (seat.new.id ≡ seat.old.id) }
-        ensures holds { Holds O.history J.known seat.old.me seat.new.me }
+        ensures holds { MatchBool result (Holds O.history J.known seat.old.me seat.new.me) (seat.new.me ≡ seat.old.me) }
+    {
+        let found = self
+            .table
+            .shared
+            .compare_exchange::<Seize<J>>(seat, STATE, state, state + 1);
+        found == state
+    }
+
+    // The same, and it is known which objects a gate has.
+    fn try_seize(&self, seat: &mut Seat<Option<O>, View>, state: u64) -> bool
+        requires seat { seat.old.table_id ≡ self.now.table.shared.table_id }
+        requires live { 0 < seat.old.me.0.image }
+        requires even { state % 2 ≡ 0 }
+        requires off { (seat.old.me.0.turn ≡ false) × (seat.old.me.1 ≡ []) }
+        ensures seat { (seat.new.table_id ≡ seat.old.table_id) × (seat.new.id ≡ seat.old.id) }
+        ensures holds { MatchBool result (Holds O.history (λ o. IsLike O.made self.now.table.shared.key.value o × IsRecorded O.ready_after O.reply_after (O.made self.now.table.shared.key.value) (O.history o)) seat.old.me seat.new.me) (seat.new.me ≡ seat.old.me) }
+    {
+        self.try_seize_as::<Brand>(seat, state)
+    }
+
+    // Seize, again and again. This is the one place where a gate waits: whoever runs while the turn is free gets it.
+    fn seize<R: Wait>(&self, rt: &R, seat: &mut Seat<Option<O>, View>)
+        requires seat { seat.old.table_id ≡ self.now.table.shared.table_id }
+        requires live { 0 < seat.old.me.0.image }
+        requires off { (seat.old.me.0.turn ≡ false) × (seat.old.me.1 ≡ []) }
+        ensures seat { (seat.new.table_id ≡ seat.old.table_id) × (seat.new.id ≡ seat.old.id) }
+        ensures holds { Holds O.history (λ o. IsLike O.made self.now.table.shared.key.value o × IsRecorded O.ready_after O.reply_after (O.made self.now.table.shared.key.value) (O.history o)) seat.old.me seat.new.me }
     {
         let backoff = Backoff::new();
         for _ in rt.forever() {
-            let serving = self.table.shared.load::<Watch<J>>(seat, SERVING);
-            if serving == ticket {
+            let state = self.table.shared.peek(STATE);
+            if state % 2 == 0 && self.try_seize(seat, state) {
                 return;
             }
             backoff.snooze();
         }
         unreachable!()
-    }
-
-    // The same, and it is known which objects a gate has.
-    fn await_turn<R: Wait>(&self, rt: &R, seat: &mut Seat<Option<O>, View>, ticket: u64)
-        requires seat { seat.old.table_id ≡ self.now.table.shared.table_id }
-        requires live { 0 < seat.old.me.0.image }
-        requires ticket { (0 < seat.old.me.0.number) × (ticket ≡ (seat.old.me.0.number - 1) % 2 ^ 64) }
-        requires off { (seat.old.me.0.turn ≡ false) × (seat.old.me.1 ≡ []) }
-        ensures seat { (seat.new.table_id ≡ seat.old.table_id) × (seat.new.id ≡ seat.old.id) }
-        ensures holds { Holds O.history (λ o. IsLike O.made self.now.table.shared.key.value o × IsRecorded O.ready_after O.reply_after (O.made self.now.table.shared.key.value) (O.history o)) seat.old.me seat.new.me }
-    {
-        self.await_as::<R, Brand>(rt, seat, ticket);
     }
 
     // Take: the object comes out of the slot.
@@ -116,56 +118,59 @@ impl<O: Object> Lock<O> {
         let None = found else { unreachable!() };
     }
 
-    // Record: one entry more is counted.
+    // Record: the slot goes home, and one entry more is counted.
     fn record_as<J: Noted>(&self, seat: &mut Seat<Option<O>, View>, image: ImageNo, event: &Event)
         requires seat { seat.old.table_id ≡ self.now.table.shared.table_id }
         requires entry { J.noted ≡ entry image.0 event.now }
         requires live { (0 < image.0) × (seat.old.me.0.image ≡ image.0) × (seat.old.me.0.turn ≡ true) }
-        requires short { length seat.old.me.0.seen + 1 < 2 ^ 64 }
+        requires short { length seat.old.me.0.seen + 1 < 2 ^ 63 }
         requires recorded { IsRecorded O.ready_after O.reply_after (O.made self.now.table.shared.key.value) (seat.old.me.0.seen ++ entry image.0 event.now ∷ []) }
+        requires whole { (o : O) × (seat.old.me.1 ≡ (0, Some o) ∷ []) × (O.history o ≡ seat.old.me.0.seen ++ entry image.0 event.now ∷ []) × IsLike O.made self.now.table.shared.key.value o }
         ensures seat { (seat.new.table_id ≡ seat.old.table_id) × (seat.new.id ≡ seat.old.id) }
-        ensures noted { seat.new.me ≡ (noted seat.old.me.0 (entry image.0 event.now), seat.old.me.1) }
+        ensures noted { seat.new.me ≡ (noted seat.old.me.0 (entry image.0 event.now), []) }
     {
-        self.table.shared.fetch_add::<Record<J>>(seat, ENTRIES, 1);
+        self.table.shared.fetch_add::<Record<J>>(seat, STATE, 1);
     }
 
     // The same, of the entry of an image's event.
     fn record(&self, seat: &mut Seat<Option<O>, View>, image: ImageNo, event: &Event)
         requires seat { seat.old.table_id ≡ self.now.table.shared.table_id }
         requires live { (0 < image.0) × (seat.old.me.0.image ≡ image.0) × (seat.old.me.0.turn ≡ true) }
-        requires short { length seat.old.me.0.seen + 1 < 2 ^ 64 }
+        requires short { length seat.old.me.0.seen + 1 < 2 ^ 63 }
         requires recorded { IsRecorded O.ready_after O.reply_after (O.made self.now.table.shared.key.value) (seat.old.me.0.seen ++ entry image.0 event.now ∷ []) }
+        requires whole { (o : O) × (seat.old.me.1 ≡ (0, Some o) ∷ []) × (O.history o ≡ seat.old.me.0.seen ++ entry image.0 event.now ∷ []) × IsLike O.made self.now.table.shared.key.value o }
         ensures seat { (seat.new.table_id ≡ seat.old.table_id) × (seat.new.id ≡ seat.old.id) }
-        ensures noted { seat.new.me ≡ (noted seat.old.me.0 (entry image.0 event.now), seat.old.me.1) }
+        ensures noted { seat.new.me ≡ (noted seat.old.me.0 (entry image.0 event.now), []) }
     {
         self.record_as::<Brand>(seat, image, event);
     }
 
-    // Records what was done, if anything was.
-    fn note(&self, seat: &mut Seat<Option<O>, View>, image: ImageNo, turn: &Turn)
-        requires seat { seat.old.table_id ≡ self.now.table.shared.table_id }
-        requires live { (0 < image.0) × (seat.old.me.0.image ≡ image.0) × (seat.old.me.0.turn ≡ true) }
-        requires recorded { MayRecord O.ready_after O.reply_after (O.made self.now.table.shared.key.value) seat.old.me.0.seen image.0 turn.now }
-        ensures seat { (seat.new.table_id ≡ seat.old.table_id) × (seat.new.id ≡ seat.old.id) }
-        ensures noted { seat.new.me ≡ (noted_by turn.now image.0 seat.old.me.0, seat.old.me.1) }
-    {
-        match turn {
-            Turn::Done(event) => self.record(seat, image, event),
-            Turn::NotYet(_) => {}
-            Turn::Full { .. } => {}
-            Turn::NoMemory(_) => {}
-        }
-    }
-
-    // Serve: the slot goes home, and the next number is served.
-    fn serve(&self, seat: &mut Seat<Option<O>, View>)
+    // Leave: the slot goes home, with the object as it was.
+    fn leave(&self, seat: &mut Seat<Option<O>, View>)
         requires seat { seat.old.table_id ≡ self.now.table.shared.table_id }
         requires live { (0 < seat.old.me.0.image) × (seat.old.me.0.turn ≡ true) }
         requires whole { (o : O) × (seat.old.me.1 ≡ (0, Some o) ∷ []) × (O.history o ≡ seat.old.me.0.seen) × IsLike O.made self.now.table.shared.key.value o }
         ensures seat { (seat.new.table_id ≡ seat.old.table_id) × (seat.new.id ≡ seat.old.id) }
-        ensures done { seat.new.me ≡ (done_view seat.old.me.0, []) }
+        ensures rested { seat.new.me ≡ (rested seat.old.me.0, []) }
     {
-        self.table.shared.fetch_add::<Serve>(seat, SERVING, 1);
+        self.table.shared.fetch_sub::<Leave>(seat, STATE, 1);
+    }
+
+    // Gives the turn up: with Record where an event was made, and else with Leave.
+    fn release(&self, seat: &mut Seat<Option<O>, View>, image: ImageNo, turn: &Turn)
+        requires seat { seat.old.table_id ≡ self.now.table.shared.table_id }
+        requires live { (0 < image.0) × (seat.old.me.0.image ≡ image.0) × (seat.old.me.0.turn ≡ true) }
+        requires recorded { MayRecord O.ready_after O.reply_after (O.made self.now.table.shared.key.value) seat.old.me.0.seen image.0 turn.now }
+        requires whole { (o : O) × (seat.old.me.1 ≡ (0, Some o) ∷ []) × (O.history o ≡ history_by turn.now image.0 seat.old.me.0.seen) × IsLike O.made self.now.table.shared.key.value o }
+        ensures seat { (seat.new.table_id ≡ seat.old.table_id) × (seat.new.id ≡ seat.old.id) }
+        ensures noted { seat.new.me ≡ (noted_by turn.now image.0 seat.old.me.0, []) }
+    {
+        match turn {
+            Turn::Done(event) => self.record(seat, image, event),
+            Turn::NotYet(_) => self.leave(seat),
+            Turn::Full { .. } => self.leave(seat),
+            Turn::NoMemory(_) => self.leave(seat),
+        }
     }
 
     /// A whole turn: the object is asked once.
@@ -182,22 +187,20 @@ impl<O: Object> Lock<O> {
     ) -> Turn
         requires seat { seat.old.table_id ≡ self.now.table.shared.table_id }
         requires live { (0 < image.0) × (seat.old.me.0.image ≡ image.0) }
-        requires idle { (seat.old.me.0.number ≡ 0) × (seat.old.me.0.turn ≡ false) × (seat.old.me.1 ≡ []) }
+        requires idle { (seat.old.me.0.turn ≡ false) × (seat.old.me.1 ≡ []) }
         ensures seat { (seat.new.table_id ≡ seat.old.table_id) × (seat.new.id ≡ seat.old.id) }
-        ensures idle { (seat.new.me.0.number ≡ 0) × (seat.new.me.0.turn ≡ false) × (seat.new.me.1 ≡ []) }
+        ensures idle { (seat.new.me.0.turn ≡ false) × (seat.new.me.1 ≡ []) }
         ensures same { SameSeat seat.old.me.0 seat.new.me.0 }
         ensures tells { Tells O.ready_after O.reply_after (O.made self.now.table.shared.key.value) image.0 seat.old.me.0.seen seat.old.me.0.own seat.new.me.0.seen seat.new.me.0.own ask line after result }
     {
         let place = ask.place();
         hook.at(worker, place, HookStep::Before);
-        let ticket = self.draw(seat);
-        self.await_turn(rt, seat, ticket);
+        self.seize(rt, seat);
         let mut object = self.take(seat);
         hook.at(worker, place, HookStep::Holding);
         let turn = serve_at(&mut object, image, ask, line, after);
-        self.note(seat, image, &turn);
         self.put_back(seat, object);
-        self.serve(seat);
+        self.release(seat, image, &turn);
         hook.at(worker, place, HookStep::After);
         turn
     }

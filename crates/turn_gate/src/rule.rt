@@ -5,7 +5,7 @@ ghost use Rattle.caf_events.specs.declared.ask.Ask.TheVariants as asks;
 ghost use Rattle.caf_events.specs.declared.reply.Reply.TheVariants as replies;
 ghost use Rattle.caf_events.specs.declared.event.Entry.{Entry};
 ghost use Rattle.turn_gate.specs.Gates.{Keeps, IsLike, IsRecorded, first_view, with_image, newcomer, gathered, spent_view};
-ghost use Rattle.turn_gate.specs.Steps.{Draws, Watches, Records, Serves};
+ghost use Rattle.turn_gate.specs.Steps.{Seizes, Records, Leaves};
 
 use crate::view::View;
 use atomic_table::{Join, Play, Split, TableRule};
@@ -24,13 +24,6 @@ impl<O: Object> TableRule<Option<O>, View, Snapshot<O>> for GateRule<O> {
     ghost first = { λ key. first_view };
 }
 
-/// A ticket is drawn.
-pub struct Draw;
-
-impl<O> Play<O, View> for Draw {
-    ghost then = { Draws };
-}
-
 /// What is known of the object that is taken; each call picks it.
 pub trait Taken<O> {
     ghost known: { O → Type 0 };
@@ -40,13 +33,13 @@ impl<O> Taken<O> for Brand {
     ghost known = { λ _. Unit {0} };
 }
 
-/// The number that is served is looked at: at its own number the seat has the turn.
-pub struct Watch<J> {
+/// The turn is seized, where no seat has it.
+pub struct Seize<J> {
     taken: PhantomData<J>,
 }
 
-impl<O: Object, J: Taken<O>> Play<Option<O>, View> for Watch<J> {
-    ghost then = { Watches O.history J.known };
+impl<O: Object, J: Taken<O>> Play<Option<O>, View> for Seize<J> {
+    ghost then = { Seizes O.history J.known };
 }
 
 /// The entry that is recorded; each call picks it.
@@ -58,7 +51,7 @@ impl Noted for Brand {
     ghost noted = { record { image = record { 0 = 0 }; event = record { ask = asks.Unpair; reply = replies.Done; stamp = 0; line = 0 } } };
 }
 
-/// An entry was applied.
+/// The turn is given up, and an entry was applied in it.
 pub struct Record<J> {
     noted: PhantomData<J>,
 }
@@ -67,11 +60,11 @@ impl<O, J: Noted> Play<O, View> for Record<J> {
     ghost then = { Records J.noted };
 }
 
-/// The turn is passed on.
-pub struct Serve;
+/// The turn is given up, and the object is as before.
+pub struct Leave;
 
-impl<O> Play<O, View> for Serve {
-    ghost then = { Serves };
+impl<O> Play<O, View> for Leave {
+    ghost then = { Leaves };
 }
 
 /// The number of the image for which a seat is split; each call picks it.

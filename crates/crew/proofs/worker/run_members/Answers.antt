@@ -7,17 +7,16 @@ loop-init g c = go_on_same g.M.Walker c.args.gates.now.board c.args.gates.now.me
 pub run_round-requires-clause-passes : goal.run_round-requires-clause-passes
 run_round-requires-clause-passes g c = passes_after g.M.Walker c.args.gates.now.board c.args.gates.now.memories.items c.args.members.now.items c.loop.members.items c.loop.invariant
 
-pub returns-in_err-run_round-clause-stays : goal.returns-in_err-run_round-clause-stays
-returns-in_err-run_round-clause-stays g c = go_on_both g.M.Walker c.args.gates.now.board c.args.gates.now.memories.items c.args.members.now.items c.loop.members.items c.run_round.new.members.items c.loop.invariant c.run_round.ensures.stays
+pub returns-in_err-round-clause-stays : goal.returns-in_err-round-clause-stays
+returns-in_err-round-clause-stays g c = go_on_both g.M.Walker c.args.gates.now.board c.args.gates.now.memories.items c.args.members.now.items c.loop.members.items c.run_round.new.members.items c.loop.invariant c.run_round.ensures.stays
 
-pub returns-in-Done-clause-stays : goal.returns-in-Done-clause-stays
-returns-in-Done-clause-stays g c = go_on_both g.M.Walker c.args.gates.now.board c.args.gates.now.memories.items c.args.members.now.items c.loop.members.items c.run_round.new.members.items c.loop.invariant c.run_round.ensures.stays
+pub settle-requires-clause-passes : goal.settle-requires-clause-passes
+settle-requires-clause-passes g c =
+    passes_after g.M.Walker c.args.gates.now.board c.args.gates.now.memories.items c.args.members.now.items c.run_round.new.members.items (go_on_both g.M.Walker c.args.gates.now.board c.args.gates.now.memories.items c.args.members.now.items c.loop.members.items c.run_round.new.members.items c.loop.invariant c.run_round.ensures.stays)
 
-pub loop-preserved-in-Moved : goal.loop-preserved-in-Moved
-loop-preserved-in-Moved g c = go_on_both g.M.Walker c.args.gates.now.board c.args.gates.now.memories.items c.args.members.now.items c.loop.members.items c.run_round.new.members.items c.loop.invariant c.run_round.ensures.stays
-
-pub returns-then-quiet-clause-stays : goal.returns-then-quiet-clause-stays
-returns-then-quiet-clause-stays g c = go_on_both g.M.Walker c.args.gates.now.board c.args.gates.now.memories.items c.args.members.now.items c.loop.members.items c.run_round.new.members.items c.loop.invariant c.run_round.ensures.stays
+pub returns-then-has_ended-clause-stays : goal.returns-then-has_ended-clause-stays
+returns-then-has_ended-clause-stays g c =
+    go_on_both g.M.Walker c.args.gates.now.board c.args.gates.now.memories.items c.args.members.now.items c.run_round.new.members.items c.settle.new.members.items (go_on_both g.M.Walker c.args.gates.now.board c.args.gates.now.memories.items c.args.members.now.items c.loop.members.items c.run_round.new.members.items c.loop.invariant c.run_round.ensures.stays) c.settle.ensures.stays
 
 pub loop-preserved : goal.loop-preserved
 loop-preserved g c = go_on_both g.M.Walker c.args.gates.now.board c.args.gates.now.memories.items c.args.members.now.items c.loop.members.items c.run_round.new.members.items c.loop.invariant c.run_round.ensures.stays

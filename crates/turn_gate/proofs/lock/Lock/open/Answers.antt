@@ -12,5 +12,5 @@ new-requires g c =
     let empty = ap g.O.Object.history e ∙ c.requires in
     let items : c.push.new.self.items ≡ Some start ∷ [] = search rules in
     let recorded = IsRecorded g.O.Object.ready_after g.O.Object.reply_after (g.O.Object.made start) in
-    subst (λ l. Keeps g.O.Object.history (IsLike g.O.Object.made start) recorded (opening (0 ∷ 0 ∷ 0 ∷ []) l first_view)) (sym items)
+    subst (λ l. Keeps g.O.Object.history (IsLike g.O.Object.made start) recorded (opening (0 ∷ []) l first_view)) (sym items)
     (opens g.O.Object.history (IsLike g.O.Object.made start) recorded start refl empty (recorded_first g.O.Object.ready_after g.O.Object.reply_after (g.O.Object.made start)))

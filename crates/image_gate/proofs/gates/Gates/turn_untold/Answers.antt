@@ -1,5 +1,5 @@
 use Rattle.image_gate.proofs.Turning.{still_of}
-use Rattle.image_gate.proofs.gates.Gates.turn.Goals as goal
+use Rattle.image_gate.proofs.gates.Gates.turn_untold.Goals as goal
 
 pub returns-in-Memory-clause-passes : goal.returns-in-Memory-clause-passes
 returns-in-Memory-clause-passes g c =

@@ -1,5 +1,0 @@
-use Rattle.turn_gate.specs.Gates.{IsLike, IsRecorded}
-use Rattle.turn_gate.proofs.lock.Lock.await_turn.Given as goal
-
-abbrev pub ghosts-await_as : goal.ghosts-await_as
-ghosts-await_as g a = record { known = λ o. IsLike g.O.Object.made a.self.now.table.shared.key.value o × IsRecorded g.O.Object.ready_after g.O.Object.reply_after (g.O.Object.made a.self.now.table.shared.key.value) (g.O.Object.history o) }
