@@ -21,6 +21,10 @@ use std::thread::Threads;
 /// How often a hook looks at most for what it waits for.
 const LOOKS: u32 = 2_000_000;
 
+/// In each of eight segments one of four images computes some 20 ms, and the others wait for it.
+const COMPUTERS: &[u8] =
+    b"integer :: i, k, s, x[*]\ndo k = 1, 8\ns = 0\nif (mod(k, 4) + 1 == this_image()) then\ndo i = 1, 100000\ns = mod(s + i, 1000)\nend do\nend if\nx = s\nsync all\nend do\nend\n";
+
 /// Each of two images defines its own coarray.
 const WRITERS: &[u8] = b"integer :: x[*]\nx = this_image()\nsync all\nprint *, x\nend\n";
 
@@ -174,6 +178,23 @@ impl Hook for Crossing {
     }
 }
 
+/// It counts the turns of each worker at the board.
+#[derive(Drop)]
+struct Counting {
+    turns: Vec<AtomicU64>,
+}
+
+impl Hook for Counting {
+    /// Counts a turn at the board once it is over.
+    fn at(&self, worker: u32, place: Place, step: HookStep) {
+        if let (Place::Board, HookStep::After) = (place, step) {
+            if let Some(turns) = self.turns.get(worker as usize) {
+                turns.fetch_add(1, Ordering::SeqCst);
+            }
+        }
+    }
+}
+
 // The two writers on two workers, with this hook, end as in every order.
 fn writes<R: Abort + Threads + Wait + Sync, H: Hook + Sync>(rt: &R, alloc: Global, hook: &H) {
     let words = words_of(rt, alloc, &["run", "-n", "2", "-w", "2", "a.f90"]);
@@ -218,4 +239,29 @@ fn no_lock_round_both_memories(rt: HostRuntime) {
         hook.turns.are_of_two_workers(),
         "turns of two workers came"
     );
+}
+
+// A worker that waits 20 ms for another one keeps its image: each makes its arrival at all eight rounds, and its departure.
+#[test]
+fn workers_outlast_long_waits(rt: HostRuntime) {
+    let alloc = rt.alloc();
+    let mut turns = Vec::with_capacity(alloc, 4).expect(&rt, "memory");
+    for _ in 0..4 {
+        turns.push(AtomicU64::new(0)).expect(&rt, "memory");
+    }
+    let hook = Counting { turns };
+    let words = words_of(&rt, alloc, &["run", "-n", "4", "-w", "4", "a.f90"]);
+    let mut source = source_of(&rt, alloc, COMPUTERS, WHOLE);
+    let mut sink = MemSink::new(alloc, Vec::new(alloc), 4096, 4096).expect(&rt, "memory");
+    let done = caf(&rt, alloc, &words, &mut source, &mut sink, &hook);
+    assert!(&rt; done.status == 0, "the run ends");
+    for worker in 0..4usize {
+        if let Some(turns) = hook.turns.get(worker) {
+            assert!(&rt;
+                turns.load(Ordering::SeqCst) >= 16,
+                "each worker has its image to the end"
+            );
+        }
+    }
+    drop(done);
 }
