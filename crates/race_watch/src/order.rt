@@ -415,6 +415,7 @@ impl Order {
     }
 
     /// The clock of an image's present segment, ticked.
+    #[inline(always)]
     pub fn clock(&self, _n: u32, _before: &[Entry], image: ImageNo) -> &Clock
         requires image { (0 < image.0) × (image.0 ≤ _n) }
         requires order { Ordered _n _before.now self.now }
@@ -424,6 +425,7 @@ impl Order {
     }
 
     /// How many segments an image has completed.
+    #[inline(always)]
     pub fn completed(&self, _n: u32, _before: &[Entry], image: ImageNo) -> u64
         requires image { (0 < image.0) × (image.0 ≤ _n) }
         requires order { Ordered _n _before.now self.now }
