@@ -22,5 +22,5 @@ program halo
     end do
     sync all
   end do
-  print *, sum(b)
+  print *, b(1), b(cells)
 end program halo
