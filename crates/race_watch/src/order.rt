@@ -435,6 +435,7 @@ impl Order {
     }
 
     /// The next entry of the trace: what its act does. `told` covers the last segments of the failed images of which its status speaks.
+    #[inline(always)]
     pub fn step(
         &mut self,
         alloc: Global,

@@ -179,6 +179,7 @@ impl Recorder {
     }
 
     /// What an entry with this ask and reply touches.
+    #[inline(always)]
     pub fn touch_of(
         &self,
         alloc: Global,
