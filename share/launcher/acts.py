@@ -7,8 +7,8 @@ from trace import Step
 
 def short_text(step: Step) -> str:
     """Returns what a step does: `x:0[2]=1` defines the cell at the offset 0 of `x` on image 2, `x:0[2]->1` reads it;
-    the image stands there where it is another one. `r2` is the second round of the initial team, `r2 t3` that of team
-    3. A status other than 0 stands behind `->`."""
+    the image stands there where it is another one. `r2` is the second round of the initial team, `r2 t3/7` that of
+    team 3, whose team number is 7. A status other than 0 stands behind `->`."""
     return _TEXTS.get(step.word, _as_told)(step)
 
 
@@ -51,7 +51,12 @@ def _wait(step: Step) -> str:
 
 
 def _round(step: Step, number: str) -> str:
-    return f"r{number}" + ("" if step.ask[1] == "1" else f" t{step.ask[1]}")
+    return f"r{number}{_of_team(step)}"
+
+
+def _of_team(step: Step) -> str:
+    """Returns the team of an ask, where it isn't the initial one, with its team number where the trace tells it."""
+    return "" if step.team == "1" else f" t{step.ask[1]}"
 
 
 def _joined(step: Step, what: str) -> str:
@@ -77,6 +82,11 @@ def _gather(step: Step) -> str:
 def _take(step: Step) -> str:
     status, _, values = step.reply.partition(" ")
     return f"take {_round(step, step.ask[2])}" + (f"->{values}" if status == "0" and values else _status(step))
+
+
+def _asked_of_team(step: Step) -> str:
+    """Returns a question to a team and its answer."""
+    return " ".join([f"{step.word}{_of_team(step)}", *step.ask[2:]]) + _status(step)
 
 
 def _pair(step: Step) -> str:
@@ -110,6 +120,9 @@ _TEXTS: Dict[str, Callable[[Step], str]] = {
     "leave": _leave,
     "gather": _gather,
     "take": _take,
+    "failed": _asked_of_team,
+    "stopped": _asked_of_team,
+    "status": _asked_of_team,
     "pair": _pair,
     "enter": _enter,
     "exit": _exit,

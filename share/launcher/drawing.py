@@ -99,14 +99,14 @@ def _bands(places: Places, is_short: bool) -> List[str]:
     for step in places.run.steps:
         if step.word in ("arrive", "gather") and step.reply.startswith("round "):
             kind = "sync" if step.word == "arrive" else "all"
-            rounds.setdefault((kind, step.ask[1], step.reply[6:]), []).append((step, True))
+            rounds.setdefault((kind, step.team, step.reply[6:]), []).append((step, True))
         elif step.word in ("leave", "take"):
             kind = "sync" if step.word == "leave" else "all"
-            rounds.setdefault((kind, step.ask[1], step.ask[2]), []).append((step, False))
+            rounds.setdefault((kind, step.team, step.ask[2]), []).append((step, False))
     drawn: Dict[Tuple[str, str], List[str]] = {}
     for (kind, team, number), steps in rounds.items():
         style = "band all" if kind == "all" else "band" if team == "1" else "band team"
-        what = f"{'a collective' if kind == 'all' else 'round'} {number} of team {team}"
+        what = f"{'a collective' if kind == 'all' else 'round'} {number} of {steps[0][0].team_told}"
         drawn.setdefault((style, "" if is_short else what), []).append(_band(places, steps))
     titled_paths = (((style, what), "".join(paths)) for (style, what), paths in drawn.items())
     return [f'<path class="{it[0]}" d="{path}"><title>{it[1]}</title></path>' for it, path in titled_paths]

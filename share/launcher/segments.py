@@ -115,7 +115,7 @@ class Recorder:
         """Returns the failed images of which the status of a step speaks."""
         status = step.reply.split(" ")[0]
         if step.word == "leave" and status == FAILED:
-            return self.rounds.gone_by_close(step.ask[1], int(step.ask[2]))
+            return self.rounds.gone_by_close(step.team, int(step.ask[2]))
         if step.word == "unpair" and status == FAILED:
             return [it for it in self.named.get(step.image, []) if it in self.rounds.gone]
         if step.word == "enter" and status == FAILED:
@@ -154,7 +154,7 @@ class Rounds:
     def take(self, step: Step) -> None:
         """Takes a step that may close rounds."""
         if step.word == "arrive" and step.reply.startswith("round "):
-            self.come.setdefault((step.ask[1], int(step.reply[6:])), set()).add(step.image)
+            self.come.setdefault((step.team, int(step.reply[6:])), set()).add(step.image)
         elif step.word in ("gone", "stop"):
             self.over.add(step.image)
             self.gone |= {step.image} if step.word == "gone" else set()
@@ -174,12 +174,12 @@ class Rounds:
 
 def _arrive(recorder: Recorder, place: int, step: Step) -> None:
     if step.reply.startswith("round "):
-        _wait_at(recorder, f"round {step.ask[1]} {step.reply[6:]}", place, step)
+        _wait_at(recorder, f"round {step.team} {step.reply[6:]}", place, step)
 
 
 def _leave(recorder: Recorder, place: int, step: Step) -> None:
     is_whole = step.reply.split(" ")[0] != STOPPED
-    recorder.complete(place, step, recorder.waiting.get(f"round {step.ask[1]} {step.ask[2]}", []) if is_whole else [])
+    recorder.complete(place, step, recorder.waiting.get(f"round {step.team} {step.ask[2]}", []) if is_whole else [])
 
 
 def _pair(recorder: Recorder, place: int, step: Step) -> None:

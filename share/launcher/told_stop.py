@@ -71,7 +71,7 @@ def _ended(scene: Scene, step: Step, code: str) -> List[Tuple[int, Over]]:
     ended = {it: over for it, over in standing.over.items() if over.has_failed == has_failed}
     needed: List[int] = sorted(ended)
     if step.word in ("leave", "take"):
-        team, number = step.ask[1], int(step.ask[2])
+        team, number = step.team, int(step.ask[2])
         come = standing.arrived.get(("arrive" if step.word == "leave" else "gather", team), {})
         late = [it for it in come if int(come[it].reply.partition(" ")[2]) >= number and it in ended and not has_failed]
         needed = [it for it in standing.members.get(team, needed) if it not in late]

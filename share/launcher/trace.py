@@ -1,7 +1,8 @@
 """The text of a run as typed entries: what the images printed, the steps of the trace, and how the run ended.
 
 A step is a line `STAMP IMAGE LINE OBJECT ASK > REPLY`; docs/RUN.md has the asks. A step's number is its place among
-its image's steps, from 1: the one that `--fail I@K` counts.
+its image's steps, from 1: the one that `--fail I@K` counts. A trace of form 2 begins with a line `trace 2 images N`,
+and a team in an ask has its team number behind it; one of form 1, from an earlier caf, has neither.
 """
 
 import enum
@@ -10,6 +11,7 @@ from typing import Dict, List, NamedTuple, Optional, Tuple
 
 from ends import WORDS
 from texts import lines_of
+from words import GREATEST_IMAGES
 
 
 class Kind(enum.Enum):
@@ -73,6 +75,17 @@ class Step(NamedTuple):
         return _KIND_OF.get(self.ask[0], Kind.QUERY)
 
     @property
+    def team(self) -> str:
+        """The team of an ask about one, as its number in the run: `1` is the initial team."""
+        return self.ask[1].partition("/")[0]
+
+    @property
+    def team_told(self) -> str:
+        """The team of an ask about one with its team number, where the trace tells it: `team 2 (number 7)`."""
+        number = self.ask[1].partition("/")[2]
+        return f"team {self.team}{f' (number {number})' if number else ''}"
+
+    @property
     def owner(self) -> int:
         """The image whose memory was asked, or 0 where it was no memory."""
         return int(self.place[1:]) if self.place[0] == "m" else 0
@@ -116,7 +129,7 @@ class Wait(NamedTuple):
 
 class Run(NamedTuple):
     """A run: its printed lines, those of --vars, its steps, and the lines of its end, read as far as they are a race or
-    the waits of a stuck run."""
+    the waits of a stuck run; and how many images the trace says that there are, 0 where it doesn't."""
 
     printed: List[str]
     variables: List[str]
@@ -124,15 +137,17 @@ class Run(NamedTuple):
     end: List[str]
     race: Optional[Race]
     waits: List[Wait]
+    told_images: int = 0
 
     @property
     def images(self) -> int:
-        """The greatest number of an image that the run names."""
+        """How many images there are: as many as the trace says, or the greatest number of one that the run names."""
         named = [it.image for it in self.steps] + [it.owner for it in self.steps] + [it.image for it in self.waits]
-        return max(named + [int(it.partition(":")[0]) for it in self.printed], default=1)
+        return max([self.told_images or 1, *named, *(int(it.partition(":")[0]) for it in self.printed)])
 
 
 _STEP = re.compile(r"([0-9]+) ([0-9]+) ([0-9]+) (m[0-9]+|board|own) (.+) > ([^\n]*)")
+_FORM = re.compile(r"trace 2 images ([0-9]{1,3})")
 _PRINTED = re.compile(r"[0-9]+: ")
 _SIDE = "image ([0-9]+) event ([0-9]+) line ([0-9]+)"
 _RACE = re.compile(f"race on ([^:]+):([0-9]+) of image ([0-9]+): {_SIDE}, {_SIDE}")
@@ -143,10 +158,14 @@ def read_run(text: str) -> Run:
     """Reads the text of a run. A line of a form that isn't known is left out."""
     run = Run([], [], [], [], None, [])
     counts: Dict[int, int] = {}
+    images = 0
     for line in lines_of(text):
         found = _STEP.fullmatch(line)
         if found:
             run.steps.append(_step(found, counts))
+        elif line.startswith("trace ") and not run.steps:
+            form = _FORM.fullmatch(line)
+            images = min(int(form[1]), GREATEST_IMAGES) if form else images
         elif _PRINTED.match(line):
             run.printed.append(line)
         elif line.startswith("var "):
@@ -155,7 +174,7 @@ def read_run(text: str) -> Run:
             run.end.append(line)
     races = [_race(it) for it in map(_RACE.fullmatch, run.end) if it]
     waits = [Wait(int(it[1]), int(it[2]), it[3]) for it in map(_STUCK.fullmatch, run.end) if it]
-    return run._replace(race=races[0] if races else None, waits=waits)
+    return run._replace(race=races[0] if races else None, waits=waits, told_images=images)
 
 
 def _step(found: "re.Match[str]", counts: Dict[int, int]) -> Step:

@@ -1,8 +1,8 @@
 """The trace of a run, which the launcher asks for to tell how the run ended: it is cut off the program's text and kept
 apart, in memory where it is short, and in a temporary file where it is long.
 
-The text is laid out in this order: the printed lines, `IMAGE: TEXT`; with --vars the lines `var ..`; with --trace those
-of the steps, which begin with a number and a blank; and the lines of the end.
+The text is laid out in this order: the printed lines, `IMAGE: TEXT`; with --vars the lines `var ..`; with --trace a
+line `trace 2 images N` and those of the steps, which begin with a number and a blank; and the lines of the end.
 """
 
 import re
@@ -11,10 +11,11 @@ from typing import IO, Iterator, List, Optional
 # So many bytes are kept in memory.
 MOST_IN_MEMORY = 1 << 20
 
-_BEGINS = re.compile(rb"^(?:v|[0-9]+ )", re.MULTILINE)
+_BEGINS = re.compile(rb"^(?:v|trace |[0-9]+ )", re.MULTILINE)
 _BEHIND_VARIABLES = re.compile(rb"^[^v]", re.MULTILINE)
-_BEHIND_STEPS = re.compile(rb"^[^0-9]", re.MULTILINE)
-_DIGITS = re.compile(rb"[0-9]+")
+_BEHIND_STEPS = re.compile(rb"^[^0-9t]", re.MULTILINE)
+# What may be the beginning of the first line of a trace, or of a step.
+_MAY_BEGIN = re.compile(rb"[0-9]+|t(?:r(?:a(?:ce?)?)?)?")
 _PRINTED, _VARIABLES, _STEPS, _END = range(4)
 
 
@@ -103,9 +104,9 @@ class Cut:
         return forms[self._block].search(text, start)
 
     def _decided(self, text: bytes) -> bytes:
-        """Holds back the beginning of a line that may be that of a step."""
+        """Holds back the beginning of a line that may be that of a trace."""
         start = text.rfind(b"\n") + 1
-        if (start or self._is_line_start) and _DIGITS.fullmatch(text, start):
+        if (start or self._is_line_start) and _MAY_BEGIN.fullmatch(text, start):
             self._held = text[start:]
             return text[:start]
         return text
@@ -124,4 +125,4 @@ class Cut:
         first = text[:1]
         if first == b"v" and self._block == _PRINTED:
             return _VARIABLES
-        return _STEPS if first.isdigit() and self._block != _STEPS else _END
+        return _STEPS if (first.isdigit() or first == b"t") and self._block != _STEPS else _END

@@ -3,12 +3,11 @@
 from typing import Dict, List, NamedTuple, Optional, Sequence, Tuple, Union
 
 from trace import Kind
-from words import Range, Valid, Wrong, read_words
+from words import GREATEST_IMAGES, Range, Valid, Wrong, read_words
 
-GREATEST_IMAGE = 64
 STAMPS = Range(0, 1 << 62)
 RUNS = Range(1, 1000000)
-_IMAGES = Range(1, GREATEST_IMAGE)
+_IMAGES = Range(1, GREATEST_IMAGES)
 _KINDS = {it.value for it in Kind}
 
 # The options that each command has beside those of a run, and how many words stand behind each.

@@ -57,7 +57,7 @@ class _Standing:
         word = step.word
         if word in ("arrive", "gather") and step.reply.startswith("round "):
             self.rounds[step.image] = step
-            self.come.setdefault((step.ask[1], step.reply), []).append(step.image)
+            self.come.setdefault((step.team, step.reply), []).append(step.image)
         elif word == "leave":
             for team in [it for it in step.reply.partition(" teams ")[2].split(" ") if it]:
                 number, _, members = team.partition(":")
@@ -127,10 +127,10 @@ def _round(standing: _Standing, wait: Wait) -> Reason:
     at = standing.rounds.get(wait.image)
     if at is None:
         return Reason(wait, wait.word, (), "")
-    team, come = at.ask[1], standing.come[at.ask[1], at.reply]
+    team, come = at.team, standing.come[at.team, at.reply]
     kind = at.ask[2].upper()
     what = f"CO_{kind}" if at.word == "gather" else _SYNC.get(at.ask[2], kind)
-    what += f" r{at.reply[6:]}" + ("" if team == "1" else f" of team {team}")
+    what += f" r{at.reply[6:]}" + ("" if team == "1" else f" of {at.team_told}")
     return _not_come(standing, wait, what, [it for it in standing.members.get(team, []) if it not in come])
 
 

@@ -86,7 +86,7 @@ class Standing:
     def _arrive(self, step: Step) -> None:
         self.arrival[step.image] = step
         if step.reply.startswith("round "):
-            self.arrived.setdefault((step.word, step.ask[1]), {})[step.image] = step
+            self.arrived.setdefault((step.word, step.team), {})[step.image] = step
         if step.word == "arrive" and step.ask[2] == "allocate":
             for it in step.ask[3:]:
                 shape, _, cobounds = it.partition("[")
@@ -137,7 +137,7 @@ class Standing:
 
     def not_come(self, arrival: Step) -> List[int]:
         """Returns the members of a team that haven't come to a round, and haven't ended before."""
-        team, number = arrival.ask[1], _round_of(arrival)
+        team, number = arrival.team, _round_of(arrival)
         come = self.arrived.get((arrival.word, team), {})
         members = self.members.get(team, self.members["1"])
         return [it for it in members if it not in self.over and (it not in come or _round_of(come[it]) < number)]

@@ -13,6 +13,9 @@ GREATEST_SEED = 2147483647
 GREATEST_SIZE = 4096
 GREATEST_STEPS = 100000000
 DEFAULT_IMAGES = 4
+GREATEST_IMAGES = 256
+# So many words of the trace a run may record, each image an equal share of them.
+RECORDED_WORDS = 16777216
 
 _NUMBER = re.compile("0|[1-9][0-9]*")
 
@@ -51,7 +54,7 @@ SIZE = Range(1, GREATEST_SIZE)
 
 # The options of a run that have a number behind them, and those that have nothing.
 _NUMBERS: Dict[str, Range] = {
-    "-n": Range(1, 64),
+    "-n": Range(1, GREATEST_IMAGES),
     "-w": Range(1, 64),
     "--order": SEED,
     "--steps": Range(1, GREATEST_STEPS),
@@ -59,7 +62,7 @@ _NUMBERS: Dict[str, Range] = {
 _FLAGS = ("--trace", "--vars")
 # The one option that may stand more than once, and what stands behind it: I@K.
 _FAIL = "--fail"
-_FAIL_IMAGE = Range(1, 64)
+_FAIL_IMAGE = Range(1, GREATEST_IMAGES)
 _FAIL_STEP = Range(1, 1000000)
 # Of these two only one may stand.
 _RIVALS = {"-w": "--order", "--order": "-w"}

@@ -68,7 +68,7 @@ def check_limits(checks: Checks) -> None:
             checks.same(f"{command}: a file of 1,048,576 bytes", b"status 0\n", with_status(got))
             got = call([command, "run", "-n", "1", "--order", "0", longer])
             checks.same(f"{command}: a file of 1,048,577 bytes", b"too long\nstatus 13\n", with_status(got))
-    for images in range(1, 65):
+    for images in (*range(1, 66), 127, 128, 129, 191, 192, 193, 255, 256):
         got = call([checks.program, "run", "-n", str(images), "--order", "0", "examples/empty.f90"])
         checks.same(f"an empty program on {images} images", b"status 0\n", with_status(got))
     with open("/dev/full", "wb") as full:

@@ -11,7 +11,7 @@ from words import Valid, Wrong, read_words
 
 # What drawn lists are made of.
 _PIECES = """run check make -n -n -w -w --order --order --steps --fail --trace --vars --made a.f90 b.f90 1 1 4 16 64 65
-0 3@1 3@0 007 _ -x 2147483647 4096 4097 1000000 100000001""".split()
+256 257 0 3@1 3@0 007 _ -x 2147483647 4096 4097 1000000 100000001""".split()
 DRAWN = 150
 # Of so many lists one is given to the launcher itself too.
 STEP = 8

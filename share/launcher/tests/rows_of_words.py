@@ -45,11 +45,11 @@ _ROWS = """
 3 run a.f90 -n 4
 3 run 4 a.f90
 0 run -n 1 a.f90
-0 run -n 64 a.f90
+0 run -n 256 a.f90
 3 run -n
 4 run -n 4
 3 run -n 0 a.f90
-3 run -n 65 a.f90
+3 run -n 257 a.f90
 3 run -n 04 a.f90
 3 run -n +4 a.f90
 3 run -n -4 a.f90
@@ -107,7 +107,7 @@ _ROWS = """
 4 run --steps 5 --steps 5 a.f90
 4 run --steps 5
 0 run --fail 1@1 a.f90
-0 run --fail 64@1000000 a.f90
+0 run --fail 256@1000000 a.f90
 0 run --fail 3@1 --fail 3@1 --fail 4@9 a.f90
 3 run --fail
 3 run --fail 3 a.f90
@@ -116,7 +116,7 @@ _ROWS = """
 3 run --fail @1 a.f90
 3 run --fail _ a.f90
 3 run --fail 0@1 a.f90
-3 run --fail 65@1 a.f90
+3 run --fail 257@1 a.f90
 3 run --fail 3@0 a.f90
 3 run --fail 3@1000001 a.f90
 3 run --fail 03@1 a.f90

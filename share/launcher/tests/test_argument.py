@@ -55,7 +55,7 @@ class Objects(unittest.TestCase):
 
 class Collectives(unittest.TestCase):
     FRONT = "integer :: a, k, n\n"
-    STEPS = ("1 1 2 board gather 1 sum 1 I4 1 > round 1", "2 1 2 board take 1 1 > 6006")
+    STEPS = ("1 1 2 board gather 1/-1 sum 1 I4 1 > round 1", "2 1 2 board take 1/-1 1 > 6006")
 
     def test_the_image(self) -> None:
         table = [
@@ -116,8 +116,8 @@ class Teams(unittest.TestCase):
             ("1 1", "1 0", f"{front} the arguments of `form team(k, t)`"),
         ]
         for first, second, wanted in table:
-            arrivals = [f"1 {it} 2 board arrive 1 form {ask} > round 3" for it, ask in ((1, first), (2, second))]
-            steps = [*arrivals, "3 1 2 board leave 1 1 > 6006"]
+            arrivals = [f"1 {it} 2 board arrive 1/-1 form {ask} > round 3" for it, ask in ((1, first), (2, second))]
+            steps = [*arrivals, "3 1 2 board leave 1/-1 1 > 6006"]
             with self.subTest(first=first, second=second):
                 self.assertEqual(said(f"{self.FRONT}form team(k, t)", *steps), wanted)
         self.assertEqual(said(f"{self.FRONT}form team(k, t)", "var 1 k = 0"), f"{front} the team number k, which is 0")

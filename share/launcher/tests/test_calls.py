@@ -162,7 +162,7 @@ class CallsTest(unittest.TestCase):
             (["explore", FILE], 1, "NoProgram", "there is no program"),
             (["picture", "/nonexistent"], 10, "ReadFault", "there is no file /nonexistent"),
             (["run", FILE], 1, "NoProgram", "there is no program"),
-            (["show", "-n"], 2, "Usage", "word 3 is missing: it has to be the N of -n, 1 to 64"),
+            (["show", "-n"], 2, "Usage", "word 3 is missing: it has to be the N of -n, 1 to 256"),
         ]
         self.put(mock.patch("views.answer", side_effect=self.answered.append))
         for words, status, code, text in table:

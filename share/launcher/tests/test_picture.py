@@ -12,17 +12,19 @@ from picture import page, svg
 from segments import segments_of
 from tests.test_show import RACED, STUCK
 from tests.test_waited_for import CROSSED, CROSSED_SOURCE, TEAMS
+from tests.test_waits import first_form
 from trace import read_run
 from views import Seen
 
 SYNC = """\
+trace 2 images 2
 1 1 2 m1 write x:0 1 > ok
 1 2 2 m2 write x:0 2 > ok
-2 1 3 board arrive 1 sync > round 1
-3 2 3 board arrive 1 sync > round 1
-4 1 3 board leave 1 1 > 0
+2 1 3 board arrive 1/-1 sync > round 1
+3 2 3 board arrive 1/-1 sync > round 1
+4 1 3 board leave 1/-1 1 > 0
 5 1 4 m2 read x:0 > 2
-5 2 3 board leave 1 1 > 0
+5 2 3 board leave 1/-1 1 > 0
 6 2 5 board stop 0 > ok
 7 1 5 board stop 0 > ok
 """
@@ -58,11 +60,11 @@ FLAG = """\
 """
 GONE = """\
 1 3 2 m1 write x:0 1 > ok
-2 1 3 board arrive 1 sync > round 1
-3 2 3 board arrive 1 sync > round 1
+2 1 3 board arrive 1/-1 sync > round 1
+3 2 3 board arrive 1/-1 sync > round 1
 4 3 0 own fail > ok
 5 3 0 board gone > ok
-6 1 3 board leave 1 1 > 6001
+6 1 3 board leave 1/-1 1 > 6001
 7 1 4 m1 read x:0 > 1
 """
 
@@ -78,6 +80,7 @@ def before(text: str) -> List[str]:
 class SegmentsTest(unittest.TestCase):
     def test_a_barrier_orders_all_before_it_and_all_behind_it(self) -> None:
         self.assertEqual(before(SYNC), ["1<8", "2<6", "2<9", "3<8", "4<6", "4<9", "5<8", "7<6", "7<9"])
+        self.assertEqual(before(first_form(SYNC)), before(SYNC))
 
     def test_a_post_precedes_what_is_behind_the_wait(self) -> None:
         self.assertEqual(before(EVENT), ["1<4", "2<4"])
@@ -96,6 +99,7 @@ class SegmentsTest(unittest.TestCase):
 
     def test_a_status_that_tells_of_a_failed_image_orders_what_that_one_did(self) -> None:
         self.assertEqual(before(GONE), ["1<7", "3<7", "4<7", "5<7"])
+        self.assertEqual(before(first_form(GONE)), before(GONE))
 
     def test_a_race_has_no_order(self) -> None:
         self.assertEqual(before(RACED), [])
@@ -193,8 +197,8 @@ def events(images: int) -> List[str]:
 
 def rounds(images: int) -> List[str]:
     """Returns some 10,000 steps of images that meet in SYNC ALL."""
-    asks = [f"board arrive 1 sync > round {at + 1}" for at in range(10000 // images // 2)]
-    pairs = [(it, it.replace("arrive 1 sync > round", "leave 1") + " > 0") for it in asks]
+    asks = [f"board arrive 1/-1 sync > round {at + 1}" for at in range(10000 // images // 2)]
+    pairs = [(it, it.replace("arrive 1/-1 sync > round", "leave 1/-1") + " > 0") for it in asks]
     lines = [f"{image} 13 {ask}" for pair in pairs for ask in pair for image in range(1, images + 1)]
     return [f"{at} {it}" for at, it in enumerate(lines, 1)]
 
@@ -241,6 +245,12 @@ class PictureTest(unittest.TestCase):
             self.assertEqual(json.loads(told[2]), found.of_step)
             wanted = [(it.image, it.number, it.clock) for it in found.all]
             self.assertEqual(unpacked(json.loads(told[1]), run.images), wanted)
+
+    def test_a_round_has_its_team(self) -> None:
+        for text, number in ((TEAMS, " (number 8)"), (first_form(TEAMS), "")):
+            told = svg(Seen("a", read_run(text), []))
+            self.assertEqual(told.count(f"<title>round 1 of team 2{number}</title>"), 1)
+            self.assertEqual(told.count(f"<title>a collective 2 of team 2{number}</title>"), 1)
 
     def test_the_drawing_alone_is_xml(self) -> None:
         root = xml.etree.ElementTree.fromstring(svg(Seen("a", read_run(STUCK), [])))

@@ -30,8 +30,9 @@ race on halo:0 of image 1: image 2 event 1 line 11, image 1 event 2 line 12
 """
 
 STUCK = """\
-1 1 3 board arrive 1 sync > round 1
-2 3 3 board arrive 1 sync > round 1
+trace 2 images 4
+1 1 3 board arrive 1/-1 sync > round 1
+2 3 3 board arrive 1/-1 sync > round 1
 3 4 0 own fail > ok
 4 2 7 m1 lock l:0 > 0
 stuck image 1 line 3 leave
@@ -72,6 +73,20 @@ class TraceTest(unittest.TestCase):
         self.assertEqual(run.race, Race("halo", 0, 1, Side(2, 1, 11), Side(1, 2, 12)))
         self.assertEqual(run.images, 2)
 
+    def test_how_many_images_there_are(self) -> None:
+        steps = "1 1 3 m2 read x:0 > 4\n"
+        for line, images in (("", 2), ("trace 2 images 7\n", 7), ("trace 2 images 1\n", 2), ("trace 3 images 7\n", 2)):
+            with self.subTest(line=line):
+                self.assertEqual(read_run(f"1: 4\n{line}{steps}").images, images)
+        self.assertEqual(read_run(f"{steps}trace 2 images 7\n").images, 2)
+        self.assertEqual(read_run(f"trace 2 images 999\n{steps}").images, 256)
+
+    def test_the_team_of_an_ask(self) -> None:
+        table = [("2/7", "2", "team 2 (number 7)"), ("1/-1", "1", "team 1 (number -1)"), ("3", "3", "team 3")]
+        for ask, team, told in table:
+            found = step(f"1 1 3 board leave {ask} 4 > 0")
+            self.assertEqual((found.team, found.team_told), (team, told))
+
     def test_who_waits(self) -> None:
         run = read_run(STUCK)
         self.assertEqual(run.waits, [Wait(1, 3, "leave"), Wait(2, 8, "lock"), Wait(3, 3, "leave")])
@@ -100,13 +115,16 @@ class TraceTest(unittest.TestCase):
             ("m2 trylock l:0 > busy", "trylock l:0[2]->busy"),
             ("m1 wait e:0 1 > 0", "wait e:0"),
             ("m1 wait e:0 3 > 0", "wait e:0 3"),
+            ("board arrive 2/7 sync > round 5", "sync r5 t2/7"),
             ("board arrive 2 sync > round 5", "sync r5 t2"),
+            ("board arrive 1/-1 sync > clash 2 7", "sync->clash 2 7"),
             ("board arrive 1 sync > clash 2 7", "sync->clash 2 7"),
-            ("board arrive 1 allocate x(1:4)[1:*] > round 1", "allocate r1"),
-            ("board leave 1 2 > 6001", "leave r2->6001"),
+            ("board arrive 1/-1 allocate x(1:4)[1:*] > round 1", "allocate r1"),
+            ("board leave 1/-1 2 > 6001", "leave r2->6001"),
+            ("board leave 3/12 2 > 6001", "leave r2 t3/12->6001"),
             ("board leave 1 2 > 0 teams 2/1:1.3", "leave r2 teams 2/1:1.3"),
-            ("board gather 1 max 0 I4 -7 > round 1", "max -7 r1"),
-            ("board take 1 1 > 0 20", "take r1->20"),
+            ("board gather 1/-1 max 0 I4 -7 > round 1", "max -7 r1"),
+            ("board take 1/-1 1 > 0 20", "take r1->20"),
             ("board take 1 1 > 6001", "take r1->6001"),
             ("board pair 2,3 > ok", "sync images 2,3"),
             ("board unpair > 0", "unpair"),
@@ -114,7 +132,10 @@ class TraceTest(unittest.TestCase):
             ("board exit 2 > ok", "end critical 2"),
             ("board stop 0 > ok", "stop"),
             ("own errorstop 3 > ok", "errorstop 3"),
-            ("board failed 1 > 2,3", "failed 1->2,3"),
+            ("board failed 1/-1 > 2,3", "failed->2,3"),
+            ("board stopped 2/7 > -", "stopped t2/7->-"),
+            ("board status 1 3 > 6001", "status 3->6001"),
+            ("board status 4/7 3 > 0", "status t4/7 3"),
             ("own print > ok", "print"),
         ]
         for text, wanted in table:
@@ -163,10 +184,10 @@ class ViewWordsTest(unittest.TestCase):
             ("show --only access", 4),
             ("show --only", 3),
             ("show --only reads a.f90", 3),
-            ("show --image 1,65 a.f90", 3),
+            ("show --image 1,257 a.f90", 3),
             ("show --from 1 --from 2 a.f90", 4),
             ("show --trace a.f90", 2),
-            ("show --from 1 -n 65 a.f90", 5),
+            ("show --from 1 -n 257 a.f90", 5),
             ("show --from 1 -n", 5),
             ("picture --svg", 3),
             ("explore --runs 0 a.f90", 3),

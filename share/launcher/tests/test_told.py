@@ -154,13 +154,13 @@ class UsageTest(unittest.TestCase):
     def test_reasons(self) -> None:
         table = [
             ("", 1, "word 1 is missing: the command is run or check or make or show or picture or explore"),
-            ("run -n", 3, "word 3 is missing: it has to be the N of -n, 1 to 64"),
+            ("run -n", 3, "word 3 is missing: it has to be the N of -n, 1 to 256"),
             ("run --made 1 4 5", 5, f"word 5 is wrong, 5: {BEHIND_SIZE}"),
             ("run --made 1", 4, "word 4 is missing: it has to be the SIZE of --made, 1 to 4096"),
             ("make 1 4 5", 4, "word 4 is wrong, 5: nothing stands behind SIZE"),
             ("make x 4", 2, "word 2 is wrong, x: it has to be the SEED of make, 0 to 2147483647"),
             ("run --trace --trace", 3, "word 3 is wrong, --trace: --trace stands twice"),
-            ("run --fail 3", 3, "word 3 is wrong, 3: it has to be the I@K of --fail, I 1 to 64 and K 1 to 1000000"),
+            ("run --fail 3", 3, "word 3 is wrong, 3: it has to be the I@K of --fail, I 1 to 256 and K 1 to 1000000"),
             ("run a b", 3, "word 3 is wrong, b: there is a FILE before it"),
             ("run a -n", 3, "word 3 is wrong, -n: no value stands behind it"),
             ("run a --step", 3, "word 3 is wrong, --step: there is no such option"),

@@ -1,9 +1,11 @@
 """Whom each image of a stuck run waits for, of small traces, against what was worked out by hand."""
 
+import re
 import unittest
 from typing import List, Sequence
 
 from chosen_image import value_of
+from tests.test_waits import first_form
 from trace import read_run
 from waited_for import circle, reasons
 
@@ -17,16 +19,17 @@ stuck image 2 line 7 lock
 CROSSED_SOURCE = ["", "", "", "lock (right[1])", "", "", "lock (left[one])"]
 # The last image of its team hasn't come to the second round, since it waits for a post; image 4 has failed.
 TEAMS = """\
-1 1 3 board leave 1 1 > 0 teams 2/1:1.2.4 3/2:3.5
-1 2 3 board leave 1 1 > 0 teams 2/1:1.2.4 3/2:3.5
-2 1 4 board arrive 2 sync > round 1
-3 2 4 board arrive 2 sync > round 1
-4 1 4 board leave 2 1 > 0
-5 1 5 board gather 2 sum 0 I4 7 > round 2
+trace 2 images 5
+1 1 3 board leave 1/-1 1 > 0 teams 2/8:1.2.4 3/9:3.5
+1 2 3 board leave 1/-1 1 > 0 teams 2/8:1.2.4 3/9:3.5
+2 1 4 board arrive 2/8 sync > round 1
+3 2 4 board arrive 2/8 sync > round 1
+4 1 4 board leave 2/8 1 > 0
+5 1 5 board gather 2/8 sum 0 I4 7 > round 2
 5 4 0 own fail > ok
-6 2 4 board leave 2 1 > 0
+6 2 4 board leave 2/8 1 > 0
 7 1 6 m2 post e:0 > 0
-8 3 5 board arrive 3 sync > round 1
+8 3 5 board arrive 3/9 sync > round 1
 9 5 9 board stop 0 > ok
 stuck image 1 line 5 take
 stuck image 2 line 7 wait
@@ -65,9 +68,11 @@ class WaitedForTest(unittest.TestCase):
         self.assertEqual(told(freed)[1], "2: lock")
 
     def test_rounds_and_events(self) -> None:
-        waits = ["1: CO_SUM r2 of team 2, image 2 hasn't come", "2: event e, 1 of 2 posts", "3: SYNC r1 of team 3"]
+        waits = ["1: CO_SUM r2 of team 2 (number 8), image 2 hasn't come", "2: event e, 1 of 2 posts"]
+        waits.append("3: SYNC r1 of team 3 (number 9)")
         source = [""] * 6 + ["EVENT WAIT (E, UNTIL_COUNT = 2)"]
         self.assertEqual(told(TEAMS, source), waits)
+        self.assertEqual(told(first_form(TEAMS), source), [re.sub(r" \(number .\)", "", it) for it in waits])
         self.assertEqual(circle(reasons(read_run(TEAMS), source)), [])
         self.assertEqual(told(TEAMS, [""] * 6 + ["event wait (e, until_count = n)"])[1], "2: event e, 1 post so far")
         self.assertEqual(told(TEAMS.replace("m2 post", "m1 post"))[1], "2: event, 0 posts so far")

@@ -1,5 +1,6 @@
 """Whom an image of a stuck run waits for, by its trace; and what the trace and the source tell of a race."""
 
+import re
 import unittest
 from typing import List
 
@@ -16,17 +17,24 @@ stuck image 2 line 6 lock
 """
 LOCKS_SOURCE = "\n\nlock (l[1])\nlock (l[2])\nlock (l[2])\nlock (l[1])\n"
 TEAMS = """\
-1 1 1 board arrive 1 form 1 0 > round 1
-2 2 1 board arrive 1 form 1 0 > round 1
-3 3 1 board arrive 1 form 2 0 > round 1
-4 1 1 board leave 1 1 > 0 teams 2/1:1.2 3/2:3
-5 2 1 board leave 1 1 > 0 teams 2/1:1.2 3/2:3
-6 3 1 board leave 1 1 > 0 teams 2/1:1.2 3/2:3
-7 1 2 board arrive 2 change > round 1
+trace 2 images 3
+1 1 1 board arrive 1/-1 form 1 0 > round 1
+2 2 1 board arrive 1/-1 form 1 0 > round 1
+3 3 1 board arrive 1/-1 form 2 0 > round 1
+4 1 1 board leave 1/-1 1 > 0 teams 2/1:1.2 3/2:3
+5 2 1 board leave 1/-1 1 > 0 teams 2/1:1.2 3/2:3
+6 3 1 board leave 1/-1 1 > 0 teams 2/1:1.2 3/2:3
+7 1 2 board arrive 2/1 change > round 1
 8 3 9 board stop 0 > ok
 stuck image 1 line 2 leave
 stuck image 2 line 3 unpair
 """
+
+
+def first_form(text: str) -> str:
+    """Returns a trace of form 2 in form 1: without its first line and the team numbers."""
+    text = re.sub("^trace 2 images [0-9]+\\n", "", text, flags=re.MULTILINE)
+    return re.sub("( (?:arrive|leave|gather|take|failed|stopped|status) [0-9]+)/-?[0-9]*", "\\1", text)
 
 
 def waits(text: str, source: str = "", images: int = 0) -> List[Waiting]:
@@ -55,6 +63,7 @@ class WaitsTest(unittest.TestCase):
     def test_only_the_members_of_a_team_are_awaited(self) -> None:
         got = waits(TEAMS)
         self.assertEqual((got[0].thing, got[0].others), ("CHANGE TEAM", (Held(2, 3),)))
+        self.assertEqual(waits(first_form(TEAMS)), got)
 
     def test_pairs_are_counted(self) -> None:
         text = "1 1 1 board pair 2,3 > ok\n2 2 1 board pair 1 > ok\n3 2 1 board unpair > 0\n4 2 2 board pair 1 > ok\n"
@@ -75,13 +84,13 @@ class WaitsTest(unittest.TestCase):
         self.assertEqual(waits(text)[1].others, (Held(1, 4),))
 
     def test_a_collective_has_rounds_of_its_own(self) -> None:
-        text = "1 1 1 board arrive 1 sync > round 1\n2 2 2 board gather 1 sum 0 I4 3 > round 1\n"
+        text = "1 1 1 board arrive 1/-1 sync > round 1\n2 2 2 board gather 1/-1 sum 0 I4 3 > round 1\n"
         got = waits(text + "stuck image 1 line 1 leave\nstuck image 2 line 2 take\n", "sync all\ncall co_sum (x)\n")
         self.assertEqual([it.thing for it in got], ["SYNC ALL", "CO_SUM"])
         self.assertEqual([it.others for it in got], [(Held(2, 2),), (Held(1, 1),)])
 
     def test_an_image_that_has_ended_is_awaited_by_none(self) -> None:
-        text = "1 1 1 board arrive 1 sync > round 1\n2 2 3 board stop 0 > ok\nstuck image 1 line 1 leave\n"
+        text = "1 1 1 board arrive 1/-1 sync > round 1\n2 2 3 board stop 0 > ok\nstuck image 1 line 1 leave\n"
         self.assertEqual(waits(text, images=3)[0].others, (Held(3, 0),))
 
     def test_longer_cycles(self) -> None:
@@ -92,7 +101,7 @@ class WaitsTest(unittest.TestCase):
 
 class SurveyTest(unittest.TestCase):
     def test_what_is_kept(self) -> None:
-        lines = [b"var 1 i = 3", b"var 2 i = 4,5", b"var 1 l = T"]
+        lines = [b"var 1 i = 3", b"var 2 i = 4,5", b"var 1 l = T", b"trace 2 images 2"]
         lines += [b"1 1 2 m1 write x:0 1 > ok", b"1 2 2 m2 read x:0 > 0"]
         lines += [b"2 1 3 own print a > b > ok", b"3 1 2 m1 write x:1 1 > ok"]
         found = survey(lines, 2, [(1, 3)])
