@@ -228,10 +228,14 @@ impl News {
 
     /// A worker that lay down at this ring had no news when it looked again. Gives whether it is the last one that
     /// had none, so that nothing will move any more; None where that can't be told now, since another worker tells
-    /// the same.
+    /// the same, or has told it of a later ring, which must not be told over.
     pub fn is_last(&self, ring: u64) -> Option<bool> {
         let before = self.sure.load(Ordering::SeqCst);
-        let others = if before >> 32 == ring & LOW {
+        let told = before >> 32;
+        if told > ring & LOW {
+            return None;
+        }
+        let others = if told == ring & LOW {
             before & LOW
         } else {
             0
