@@ -22,7 +22,7 @@ LITTLE = 400 << 20
 BOTH = "integer :: x[*], i\nx = 0\ndo i = 1, {}\nx = x + 1\nsync all\nend do\nend\n"
 MEET = "integer :: i\ndo i = 1, {}\nsync all\nend do\nend\n"
 WRITES = "integer :: x[*], k\ndo k = 1, 4000000\nx = k\nend do\nend\n"
-CELLS = "integer :: x(65536)[*], y(65536)\nx = 1\ny = x + 1\nif (this_image() == num_images()) print *, y(65536)\nend\n"
+CELLS = "integer :: x(65536)[*], y(65536)\nx(1) = 1\ny = 2\nif (this_image() == num_images()) print *, y(65536)\nend\n"
 
 
 class Call(NamedTuple):
