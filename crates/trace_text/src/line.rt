@@ -14,6 +14,7 @@ use caf_base::place::Place;
 use caf_base::refusal::NoMemory;
 use caf_events::ask::Ask;
 use caf_events::event::{Entry, Event};
+use caf_events::reply::Reply;
 use std::alloc::Global;
 use std::collections::BTreeMap;
 
@@ -45,6 +46,20 @@ fn push_asked(
     push_ask(out, names, numbers, ask)
 }
 
+// Appends the reply and the end of the line, and puts the team numbers that the reply gives into the table.
+fn push_replied(
+    out: &mut Vec<u8>,
+    numbers: &mut BTreeMap<u32, i64>,
+    reply: &Reply,
+) -> Result<(), NoMemory>
+    ensures text { OnOk result (out.new.items ≡ out.old.items ++ (reply_text reply.now ++ codes "\n")) }
+    ensures numbers { OnOk result (Gains numbers.old (λ q. number_in_reply q reply.now) numbers.new) }
+{
+    push_reply(out, reply)?;
+    push_text(out, "\n")?;
+    note_reply(numbers, reply)
+}
+
 // Appends the object, the ask and the reply, and puts the team numbers that the reply gives into the table.
 fn push_exchange(
     alloc: Global,
@@ -58,14 +73,11 @@ fn push_exchange(
 {
     push_asked(out, names, numbers, &event.told().ask(alloc))?;
     push_text(out, " > ")?;
-    let reply = event.reply(alloc);
-    push_reply(out, &reply)?;
-    push_text(out, "\n")?;
-    note_reply(numbers, &reply)
+    push_replied(out, numbers, &event.reply(alloc))
 }
 
-/// Appends the line of a step, stamp, image, line, object, ask and reply, with the team numbers that the table has, and puts those
-/// that the reply gives into it.
+/// Appends the line of a step: stamp, image, line, object, ask and reply, with the team numbers that the table has. It puts
+/// those that the reply gives into the table.
 pub(crate) fn push_entry(
     alloc: Global,
     out: &mut Vec<u8>,
