@@ -16,7 +16,7 @@ use caf_base::value::Value;
 use caf_events::ask::Ask;
 use caf_events::event::Trace;
 use std::alloc::Global;
-use trace_text::piece::{push_spaced, push_text};
+use trace_text::piece::{push_count, push_text};
 use trace_text::trace::push_trace;
 
 /// An image that waits: the line of its statement, and the ask that it can't make.
@@ -252,8 +252,8 @@ impl Report {
     fn push_shown_trace(&self, out: &mut Vec<u8>) -> Result<(), NoMemory>
         ensures { OnOk result (out.new.items ≡ out.old.items ++ shown_trace self.now) }
     {
-        push_text(out, "trace 2 images")?;
-        push_spaced(out, u64::from(self.images))?;
+        push_text(out, "trace 2 images ")?;
+        push_count(out, u64::from(self.images))?;
         push_text(out, "\n")?;
         push_trace(*out.allocator(), out, self.names.as_slice(), &self.trace)
     }
