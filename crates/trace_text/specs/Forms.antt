@@ -1,5 +1,5 @@
--- The two forms of the text of a trace. In the first a team that an ask names stands by its number in the run alone. In the
--- second its team number, by which the program knows it, stands behind a slash; this one is printed.
+-- The two forms of the text of a trace. In the first a team that an ask names stands by its number in the run alone. In
+-- the second its team number, by which the program knows it, stands behind a slash; this one is printed.
 use Rattle.std.specs.Prelude.{ℕ, ℤ, negsuc, ◌≡◌, cond, nat_eq, List, [], ◌∷◌, ◌++◌, Option, None, Some, codes}
 use Rattle.std.specs.BTreeMap.{BTreeMap, get}
 use Rattle.std.specs.List.{concat}

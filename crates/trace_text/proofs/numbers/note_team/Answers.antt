@@ -9,7 +9,8 @@ use mir.Syntax.{w64}
 
 pub returns-then-contains_key : goal.returns-then-contains_key
 returns-then-contains_key c =
-    kept c.args.numbers.now c.args.team.now.team.0 c.args.team.now.number (sym c.contains_key.ensures ∙ c.if-contains_key.true)
+    kept c.args.numbers.now c.args.team.now.team.0 c.args.team.now.number
+    (sym c.contains_key.ensures ∙ c.if-contains_key.true)
 
 pub returns : goal.returns
 returns c =
@@ -18,4 +19,5 @@ returns c =
     let n = c.args.team.now.number in
     let f : FitsSigned w64 n = search rules in
     put_in m c.insert.new.self k n (sym c.contains_key.ensures ∙ c.if-contains_key.false)
-    (λ q. c.in_ok-insert.ensures.updates.0 q ∙ ap (λ z. cond (is_eq (nat_cmp k q)) (Some z) (get nat_cmp m q)) (to_z-of_z w64 n f))
+    (λ q. c.in_ok-insert.ensures.updates.0 q
+    ∙ ap (λ z. cond (is_eq (nat_cmp k q)) (Some z) (get nat_cmp m q)) (to_z-of_z w64 n f))
