@@ -6,7 +6,7 @@ use Rattle.trace_text.proofs.trace.push_entries.Goals as goal
 pub loop-entry-init : goal.loop-entry-init
 loop-entry-init c = record {
   text = sym (append-nil c.args.out.now.items);
-  numbers = given_nothing c.new.result c.new.ensures.empty;
+  numbers = given_nothing c.new-numbers.result c.new-numbers.ensures.empty;
 }
 
 pub loop-entry-preserved : goal.loop-entry-preserved
