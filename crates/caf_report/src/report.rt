@@ -3,7 +3,7 @@
 ghost use Rattle.std.specs.Prelude.{◌≡◌, ◌++◌, ⊤, IfOk, OnOk, IfSome, IfNone, MatchOption};
 ghost use Rattle.caf_report.specs.declared.report.End.TheVariants as ends;
 ghost use Rattle.caf_report.specs.Ends.{EndsAt, IsFirstEnding, HasNoEnding, ending_at, ending_by, IsEndOf, RaceStands, EndStands, HasEnd, IsPlain, status_of};
-ghost use Rattle.caf_report.specs.ReportText.{middle_text, report_text};
+ghost use Rattle.caf_report.specs.ReportText.{shown_trace, middle_text, report_text};
 
 use super::ending::push_end;
 use super::finals::push_finals;
@@ -16,6 +16,7 @@ use caf_base::value::Value;
 use caf_events::ask::Ask;
 use caf_events::event::Trace;
 use std::alloc::Global;
+use trace_text::piece::{push_count, push_text};
 use trace_text::trace::push_trace;
 
 /// An image that waits: the line of its statement, and the ask that it can't make.
@@ -242,8 +243,18 @@ impl Report {
             push_finals(out, self.finals.as_slice())?;
         }
         if shown.trace {
-            push_trace(*out.allocator(), out, self.names.as_slice(), &self.trace)?;
+            self.push_shown_trace(out)?;
         }
         Ok(())
+    }
+
+    // Appends the line that begins the trace, with its form and the number of images, and the lines of the steps.
+    fn push_shown_trace(&self, out: &mut Vec<u8>) -> Result<(), NoMemory>
+        ensures { OnOk result (out.new.items ≡ out.old.items ++ shown_trace self.now) }
+    {
+        push_text(out, "trace 2 images ")?;
+        push_count(out, u64::from(self.images))?;
+        push_text(out, "\n")?;
+        push_trace(*out.allocator(), out, self.names.as_slice(), &self.trace)
     }
 }

@@ -156,6 +156,7 @@ fn final_values_the_trace_and_the_summary_are_shown(rt: HostRuntime) {
     let wanted = "var 1 a = T
 var 2 v = 7,-8
 var 2 w = unallocated
+trace 2 images 2
 4 1 7 m2 write field:3 -5 > ok
 summary images 2 events 1 status 0
 ";

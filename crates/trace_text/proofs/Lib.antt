@@ -1,2 +1,4 @@
 pub mod Turns
+pub mod Tables
+pub mod Lines
 pub mod Tries

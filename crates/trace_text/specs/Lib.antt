@@ -1,2 +1,3 @@
 pub mod Words
 pub mod TraceText
+pub mod Forms

@@ -1,5 +1,4 @@
--- The text of a trace: one line a step, with the image, what it asked and what the reply was. It is the first form of the text, with the
--- teams by their numbers in the run alone.
+-- The line of a step in the text of a trace: the image, what it asked and what the reply was, with a text for each team that an ask names.
 use Rattle.std.specs.Ordering.{int_eq}
 use Rattle.std.specs.Prelude.{ℕ, ℤ, pos, ◌==◌, cond, Bool, true, false, List, [], ◌∷◌, ◌++◌, Option, None, Some, codes, flat_map, slice_get}
 use Rattle.caf_base.specs.declared.place.Place.{Place}
@@ -126,42 +125,42 @@ arriving_text names (arrivings.Deallocate list) = codes " deallocate" ++ flat_ma
 abbrev pub escaped : ℕ → List ℕ
 escaped b = cond (b == 10) (codes "\\n") (cond (b == 92) (codes "\\\\") (b ∷ []))
 
--- what stands behind the word of an ask
-abbrev pub operands_text : List (List ℕ) → Ask → List ℕ
-operands_text names (asks.Read owner span) = spaced (span_text names span)
-operands_text names (asks.Write owner span vs) = spaced (span_text names span) ++ spaced (values_text vs)
-operands_text names (asks.Create owner coarray cells) = spaced_name names coarray ++ spaced (number_text cells)
-operands_text names (asks.Delete owner coarray) = spaced_name names coarray
-operands_text names (asks.Atomic owner op span x y) = spaced (atomic_word op) ++ spaced (span_text names span) ++ spaced (value_text x) ++ spaced (value_text y)
-operands_text names (asks.Lock owner span) = spaced (span_text names span)
-operands_text names (asks.TryLock owner span) = spaced (span_text names span)
-operands_text names (asks.Unlock owner span) = spaced (span_text names span)
-operands_text names (asks.Post owner span) = spaced (span_text names span)
-operands_text names (asks.Wait owner span threshold) = spaced (span_text names span) ++ spaced (number_text threshold)
-operands_text names (asks.Query owner span) = spaced (span_text names span)
-operands_text names (asks.Mark owner) = []
-operands_text names (asks.Free owner span) = spaced (span_text names span)
-operands_text names (asks.Arrive team arriving) = spaced (number_text team.0) ++ arriving_text names arriving
-operands_text names (asks.Leave team round) = spaced (number_text team.0) ++ spaced (number_text round)
-operands_text names (asks.Gather team op root kind vs) = spaced (number_text team.0) ++ spaced (gather_word op) ++ spaced (number_text root) ++ spaced (kind_word kind) ++ spaced (values_text vs)
-operands_text names (asks.Take team round) = spaced (number_text team.0) ++ spaced (number_text round)
-operands_text names (asks.Pair images) = spaced (joined (codes ",") image_text images)
-operands_text names asks.Unpair = []
-operands_text names (asks.Enter construct) = spaced (number_text construct)
-operands_text names (asks.Exit construct) = spaced (number_text construct)
-operands_text names asks.Gone = []
-operands_text names (asks.Stop code) = spaced (decimal_text code)
-operands_text names (asks.Failed team) = spaced (number_text team.0)
-operands_text names (asks.Stopped team) = spaced (number_text team.0)
-operands_text names (asks.Status team index) = spaced (number_text team.0) ++ spaced (number_text index)
-operands_text names (asks.Print text) = spaced (flat_map escaped text)
-operands_text names asks.Memory = []
-operands_text names asks.Fail = []
-operands_text names (asks.ErrorStop code) = spaced (decimal_text code)
-operands_text names (asks.Fault kind) = spaced (fault_word kind)
-operands_text names (asks.LimitStatements number) = codes " statements " ++ number_text number
-operands_text names (asks.LimitWords number) = codes " words " ++ number_text number
-operands_text names (asks.LimitStamp number) = codes " stamp " ++ number_text number
+-- what stands behind the word of an ask, where a team stands as `of_team` writes it
+abbrev pub operands_text : (ℕ → List ℕ) → List (List ℕ) → Ask → List ℕ
+operands_text of_team names (asks.Read owner span) = spaced (span_text names span)
+operands_text of_team names (asks.Write owner span vs) = spaced (span_text names span) ++ spaced (values_text vs)
+operands_text of_team names (asks.Create owner coarray cells) = spaced_name names coarray ++ spaced (number_text cells)
+operands_text of_team names (asks.Delete owner coarray) = spaced_name names coarray
+operands_text of_team names (asks.Atomic owner op span x y) = spaced (atomic_word op) ++ spaced (span_text names span) ++ spaced (value_text x) ++ spaced (value_text y)
+operands_text of_team names (asks.Lock owner span) = spaced (span_text names span)
+operands_text of_team names (asks.TryLock owner span) = spaced (span_text names span)
+operands_text of_team names (asks.Unlock owner span) = spaced (span_text names span)
+operands_text of_team names (asks.Post owner span) = spaced (span_text names span)
+operands_text of_team names (asks.Wait owner span threshold) = spaced (span_text names span) ++ spaced (number_text threshold)
+operands_text of_team names (asks.Query owner span) = spaced (span_text names span)
+operands_text of_team names (asks.Mark owner) = []
+operands_text of_team names (asks.Free owner span) = spaced (span_text names span)
+operands_text of_team names (asks.Arrive team arriving) = spaced (of_team team.0) ++ arriving_text names arriving
+operands_text of_team names (asks.Leave team round) = spaced (of_team team.0) ++ spaced (number_text round)
+operands_text of_team names (asks.Gather team op root kind vs) = spaced (of_team team.0) ++ spaced (gather_word op) ++ spaced (number_text root) ++ spaced (kind_word kind) ++ spaced (values_text vs)
+operands_text of_team names (asks.Take team round) = spaced (of_team team.0) ++ spaced (number_text round)
+operands_text of_team names (asks.Pair images) = spaced (joined (codes ",") image_text images)
+operands_text of_team names asks.Unpair = []
+operands_text of_team names (asks.Enter construct) = spaced (number_text construct)
+operands_text of_team names (asks.Exit construct) = spaced (number_text construct)
+operands_text of_team names asks.Gone = []
+operands_text of_team names (asks.Stop code) = spaced (decimal_text code)
+operands_text of_team names (asks.Failed team) = spaced (of_team team.0)
+operands_text of_team names (asks.Stopped team) = spaced (of_team team.0)
+operands_text of_team names (asks.Status team index) = spaced (of_team team.0) ++ spaced (number_text index)
+operands_text of_team names (asks.Print text) = spaced (flat_map escaped text)
+operands_text of_team names asks.Memory = []
+operands_text of_team names asks.Fail = []
+operands_text of_team names (asks.ErrorStop code) = spaced (decimal_text code)
+operands_text of_team names (asks.Fault kind) = spaced (fault_word kind)
+operands_text of_team names (asks.LimitStatements number) = codes " statements " ++ number_text number
+operands_text of_team names (asks.LimitWords number) = codes " words " ++ number_text number
+operands_text of_team names (asks.LimitStamp number) = codes " stamp " ++ number_text number
 
 -- whether the ask is one without a span and without a coarray of its own
 abbrev pub is_control : Ask → Bool
@@ -179,8 +178,8 @@ is_control (asks.Query owner span) = false
 is_control (asks.Free owner span) = false
 is_control ask = true
 
-abbrev pub ask_text : List (List ℕ) → Ask → List ℕ
-ask_text names ask = ask_word ask ++ operands_text names ask
+abbrev pub ask_text : (ℕ → List ℕ) → List (List ℕ) → Ask → List ℕ
+ask_text of_team names ask = ask_word ask ++ operands_text of_team names ask
 
 -- ---- replies
 -- a team that was formed: its number in the run, its team number and its members
@@ -224,11 +223,8 @@ place_word Board = codes "board"
 place_word Own = codes "own"
 
 -- stamp, image, line, object, ask and reply
-abbrev pub entry_line : List (List ℕ) → Entry → List ℕ
-entry_line names e =
-    number_text e.event.stamp ++ spaced (image_text e.image) ++ spaced (number_text e.event.line) ++ spaced (place_word (place_of e.event.ask)) ++ spaced (ask_text names e.event.ask)
+abbrev pub entry_line : (ℕ → List ℕ) → List (List ℕ) → Entry → List ℕ
+entry_line of_team names e =
+    number_text e.event.stamp ++ spaced (image_text e.image) ++ spaced (number_text e.event.line)
+    ++ spaced (place_word (place_of e.event.ask)) ++ spaced (ask_text of_team names e.event.ask)
     ++ codes " > " ++ reply_text e.event.reply ++ codes "\n"
-
--- the text of a trace, with the names of the coarrays by their numbers
-abbrev pub trace_text : List (List ℕ) → List Entry → List ℕ
-trace_text names es = flat_map (entry_line names) es

@@ -3,7 +3,9 @@
 ghost use Rattle.std.specs.Prelude.{◌≡◌, ◌++◌, OnOk, IsTrue, codes, flat_map};
 ghost use Rattle.caf_text.specs.Numbers.{decimal_text};
 ghost use Rattle.trace_text.specs.TraceText.{spaced, number_text, value_text, values_text, span_text, atomic_word, gather_word, kind_word, escaped, is_control, operands_text, ask_text};
+ghost use Rattle.trace_text.specs.Forms.{team_by_table};
 
+use crate::numbers::number_of;
 use crate::piece::{
     push_coarray, push_count, push_images, push_spaced, push_span, push_text, push_value,
     push_values, push_word,
@@ -18,6 +20,7 @@ use caf_base::value::{AtomicOp, Kind, Value};
 use caf_events::ask::Ask;
 use caf_events::round::GatherOp;
 use caf_text::push_number;
+use std::collections::BTreeMap;
 
 fn atomic_name(op: AtomicOp) -> &'static str
     ensures { result.now ≡ atomic_word op }
@@ -81,18 +84,31 @@ fn push_atomic(
     push_value(out, y)
 }
 
+// Appends a blank and a team: its number in the run, and its team number behind a slash.
+fn push_team(out: &mut Vec<u8>, numbers: &BTreeMap<u32, i64>, team: TeamNo) -> Result<(), NoMemory>
+    ensures { OnOk result (out.new.items ≡ out.old.items ++ spaced (team_by_table numbers.now team.0)) }
+{
+    push_spaced(out, u64::from(team.0))?;
+    push_text(out, "/")?;
+    match number_of(numbers, team) {
+        Some(number) => push_number(out, number),
+        None => Ok(()),
+    }
+}
+
 // Appends the operands of an arrival at a collective subroutine.
 fn push_gather(
     out: &mut Vec<u8>,
+    numbers: &BTreeMap<u32, i64>,
     team: TeamNo,
     op: GatherOp,
     root: u32,
     kind: Kind,
     values: &[Value],
 ) -> Result<(), NoMemory>
-    ensures { OnOk result (out.new.items ≡ out.old.items ++ (spaced (number_text team.0) ++ spaced (gather_word op) ++ spaced (number_text root) ++ spaced (kind_word kind) ++ spaced (values_text values.now))) }
+    ensures { OnOk result (out.new.items ≡ out.old.items ++ (spaced (team_by_table numbers.now team.0) ++ spaced (gather_word op) ++ spaced (number_text root) ++ spaced (kind_word kind) ++ spaced (values_text values.now))) }
 {
-    push_spaced(out, u64::from(team.0))?;
+    push_team(out, numbers, team)?;
     push_word(out, gather_name(op))?;
     push_spaced(out, u64::from(root))?;
     push_word(out, kind_name(kind))?;
@@ -100,10 +116,15 @@ fn push_gather(
 }
 
 // Appends a team and a number.
-fn push_of_team(out: &mut Vec<u8>, team: TeamNo, number: u64) -> Result<(), NoMemory>
-    ensures { OnOk result (out.new.items ≡ out.old.items ++ (spaced (number_text team.0) ++ spaced (number_text number))) }
+fn push_of_team(
+    out: &mut Vec<u8>,
+    numbers: &BTreeMap<u32, i64>,
+    team: TeamNo,
+    number: u64,
+) -> Result<(), NoMemory>
+    ensures { OnOk result (out.new.items ≡ out.old.items ++ (spaced (team_by_table numbers.now team.0) ++ spaced (number_text number))) }
 {
-    push_spaced(out, u64::from(team.0))?;
+    push_team(out, numbers, team)?;
     push_spaced(out, number)
 }
 
@@ -146,23 +167,30 @@ fn push_printed(out: &mut Vec<u8>, text: &[u8]) -> Result<(), NoMemory>
 }
 
 // Appends the operands of an ask at the control board or of a step of the image alone; those of an ask at a memory are left out.
-fn push_control(out: &mut Vec<u8>, names: &[Text], ask: &Ask) -> Result<(), NoMemory>
+fn push_control(
+    out: &mut Vec<u8>,
+    names: &[Text],
+    numbers: &BTreeMap<u32, i64>,
+    ask: &Ask,
+) -> Result<(), NoMemory>
     requires { IsTrue (is_control ask.now) }
-    ensures { OnOk result (out.new.items ≡ out.old.items ++ operands_text names.now ask.now) }
+    ensures { OnOk result (out.new.items ≡ out.old.items ++ operands_text (team_by_table numbers.now) names.now ask.now) }
 {
     match ask {
         Ask::Arrive { team, arriving } => {
-            push_spaced(out, u64::from(team.0))?;
+            push_team(out, numbers, *team)?;
             push_arriving(out, names, arriving)
         }
-        Ask::Leave { team, round } | Ask::Take { team, round } => push_of_team(out, *team, *round),
+        Ask::Leave { team, round } | Ask::Take { team, round } => push_of_team(
+            out, numbers, *team, *round,
+        ),
         Ask::Gather {
             team,
             op,
             root,
             kind,
             values,
-        } => push_gather(out, *team, *op, *root, *kind, values.as_slice()),
+        } => push_gather(out, numbers, *team, *op, *root, *kind, values.as_slice()),
         Ask::Pair { images } => {
             push_text(out, " ")?;
             push_images(out, ",", images.as_slice())
@@ -172,8 +200,8 @@ fn push_control(out: &mut Vec<u8>, names: &[Text], ask: &Ask) -> Result<(), NoMe
             u64::from(*construct),
         ),
         Ask::Stop { code } | Ask::ErrorStop { code } => push_code(out, *code),
-        Ask::Failed { team } | Ask::Stopped { team } => push_spaced(out, u64::from(team.0)),
-        Ask::Status { team, index } => push_of_team(out, *team, u64::from(*index)),
+        Ask::Failed { team } | Ask::Stopped { team } => push_team(out, numbers, *team),
+        Ask::Status { team, index } => push_of_team(out, numbers, *team, u64::from(*index)),
         Ask::Print { text } => {
             push_text(out, " ")?;
             push_printed(out, text.as_slice())
@@ -187,8 +215,13 @@ fn push_control(out: &mut Vec<u8>, names: &[Text], ask: &Ask) -> Result<(), NoMe
 }
 
 // Appends the operands of an ask.
-fn push_operands(out: &mut Vec<u8>, names: &[Text], ask: &Ask) -> Result<(), NoMemory>
-    ensures { OnOk result (out.new.items ≡ out.old.items ++ operands_text names.now ask.now) }
+fn push_operands(
+    out: &mut Vec<u8>,
+    names: &[Text],
+    numbers: &BTreeMap<u32, i64>,
+    ask: &Ask,
+) -> Result<(), NoMemory>
+    ensures { OnOk result (out.new.items ≡ out.old.items ++ operands_text (team_by_table numbers.now) names.now ask.now) }
 {
     match ask {
         Ask::Read { span, .. }
@@ -216,14 +249,19 @@ fn push_operands(out: &mut Vec<u8>, names: &[Text], ask: &Ask) -> Result<(), NoM
         }
         Ask::Delete { coarray, .. } => push_coarray(out, names, *coarray),
         Ask::Atomic { op, span, x, y, .. } => push_atomic(out, names, *op, span, *x, *y),
-        _ => push_control(out, names, ask),
+        _ => push_control(out, names, numbers, ask),
     }
 }
 
-/// Appends the text of an ask.
-pub(crate) fn push_ask(out: &mut Vec<u8>, names: &[Text], ask: &Ask) -> Result<(), NoMemory>
-    ensures { OnOk result (out.new.items ≡ out.old.items ++ ask_text names.now ask.now) }
+/// Appends the text of an ask, with the team numbers that a table has.
+pub(crate) fn push_ask(
+    out: &mut Vec<u8>,
+    names: &[Text],
+    numbers: &BTreeMap<u32, i64>,
+    ask: &Ask,
+) -> Result<(), NoMemory>
+    ensures { OnOk result (out.new.items ≡ out.old.items ++ ask_text (team_by_table numbers.now) names.now ask.now) }
 {
     push_text(out, ask_word(ask))?;
-    push_operands(out, names, ask)
+    push_operands(out, names, numbers, ask)
 }
