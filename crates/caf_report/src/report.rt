@@ -1,9 +1,9 @@
 //! A report: the trace of a run and its end.
 
-ghost use Rattle.std.specs.Prelude.{◌≡◌, ◌++◌, ⊤, IfOk, OnOk, IfSome, IfNone, MatchOption};
+ghost use Rattle.std.specs.Prelude.{◌≡◌, ◌++◌, [], ⊤, cond, flat_map, IfOk, OnOk, IfSome, IfNone, MatchOption};
 ghost use Rattle.caf_report.specs.declared.report.End.TheVariants as ends;
 ghost use Rattle.caf_report.specs.Ends.{EndsAt, IsFirstEnding, HasNoEnding, ending_at, ending_by, IsEndOf, RaceStands, EndStands, HasEnd, IsPlain, status_of};
-ghost use Rattle.caf_report.specs.ReportText.{shown_trace, middle_text, report_text};
+ghost use Rattle.caf_report.specs.ReportText.{final_line, shown_trace, middle_text, report_text};
 
 use super::ending::push_end;
 use super::finals::push_finals;
@@ -239,13 +239,30 @@ impl Report {
         ensures { OnOk result (out.new.items ≡ out.old.items ++ middle_text shown self.now) }
     {
         push_prints(out, self.images, &self.trace)?;
-        if shown.vars {
-            push_finals(out, self.finals.as_slice())?;
+        self.push_final_values(out, shown.vars)?;
+        self.push_trace_lines(out, shown.trace)
+    }
+
+    // Appends the final values, where they are shown.
+    fn push_final_values(&self, out: &mut Vec<u8>, are_shown: bool) -> Result<(), NoMemory>
+        ensures { OnOk result (out.new.items ≡ out.old.items ++ cond are_shown (flat_map final_line self.now.finals) []) }
+    {
+        if are_shown {
+            push_finals(out, self.finals.as_slice())
+        } else {
+            Ok(())
         }
-        if shown.trace {
-            self.push_shown_trace(out)?;
+    }
+
+    // Appends the trace, where it is shown.
+    fn push_trace_lines(&self, out: &mut Vec<u8>, are_shown: bool) -> Result<(), NoMemory>
+        ensures { OnOk result (out.new.items ≡ out.old.items ++ cond are_shown (shown_trace self.now) []) }
+    {
+        if are_shown {
+            self.push_shown_trace(out)
+        } else {
+            Ok(())
         }
-        Ok(())
     }
 
     // Appends the line that begins the trace, with its form and the number of images, and the lines of the steps.
