@@ -415,6 +415,7 @@ impl Order {
     }
 
     /// The clock of an image's present segment, ticked.
+    #[inline(always)]
     pub fn clock(&self, _n: u32, _before: &[Entry], image: ImageNo) -> &Clock
         requires image { (0 < image.0) × (image.0 ≤ _n) }
         requires order { Ordered _n _before.now self.now }
@@ -424,6 +425,7 @@ impl Order {
     }
 
     /// How many segments an image has completed.
+    #[inline(always)]
     pub fn completed(&self, _n: u32, _before: &[Entry], image: ImageNo) -> u64
         requires image { (0 < image.0) × (image.0 ≤ _n) }
         requires order { Ordered _n _before.now self.now }
@@ -433,6 +435,7 @@ impl Order {
     }
 
     /// The next entry of the trace: what its act does. `told` covers the last segments of the failed images of which its status speaks.
+    #[inline(always)]
     pub fn step(
         &mut self,
         alloc: Global,

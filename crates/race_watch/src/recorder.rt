@@ -101,6 +101,7 @@ fn first_flags(alloc: Global, n: u32) -> Result<Flags, NoMemory>
 }
 
 // An entry that completes no segment sees, sets or spoils the cells that it touches.
+#[inline(always)]
 fn hand_on(
     flags: &mut Flags,
     alloc: Global,
@@ -158,6 +159,7 @@ impl Recorder {
     }
 
     /// The clock of an image's present segment, ticked: it covers this segment and those that precede it.
+    #[inline(always)]
     pub fn clock(&self, _n: u32, _before: &[Entry], image: ImageNo) -> &Clock
         requires image { (0 < image.0) × (image.0 ≤ _n) }
         requires recorded { IsRecorded _n _before.now self.now }
@@ -177,6 +179,7 @@ impl Recorder {
     }
 
     /// What an entry with this ask and reply touches.
+    #[inline(always)]
     pub fn touch_of(
         &self,
         alloc: Global,
@@ -206,6 +209,7 @@ impl Recorder {
     }
 
     // Notes the next entry at the cells that it touches.
+    #[inline(always)]
     fn note(
         &mut self,
         alloc: Global,
@@ -227,6 +231,7 @@ impl Recorder {
     }
 
     // The next entry sees, sets or spoils the cells that it touches, and completes no segment.
+    #[inline(always)]
     fn hand(
         &mut self,
         alloc: Global,
@@ -254,6 +259,7 @@ impl Recorder {
     }
 
     // The next entry completes its image's segment.
+    #[inline(always)]
     fn complete(
         &mut self,
         alloc: Global,
@@ -284,6 +290,7 @@ impl Recorder {
     }
 
     // The next entry completes no segment.
+    #[inline(always)]
     fn go_on(
         &mut self,
         alloc: Global,
@@ -307,6 +314,7 @@ impl Recorder {
     }
 
     // Keeps what the next entry, with this ask and reply, gives its coarray, and what it is to segment order.
+    #[inline(always)]
     fn keep(
         &mut self,
         alloc: Global,

@@ -92,6 +92,7 @@ fn makes(
 }
 
 /// What an ask with its reply touches after these entries of a run of n images; `made` is the number of cells that the coarray of a deallocation has.
+#[inline(always)]
 pub fn touch_by(
     alloc: Global,
     n: u32,
