@@ -3,13 +3,15 @@
 
 The program is crates/caf/out/caf, or that of CAF_PROGRAM; it is called by itself, without the launcher. A figure is the
 time of one way to run a program divided by that of another one: whole calls, by turns, TURNS times each (5), and the
-best time of each counts; the ratio of the medians stands beside it. Each has its target and OK or NOT; the last line
-counts the OKs, and the status is 0 where all are. Without a FIGURE all of them are measured. `-l` lists them.
+best time of each counts; beside it stand the ratio of the medians and that of the least processor times, of all threads
+together. Each has its target and OK or NOT; the last line counts the OKs, and the status is 0 where all are. Without a
+FIGURE all of them are measured. `-l` lists them.
 """
 
 import argparse
 import os
 import re
+import signal
 import statistics
 import subprocess
 import sys
@@ -31,10 +33,12 @@ def on(workers: int) -> Tuple[str, str]:
 
 
 class Call(NamedTuple):
-    """How a call ended: its status, None where it was ended since it hung, its seconds and its text."""
+    """How a call ended: its status, None where it was ended since it hung, its seconds, those of all its threads on
+    processors, and its text."""
 
     status: Optional[int]
     seconds: float
+    spent: float
     text: str
 
 
@@ -82,26 +86,26 @@ class Bench:
         with tempfile.TemporaryFile(dir=self.folder) as out:
             begun = time.perf_counter()
             child = subprocess.Popen(command, cwd=self.folder, stdin=subprocess.DEVNULL, stdout=out)
-            try:
-                status: Optional[int] = child.wait(PATIENCE)
-            except subprocess.TimeoutExpired:
-                child.kill()
-                child.wait()
-                status = None
+            signal.signal(signal.SIGALRM, lambda *_: child.kill())
+            signal.setitimer(signal.ITIMER_REAL, PATIENCE)
+            _, state, used = os.wait4(child.pid, 0)
             seconds = time.perf_counter() - begun
+            signal.setitimer(signal.ITIMER_REAL, 0)
+            child.returncode = os.waitstatus_to_exitcode(state)
+            status = None if seconds >= PATIENCE else child.returncode
             out.seek(0)
-            return Call(status, seconds, out.read().decode("utf-8", "replace"))
+            return Call(status, seconds, used.ru_utime + used.ru_stime, out.read().decode("utf-8", "replace"))
 
-    def times(self, case: Case, ways: Sequence[Sequence[str]]) -> Optional[List[List[float]]]:
-        """The seconds of each way, by turns; None where a call fails."""
-        found: List[List[float]] = [[] for _ in ways]
+    def calls(self, case: Case, ways: Sequence[Sequence[str]]) -> Optional[List[List[Call]]]:
+        """The calls of each way, by turns; None where one fails."""
+        found: List[List[Call]] = [[] for _ in ways]
         for turn in range(self.repeats):
             for k in range(len(ways))[:: 1 if turn % 2 == 0 else -1]:
                 made = self.call(case, ways[k])
                 if made.status != 0:
                     print(f"    {' '.join(ways[k])}: {why(made)}")
                     return None
-                found[k].append(made.seconds)
+                found[k].append(made)
         return found
 
     def turns_of(self, seconds: float) -> int:
@@ -122,18 +126,21 @@ class Bench:
         """Measures ratios that are of one case."""
         case = found[0].case
         ways = list(dict.fromkeys(tuple(way) for it in found for way in (it.way, it.by)))
-        times = self.times(case, ways)
+        calls = self.calls(case, ways)
         for it in found:
             head = f"{case.program} {case.images}, {' '.join(it.way)} by {' '.join(it.by)}:"
-            if times is None:
+            if calls is None:
                 self.tell(head, "no figure", False)
                 continue
-            one, other = times[ways.index(tuple(it.way))], times[ways.index(tuple(it.by))]
+            both = [calls[ways.index(tuple(words))] for words in (it.way, it.by)]
+            one, other = ([made.seconds for made in way] for way in both)
+            spent = [min(made.spent for made in way) for way in both]
             best, usual = (f(one) / f(other) for f in (min, statistics.median))
             if it.is_gain:
                 best, usual = 1 / best, 1 / usual
             goal = f"{'at least' if it.is_gain else 'at most'} {it.target}"
             said = f"{min(one):.3f} s, {min(other):.3f} s: {best:.2f} ({usual:.2f} by medians), {goal}"
+            said += f"; {spent[0] / max(spent[1], 1e-6):.2f} of processor time;"
             self.tell(head, said, best >= it.target if it.is_gain else best <= it.target)
 
 
@@ -189,7 +196,8 @@ def flag(bench: Bench) -> None:
             continue
         steps = sum(image != "1" for image in _TRACE_LINE.findall(made.text))
         rate = steps / made.seconds
-        said = f"{made.seconds:.3f} s, {steps} steps of those that wait: {rate:.0f} a second, at most 2000"
+        said = f"{made.seconds:.3f} s ({made.spent:.3f} s of processors), {steps} steps of those that wait: "
+        said += f"{rate:.0f} a second, at most 2000"
         bench.tell(head, said, rate <= 2000)
 
 

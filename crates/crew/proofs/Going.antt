@@ -1,9 +1,8 @@
 -- The images of a crew go on: one by one, round by round, worker by worker.
-use Rattle.std.proofs.Common.{◌≡◌, ℕ, zero, suc, ◌<◌, ◌≤◌, ◌+◌, List, [], ◌∷◌, ◌++◌, ◌⊎◌, inl, inr, length, set, ap, sym, ◌∙◌, subst, refl, arith, true, false, Bool, IsTrue, ◌↔◌}
+use Rattle.std.proofs.Common.{◌≡◌, ℕ, zero, suc, ◌<◌, ◌+◌, List, [], ◌∷◌, ◌++◌, inl, inr, length, set, ap, sym, subst, refl, arith, true, false, Bool, IsTrue, ◌↔◌}
 use Rattle.std.specs.Prelude.{slice_index_or}
 use mathlib.Core.Option.{some-injective, some-ne-none}
 use Rattle.atomic_table.proofs.Lists.{at_set}
-use Rattle.trace_theory.specs.Entries.{Each}
 use Rattle.caf_events.specs.declared.event.Event.{Event}
 use Rattle.caf_events.specs.declared.object.Object as objects
 use Rattle.caf_events.specs.declared.walker.Walker as walker
@@ -15,9 +14,8 @@ use Rattle.image_turns.specs.Waits.{Waits}
 use Rattle.image_turns.proofs.Staying.{stays_same, stays_both}
 use Rattle.crew.specs.declared.member.Member.{Member}
 use Rattle.crew.specs.declared.member.Worker.{Worker}
-use Rattle.crew.specs.Crews.{LastEnds, SomeEnded, HavePasses, AllHavePasses, GoOn, members_of, AllWait, IsThrough, IsDone, AreDone}
-use Rattle.crew.specs.Dealt.{NoneShort}
-use Rattle.crew.proofs.Lists.{at_either, at_first, at_second}
+use Rattle.crew.specs.Crews.{LastEnds, HavePasses, AllHavePasses, GoOn, members_of}
+use Rattle.crew.proofs.Lists.{at_first, at_second}
 
 -- a list with an item has a last one
 has_last : {A : Type 0} (x : A) (xs : List A) → (before : List A) × (last : A) × (x ∷ xs ≡ before ++ last ∷ [])
@@ -61,7 +59,7 @@ module _ {M O B : Type 0} (walks : walker.Ghosts M) (board : Opened B) (memories
   passes_after (m ∷ ms) (x ∷ ns) h zero n at = subst (λ (z : Member M). ArePassesOf board memories z.run z.passes) (some-injective x n at) h.0.passes
   passes_after (m ∷ ms) (x ∷ ns) h (suc j) n at = passes_after ms ns h.1 j n at
 
-  pub go_on_append : (ms ns ms' ns' : List (Member M)) → GoOn walks board memories ms ns → GoOn walks board memories ms' ns' → GoOn walks board memories (ms ++ ms') (ns ++ ns')
+  go_on_append : (ms ns ms' ns' : List (Member M)) → GoOn walks board memories ms ns → GoOn walks board memories ms' ns' → GoOn walks board memories (ms ++ ms') (ns ++ ns')
   go_on_append [] [] ms' ns' h i = i
   go_on_append [] (n ∷ ns) ms' ns' h i = absurd h
   go_on_append (m ∷ ms) [] ms' ns' h i = absurd h
@@ -73,6 +71,14 @@ module _ {M O B : Type 0} (walks : walker.Ghosts M) (board : Opened B) (memories
   as_many (m ∷ ms) [] h = absurd h
   as_many (m ∷ ms) (n ∷ ns) h = ap (λ k. suc k) (as_many ms ns h.1)
 
+  -- all images go on where those of each worker do, by its place
+  pub go_on_workers : (ws vs : List (Worker M)) → length vs ≡ length ws → ((i : ℕ) (d : Worker M) → i < length ws → GoOn walks board memories (slice_index_or ws i d).members.items (slice_index_or vs i d).members.items)
+      → GoOn walks board memories (members_of ws) (members_of vs)
+  go_on_workers [] [] l h = tt
+  go_on_workers [] (v ∷ vs) l h = absurd (omega arith)
+  go_on_workers (w ∷ ws) [] l h = absurd (omega arith)
+  go_on_workers (w ∷ ws) (v ∷ vs) l h = go_on_append w.members.items v.members.items (members_of ws) (members_of vs) (h 0 w (omega arith)) (go_on_workers ws vs (omega arith) (λ i d lt. h (suc i) d (omega arith)))
+
   -- workers are ready where all images are
   pub ready_workers : (ws : List (Worker M)) → HavePasses board memories (members_of ws) → AllHavePasses board memories ws
   ready_workers [] h = tt
@@ -82,9 +88,6 @@ module _ {M O B : Type 0} (walks : walker.Ghosts M) (board : Opened B) (memories
   )
 
   module _ (memory : objects.Ghosts O) (control : objects.Ghosts B) where
-    wait_both : (ms ns : List (Member M)) → AllWait memory control board memories walks ms → AllWait memory control board memories walks ns → AllWait memory control board memories walks (ms ++ ns)
-    wait_both ms ns h i j m at = elim (at_either ms ns j m at) [ inl x ↦ h j m x | inr x ↦ i x.0 m x.1 ]
-
     -- one image more waits
     pub wait_more : (ms : List (Member M)) (j : ℕ) (m' : Member M) → ((k : ℕ) (m : Member M) → k < j → At ms k m → Waits memory control board memories walks m.run m.passes) → Waits memory control board memories walks m'.run m'.passes
         → (k : ℕ) (m : Member M) → k < j + 1 → At (set ms j m') k m → Waits memory control board memories walks m.run m.passes
@@ -92,25 +95,3 @@ module _ {M O B : Type 0} (walks : walker.Ghosts M) (board : Opened B) (memories
       | inl x ↦ subst (λ (z : Member M). Waits memory control board memories walks z.run z.passes) x.1 w
       | inr x ↦ (let ne = x.0 in h k m (omega arith) x.1)
     ]
-
-    ready_both : (ms ns : List (Member M)) → IsThrough memory control board memories walks ms → IsThrough memory control board memories walks ns → IsThrough memory control board memories walks (ms ++ ns)
-    ready_both ms ns (inl x) i = inl (record { place = x.place; member = x.member; at = at_first ms ns x.place x.member x.at; ends = x.ends })
-    ready_both ms ns (inr h) (inl y) = (let r = at_second ms ns y.place y.member y.at in inl (record { place = r.0; member = y.member; at = r.1; ends = y.ends }))
-    ready_both ms ns (inr h) (inr i) = inr (wait_both ms ns h i)
-
-    -- what all workers did
-    pub done_all : (ws vs : List (Worker M)) → AreDone memory control board memories walks ws vs → NoneShort vs
-        → GoOn walks board memories (members_of ws) (members_of vs) × IsThrough memory control board memories walks (members_of vs)
-    done_all [] [] h short = (tt, inr (λ j m at. absurd (some-ne-none m (sym at))))
-    done_all [] (v ∷ vs) h short = absurd h
-    done_all (w ∷ ws) [] h short = absurd h
-    done_all (w ∷ ws) (v ∷ vs) h short =
-        let r = done_all ws vs h.1 short.1 in
-        (go_on_append w.members.items v.members.items (members_of ws) (members_of vs) h.0.stays r.0, ready_both v.members.items (members_of vs) (h.0.done short.0) r.1)
-
-    -- each worker by its place
-    pub done_each : (ws vs : List (Worker M)) → length vs ≡ length ws → ((i : ℕ) (d : Worker M) → i < length ws → IsDone memory control board memories walks (slice_index_or ws i d) (slice_index_or vs i d)) → AreDone memory control board memories walks ws vs
-    done_each [] [] l h = tt
-    done_each [] (v ∷ vs) l h = absurd (omega arith)
-    done_each (w ∷ ws) [] l h = absurd (omega arith)
-    done_each (w ∷ ws) (v ∷ vs) l h = (h 0 w (omega arith), done_each ws vs (omega arith) (λ i d lt. h (suc i) d (omega arith)))

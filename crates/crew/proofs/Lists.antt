@@ -1,5 +1,5 @@
 -- Places of lists, by both ways to read them.
-use Rattle.std.proofs.Common.{◌≡◌, ℕ, zero, suc, ◌+◌, ◌<◌, List, [], ◌∷◌, ◌++◌, ◌⊎◌, inl, inr, length, map, set, ap, sym, ◌∙◌, subst, refl, arith}
+use Rattle.std.proofs.Common.{◌≡◌, ℕ, zero, suc, ◌+◌, ◌<◌, List, [], ◌∷◌, ◌++◌, length, map, set, sym, subst, refl, arith}
 use Rattle.std.specs.Prelude.{slice_get, slice_index_or, Some}
 use mathlib.Core.Option.{some-injective, some-ne-none}
 use Rattle.turn_gate.specs.Gates.{At}
@@ -25,12 +25,7 @@ mapped_at f [] k y h = absurd (some-ne-none y (sym h))
 mapped_at f (x ∷ xs) zero y h = (x, refl, some-injective (f x) y h)
 mapped_at f (x ∷ xs) (suc k) y h = mapped_at f xs k y h
 
--- a place of two lists is one of the first or of the second
-pub at_either : {A : Type 0} (xs ys : List A) (k : ℕ) (x : A) → At (xs ++ ys) k x → At xs k x ⊎ ((j : ℕ) × At ys j x)
-at_either [] ys k x h = inr (k, h)
-at_either (y ∷ xs) ys zero x h = inl h
-at_either (y ∷ xs) ys (suc k) x h = at_either xs ys k x h
-
+-- a place of one of two lists is one of both
 pub at_first : {A : Type 0} (xs ys : List A) (k : ℕ) (x : A) → At xs k x → At (xs ++ ys) k x
 at_first [] ys k x h = absurd (some-ne-none x (sym h))
 at_first (y ∷ xs) ys zero x h = h

@@ -1,12 +1,10 @@
 -- Images are dealt and given back in their order.
-use Rattle.std.proofs.Common.{◌≡◌, ℕ, zero, suc, ◌+◌, ◌<◌, ◌≤◌, List, [], ◌∷◌, ◌++◌, length, length-append, map, get_or, take, drop, ap, sym, ◌∙◌, subst, refl, arith, append_assoc, false}
+use Rattle.std.proofs.Common.{◌≡◌, ℕ, ◌+◌, ◌<◌, ◌≤◌, List, [], ◌∷◌, ◌++◌, length, length-append, map, get_or, take, drop, ap, sym, ◌∙◌, refl, arith, append_assoc}
 use Rattle.std.proofs.lemmas.List.{append-nil}
 use Rattle.image_gate.proofs.Closings.{one_more}
-use Rattle.trace_theory.specs.Entries.{Each}
 use Rattle.crew.specs.declared.member.Member.{Member}
 use Rattle.crew.specs.declared.member.Worker.{Worker}
 use Rattle.crew.specs.Crews.{members_of}
-use Rattle.crew.specs.Dealt.{NoneShort}
 
 -- the first item is taken out
 pub first_out : {A : Type 0} (xs xs' : List A) (x : A) → 0 < length xs → x ≡ get_or xs 0 x → xs' ≡ take 0 xs ++ drop 1 xs → xs ≡ x ∷ xs'
@@ -44,27 +42,5 @@ module _ {M : Type 0} where
   dealt_last ws ws' w rest all more h shared = ap members_of more ∙ members_more ws w ∙ ap (λ l. members_of ws ++ l) shared ∙ h
 
   -- one worker more is back
-  pub back_more : {B : Type 0} (f : Member M → B) (done done' : List B) (w : Worker M) (rest rest' : List (Worker M)) (end : List B) → rest ≡ w ∷ rest' → done' ≡ done ++ map f w.members.items → done ++ map f (members_of rest) ≡ end
-      → done' ++ map f (members_of rest') ≡ end
-  back_more f done done' w rest rest' end next more h =
-      ap (λ l. l ++ map f (members_of rest')) more ∙ append_assoc done (map f w.members.items) (map f (members_of rest')) ∙ ap (λ l. done ++ l) (sym (map_append f w.members.items (members_of rest')))
-      ∙ ap (λ l. done ++ map f (members_of l)) (sym next) ∙ h
-
-  -- none of those that are back was short
-  pub record BackWhole (rest all : List (Worker M)) : Type 0 where
-    pub done : List (Worker M)
-    pub front : done ++ rest ≡ all
-    pub whole : NoneShort done
-
-  pub back_none : (all : List (Worker M)) → BackWhole all all
-  back_none all = record { done = []; front = refl; whole = tt }
-
-  each_two : (ws : List (Worker M)) (w : Worker M) → NoneShort ws → w.short ≡ false → NoneShort (ws ++ w ∷ [])
-  each_two [] w h s = (s, tt)
-  each_two (v ∷ ws) w h s = (h.0, each_two ws w h.1 s)
-
-  pub back_one : (rest rest' all : List (Worker M)) (w : Worker M) → rest ≡ w ∷ rest' → w.short ≡ false → BackWhole rest all → BackWhole rest' all
-  back_one rest rest' all w next short b = record { done = b.done ++ w ∷ []; front = one_more b.done w rest' ∙ ap (λ l. b.done ++ l) (sym next) ∙ b.front; whole = each_two b.done w b.whole short }
-
-  pub back_all : (rest all : List (Worker M)) → rest ≡ [] → BackWhole rest all → NoneShort all
-  back_all rest all none b = subst NoneShort (sym (append-nil b.done) ∙ ap (λ l. b.done ++ l) (sym none) ∙ b.front) b.whole
+  pub back_more : (done done' : List (Member M)) (w : Worker M) (rest rest' : List (Worker M)) (all : List (Member M)) → rest ≡ w ∷ rest' → done' ≡ done ++ w.members.items → done ++ members_of rest ≡ all → done' ++ members_of rest' ≡ all
+  back_more done done' w rest rest' all next more h = ap (λ l. l ++ members_of rest') more ∙ append_assoc done w.members.items (members_of rest') ∙ ap (λ l. done ++ members_of l) (sym next) ∙ h

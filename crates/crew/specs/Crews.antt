@@ -1,5 +1,5 @@
 -- The images of a crew: what holds of them while they run at the gates of their run, and what they have come to.
-use Rattle.std.specs.Prelude.{ℕ, ◌≡◌, ◌⊎◌, ◌++◌, false, List, [], ◌∷◌}
+use Rattle.std.specs.Prelude.{ℕ, ◌≡◌, ◌⊎◌, ◌++◌, List, [], ◌∷◌}
 use Rattle.trace_theory.specs.Entries.{Each}
 use Rattle.caf_events.specs.declared.event.Event.{Event}
 use Rattle.caf_events.specs.declared.object.Object as objects
@@ -54,15 +54,3 @@ module _ {O B : Type 0} (memory : objects.Ghosts O) (control : objects.Ghosts B)
   -- the images are through: one of them made a step that ends the run, or each waits or has ended
   abbrev pub IsThrough : List (Member M) → Type 0
   IsThrough members = SomeEnded members ⊎ AllWait members
-
-  -- a worker at its end
-  pub record IsDone (w w' : Worker M) : Type 0 where
-    pub stays : GoOn walks board memories w.members.items w'.members.items
-    pub done : w'.short ≡ false → IsThrough w'.members.items
-
-  -- all workers at their ends
-  abbrev pub AreDone : List (Worker M) → List (Worker M) → Type 0
-  AreDone [] [] = Unit {0}
-  AreDone (w ∷ ws) (v ∷ vs) = IsDone w v × AreDone ws vs
-  AreDone [] (v ∷ vs) = ⊥
-  AreDone (w ∷ ws) [] = ⊥

@@ -1,8 +1,8 @@
 //! The images of a run dealt among workers, and given back by them.
 
-ghost use Rattle.std.specs.Prelude.{◌≡◌, ◌<◌, ◌≤◌, ◌++◌, length, map, IfOk, OnOk};
+ghost use Rattle.std.specs.Prelude.{◌≡◌, ◌<◌, ◌≤◌, ◌++◌, length, map, IfOk};
 ghost use Rattle.crew.specs.Crews.{members_of};
-ghost use Rattle.crew.specs.Dealt.{run_of, passes_of, NoneShort};
+ghost use Rattle.crew.specs.Dealt.{run_of, passes_of};
 
 use crate::member::{Member, Worker};
 use crate::resting::Pause;
@@ -79,15 +79,34 @@ pub(crate) fn deal<M: Drop>(
     Ok(dealt)
 }
 
-// Takes the images of a worker, behind those that were taken.
-fn take<M: Drop>(
-    images: &mut Vec<ImageRun<M>>,
-    passes: &mut Vec<Passes>,
-    members: Vec<Member<M>>,
-) -> Result<(), NoMemory>
-    ensures images { OnOk result (images.new.items ≡ images.old.items ++ map run_of members.items) }
-    ensures passes { OnOk result (passes.new.items ≡ passes.old.items ++ map passes_of members.items) }
+/// All images in order, back from workers none of which was short of memory.
+pub(crate) fn gather<M: Drop>(
+    alloc: Global,
+    workers: Vec<Worker<M>>,
+) -> Result<Vec<Member<M>>, NoMemory>
+    ensures { IfOk result (λ v. v.items ≡ members_of workers.items) }
 {
+    let mut members = Vec::new(alloc);
+    for worker in workers {
+        if worker.short {
+            return Err(NoMemory);
+        }
+        let mut more = worker.members;
+        members.append(&mut more)?;
+    }
+    Ok(members)
+}
+
+/// The images and their passes, in the order of the members.
+pub(crate) fn apart<M: Drop>(
+    alloc: Global,
+    members: Vec<Member<M>>,
+) -> Result<(Vec<ImageRun<M>>, Vec<Passes>), NoMemory>
+    ensures images { IfOk result (λ r. r.0.items ≡ map run_of members.items) }
+    ensures passes { IfOk result (λ r. r.1.items ≡ map passes_of members.items) }
+{
+    let mut images = Vec::new(alloc);
+    let mut passes = Vec::new(alloc);
     for member in members {
         let Member {
             run,
@@ -96,26 +115,6 @@ fn take<M: Drop>(
         } = member;
         images.push(run)?;
         passes.push(pass)?;
-    }
-    Ok(())
-}
-
-/// The images and their passes in order, back from workers none of which was short of memory.
-pub(crate) fn gather<M: Drop>(
-    alloc: Global,
-    workers: Vec<Worker<M>>,
-) -> Result<(Vec<ImageRun<M>>, Vec<Passes>), NoMemory>
-    ensures images { IfOk result (λ r. r.0.items ≡ map run_of (members_of workers.items)) }
-    ensures passes { IfOk result (λ r. r.1.items ≡ map passes_of (members_of workers.items)) }
-    ensures whole { IfOk result (λ _. NoneShort workers.items) }
-{
-    let mut images = Vec::new(alloc);
-    let mut passes = Vec::new(alloc);
-    for worker in workers {
-        if worker.short {
-            return Err(NoMemory);
-        }
-        take(&mut images, &mut passes, worker.members)?;
     }
     Ok((images, passes))
 }

@@ -8,8 +8,8 @@ ghost use Rattle.image_core.specs.Parts.{moment, AreSound};
 ghost use Rattle.image_turns.specs.Turns.{HearsEvery};
 ghost use Rattle.crew.specs.Left.{HasNoStep, AreLeft};
 
-use crate::dealing::{deal, gather, members};
-use crate::worker::run_workers;
+use crate::dealing::{apart, deal, gather, members};
+use crate::worker::{run_workers, settle};
 use caf_base::hook::Hook;
 use caf_base::refusal::NoMemory;
 use caf_events::object::Object;
@@ -20,8 +20,8 @@ use std::alloc::Global;
 use std::sync::Wait;
 use std::thread::Threads;
 
-/// Runs the images of these parts on so many workers, and gives the parts back where each worker has come to its end: all its images have ended, one of them made a step that ends the
-/// run, or no image of any worker could step. The call may wait for the workers. Conditions: there is a worker, the
+/// Runs the images of these parts on so many workers, and gives the parts back where one made a step that ends the run,
+/// or each has ended or could step no more. The call may wait for the workers. Conditions: there is a worker, the
 /// parts are sound and no step has been made, and the programs go on whatever the
 /// reply to their ask is. On refusal the parts are given up.
 pub fn run_crew<
@@ -56,8 +56,11 @@ pub fn run_crew<
     let (fabric, passes) = Fabric::new(alloc, memories, board)?;
     let members = members(alloc, images, passes)?;
     let workers = deal(alloc, members, workers)?;
-    let done = run_workers(rt, fabric.gates(), workers, hook)?;
-    let (images, passes) = gather(alloc, done)?;
+    let gates = fabric.gates();
+    let done = run_workers(rt, gates, workers, hook)?;
+    let mut back = gather(alloc, done)?;
+    settle(rt, gates, &mut back, hook)?;
+    let (images, passes) = apart(alloc, back)?;
     let (memories, board) = fabric.close(alloc, passes)?;
     Ok(PartsOf {
         images,

@@ -3,7 +3,7 @@
 ghost use Rattle.std.specs.Prelude.{IfOk, IsTrue};
 ghost use Rattle.image_turns.specs.Turns.{HearsEvery, ArePassesOf, StaysOn};
 ghost use Rattle.image_turns.specs.Waits.{Waits};
-ghost use Rattle.crew.specs.Crews.{HavePasses, GoOn, SomeEnded, IsThrough, IsDone, AllHavePasses, AreDone};
+ghost use Rattle.crew.specs.Crews.{HavePasses, GoOn, SomeEnded, IsThrough, AllHavePasses, members_of};
 
 use crate::member::{Member, Worker};
 use crate::resting::{Pace, Pause, Round, both, is_paused, pause_of, refused, rests, round_of};
@@ -100,12 +100,11 @@ fn has_ended<M: Walker>(members: &Vec<Member<M>>) -> bool
     false
 }
 
-// Runs an image of a worker until it must wait or has ended. True where it made a step.
+// Runs an image until it must wait or has ended. True where it made a step.
 fn run_member<R: Wait, M: Walker, O: Object, B: Object, H: Hook>(
     rt: &R,
     gates: &Gates<O, B>,
     member: &mut Member<M>,
-    worker: u32,
     hook: &H,
 ) -> Result<bool, NoMemory>
     requires passes { ArePassesOf gates.now.board gates.now.memories.items member.old.run member.old.passes }
@@ -113,16 +112,15 @@ fn run_member<R: Wait, M: Walker, O: Object, B: Object, H: Hook>(
     ensures stays { StaysOn M.Walker gates.now.board gates.now.memories.items member.old.run member.old.passes member.new.run member.new.passes }
     ensures waits { IfOk result (λ _. Waits O.Object B.Object gates.now.board gates.now.memories.items M.Walker member.new.run member.new.passes) }
 {
-    run_image(rt, gates, &mut member.run, &mut member.passes, worker, hook)
+    run_image(rt, gates, &mut member.run, &mut member.passes, 0, hook)
 }
 
-// The last round of a worker: each image makes its steps until it must wait or has ended, but for those behind one
-// that makes a step that ends the run.
+// The last round: each image makes its steps until it must wait or has ended, but for those behind one that makes a
+// step that ends the run.
 fn run_out<R: Wait, M: Walker, O: Object, B: Object, H: Hook>(
     rt: &R,
     gates: &Gates<O, B>,
     members: &mut Vec<Member<M>>,
-    worker: u32,
     hook: &H,
 ) -> Result<(), NoMemory>
     requires passes { HavePasses gates.now.board gates.now.memories.items members.old.items }
@@ -131,7 +129,7 @@ fn run_out<R: Wait, M: Walker, O: Object, B: Object, H: Hook>(
     ensures through { IfOk result (λ _. IsThrough O.Object B.Object gates.now.board gates.now.memories.items M.Walker members.new.items) }
 {
     for j in 0..members.len() {
-        run_member(rt, gates, &mut members[j], worker, hook)?;
+        run_member(rt, gates, &mut members[j], hook)?;
         if members[j].run.ended_run() {
             return Ok(());
         }
@@ -139,12 +137,11 @@ fn run_out<R: Wait, M: Walker, O: Object, B: Object, H: Hook>(
     Ok(())
 }
 
-// The end of a worker: where none of its images made a step that ends the run, each is asked once more.
-fn settle<R: Wait, M: Walker, O: Object, B: Object, H: Hook>(
+/// The end of all images, behind the workers: where none made a step that ends the run, each is asked once more.
+pub(crate) fn settle<R: Wait, M: Walker, O: Object, B: Object, H: Hook>(
     rt: &R,
     gates: &Gates<O, B>,
     members: &mut Vec<Member<M>>,
-    worker: u32,
     hook: &H,
 ) -> Result<(), NoMemory>
     requires passes { HavePasses gates.now.board gates.now.memories.items members.old.items }
@@ -153,14 +150,13 @@ fn settle<R: Wait, M: Walker, O: Object, B: Object, H: Hook>(
     ensures through { IfOk result (λ _. IsThrough O.Object B.Object gates.now.board gates.now.memories.items M.Walker members.new.items) }
 {
     if has_ended(members) {
-        gates.news().finish();
         return Ok(());
     }
-    run_out(rt, gates, members, worker, hook)
+    run_out(rt, gates, members, hook)
 }
 
-// Runs a worker's images round by round, until all have ended, one makes a step that ends the run, or none of any
-// worker could step.
+// Runs a worker's images round by round, until all have ended or the run is over for all workers, as where one of them
+// makes a step that ends it.
 fn run_members<R: Wait, M: Walker, O: Object, B: Object, H: Hook>(
     rt: &R,
     gates: &Gates<O, B>,
@@ -171,14 +167,17 @@ fn run_members<R: Wait, M: Walker, O: Object, B: Object, H: Hook>(
 ) -> Result<(), NoMemory>
     requires passes { HavePasses gates.now.board gates.now.memories.items members.old.items }
     requires hears { HearsEvery M.step M.hears }
-    ensures stays { GoOn M.Walker gates.now.board gates.now.memories.items members.old.items members.new.items }
-    ensures done { IfOk result (λ _. IsThrough O.Object B.Object gates.now.board gates.now.memories.items M.Walker members.new.items) }
+    ensures { GoOn M.Walker gates.now.board gates.now.memories.items members.old.items members.new.items }
 {
     let mut pace = Pace::new(workers);
     for _ in rt.forever() {
         let round = run_round(rt, gates, members, worker, hook)?;
-        if has_ended(members) || rests(rt, gates.news(), members, round, &mut pace) {
-            return settle(rt, gates, members, worker, hook);
+        if has_ended(members) {
+            gates.news().finish();
+            return Ok(());
+        }
+        if rests(rt, gates.news(), members, round, &mut pace) {
+            return Ok(());
         }
     }
     unreachable!()
@@ -194,7 +193,7 @@ fn run_worker<R: Wait, M: Walker, O: Object, B: Object, H: Hook>(
 ) -> Worker<M>
     requires passes { HavePasses gates.now.board gates.now.memories.items worker.members.items }
     requires hears { HearsEvery M.step M.hears }
-    ensures { IsDone O.Object B.Object gates.now.board gates.now.memories.items M.Walker worker result }
+    ensures { GoOn M.Walker gates.now.board gates.now.memories.items worker.members.items result.members.items }
 {
     let Worker {
         number,
@@ -202,19 +201,15 @@ fn run_worker<R: Wait, M: Walker, O: Object, B: Object, H: Hook>(
         ..
     } = worker;
     gates.news().start();
-    let ran = run_members(rt, gates, &mut members, number, workers, hook);
+    let short = run_members(rt, gates, &mut members, number, workers, hook).is_err();
+    if short {
+        gates.news().finish();
+    }
     gates.news().end();
-    match ran {
-        Ok(()) => Worker {
-            number,
-            members,
-            short: false,
-        },
-        Err(NoMemory) => Worker {
-            number,
-            members,
-            short: true,
-        },
+    Worker {
+        number,
+        members,
+        short,
     }
 }
 
@@ -233,7 +228,7 @@ pub(crate) fn run_workers<
 ) -> Result<Vec<Worker<M>>, NoMemory>
     requires passes { AllHavePasses gates.now.board gates.now.memories.items workers.items }
     requires hears { HearsEvery M.step M.hears }
-    ensures { IfOk result (λ done. AreDone O.Object B.Object gates.now.board gates.now.memories.items M.Walker workers.items done.items) }
+    ensures { IfOk result (λ done. GoOn M.Walker gates.now.board gates.now.memories.items (members_of workers.items) (members_of done.items)) }
 {
     let count = workers.len();
     let done = thread::map_vec(
@@ -241,7 +236,7 @@ pub(crate) fn run_workers<
         workers,
         &|worker: Worker<M>| -> Worker<M>
             requires { HavePasses gates.now.board gates.now.memories.items worker.members.items × HearsEvery M.step M.hears }
-            ensures { IsDone O.Object B.Object gates.entry.now.board gates.entry.now.memories.items M.Walker worker result }
+            ensures { GoOn M.Walker gates.entry.now.board gates.entry.now.memories.items worker.members.items result.members.items }
         { run_worker(rt, gates, worker, count, hook) },
     )?;
     Ok(done)

@@ -1,7 +1,6 @@
-use Rattle.std.proofs.Common.{◌≡◌, ◌∙◌, sym, ap, map, ◌++◌}
 use Rattle.crew.specs.Dealt.{run_of, passes_of}
 use Rattle.crew.proofs.Shares.{view_more}
-use Rattle.crew.proofs.dealing.take.Goals as goal
+use Rattle.crew.proofs.dealing.apart.Goals as goal
 
 pub loop-member-preserved : goal.loop-member-preserved
 loop-member-preserved g c =
