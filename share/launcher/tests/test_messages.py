@@ -120,8 +120,15 @@ class MessagesTest(unittest.TestCase):
         self.assertIn("help: --steps allows no more", got)
         got = said(7, b"do\n", "limit image 1 line 1 statements 60000001")
         self.assertIn("help: --steps 100000000 allows more, if the loop comes to an end", got)
-        got = said(7, b"do\n", "limit image 1 line 1 words 262145")
-        self.assertTrue(got[3].startswith("help: no option allows more"))
+        got = said(7, b"do\n", "limit image 1 line 1 words 4194305")
+        self.assertIn("image 1 has recorded 4,194,305 words of its trace, and its share is 4,194,304 [words]", got[0])
+        shares = "help: that is its share of 16,777,216 words among 4 images: of fewer images each has more"
+        self.assertEqual(got[3], shares)
+        self.assertTrue(got[4].startswith("help: no option allows more"))
+        asked = Asked(["run", "-n", "1", "a"], 3, GivenFile("a", "a", b"do\n"))
+        told = messages(Caller(HOME, "caf"), asked, Answered(7, ["limit image 1 line 1 words 16777220"]))
+        self.assertIn("has recorded 16,777,220 words of its trace, and its share is 16,777,216 [words]\n", told)
+        self.assertNotIn("among", told)
 
     def test_a_run_on_workers_tells_how_to_look_for_it(self) -> None:
         asked = Asked(["run", "-w", "2", "--trace", "-n", "3", "-"], 6, GivenFile("/dev/stdin", "<stdin>", b"stop\n"))
