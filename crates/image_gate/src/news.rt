@@ -235,11 +235,7 @@ impl News {
         if told > ring & LOW {
             return None;
         }
-        let others = if told == ring & LOW {
-            before & LOW
-        } else {
-            0
-        };
+        let others = if told == ring & LOW { before & LOW } else { 0 };
         let after = ((ring & LOW) << 32) | ((others + 1) & LOW);
         if self
             .sure
