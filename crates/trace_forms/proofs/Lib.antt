@@ -1,0 +1,14 @@
+pub mod Cuts
+pub mod Decimals
+pub mod Pieces
+pub mod Fields
+pub mod Words
+pub mod Printed
+pub mod Rounds
+pub mod Replies
+pub mod Variants
+pub mod Asks
+pub mod Lines
+pub mod Once
+pub mod Answering
+pub mod Tries
