@@ -178,16 +178,16 @@ impl Hook for Crossing {
     }
 }
 
-/// It counts the turns of each worker at the board.
+/// It counts the turns of each worker at the memories.
 #[derive(Drop)]
 struct Counting {
     turns: Vec<AtomicU64>,
 }
 
 impl Hook for Counting {
-    /// Counts a turn at the board once it is over.
+    /// Counts a turn at a memory once it is over.
     fn at(&self, worker: u32, place: Place, step: HookStep) {
-        if let (Place::Board, HookStep::After) = (place, step) {
+        if let (Place::Memory(_), HookStep::After) = (place, step) {
             if let Some(turns) = self.turns.get(worker as usize) {
                 turns.fetch_add(1, Ordering::SeqCst);
             }
@@ -241,7 +241,8 @@ fn no_lock_round_both_memories(rt: HostRuntime) {
     );
 }
 
-// A worker that waits 20 ms for another one keeps its image: each makes its arrival at all eight rounds, and its departure.
+// A worker that waits 20 ms for another one keeps its image: each defines its coarray in all eight segments, which takes a
+// turn that is never refused.
 #[test]
 fn workers_outlast_long_waits(rt: HostRuntime) {
     let alloc = rt.alloc();
@@ -258,7 +259,7 @@ fn workers_outlast_long_waits(rt: HostRuntime) {
     for worker in 0..4usize {
         if let Some(turns) = hook.turns.get(worker) {
             assert!(&rt;
-                turns.load(Ordering::SeqCst) >= 16,
+                turns.load(Ordering::SeqCst) == 8,
                 "each worker has its image to the end"
             );
         }
