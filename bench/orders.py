@@ -4,9 +4,9 @@
 Each call of the examples that runs a program (examples/NAME.out; those of EXAMPLE alone, where one is named) is made
 RUNS times (200) on one, two, three and four workers. Each text, with its status, must be one that a run in an order
 has: the orders of SEEDs from 0 on are made until all texts are found, 4,000 at most. Of a run with a race this says
-only that some order has one: at which step it stands, and what is printed before, has no end of texts. A call that takes more than 20
-seconds hangs. The last line is 'N calls, M texts of no order, K that hang', and the status is 0 where both are 0. The
-program is crates/caf/out/caf, or that of CAF_PROGRAM.
+only that some order has one: at which step it stands, and what is printed before, has no end of texts. A call that
+takes more than 20 seconds hangs. The last line is 'N calls, M texts of no order, K that hang', and the status is 0
+where both are 0. The program is crates/caf/out/caf, or that of CAF_PROGRAM.
 """
 
 import glob
