@@ -10,9 +10,9 @@ ghost use Rattle.rule_definitions.specs.Parts as parts;
 use caf_base::refusal::NoMemory;
 use checked_tree::expr::TypedExpr;
 use fortran_tree::expr::Expr;
-use image_control_rules::optional::maybe_code;
 use part_rules::judged::Judged;
 use scope_table::scope::Scope;
+use shared_rules::optional::maybe_code;
 use std::alloc::Global;
 
 /// A stop code, which may be missing: a scalar integer.

@@ -6,7 +6,7 @@ use Rattle.fortran_tree.specs.Statements as fs
 use Rattle.rule_definitions.specs.Actions.{cobounds_breaks, has_colon, shape_breaks}
 use Rattle.rule_definitions.specs.Judgements.{breaks, unless}
 use Rattle.allocation_rules.specs.Allocations.{cobounds_said, shape_said}
-use Rattle.image_control_rules.proofs.Forms.{suc_isnt_zero}
+use Rattle.shared_rules.proofs.Forms.{suc_isnt_zero}
 
 one_rule : (b c : Bool) (p : Pos) → c ≡ false → breaks (cond b 55 33) p ≡ cond b (breaks 55 p) (unless c 33 p)
 one_rule true c p e = refl

@@ -27,11 +27,11 @@ use fortran_tree::action::Allocation;
 use fortran_tree::declaration::{Coshape, Dimension};
 use fortran_tree::expr::Specifier;
 use fortran_tree::name::Name;
-use image_control_rules::stat::stat_of;
 use part_rules::judged::{Judged, are_none, fine, joined, keep, note_unless, refused, ruled};
 use rule_definitions::broken::Broken;
 use scope_table::object::object_from;
 use scope_table::scope::{Denoted, Scope, Visible};
+use shared_rules::stat::stat_of;
 use std::alloc::Global;
 
 fn is_colon(dimension: &Dimension) -> bool
@@ -320,7 +320,7 @@ fn add_object(
     keep(list, item)
 }
 
-#[tactic(auto, using(image_control_rules::proofs::Turns::turn_laws))]
+#[tactic(auto, using(shared_rules::proofs::Turns::turn_laws))]
 fn judge_objects(
     alloc: Global,
     scope: &Scope<'_>,
@@ -417,7 +417,7 @@ fn add_name(
     keep(list, item)
 }
 
-#[tactic(auto, using(image_control_rules::proofs::Turns::turn_laws))]
+#[tactic(auto, using(shared_rules::proofs::Turns::turn_laws))]
 fn judge_names(
     alloc: Global,
     scope: &Scope<'_>,

@@ -17,9 +17,9 @@ use checked_tree::expr::TypedExpr;
 use fortran_tree::action::Allocation;
 use fortran_tree::declaration::{Bounds, Coshape, Dimension};
 use fortran_tree::expr::Expr;
-use image_control_rules::optional::{maybe_integer, scalar_integer};
 use part_rules::judged::{Judged, fine, joined, keep, unknown};
 use scope_table::scope::Scope;
+use shared_rules::optional::{maybe_integer, scalar_integer};
 use std::alloc::Global;
 
 /// The cobounds before the last, and the lower one of the last.
@@ -102,7 +102,7 @@ fn add_dimension(
     keep(list, item)
 }
 
-#[tactic(auto, using(image_control_rules::proofs::Turns::turn_laws))]
+#[tactic(auto, using(shared_rules::proofs::Turns::turn_laws))]
 fn judge_dimensions(
     alloc: Global,
     scope: &Scope<'_>,
@@ -132,7 +132,7 @@ fn add_bounds(
     keep(list, item)
 }
 
-#[tactic(auto, using(image_control_rules::proofs::Turns::turn_laws))]
+#[tactic(auto, using(shared_rules::proofs::Turns::turn_laws))]
 fn judge_all_bounds(
     alloc: Global,
     scope: &Scope<'_>,

@@ -25,7 +25,7 @@ use Rattle.checked_tree.specs.declared.expr.Subscript.{Subscript}
 use Rattle.checked_tree.specs.declared.expr.Argument.TheBlock as b
 use Rattle.checked_tree.specs.declared.expr.Argument.TheBlock.{Row_of-ArithmeticLink, Row_of-LogicLink}
 use Rattle.expr_rules.specs.Brackets.{refused_breaks}
-use Rattle.image_control_rules.specs.Forms.{is_plain_form}
+use Rattle.shared_rules.specs.Forms.{is_plain_form}
 use Rattle.rule_definitions.specs.Actions.{Site, images_assigned, is_definable, is_list_target, is_plain_array, is_selected, is_whole, left_side, listed_assignment, plain_assignment}
 use Rattle.rule_definitions.specs.Expressions.{judged_designator}
 use Rattle.rule_definitions.specs.Judgements.{is_there}

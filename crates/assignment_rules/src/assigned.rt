@@ -25,11 +25,11 @@ use caf_base::refusal::NoMemory;
 use checked_tree::data::{DataType, Local, Object};
 use checked_tree::expr::{Designator, Selector, Subscript, TypedExpr};
 use checked_tree::statement::StatementForm;
-use image_control_rules::form::{is_listed, is_plain};
 use part_rules::judged::{Judged, refused};
 use part_rules::types::{is_integer_type, is_logical_type, is_team_type};
 use rule_definitions::broken::Broken;
 use scope_table::scope::Scope;
+use shared_rules::form::{is_listed, is_plain};
 use specifier_rules::variable::as_designator;
 use std::alloc::Global;
 

@@ -22,9 +22,9 @@ use checked_tree::expr::TypedExpr;
 use checked_tree::statement::StatementForm;
 use expr_rules::expr::judge_part;
 use fortran_tree::expr::{Designator, Expr};
-use image_control_rules::form::is_listed;
 use part_rules::judged::{Judged, are_none, joined, ruled};
 use part_rules::part::Part;
+use shared_rules::form::is_listed;
 use std::alloc::Global;
 
 // Whether a value is a list of images.

@@ -14,7 +14,7 @@ use caf_base::value::Kind;
 use checked_tree::data::{DataType, Local, Object};
 use checked_tree::expr::{Designator, ExprForm, Intrinsic, TypedExpr};
 use checked_tree::statement::{ListedImages, StatementForm};
-use image_control_rules::form::is_listed;
+use shared_rules::form::is_listed;
 use specifier_rules::variable::{as_designator, designator_in as into_designator};
 
 // The reference to an intrinsic function that a form is, taken out of it.

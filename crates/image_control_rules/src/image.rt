@@ -18,8 +18,6 @@ ghost use Rattle.specifier_rules.specs.Meanings.{number_and_stat};
 ghost use Rattle.specifier_rules.specs.Views.{number_and_stat_seen};
 ghost use Rattle.image_control_rules.specs.Statements.{form_team_with, image_part, local_in};
 
-use crate::optional::scalar_integer;
-use crate::stat::{maybe_stat, stat_of};
 use caf_base::place::Pos;
 use caf_base::refusal::NoMemory;
 use checked_tree::data::{DataType, Local, Object};
@@ -35,6 +33,8 @@ use part_rules::types::{is_integer_type, is_team_type};
 use rule_definitions::broken::Broken;
 use scope_table::object::object_from;
 use scope_table::scope::{Denoted, Scope, Visible};
+use shared_rules::optional::scalar_integer;
+use shared_rules::stat::{maybe_stat, stat_of};
 use specifier_rules::condition::team;
 use specifier_rules::statement::{NumberAndStat, form_team_specifiers};
 use std::alloc::Global;

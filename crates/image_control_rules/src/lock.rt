@@ -16,8 +16,6 @@ ghost use Rattle.specifier_rules.specs.Meanings.{acquired_and_stat, number_and_s
 ghost use Rattle.specifier_rules.specs.Views.{acquired_and_stat_seen, number_and_stat_seen};
 ghost use Rattle.image_control_rules.specs.Statements.{event_wait_with, lock_with, part_of};
 
-use crate::form::scalar_part;
-use crate::stat::stat_of;
 use caf_base::refusal::NoMemory;
 use checked_tree::data::DataType;
 use checked_tree::expr::{Designator as TypedDesignator, ResultVariable};
@@ -27,6 +25,8 @@ use fortran_tree::expr::{Designator, Specifier};
 use part_rules::judged::{Judged, joined, ruled};
 use part_rules::part::{Part, plain};
 use scope_table::scope::Scope;
+use shared_rules::form::scalar_part;
+use shared_rules::stat::stat_of;
 use specifier_rules::statement::{
     AcquiredAndStat, NumberAndStat, event_wait_specifiers, lock_specifiers,
 };
@@ -56,7 +56,7 @@ fn is_lock_type(of_type: DataType) -> bool
 }
 
 // A variable of LOCK_TYPE (16.10.2.19): rule 48 for what is no scalar of that type.
-#[tactic(auto, using(crate::proofs::Forms::lock_by))]
+#[tactic(auto, using(shared_rules::proofs::Forms::lock_by))]
 fn a_lock(part: Part) -> Result<Judged<TypedDesignator>, NoMemory>
     ensures breaks { IfOk result (λ j. j.breaks.items ≡ (rules.a_lock (part_seen part)).breaks) }
     ensures meaning { IfOk result (λ j. option_map designator_seen j.meaning ≡ (rules.a_lock (part_seen part)).meaning) }

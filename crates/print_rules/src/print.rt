@@ -198,7 +198,7 @@ fn add_item(
 }
 
 // The items, of which the first literal has this number.
-#[tactic(auto, using(image_control_rules::proofs::Turns::turn_laws))]
+#[tactic(auto, using(shared_rules::proofs::Turns::turn_laws))]
 fn judge_items(
     alloc: Global,
     scope: &Scope<'_>,

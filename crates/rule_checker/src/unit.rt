@@ -19,10 +19,10 @@ use checked_tree::program::Unit;
 use checked_tree::statement::TypedStatement;
 use declaration_rules::asked::note_all;
 use fortran_tree::statement::Statement;
+use numbering_rules::numbering::{add_literals, count_criticals, most_hidden};
 use rule_definitions::broken::Broken;
 use scope_table::scope::Scope;
 use scope_table::table::Table;
-use statement_rules::numbering::{add_literals, count_criticals, most_hidden};
 use statement_rules::statement::{Position, judge_statements};
 use std::alloc::Global;
 

@@ -13,16 +13,16 @@ use Rattle.part_rules.specs.Views.{judgement, list_of}
 use Rattle.part_rules.specs.declared.judged.Judged.{Judged}
 use Rattle.rule_definitions.specs.Judgements.{Judgement, fine, made, is_there}
 use Rattle.rule_definitions.specs.Statements.{Position, Selected, no_selected, past, judged_cases, judged_statements, counted_cases, counted_statements, case_joined, behind_case}
-use Rattle.statement_rules.specs.Blocks.{backwards, known, joined_cases, selection, with_cases, with_otherwise, whole}
+use Rattle.case_rules.specs.Blocks.{backwards, known, joined_cases, selection, with_cases, with_otherwise, whole}
 use Rattle.statement_rules.specs.Parts.{no_cases_known}
 use Rattle.statement_rules.specs.Positions.{numbered, numbers, numbers_past}
 use Rattle.statement_rules.specs.declared.position.Numbers.{Numbers}
-use Rattle.statement_rules.specs.declared.selection.CaseList.{CaseList}
-use Rattle.statement_rules.specs.declared.selection.Selection.{Selection}
-use Rattle.statement_rules.proofs.Blocks.{alike}
+use Rattle.case_rules.specs.declared.selection.CaseList.{CaseList}
+use Rattle.case_rules.specs.declared.selection.Selection.{Selection}
+use Rattle.case_rules.proofs.Blocks.{alike}
 use Rattle.statement_rules.proofs.Laws.{no_cases_judged, more_cases_judged}
 use Rattle.statement_rules.proofs.Sequences.{past_both, past_nothing}
-use Rattle.statement_rules.proofs.Turns.{item_drop}
+use Rattle.case_rules.proofs.Turns.{item_drop}
 
 -- no blocks so far
 abbrev joined_list : Option (List Case) → Option Selected → Option Selected

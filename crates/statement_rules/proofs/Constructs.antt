@@ -34,12 +34,12 @@ use Rattle.rule_definitions.specs.IntrinsicSubroutines.{four}
 use Rattle.rule_definitions.specs.Judgements.{Judgement, fine, made_of_both, ruled}
 use Rattle.rule_definitions.specs.Parts.{condition, team}
 use Rattle.rule_definitions.specs.Statements.{Position, Counted, Selected, past, behind, within, site_of, on_line, action_literals, counted_statement, counted_statements, counted_else_ifs, counted_else, counted_cases, judged_statement, judged_statements, judged_else_ifs, judged_else, judged_cases, selecting, judged_control, loop_variable, hidden_of, end_breaks, bracketed, loop_form, if_form, select_form, critical_form, team_form}
-use Rattle.statement_rules.specs.Blocks.{block}
+use Rattle.case_rules.specs.Blocks.{block}
 use Rattle.statement_rules.specs.Parts.{statement_judged, statement_counted, critical_counted, no_cases_known, select_judged}
 use Rattle.statement_rules.specs.Positions.{numbered, numbers, numbers_past}
 use Rattle.statement_rules.specs.declared.position.Numbers.{Numbers}
 use Rattle.statement_rules.specs.declared.position.Passed.{Passed}
-use Rattle.statement_rules.proofs.Blocks.{alike}
+use Rattle.case_rules.proofs.Blocks.{alike}
 use Rattle.statement_rules.proofs.Laws.{action_judged, if_judged, do_judged, case_judged, critical_judged, team_judged, else_judged, no_else_judged}
 use Rattle.statement_rules.proofs.Sequences.{past_both, past_nothing, same_numbers}
 

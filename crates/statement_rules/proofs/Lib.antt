@@ -1,10 +1,7 @@
-pub mod Blocks
 pub mod Cases
 pub mod Constructs
 pub mod Laws
-pub mod Numbers
 pub mod Pairs
 pub mod Parts
 pub mod Seen
 pub mod Sequences
-pub mod Turns

@@ -13,11 +13,11 @@ use Rattle.checked_tree.specs.declared.statement.ElseIf.{ElseIf}
 use Rattle.checked_tree.specs.declared.statement.TypedStatement.{TypedStatement}
 use Rattle.rule_definitions.specs.Judgements.{both, three}
 use Rattle.rule_definitions.specs.Statements as s
-use Rattle.statement_rules.specs.Blocks.{block, else_if_list, selection}
+use Rattle.case_rules.specs.Blocks.{block, else_if_list, selection}
 use Rattle.statement_rules.specs.Controls.{control, counter}
 use Rattle.statement_rules.specs.declared.control.Control.{Control}
 use Rattle.statement_rules.specs.declared.control.Counter.{Counter}
-use Rattle.statement_rules.specs.declared.selection.Selection.{Selection}
+use Rattle.case_rules.specs.declared.selection.Selection.{Selection}
 use Rattle.statement_rules.proofs.Pairs.{two_seen, four_seen}
 
 pub counted_seen : (x : Option Counter) (y z : Option TypedExpr) (w : Option (Option TypedExpr))

@@ -18,14 +18,14 @@ use Rattle.rule_definitions.specs.Expressions.{placed}
 use Rattle.rule_definitions.specs.Judgements.{Judgement, both, three, fine, made_of_both, made_of_three}
 use Rattle.rule_definitions.specs.Parts.{condition}
 use Rattle.rule_definitions.specs.Statements.{Position, Counted, past, behind, no_count, judged_statements, judged_else_ifs, counted_statements, counted_else_ifs, more_else_ifs}
-use Rattle.statement_rules.specs.Blocks.{block, else_if_list, else_if_parts}
+use Rattle.case_rules.specs.Blocks.{block, else_if_list, else_if_parts}
 use Rattle.statement_rules.specs.Parts.{statement_judged, statement_counted, else_if_judged, else_if_counted}
 use Rattle.statement_rules.specs.Positions.{numbered, numbers, numbers_past}
 use Rattle.statement_rules.specs.declared.position.Numbers.{Numbers}
 use Rattle.statement_rules.specs.declared.position.Passed.{Passed}
-use Rattle.statement_rules.proofs.Blocks.{alike}
+use Rattle.case_rules.proofs.Blocks.{alike}
 use Rattle.statement_rules.proofs.Laws.{none_judged, more_judged, no_else_ifs_judged, more_else_ifs_judged}
-use Rattle.statement_rules.proofs.Turns.{before, before_all, item_drop, nothing_before, turn_breaks, turn_meaning, whole_list}
+use Rattle.case_rules.proofs.Turns.{before, before_all, item_drop, nothing_before, turn_breaks, turn_meaning, whole_list}
 
 -- Numbers
 

@@ -1,4 +1,3 @@
-pub mod Blocks
 pub mod Controls
 pub mod Parts
 pub mod Positions

@@ -17,20 +17,19 @@ ghost use Rattle.rule_definitions.specs.Judgements.{made, made_of_both, ruled as
 ghost use Rattle.rule_definitions.specs.Parts as parts;
 ghost use Rattle.rule_definitions.specs.Statements as rules;
 ghost use Rattle.specifier_rules.specs.Views.{written as specified_seen};
-ghost use Rattle.statement_rules.specs.Blocks.{block, else_if_list, else_if_parts, selection as selection_seen};
+ghost use Rattle.case_rules.specs.Blocks.{block, else_if_list, else_if_parts, selection as selection_seen};
 ghost use Rattle.statement_rules.specs.Controls.{control as control_seen};
 ghost use Rattle.statement_rules.specs.Positions.{position as seen};
 
 use crate::control::{count_hidden, ended, judge_control, loop_form};
-use crate::numbering::count_literals;
 use crate::pair::paired;
 use crate::position::{Numbers, Passed};
-use crate::selection::Selection;
 use crate::statement::Position;
 use action_rules::action::judge_action;
 use branch_rules::site::{Around, Site};
 use caf_base::place::Pos;
 use caf_base::refusal::NoMemory;
+use case_rules::selection::Selection;
 use checked_tree::expr::{ResultVariable, TypedExpr};
 use checked_tree::statement::{ElseIf, StatementForm, TypedStatement};
 use expr_rules::expr::{judge_part, judge_specifiers};
@@ -38,6 +37,7 @@ use fortran_tree::action::Action;
 use fortran_tree::expr::{Expr, Specifier};
 use fortran_tree::name::Name;
 use fortran_tree::statement::{BracketedSpecifier, LoopControl};
+use numbering_rules::numbering::count_literals;
 use part_rules::judged::{Judged, ruled};
 use scope_table::scope::Scope;
 use specifier_rules::condition::{condition, team};
@@ -164,7 +164,7 @@ pub fn if_statement(
     })
 }
 
-#[tactic(auto, using(crate::proofs::Blocks::block_laws))]
+#[tactic(auto, using(case_rules::proofs::Blocks::block_laws))]
 fn else_if_form(parts: Option<(TypedExpr, Vec<TypedStatement>)>, at: Pos) -> Option<ElseIf>
     ensures { option_map else_if_parts result ≡ option_map (λ p. rules.more_else_ifs at.line (expression p.0) (block p.1)) parts }
 {

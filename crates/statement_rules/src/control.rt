@@ -17,11 +17,10 @@ ghost use Rattle.rule_definitions.specs.Names.{denotes, variable as variable_mea
 ghost use Rattle.rule_definitions.specs.Parts as parts;
 ghost use Rattle.rule_definitions.specs.Statements as rules;
 ghost use Rattle.scope_table.specs.Scopes.{denoted, visible};
-ghost use Rattle.statement_rules.specs.Blocks.{block};
+ghost use Rattle.case_rules.specs.Blocks.{block};
 ghost use Rattle.statement_rules.specs.Controls.{control as control_seen, counter as counter_seen};
 ghost use Rattle.statement_rules.specs.Positions.{position as seen};
 
-use crate::numbering::one_more;
 use crate::pair::paired;
 use crate::statement::Position;
 use branch_rules::site::Around;
@@ -36,6 +35,7 @@ use fortran_tree::declaration::Intent;
 use fortran_tree::expr::Expr;
 use fortran_tree::name::Name;
 use fortran_tree::statement::LoopControl;
+use numbering_rules::numbering::one_more;
 use part_rules::judged::{Judged, fine, refused, ruled, unknown};
 use scope_table::object::{is_same_local, object_from};
 use scope_table::scope::{Denoted, Scope, Visible};

@@ -12,24 +12,23 @@ ghost use Rattle.fortran_tree.specs.StatementViews.{bracketed_specifier, case_se
 ghost use Rattle.part_rules.specs.Views.{judgement};
 ghost use Rattle.rule_definitions.specs.Judgements.{Judgement};
 ghost use Rattle.rule_definitions.specs.Statements as rules;
-ghost use Rattle.statement_rules.specs.Blocks.{block, else_if_list, else_if_parts, known, selection as selection_seen, whole};
+ghost use Rattle.case_rules.specs.Blocks.{block, else_if_list, else_if_parts, known, selection as selection_seen, whole};
 ghost use Rattle.statement_rules.specs.Parts.{critical_counted, else_if_counted, else_if_judged, no_cases_known, select_judged, statement_counted, statement_judged};
 ghost use Rattle.statement_rules.specs.Positions.{numbers_past, position as seen};
 
-use crate::case::judge_selector;
 use crate::construct::{
     action_statement, critical_statement, do_statement, else_if_block, if_statement,
     select_statement, team_statement,
 };
 use crate::control::loop_around;
-use crate::numbering::one_more;
 use crate::position::{
     Numbers, Passed, inside, keep_passed, moved, no_parts, numbers_before, within,
 };
-use crate::selection::{CaseList, Selection};
 use branch_rules::site::Around;
 use caf_base::place::Pos;
 use caf_base::refusal::NoMemory;
+use case_rules::case::judge_selector;
+use case_rules::selection::{CaseList, Selection};
 use checked_tree::expr::TypedExpr;
 use checked_tree::statement::{ElseIf as TypedElseIf, TypedStatement};
 use fortran_tree::expr::{Expr, Specifier};
@@ -37,6 +36,7 @@ use fortran_tree::name::Name;
 use fortran_tree::statement::{
     BracketedSpecifier, CaseBlock, ElseIf, End, LoopControl, Otherwise, Statement,
 };
+use numbering_rules::numbering::one_more;
 use part_rules::judged::Judged;
 use scope_table::scope::Scope;
 use std::alloc::Global;

@@ -4,7 +4,7 @@ use Rattle.rule_definitions.specs.Actions.{deallocated}
 use Rattle.rule_definitions.specs.Judgements.{all_made}
 use Rattle.scope_table.proofs.Orders.{item_drop}
 use Rattle.part_rules.specs.Views.{list_of}
-use Rattle.image_control_rules.proofs.Turns.{turn_breaks, turn_meaning}
+use Rattle.shared_rules.proofs.Turns.{turn_breaks, turn_meaning}
 use Rattle.allocation_rules.proofs.allocation.judge_names.Goals as goal
 
 pub loop-name-preserved : goal.loop-name-preserved

@@ -3,7 +3,7 @@ use Rattle.std.specs.Option.{option_map}
 use Rattle.rule_definitions.specs.Actions.{deallocated}
 use Rattle.rule_definitions.specs.Judgements.{all_made}
 use Rattle.part_rules.specs.Views.{list_of}
-use Rattle.image_control_rules.proofs.Turns.{behind}
+use Rattle.shared_rules.proofs.Turns.{behind}
 use Rattle.allocation_rules.proofs.allocation.judge_names.Given as goal
 
 abbrev pub invariant-loop-name : goal.invariant-loop-name

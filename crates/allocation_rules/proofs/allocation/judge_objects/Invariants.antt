@@ -5,7 +5,7 @@ use Rattle.fortran_tree.specs.ActionViews.{allocation}
 use Rattle.rule_definitions.specs.Actions.{allocation_judged}
 use Rattle.rule_definitions.specs.Judgements.{all_made}
 use Rattle.part_rules.specs.Views.{list_of}
-use Rattle.image_control_rules.proofs.Turns.{behind}
+use Rattle.shared_rules.proofs.Turns.{behind}
 use Rattle.allocation_rules.proofs.allocation.judge_objects.Given as goal
 
 abbrev pub invariant-loop-object : goal.invariant-loop-object

@@ -5,7 +5,7 @@ use Rattle.fortran_tree.specs.DeclarationViews.{dimension}
 use Rattle.rule_definitions.specs.Actions.{bounds_or_none}
 use Rattle.rule_definitions.specs.Judgements.{all_made}
 use Rattle.part_rules.specs.Views.{list_of}
-use Rattle.image_control_rules.proofs.Turns.{behind}
+use Rattle.shared_rules.proofs.Turns.{behind}
 use Rattle.allocation_rules.proofs.bounds.judge_dimensions.Given as goal
 
 abbrev pub invariant-loop-dimension : goal.invariant-loop-dimension

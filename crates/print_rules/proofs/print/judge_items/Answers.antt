@@ -5,7 +5,7 @@ use Rattle.fortran_tree.specs.ActionViews.{item}
 use Rattle.rule_definitions.specs.Actions.{printed_all}
 use Rattle.scope_table.proofs.Orders.{item_drop}
 use Rattle.part_rules.specs.Views.{list_of}
-use Rattle.image_control_rules.proofs.Turns.{turn_breaks, turn_meaning}
+use Rattle.shared_rules.proofs.Turns.{turn_breaks, turn_meaning}
 use Rattle.print_rules.specs.Outputs.{printed_item}
 use Rattle.print_rules.proofs.Outputs.{printed_turn}
 use Rattle.print_rules.proofs.print.judge_items.Goals as goal

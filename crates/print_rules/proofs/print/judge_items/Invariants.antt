@@ -4,7 +4,7 @@ use Rattle.checked_tree.specs.StatementViews.{item as item_seen}
 use Rattle.fortran_tree.specs.ActionViews.{item}
 use Rattle.rule_definitions.specs.Actions.{printed_all}
 use Rattle.part_rules.specs.Views.{list_of}
-use Rattle.image_control_rules.proofs.Turns.{behind}
+use Rattle.shared_rules.proofs.Turns.{behind}
 use Rattle.print_rules.proofs.print.judge_items.Given as goal
 
 abbrev pub invariant-loop-item : goal.invariant-loop-item

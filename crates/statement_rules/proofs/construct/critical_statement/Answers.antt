@@ -4,9 +4,9 @@ use Rattle.checked_tree.specs.Statements as ts
 use Rattle.rule_definitions.specs.Actions.{controlled}
 use Rattle.rule_definitions.specs.Judgements.{made}
 use Rattle.rule_definitions.specs.Statements.{critical_form, site_of}
-use Rattle.statement_rules.specs.Blocks.{block}
+use Rattle.case_rules.specs.Blocks.{block}
 use Rattle.statement_rules.specs.Positions.{position}
-use Rattle.statement_rules.proofs.Blocks.{found}
+use Rattle.case_rules.proofs.Blocks.{found}
 use Rattle.statement_rules.proofs.Pairs.{two_found}
 use Rattle.statement_rules.proofs.construct.critical_statement.Goals as goal
 

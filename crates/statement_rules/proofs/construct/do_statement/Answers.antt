@@ -6,7 +6,7 @@ use Rattle.checked_tree.specs.Statements as ts
 use Rattle.checked_tree.specs.StatementViews.{statement_form}
 use Rattle.rule_definitions.specs.Judgements.{both, is_nothing, made}
 use Rattle.rule_definitions.specs.Statements.{end_breaks, judged_control, loop_form}
-use Rattle.statement_rules.specs.Blocks.{block}
+use Rattle.case_rules.specs.Blocks.{block}
 use Rattle.statement_rules.specs.Controls.{control}
 use Rattle.statement_rules.specs.Positions.{position}
 use Rattle.statement_rules.proofs.Pairs.{ruled_seen, two_found}

@@ -3,7 +3,7 @@ use Rattle.checked_tree.specs.ExpressionViews.{expression}
 use Rattle.checked_tree.specs.Statements as ts
 use Rattle.rule_definitions.specs.Judgements.{made}
 use Rattle.rule_definitions.specs.Statements.{if_form}
-use Rattle.statement_rules.specs.Blocks.{block, else_if_list}
+use Rattle.case_rules.specs.Blocks.{block, else_if_list}
 use Rattle.statement_rules.proofs.Pairs.{four_found}
 use Rattle.statement_rules.proofs.construct.if_statement.Goals as goal
 

@@ -4,7 +4,7 @@ use Rattle.checked_tree.specs.ExpressionViews.{expression}
 use Rattle.checked_tree.specs.Statements as ts
 use Rattle.rule_definitions.specs.Judgements.{both, made}
 use Rattle.rule_definitions.specs.Statements.{select_form}
-use Rattle.statement_rules.specs.Blocks.{selection}
+use Rattle.case_rules.specs.Blocks.{selection}
 use Rattle.statement_rules.proofs.Pairs.{two_found}
 use Rattle.statement_rules.proofs.construct.select_statement.Goals as goal
 

@@ -5,7 +5,7 @@ use Rattle.fortran_tree.specs.ExpressionViews.{expression, specifiers}
 use Rattle.fortran_tree.specs.StatementViews.{bracketed_specifier, case_blocks, case_selector, else_ifs, loop_control, statement_list}
 use Rattle.part_rules.specs.Views.{judgement}
 use Rattle.rule_definitions.specs.Statements.{case_joined, counted_cases, counted_else_ifs, counted_statements, judged_else_ifs, judged_statement, judged_statements, more_else_ifs}
-use Rattle.statement_rules.specs.Blocks.{block, else_if_list, else_if_parts, known, selection as selection_seen, whole}
+use Rattle.case_rules.specs.Blocks.{block, else_if_list, else_if_parts, known, selection as selection_seen, whole}
 use Rattle.statement_rules.specs.Parts.{critical_counted, else_if_counted, else_if_judged, select_judged, statement_counted, statement_judged}
 use Rattle.statement_rules.specs.Positions.{numbers_past, position}
 use Rattle.statement_rules.proofs.Constructs.{action_behind, action_found, critical_behind, critical_counts, critical_found, critical_seen, do_counted, do_found, do_seen, else_counted, else_found, if_behind, if_found, moved_within, no_else_behind, no_else_found, nothing_seen, select_counted, select_found, select_seen, team_counted, team_found, team_seen, within_found}

@@ -1,7 +1,0 @@
-use Rattle.std.proofs.Common.{◌≡◌, ◌+◌, drop, map, length}
-use Rattle.fortran_tree.specs.ActionViews.{item}
-use Rattle.rule_definitions.specs.Statements.{item_literals}
-use Rattle.statement_rules.proofs.numbering.count_items.Given as goal
-
-abbrev pub invariant-loop-item : goal.invariant-loop-item
-invariant-loop-item l = l.count + length (item_literals (map item (drop l.item-index l.items))) ≡ l.before + length (item_literals (map item l.items))
