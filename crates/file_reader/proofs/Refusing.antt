@@ -1,5 +1,5 @@
 -- The fault of the reader of files is the refusal of the words.
-use Rattle.std.proofs.Common.{◌≡◌, suc, ◌+◌, ◌-◌, ◌<◌, ◌≤◌, List, [], ◌∷◌, ◌++◌, length, drop, refl, ap, sym, ◌∙◌, subst, arith}
+use Rattle.std.proofs.Common.{◌≡◌, suc, ◌+◌, ◌-◌, ◌<◌, ◌≤◌, true, List, [], ◌∷◌, ◌++◌, length, drop, refl, ap, sym, ◌∙◌, subst, arith}
 use Rattle.caf_base.specs.declared.place.Pos.{Pos}
 use Rattle.reader_theory.specs.Refusals.{Refused}
 use Rattle.reader_theory.specs.Limits.{RefusedFor, no_word}
@@ -13,6 +13,8 @@ use Rattle.expr_reader.specs.declared.word.Word.{Word}
 use Rattle.program_reader.specs.Unfinished.{Unfinished, first_place}
 use Rattle.program_reader.proofs.Programs.{fault_refused}
 use Rattle.sequence_reader.specs.Halts.{file_answer}
+use Rattle.sequence_reader.specs.Statements.{whole_statements}
+use Rattle.open_constructs.proofs.Opened.{open_told}
 use Rattle.file_reader.specs.Refusals.{IsExpectedAt, IsOpenAt}
 
 pub tokens_length : (ws : List Word) → length (tokens_of ws) ≡ length ws
@@ -63,9 +65,9 @@ module _ (ws : List Word) (st : Stop) (h : Stands st (file_answer (tokens_of ws)
   nothing_left [] e = refl
   nothing_left (x ∷ r) e = absurd (cc)
 
-  pub open_there : (at : Pos) → st.left ≡ 0 → 0 < length ws → Unfinished 64 (tokens_of ws) at → IsOpenAt (tokens_of ws) at
-  open_there at none some un = record {
+  pub open_there : (at : Pos) → st.left ≡ 0 → 0 < length ws → whole_statements (tokens_of ws) ≡ true → Unfinished 64 (tokens_of ws) at → IsOpenAt (tokens_of ws) at
+  open_there at none some whole more = record {
     some = subst (λ n. 0 < n) (sym (tokens_length ws)) some;
     refused = refused_at_end Sources (tokens_of ws) (cause_of st.cause) (subst (Refused Sources (tokens_of ws) (cause_of st.cause)) (nothing_left h.0 (h.2 ∙ none)) refused);
-    unfinished = un;
+    innermost = open_told (tokens_of ws) at whole more;
   }

@@ -1,15 +1,13 @@
 -- The statement that fails tells the reason.
-use Rattle.std.proofs.Common.{◌≡◌, ◌⊎◌, ℕ, zero, suc, ◌+◌, ◌-◌, ◌<◌, ◌≤◌, Bool, true, false, not, cond, List, [], ◌∷◌, ◌++◌, length, map, reverse, take, drop, slice_get, Option, Some, Result, Ok, Err, IfErr, inl, inr, refl, ap, sym, ◌∙◌, subst, arith, append_assoc, append-nil}
-use Rattle.std.proofs.lemmas.Bool.{cases_Bool, and_parts, false≢true}
+use Rattle.std.proofs.Common.{◌≡◌, ℕ, zero, suc, ◌+◌, ◌-◌, ◌<◌, ◌≤◌, Bool, true, false, not, cond, List, [], ◌∷◌, ◌++◌, length, map, reverse, take, drop, slice_get, Option, Some, Result, Ok, Err, IfErr, inl, refl, ap, sym, ◌∙◌, subst, arith, append_assoc, append-nil}
+use Rattle.std.proofs.lemmas.Bool.{and_parts, false≢true}
 use Rattle.std.proofs.lemmas.List.{length-reverse}
 use Rattle.reader_theory.specs.Words.{Mark, bare, Cause, expected, too_deep}
-use Rattle.reader_theory.specs.Texts.{AnyOf}
 use Rattle.reader_theory.specs.Refusals.{Begins, Refused, StopsAt}
 use Rattle.reader_theory.specs.Limits.{RefusedFor, FirstSunk, SinksAt, level_at, shifted, reason}
 use Rattle.reader_theory.proofs.Fronts.{begins_front}
-use Rattle.reader_theory.proofs.Marks.{bare_append, bare_length, same_front}
+use Rattle.reader_theory.proofs.Marks.{bare_length, same_front}
 use Rattle.fortran_grammar.specs.Tokens.{Token}
-use Rattle.fortran_grammar.specs.Phrases.{Words}
 use Rattle.fortran_grammar.specs.ProgramGrammar.{Sources}
 use Rattle.expr_reader.specs.Results.{cause_of, Stands, Fails}
 use Rattle.expr_reader.specs.Words.{token_of, tokens_of}
@@ -18,20 +16,15 @@ use Rattle.expr_reader.specs.declared.error.ReadError.{ReadError}
 use Rattle.expr_reader.specs.declared.error.ReadError.TheVariants as errors
 use Rattle.expr_reader.specs.declared.word.Word.{Word}
 use Rattle.statement_reader.specs.Heads.{is_over}
-use Rattle.statement_reader.specs.Parts as f
-use Rattle.statement_reader.specs.Parts.{Part, Form, is_of, formed}
-use Rattle.statement_reader.specs.Laws.{Part_at}
-use Rattle.program_reader.specs.Sequence.{State, start, placed_at, next}
-use Rattle.program_reader.specs.Unfinished.{Parts_from, behind, first_place}
-use Rattle.program_reader.proofs.Files.{part_longer}
+use Rattle.program_reader.specs.Sequence.{State, start}
+use Rattle.program_reader.specs.Unfinished.{behind, first_place}
 use Rattle.program_reader.proofs.Programs.{fault_refused}
 use Rattle.refusal_reasons.specs.Reasons.{place_at}
 use Rattle.refusal_reasons.specs.Statements.{one_statement}
 use Rattle.refusal_reasons.proofs.Files.{told_by_last}
 use Rattle.sequence_reader.specs.Halts.{file_answer, Leads_to}
 use Rattle.sequence_reader.specs.Statements.{whole_statements, Stops_before}
-use Rattle.sequence_reader.proofs.Closed.{condition_open}
-use Rattle.sequence_reader.proofs.Late.{whole_rest}
+use Rattle.open_constructs.proofs.Whole.{no_conditions}
 use Rattle.file_reader.specs.Statements.{no_end}
 use Rattle.caf_base.specs.declared.place.Pos.{Pos}
 use Rattle.program_reader.specs.Sequence.{allowed}
@@ -62,35 +55,6 @@ begins_read ts (errors.Stopped st) h l whole some b =
 pub memory_alone : {X : Type 0} (ws : List Word) (v : Result X ReadError) → IfErr v (λ e. Fails e (file_answer (tokens_of ws))) → IfErr v (λ e. Stops_before (tokens_of ws) e) → whole_statements (tokens_of ws) ≡ true → 0 < length ws → Begins Sources (tokens_of ws) → IfErr v (λ e. e ≡ errors.Memory)
 memory_alone ws (Ok x) h l whole some b = tt
 memory_alone ws (Err e) h l whole some b = begins_read (tokens_of ws) e h l whole (subst (λ n. 0 < n) (sym (tokens_length ws)) some) b
-
--- behind whole statements stands no condition of a one-line IF
-behind_whole : (s : State) (b : Part) → is_of f.condition_form b ≡ false → (next s b).conditions ≡ 0
-behind_whole s (f.condition_part x at) e = absurd (let z = e in cc)
-behind_whole s b e = refl
-
-some_form : (level n : ℕ) (is : List Form) (b : Part) (u : List (Mark Token)) → AnyOf (Part_at 64) (placed_at level n is) b u → (i : Form) × Words (formed i n b) 64 level u
-some_form level n [] b u h = absurd h
-some_form level n (i ∷ is) b u (inl h) = (i, h)
-some_form level n (i ∷ is) b u (inr h) = some_form level n is b u h
-
-no_conditions : (bs : List Part) (s : State) (w : List (Mark Token)) → Parts_from 64 s bs w → whole_statements (bare w) ≡ true → (s.conditions ≡ 0) ⊎ (0 < length w) → (behind s bs).conditions ≡ 0
-no_conditions [] s w h whole (inl z) = z
-no_conditions [] s w h whole (inr l) = absurd (let none : length w ≡ 0 = ap length h in omega arith)
-no_conditions (b ∷ es) s w (u, v, k, o, split) whole c =
-    no_conditions es (next s b) v o (whole_rest (bare u) (bare v) (subst (λ z. whole_statements z ≡ true) (ap bare split ∙ bare_append u v) whole)) (by_rest v split)
-  where
-    there : (i : Form) × Words (formed i s.conditions b) 64 (length s.blocks) u
-    there = some_form (length s.blocks) s.conditions _ b u k
-
-    size : 0 < length u
-    size = subst (λ n. 1 ≤ n) (bare_length u) (part_longer 64 (record { form = there.0; level = length s.blocks; conditions = s.conditions }) b u there.1)
-
-    by_rest : (v : List (Mark Token)) → w ≡ u ++ v → ((next s b).conditions ≡ 0) ⊎ (0 < length v)
-    by_rest (m ∷ v) e = inr (omega arith)
-    by_rest [] e = elim (cases_Bool (is_of f.condition_form b)) [
-      | inl t ↦ absurd (condition_open there.0 s.conditions 64 (length s.blocks) b u t there.1 (subst (λ z. whole_statements (bare z) ≡ true) (e ∙ append-nil u) whole) size)
-      | inr n ↦ inl (behind_whole s b n)
-    ]
 
 -- The words of the statement that fails.
 one_more : (y z : Token) (ts : List Token) → not (is_over y) ≡ true → one_statement (z ∷ ts) ≡ true → one_statement (y ∷ z ∷ ts) ≡ true
@@ -180,7 +144,7 @@ module _ (ws : List Word) (st : Stop) (h : Stands st (file_answer (tokens_of ws)
   tells s o (bs, w) whole e =
       let bare_is : earlier ≡ bare w.word = w.split ∙ append-nil (bare w.word) in
       let size : length w.word ≡ b = sym (bare_length w.word) ∙ (sym (ap length bare_is) ∙ taken_length ws b (omega arith)) in
-      let conds = no_conditions bs start w.word w.is_word (subst (λ z. whole_statements z ≡ true) bare_is whole) (inl refl) in
+      let conds = no_conditions 64 bs start w.word w.is_word (subst (λ z. whole_statements z ≡ true) bare_is whole) (inl refl) in
       let place : place_at 64 (behind start bs) (inside ++ x ∷ []) ≡ o = ap (λ z. place_at 64 z (inside ++ x ∷ [])) w.place ∙ (ap (place_at 64 s) (sym statement_is) ∙ e) in
       let told = told_by_last 64 bs w.word (tokens_of ws) inside (cause_of st.cause) x r w.is_word w.shallow conds (split ∙ ap (λ z. z ++ (inside ++ x ∷ r)) bare_is) refusal in
       let named : RefusedFor Sources (tokens_of ws) (reason (shifted b o)) (x ∷ r) = subst (λ z. RefusedFor Sources (tokens_of ws) (reason z) (x ∷ r)) (ap (λ n. shifted n (place_at 64 (behind start bs) (inside ++ x ∷ []))) size ∙ ap (shifted b) place) told in

@@ -4,7 +4,8 @@ use Rattle.caf_base.specs.declared.place.Pos.{Pos}
 use Rattle.reader_theory.specs.Limits.{RefusedFor, no_word, level_at}
 use Rattle.fortran_grammar.specs.Tokens.{Token}
 use Rattle.fortran_grammar.specs.ProgramGrammar.{Sources}
-use Rattle.program_reader.specs.Unfinished.{Unfinished, No_statement}
+use Rattle.program_reader.specs.Unfinished.{No_statement}
+use Rattle.open_constructs.specs.Open.{IsInnermostOpen}
 use Rattle.file_reader.specs.declared.fault.FileFault.{FileFault}
 use Rattle.file_reader.specs.declared.fault.FileFault.TheVariants.{Expected, NotClosed, TooDeep}
 
@@ -15,11 +16,11 @@ pub record IsExpectedAt (ts : List Token) (at : Pos) : Type 0 where
   pub refused : RefusedFor Sources ts no_word (token ∷ rest)
   pub place : at ≡ token.at
 
--- There are words, and programs go on from them, but none ends there; the innermost construct that is open stands at this place.
+-- There are words, and programs go on from them, but none ends there; in each of those programs the innermost construct that the words begin and don't end begins at this place.
 pub record IsOpenAt (ts : List Token) (at : Pos) : Type 0 where
   pub some : 0 < length ts
   pub refused : RefusedFor Sources ts no_word []
-  pub unfinished : Unfinished 64 ts at
+  pub innermost : IsInnermostOpen ts at
 
 -- Programs go on with the token at which the words are refused, but each has a level too deep by then; the first of those levels begins at this token.
 pub record IsTooDeepAt (ts : List Token) (at : Pos) : Type 0 where

@@ -29,9 +29,9 @@ use Rattle.source_reader.specs.declared.fault.ReadFault.{ReadFault}
 use Rattle.source_reader.specs.declared.fault.ReadFault.TheVariants.{NotAscii, LineTooLong, DanglingContinuation, OpenLiteral, BadCharacter, NumberTooWide, Expected, BlockNotClosed, TooDeep}
 use Rattle.source_reader.specs.Sources.{AreStatements, AreSourceWords, IsRead}
 use Rattle.program_reader.specs.Unfinished.{No_statement}
-use Rattle.source_reader.specs.Laws.{IsSame}
+use Rattle.open_constructs.proofs.Opened.{open_once}
 use Rattle.file_reader.specs.Refusals.{IsExpectedAt, IsOpenAt, IsTooDeepAt}
-use Rattle.source_reader.specs.Refusals.{number, IsTokenFault, AreRefused, WordsAreRefused, IsRefused, of_line, of_token}
+use Rattle.source_reader.specs.Refusals.{IsTokenFault, AreRefused, WordsAreRefused, IsRefused, of_line, of_token}
 
 abbrev byte : ℕ → Pos → PlacedByte
 byte b p = record { code = b; at = p }
@@ -151,68 +151,61 @@ no_token ts at e k = absurd (let none : slice_get [] k.before ≡ Some k.token =
 not_some : (ts : List Token) → ts ≡ [] → 0 < length ts → ⊥
 not_some ts e h = absurd (let none = ap length e in omega arith)
 
--- one refusal, but for the place of a construct that is open
-same : {f g : ReadFault} → f ≡ g → IsSame f g
-same e = (ap number e, λ n. e)
-
-back : {f g : ReadFault} → IsSame f g → IsSame g f
-back h = (sym h.0, λ n. sym (h.1 (λ e. n (sym h.0 ∙ e))))
-
 module _ (ts : List Token) where
-  expected_once : (at : Pos) (g : ReadFault) → No_statement ts at ⊎ IsExpectedAt ts at → AreRefused ts g → IsSame (Expected at) g
-  expected_once at (Expected there) (inl (none, p)) (inl (also, q)) = same (ap Expected (p ∙ sym q))
+  expected_once : (at : Pos) (g : ReadFault) → No_statement ts at ⊎ IsExpectedAt ts at → AreRefused ts g → Expected at ≡ g
+  expected_once at (Expected there) (inl (none, p)) (inl (also, q)) = ap Expected (p ∙ sym q)
   expected_once at (Expected there) (inl (none, p)) (inr k) = absurd (no_rest ts there none k)
   expected_once at (Expected there) (inr h) (inl (none, p)) = absurd (no_rest ts at none h)
   expected_once at (Expected there) (inr h) (inr k) =
       let both = one_refusal Sources ts (h.token ∷ h.rest) (k.token ∷ k.rest) no_word no_word h.refused k.refused in
       let token : h.token ≡ k.token = (let z = both.1 in cc) in
-      same (ap Expected (h.place ∙ (ap (λ z. z.at) token ∙ sym k.place)))
+      ap Expected (h.place ∙ (ap (λ z. z.at) token ∙ sym k.place))
   expected_once at (BlockNotClosed there) (inl (none, p)) k = absurd (not_some ts none k.some)
   expected_once at (BlockNotClosed there) (inr h) k = absurd (let both = one_refusal Sources ts (h.token ∷ h.rest) [] no_word no_word h.refused k.refused in let z = both.1 in cc)
   expected_once at (TooDeep there) (inl (none, p)) k = absurd (no_token ts there none k)
   expected_once at (TooDeep there) (inr h) k = absurd (let both = one_refusal Sources ts (h.token ∷ h.rest) k.rest no_word (level_at k.before) h.refused k.refused in let z = both.0 in cc)
   expected_once at g h k = absurd k
 
-  unclosed_once : (at : Pos) (g : ReadFault) → IsOpenAt ts at → AreRefused ts g → IsSame (BlockNotClosed at) g
-  unclosed_once at (Expected there) h k = back (expected_once there (BlockNotClosed at) k h)
-  unclosed_once at (BlockNotClosed there) h k = (refl, λ n. absurd (n refl))
+  unclosed_once : (at : Pos) (g : ReadFault) → IsOpenAt ts at → AreRefused ts g → BlockNotClosed at ≡ g
+  unclosed_once at (Expected there) h k = sym (expected_once there (BlockNotClosed at) k h)
+  unclosed_once at (BlockNotClosed there) h k = ap BlockNotClosed (open_once ts at there h.innermost k.innermost)
   unclosed_once at (TooDeep there) h k = absurd (let both = one_refusal Sources ts [] k.rest no_word (level_at k.before) h.refused k.refused in let z = both.0 in cc)
   unclosed_once at g h k = absurd k
 
-  deep_once : (at : Pos) (g : ReadFault) → IsTooDeepAt ts at → AreRefused ts g → IsSame (TooDeep at) g
-  deep_once at (Expected there) h k = back (expected_once there (TooDeep at) k h)
-  deep_once at (BlockNotClosed there) h k = back (unclosed_once there (TooDeep at) k h)
+  deep_once : (at : Pos) (g : ReadFault) → IsTooDeepAt ts at → AreRefused ts g → TooDeep at ≡ g
+  deep_once at (Expected there) h k = sym (expected_once there (TooDeep at) k h)
+  deep_once at (BlockNotClosed there) h k = sym (unclosed_once there (TooDeep at) k h)
   deep_once at (TooDeep there) h k =
       let both = one_refusal Sources ts h.rest k.rest (level_at h.before) (level_at k.before) h.refused k.refused in
       let place : h.before ≡ k.before = (let z = both.0 in cc) in
       let found : Some h.token ≡ Some k.token = sym h.stands ∙ (ap (slice_get ts) place ∙ k.stands) in
       let token : h.token ≡ k.token = cc in
-      same (ap TooDeep (h.place ∙ (ap (λ z. z.at) token ∙ sym k.place)))
+      ap TooDeep (h.place ∙ (ap (λ z. z.at) token ∙ sym k.place))
   deep_once at g h k = absurd k
 
-  words_refused_once : (f g : ReadFault) → AreRefused ts f → AreRefused ts g → IsSame f g
+  words_refused_once : (f g : ReadFault) → AreRefused ts f → AreRefused ts g → f ≡ g
   words_refused_once (Expected at) g h k = expected_once at g h k
   words_refused_once (BlockNotClosed at) g h k = unclosed_once at g h k
   words_refused_once (TooDeep at) g h k = deep_once at g h k
   words_refused_once f g h k = absurd h
 
 module _ (bytes : List ℕ) where
-  lines_once : (f g : ReadFault) (l : LineFault) → f ≡ of_line l → IsFirst (faults_of bytes) l → Told bytes g → IsSame f g
-  lines_once f g l e h (by_lines m i k) = same (e ∙ (ap of_line (one_first (faults_of bytes) l m h k) ∙ sym i))
+  lines_once : (f g : ReadFault) (l : LineFault) → f ≡ of_line l → IsFirst (faults_of bytes) l → Told bytes g → f ≡ g
+  lines_once f g l e h (by_lines m i k) = e ∙ (ap of_line (one_first (faults_of bytes) l m h k) ∙ sym i)
   lines_once f g l e h (by_tokens m i k) = absurd (unbroken (faults_of bytes) l k.are.unbroken h)
   lines_once f g l e h (by_words (ts, are, k)) = absurd (unbroken (faults_of bytes) l are.are.unbroken h)
 
-  tokens_once : (f g : ReadFault) (l : TokenFault) → f ≡ of_token l → IsTokenFault bytes l → Told bytes g → IsSame f g
-  tokens_once f g l e h (by_lines m i k) = back (lines_once g f m i k (by_tokens l e h))
-  tokens_once f g l e h (by_tokens m i k) = same (e ∙ (ap of_token (first_once k.statements l m (subst (λ z. IsFirstRefused z l) (same_statements bytes h.statements k.statements h.are k.are) h.first) k.first) ∙ sym i))
+  tokens_once : (f g : ReadFault) (l : TokenFault) → f ≡ of_token l → IsTokenFault bytes l → Told bytes g → f ≡ g
+  tokens_once f g l e h (by_lines m i k) = sym (lines_once g f m i k (by_tokens l e h))
+  tokens_once f g l e h (by_tokens m i k) = e ∙ (ap of_token (first_once k.statements l m (subst (λ z. IsFirstRefused z l) (same_statements bytes h.statements k.statements h.are k.are) h.first) k.first) ∙ sym i)
   tokens_once f g l e h (by_words (ts, are, k)) = absurd (not_cut bytes ts l are h)
 
-  words_told_once : (f g : ReadFault) (ts : List Token) → AreSourceWords bytes ts → AreRefused ts f → Told bytes g → IsSame f g
-  words_told_once f g ts are h (by_lines m i k) = back (lines_once g f m i k (by_words (ts, are, h)))
-  words_told_once f g ts are h (by_tokens m i k) = back (tokens_once g f m i k (by_words (ts, are, h)))
+  words_told_once : (f g : ReadFault) (ts : List Token) → AreSourceWords bytes ts → AreRefused ts f → Told bytes g → f ≡ g
+  words_told_once f g ts are h (by_lines m i k) = sym (lines_once g f m i k (by_words (ts, are, h)))
+  words_told_once f g ts are h (by_tokens m i k) = sym (tokens_once g f m i k (by_words (ts, are, h)))
   words_told_once f g ts are h (by_words (us, also, k)) = words_refused_once ts f g h (subst (λ z. AreRefused z g) (same_words bytes us ts also are) k)
 
-  pub refused_once : (f g : ReadFault) → IsRefused bytes f → IsRefused bytes g → IsSame f g
+  pub refused_once : (f g : ReadFault) → IsRefused bytes f → IsRefused bytes g → f ≡ g
   refused_once f g h k = elim (told bytes f h) [
     | by_lines l e first ↦ lines_once f g l e first (told bytes g k)
     | by_tokens l e first ↦ tokens_once f g l e first (told bytes g k)

@@ -3,19 +3,15 @@ use Rattle.std.specs.Prelude.{ℕ, ◌≡◌, List}
 use Rattle.fortran_tree.specs.Units.{Program}
 use Rattle.source_reader.specs.declared.fault.ReadFault.{ReadFault}
 use Rattle.source_reader.specs.Sources.{IsRead}
-use Rattle.source_reader.specs.Refusals.{number, IsRefused}
+use Rattle.source_reader.specs.Refusals.{IsRefused}
 
 -- a source has one program at most
 abbrev pub ReadOnce : Type 0
 ReadOnce = (bytes : List ℕ) (x y : Program) → IsRead bytes x → IsRead bytes y → x ≡ y
 
--- two refusals have one number, and but for that of a construct that is open they are one
-abbrev pub IsSame : ReadFault → ReadFault → Type 0
-IsSame f g = (number f ≡ number g) × ((number f ≡ 8 → ⊥) → f ≡ g)
-
--- and one refusal at most
+-- and one refusal at most, with one place
 abbrev pub RefusedOnce : Type 0
-RefusedOnce = (bytes : List ℕ) (f g : ReadFault) → IsRefused bytes f → IsRefused bytes g → IsSame f g
+RefusedOnce = (bytes : List ℕ) (f g : ReadFault) → IsRefused bytes f → IsRefused bytes g → f ≡ g
 
 -- and never both
 abbrev pub ReadIsNotRefused : Type 0

@@ -2,7 +2,7 @@
 
 ghost use Rattle.source_reader.specs.Laws.{ReadOnce, RefusedOnce, ReadIsNotRefused};
 
-/// A source has one answer at most: one program, or one refusal (of a construct that is open, only the number is proved to be one), and never both.
+/// A source has one answer at most: one program, or one refusal with its place, and never both.
 pub fn one_answer()
     ensures program { ReadOnce }
     ensures refusal { RefusedOnce }

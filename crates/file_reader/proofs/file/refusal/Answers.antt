@@ -7,7 +7,7 @@ use Rattle.file_reader.proofs.file.refusal.Goals as goal
 pub returns-in-Unfinished : goal.returns-in-Unfinished
 returns-in-Unfinished c =
     let h = subst (λ z. halts.Halts z (tokens_of c.args.words.now)) c.in-Unfinished.is c.requires.halts in
-    open_there c.args.words.now c.in-Unfinished.stop h.0 c.in-Unfinished.at h.1 c.requires.some h.2
+    open_there c.args.words.now c.in-Unfinished.stop h.0 c.in-Unfinished.at h.1 c.requires.some c.requires.whole h.2
 
 pub sunk_word-requires-clause-some : goal.sunk_word-requires-clause-some
 sunk_word-requires-clause-some c =

@@ -1,0 +1,9 @@
+pub mod Spans
+pub mod Trees
+pub mod States
+pub mod Standing
+pub mod Whole
+pub mod Going
+pub mod Closing
+pub mod Opened
+mod Tries

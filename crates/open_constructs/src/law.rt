@@ -1,0 +1,10 @@
+//! Laws of open constructs that no caller runs.
+
+ghost use Rattle.open_constructs.specs.Laws.{OpenIsTold, OpenOnce};
+
+/// Where whole statements need more behind them, the innermost block or procedure that their parts leave open, or else
+/// the main program, is the innermost construct that is open in each program to which they go on; and it has one place.
+pub fn innermost_open()
+    ensures told { OpenIsTold }
+    ensures once { OpenOnce }
+{}
