@@ -24,6 +24,7 @@ use Rattle.caf_run.specs.Dues.{usage_text, IsDoneStatus, IsBad, Settle, IsDue, I
 use Rattle.caf_run.specs.Sources.{BreaksFirst, StandsFor, IsRefusedAs, IsRefusal, refusal_text}
 use Rattle.caf_run.proofs.Settled.{not_run, not_done, run_done, fault_settles, whole_settles, long_settles, source_has, long_has}
 use Rattle.caf_run.proofs.Tasks.{Same, asks_valid, asks_no_make, one_task}
+use Rattle.caf_run.proofs.Made.{long_file}
 use Rattle.caf_run.proofs.Trees.{none_first}
 
 -- bytes that are refused aren't good
@@ -161,7 +162,7 @@ source_named words task origin files left' faults faults' status text report ask
   input = λ file named. f.input file (one_task words task named.0 origin (from_file file) asked named.1).of_origin;
   causes = record {
     read_fault = λ s. (let h = f.read_fault s in (h.0, (task, subst (Asks words task) h.1 asked), h.2, h.3));
-    too_long = λ s. (let h = f.too_long s in (origin, (task, asked), h.0, h.1));
+    too_long = λ s. (let h = f.too_long s in (let l = long_file words task origin files asked h.0 in (l.0, l.1, l.2, h.1)));
   };
   exact = record {
     absent = λ file named none. f.absent file (one_task words task named.0 origin (from_file file) asked named.1).of_origin none;

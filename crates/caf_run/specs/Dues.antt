@@ -13,13 +13,13 @@ use Rattle.rule_definitions.specs.Acceptance.{Accepts}
 use Rattle.caf_base.specs.declared.place.Pos.{Pos}
 use Rattle.caf_words.specs.Usages.{Word}
 use Rattle.caf_words.specs.Words.{Origin, IsRun, IsMake, ChecksSome, MakesSome, IsValid, UsageIs}
-use Rattle.caf_words.specs.Words.Origin.{from_file}
+use Rattle.caf_words.specs.Words.Origin.{from_file, from_made}
 use Rattle.caf_words.specs.declared.command.FailAt.{FailAt}
 use Rattle.caf_words.specs.declared.command.Options.{Options}
 use Rattle.caf_run.specs.declared.task.Task.{Task}
 use Rattle.caf_run.specs.declared.task.Task.TheVariants.{Check, Run}
 use Rattle.caf_run.specs.Tasks.{Asks, NamesSource, NamesFile, told_of}
-use Rattle.caf_run.specs.Reading.{IsSourceIfTold, IsSource, IsLongSource, HasNothingLeft}
+use Rattle.caf_run.specs.Reading.{IsSourceIfTold, IsSource, IsLonger, IsLongSource, HasNothingLeft}
 use Rattle.work_maker.specs.MadeSource.{made_source}
 use Rattle.checked_run.specs.Reports.{IsRunOf, IsRunStatus}
 use Rattle.caf_run.specs.Failures.{first_failure}
@@ -78,10 +78,10 @@ IsReadToEnd files left status = IsRunStatus status ⊎ (status ≡ 3) → HasNot
 abbrev pub InputClause : List Word → Option Files → Option (List ℕ) → ℕ → Type 0
 InputClause words files left status = (file : Word) → NamesFile words file → IsReadToEnd files left status
 
--- Causes: a read fault comes only of a file, where the count of faults rose or the files haven't the name, and only a longer source is too long.
+-- Causes: a read fault comes only of a file, where the count of faults rose or the files haven't the name, and only a longer file is too long: a source that words make never is.
 pub record CausesClause (words : List Word) (files : Option Files) (faults faults' status : ℕ) (text : List ℕ) : Type 0 where
   pub read_fault : status ≡ 10 → (file : Word) × NamesFile words file × MayNotBegin files file faults faults' × (text ≡ codes "read fault\n")
-  pub too_long : status ≡ 13 → (origin : Origin) × NamesSource words origin × IsLongSource files origin 1048576 × (text ≡ codes "too long\n")
+  pub too_long : status ≡ 13 → (file : Word) × NamesFile words file × IsLonger files file 1048576 × (text ≡ codes "too long\n")
 
 -- the bytes settle the status of a task: 13 exactly where they are more than 1,048,576, else 3 exactly where they aren't good, a status with which it is done exactly where they are
 pub record Settle (task : Task) (bytes : List ℕ) (status : ℕ) : Type 0 where
@@ -153,10 +153,11 @@ IsTaskDone Check report answered = IsNone report × (answered ≡ 0)
 IsTaskDone (Run o fails) report answered = (r : Report) × (report ≡ Some r) × (answered ≡ status_of r.end)
 
 -- Completeness: valid words, a source of at most 1,048,576 bytes that is good and no rise of either count of faults give a report and exactly the status of its end, of a check 0, or want of memory. So
--- do words that make a source, and no rise of the sink's count: they give 0.
+-- does a run of a made source, whatever its seed and its size are, and no rise of the sink's count; and words that make a source, and no rise of that count, give 0.
 pub record CompletenessClause (words : List Word) (files : Option Files) (faults faults' sink_faults sink_faults' answered : ℕ) (report : Option Report) : Type 0 where
   pub task_done : (task : Task) (origin : Origin) (bytes : List ℕ) → Asks words task origin → IsSource files origin bytes → length bytes ≤ 1048576 → IsGood bytes
       → (Rose faults faults' → ⊥) → (Rose sink_faults sink_faults' → ⊥) → IsTaskDone task report answered ⊎ (answered ≡ 12)
+  pub made_done : (task : Task) (seed size : ℕ) → Asks words task (from_made seed size) → (Rose sink_faults sink_faults' → ⊥) → IsTaskDone task report answered ⊎ (answered ≡ 12)
   pub source_made : (seed : ℕ) (size : ℕ) → IsMake words seed size → (Rose sink_faults sink_faults' → ⊥) → (IsNone report × (answered ≡ 0)) ⊎ (answered ≡ 12)
 
 -- with a report the task is a run, and the report is of one of a checked program of this kind

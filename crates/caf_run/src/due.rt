@@ -236,7 +236,7 @@ fn file_due<R: Threads + Wait + Sync, S: Source, H: Hook + Sync>(
     }
 }
 
-// What is due for the source that a seed and a size make.
+// What is due for the source that a seed and a size make: it is never too long.
 fn made_due<R: Threads + Wait + Sync, H: Hook + Sync>(
     rt: &R,
     alloc: Global,
@@ -252,9 +252,6 @@ fn made_due<R: Threads + Wait + Sync, H: Hook + Sync>(
         → SourceDue files (from_made seed size) task.now left faults faults' d.status d.text.items d.report) }
 {
     let bytes = make_source(alloc, seed, size)?;
-    if bytes.len() > SOURCE_BYTES {
-        return said(alloc, 13, b"too long\n");
-    }
     bytes_due(rt, alloc, bytes.as_slice(), task, hook)
 }
 

@@ -14,7 +14,9 @@ use Rattle.caf_run.specs.declared.task.Task.TheVariants.{Check, Run}
 use Rattle.checked_run.specs.Reports.{IsRunStatus}
 use Rattle.caf_run.specs.Dues.{IsDoneStatus, IsDue, IsTaskDone, ReportClause, RunClause, CompletenessClause}
 use Rattle.caf_run.specs.Tasks.{Asks, NamesNoFile}
+use Rattle.work_maker.specs.MadeSource.{made_source}
 use Rattle.caf_run.proofs.Settled.{not_run}
+use Rattle.caf_run.proofs.Made.{made_short, made_good, made_no_file}
 use Rattle.caf_run.proofs.top.caf.Goals as goal
 
 pub returns-clause-untouched : goal.returns-clause-untouched
@@ -55,6 +57,11 @@ complete_of words files left' faults faults' sink_faults sink_faults' status tex
   task_done = λ task origin bytes asked has few good still _. elim (due.exact.settled task origin bytes asked has) [
     | inl settle ↦ inl (task_done words task origin files status text report asked due.reported due.ran (settle.done.1 (few, good)))
     | inr rose ↦ absurd (still rose.1)
+  ];
+  made_done = λ task seed size asked _. elim (due.exact.settled task (from_made seed size) (made_source seed size) asked refl) [
+    | inl settle ↦
+        inl (task_done words task (from_made seed size) files status text report asked due.reported due.ran (settle.done.1 (made_short words task seed size asked, made_good words task seed size asked)))
+    | inr stopped ↦ (let fault = due.causes.read_fault stopped.0 in absurd (made_no_file words task seed size fault.0 asked fault.1))
   ];
   source_made = λ seed size make _. inl (rw (report_none words files report (λ o fails origin run. not_run_and_make words o fails origin seed size run make) due.ran) refl, (due.made seed size make).0);
 }

@@ -1,0 +1,4 @@
+pub mod Scopes
+pub mod Limits
+pub mod Judged
+pub mod Whole

@@ -1,0 +1,4 @@
+pub mod PlainBytes
+pub mod Feeds
+pub mod Joined
+pub mod Unbroken
