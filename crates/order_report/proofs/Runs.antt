@@ -1,9 +1,8 @@
 -- The report of a run is that of its trace.
-use Rattle.std.proofs.Common.{◌≡◌, ℕ, zero, suc, ◌+◌, ◌<◌, ◌≤◌, Bool, false, List, [], ◌∷◌, ◌++◌, IsTrue, ◌↔◌, true, inl, inr, length, refl, ap, sym, ◌∙◌, subst, arith}
-use Rattle.std.specs.Prelude.{Option, Some, None, map, slice_get, slice_index_or, nat_eq, MatchOption, IfSome, IfNone}
+use Rattle.std.proofs.Common.{◌≡◌, ℕ, zero, suc, ◌+◌, ◌<◌, ◌≤◌, Bool, false, List, [], ◌∷◌, inl, inr, length, refl, ap, sym, ◌∙◌, subst, arith}
+use Rattle.std.specs.Prelude.{Option, Some, None, map, slice_get, nat_eq, MatchOption, IfSome, IfNone}
 use Rattle.std.specs.List.{filter, range_with_len}
 use Rattle.std.proofs.lemmas.Bool.{cases_Bool, cases_lt}
-use Rattle.caf_base.specs.declared.refusal.NoMemory.{NoMemory}
 use Rattle.caf_events.specs.declared.event.Entry.{Entry}
 use Rattle.caf_events.specs.declared.event.Trace.{Trace}
 use Rattle.caf_events.specs.Events.{EndsRun}
@@ -12,23 +11,24 @@ use Rattle.trace_theory.specs.Entries.{Each}
 use Rattle.trace_theory.proofs.Filters.{each_filter}
 use Rattle.trace_theory.proofs.Snocs.{each_at}
 use Rattle.caf_events.specs.declared.event.Event.{Event}
-use Rattle.core_runs.specs.Lists.{image_of, entry, list_at}
-use Rattle.core_runs.specs.Moments.{Rules, Moment, Steps, item_at, can_step}
-use Rattle.core_runs.specs.Beginnings.{Beginning, IsImage}
+use Rattle.core_runs.specs.Lists.{image_of, entry}
+use Rattle.core_runs.specs.Moments.{Rules, Moment, item_at, can_step}
+use Rattle.core_runs.specs.Beginnings.{Beginning, IsFirst, IsImage}
 use Rattle.core_runs.specs.CoreRuns.{IsCoreRun}
 use Rattle.core_runs.specs.Kept.{IsKept}
 use Rattle.core_runs.specs.Lawful.{IsLawfulTrace, made_memory}
-use Rattle.core_runs.specs.Orders.{Chooser, Ordered, candidates, EndsAtLast, IsWhole, IsOrderTrace}
+use Rattle.core_runs.specs.Orders.{Chooser, Ordered, candidates, IsWhole, IsOrderTrace}
 use Rattle.core_runs.specs.Traces.{IsTraceOf}
 use Rattle.core_runs.specs.Waits.{IsWaiting}
+use Rattle.core_runs.proofs.Beginnings.{empty_at}
 use Rattle.core_runs.proofs.Lanes.{is_image}
-use Rattle.core_runs.proofs.Numbered.{item_within, index_same}
-use Rattle.core_runs.proofs.Weaves.{map_append, with_length}
+use Rattle.core_runs.proofs.Weaves.{map_append}
 use Rattle.core_runs.proofs.Waits.{waiting, stopped}
 use Rattle.image_core.specs.declared.choices.RunEnd.{RunEnd}
 use Rattle.image_core.specs.declared.choices.RunEnd.TheVariants.{Ending, AllOver, AllWait}
 use Rattle.image_core.specs.Choosing.{choosing}
-use Rattle.image_core.specs.Orders.{EndIs}
+use Rattle.image_core.specs.Orders.{HasEnding, EndIs, StepsTo}
+use Rattle.image_core.proofs.Endings.{not_empty}
 use Rattle.object_rules.specs.Cells.{Declared}
 use Rattle.order_theory.specs.Races.{NoRace}
 use Rattle.order_axioms.specs.FirstRaces.{HasNoRace, Allowed}
@@ -43,13 +43,26 @@ use Rattle.caf_report.specs.declared.report.Race.{Race}
 use Rattle.caf_report.specs.declared.report.Report.{Report}
 use Rattle.caf_report.specs.declared.report.Waiting.{Waiting}
 use Rattle.caf_report.specs.Ends.{EndsAt, HasNoEnding, IsEndOf, IsPlain}
-use Rattle.order_report.specs.Reports.{choices_of, before_race, AreHeld, AreWaiting, IsRace, IsRunEnd, IsReportEnd, IsRunReport, EndByThemselves, HasEnding, GoesNoFurther}
+use Rattle.order_report.specs.Reports.{choices_of, before_race, AreHeld, AreWaiting, IsRace, IsRunEnd, IsReportEnd, IsRunReport, EndByThemselves, GoesNoFurther}
 
--- an ordered run that was answered is whole
-pub whole_of : {C M B : Type 0} (r : Rules C M B) (m : Moment C M B) (xs : List Entry) (end : RunEnd) → EndIs r m xs end → IsWhole r xs m
-whole_of r m xs (Ending image) h = inl h.0
-whole_of r m xs AllOver h = inr (h.0, h.1)
-whole_of r m xs AllWait h = inr (h.0, h.1)
+-- where an ordered run has come to an end, the run goes no further
+pub no_further : {C M B : Type 0} (r : Rules C M B) (m : Moment C M B) (end : RunEnd) → EndIs r m end → GoesNoFurther r m
+no_further r m (Ending image) h = inl h.0
+no_further r m AllOver h = inr h.1
+no_further r m AllWait h = inr h.1
+
+-- before the first step no event ends the run
+none_first : {C M B : Type 0} (r : Rules C M B) (b : Beginning C M B) (m : Moment C M B) → IsFirst r b m → HasEnding m.events → ⊥
+none_first r b m first e = not_empty e.before e.last (sym (empty_at m.events b.images e.image first.events) ∙ e.form)
+
+-- an ordered run from before the first step that was answered is whole
+pub whole_of : {C M B S : Type 0} (r : Rules C M B) (b : Beginning C M B) (ch : Chooser S) (s : S) (m : Moment C M B) (xs : List Entry) (s' : S) (m' : Moment C M B) (end : RunEnd) → IsFirst r b m → Ordered r ch s m xs s' m' → EndIs r m' end × StepsTo xs end → IsWhole r xs m'
+whole_of {C} {M} {B} r b ch s m xs s' m' (Ending image) first ordered (is, inl none) =
+    let stays = subst (λ v. Ordered r ch s m v s' m') none ordered in
+    absurd (none_first r b m first (subst (λ (v : Moment C M B). HasEnding v.events) stays.1 is.0))
+whole_of r b ch s m xs s' m' (Ending image) first ordered (is, inr at_last) = inl at_last
+whole_of r b ch s m xs s' m' AllOver first ordered (is, none) = inr (none, is.1)
+whole_of r b ch s m xs s' m' AllWait first ordered (is, none) = inr (none, is.1)
 
 none_passes : (p : ℕ → Bool) (a n i : ℕ) → filter p (range_with_len a n) ≡ [] → a ≤ i → i < a + n → p i ≡ false
 none_passes p a zero i h low high = absurd (omega arith)
@@ -82,58 +95,6 @@ ends_nowhere ls t trace e none =
     each_at (λ x. EndsRun x.event → ⊥) (map (entry e.image) e.before) [] (entry e.image e.last)
     (subst (Each (λ x. EndsRun x.event → ⊥)) (trace.images e.image ∙ ap (map (entry e.image)) e.form ∙ map_append (entry e.image) e.before (e.last ∷ [])) (each_filter (λ x. EndsRun x.event → ⊥) (λ x. nat_eq (image_of x) e.image) t.entries (no_ending t none)))
     e.ends
-
-has_last : {A : Type 0} (x : A) (xs : List A) → (before : List A) × (last : A) × (x ∷ xs ≡ before ++ last ∷ [])
-has_last x [] = ([], x, refl)
-has_last x (y ∷ xs) = let r = has_last y xs in (x ∷ r.0, r.1, ap (λ l. x ∷ l) r.2)
-
--- an image of which it is told that its last event ends the run
-pub ending_here : (ls : List (List Event)) (k : ℕ) (events : List Event) → slice_index_or ls k [] ≡ events → (told : Bool) → ((es : List Event) (e : Event) → events ≡ es ++ e ∷ [] → (IsTrue told ↔ EndsRun e)) → (events ≡ [] → told ≡ false) → told ≡ true → HasEnding ls
-ending_here ls k [] at told last none is = absurd (let n = none refl in cc)
-ending_here ls k (x ∷ xs) at told last none is =
-    let l = has_last x xs in
-    record { image = suc k; before = l.0; last = l.1; form = at ∙ l.2; ends = (last l.0 l.1 l.2).0 is }
-
--- the one step that ends a run ends it
-ends_one : (x : Entry) → EndsAtLast (x ∷ []) → EndsRun x.event
-ends_one x ([], last, all, rest, ends) = (let e : last ≡ x = cc in subst (λ (y : Entry). EndsRun y.event) e ends)
-ends_one x (z ∷ [], last, all, rest, ends) = absurd (cc)
-ends_one x (z ∷ y ∷ ys, last, all, rest, ends) = absurd (cc)
-
-ends_behind : (x y : Entry) (ys : List Entry) → EndsAtLast (x ∷ y ∷ ys) → EndsAtLast (y ∷ ys)
-ends_behind x y ys ([], last, all, rest, ends) = absurd (cc)
-ends_behind x y ys (z ∷ zs, last, all, rest, ends) = (zs, last, (let e : y ∷ ys ≡ zs ++ last ∷ [] = cc in e), rest.1, ends)
-
--- a step that ends the run stands last in its image's list
-step_ending : {C M B : Type 0} (r : Rules C M B) (m m' : Moment C M B) (x : Entry) → length m.events ≡ length m.configs → Steps r m x.image.0 x.event m' → EndsRun x.event → HasEnding m'.events
-step_ending r m m' x as_many step ends = by_number x.image.0 refl
-  where
-    by_number : (n : ℕ) → x.image.0 ≡ n → HasEnding m'.events
-    by_number zero e = absurd (let y = subst (λ n. Steps r m n x.event m') e step in let z = y.stands in cc)
-    by_number (suc k) e =
-        let stands = subst (λ n. Steps r m n x.event m') e step in
-        let within = item_within m.configs k stands.from stands.stands in
-        record {
-          image = suc k;
-          before = list_at m.events (suc k);
-          last = x.event;
-          form = ap (λ ls. list_at ls (suc k)) stands.events ∙ index_same m.events k (list_at m.events (suc k) ++ x.event ∷ []) [] (omega arith);
-          ends = ends;
-        }
-
-ending_last : {C M B S : Type 0} (r : Rules C M B) (ch : Chooser S) (s : S) (m : Moment C M B) (xs : List Entry) (s' : S) (m' : Moment C M B) → Ordered r ch s m xs s' m' → EndsAtLast xs → length m.events ≡ length m.configs → HasEnding m'.events
-ending_last r ch s m [] s' m' o ([], last, all, rest, ends) as_many = absurd (cc)
-ending_last r ch s m [] s' m' o (z ∷ zs, last, all, rest, ends) as_many = absurd (cc)
-ending_last r ch s m (x ∷ []) s' m' (p, next, step, rest) at as_many = subst (λ v. HasEnding v.events) (sym rest.1) (step_ending r m next x as_many step (ends_one x at))
-ending_last r ch s m (x ∷ y ∷ ys) s' m' (p, next, step, rest) at as_many =
-    let a = ap length step.events ∙ with_length m.events x.image.0 (list_at m.events x.image.0 ++ x.event ∷ []) in
-    let b = ap length step.configs ∙ with_length m.configs x.image.0 step.to in
-    ending_last r ch (ch.after s (candidates r m)) next (y ∷ ys) s' m' rest (ends_behind x y ys at) (a ∙ as_many ∙ sym b)
-
--- where an ordered run has come to an end, the run goes no further
-pub no_further : {C M B S : Type 0} (r : Rules C M B) (ch : Chooser S) (s : S) (m : Moment C M B) (xs : List Entry) (s' : S) (m' : Moment C M B) → Ordered r ch s m xs s' m' → IsWhole r xs m' → length m.events ≡ length m.configs → GoesNoFurther r m'
-no_further r ch s m xs s' m' ordered (inl at) as_many = inl (ending_last r ch s m xs s' m' ordered at as_many)
-no_further r ch s m xs s' m' ordered (inr (rest, stuck)) as_many = inr stuck
 
 module _ {C M B : Type 0} (r : Rules C M B) (b : Beginning C M B) (m : Moment C M B) (t : Trace) (h : IsKept r b m) (trace : IsTraceOf m.events t.entries) (enders : EndByThemselves r b) (stuck : candidates r m ≡ []) where
   each_waits : (ws : List Waiting) → Each (λ w. (c : C) × (item_at m.configs w.image.0 ≡ Some c) × AsksNext (r.step c) w.ask × IsAtLine (r.step c) w.line) ws → Each (λ w. IsWaiting r b t.entries w.image.0 w.line w.ask) ws

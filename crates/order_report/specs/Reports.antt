@@ -1,29 +1,30 @@
 -- The report of a run: its trace is a core run, and that of the ordered run where there is an order; its end is that of the trace, a race first, and up to the race each reference
 -- that isn't atomic gives the last definition in segment order.
-use Rattle.std.specs.Prelude.{ℕ, zero, suc, ◌≡◌, ◌<◌, ◌≤◌, ◌⊎◌, List, [], ◌∷◌, ◌++◌, length, Option, Some}
+use Rattle.std.specs.Prelude.{ℕ, zero, suc, ◌≡◌, ◌<◌, ◌≤◌, ◌⊎◌, List, [], ◌∷◌, ◌++◌, length, Option, Some, Ok}
+use Rattle.caf_base.specs.declared.refusal.NoMemory.{NoMemory}
 use Rattle.caf_events.specs.declared.ask.Ask.{Ask}
 use Rattle.caf_events.specs.declared.reply.Reply.{Reply}
 use Rattle.caf_events.specs.declared.event.Entry.{Entry}
-use Rattle.caf_events.specs.declared.event.Event.{Event}
 use Rattle.caf_events.specs.declared.event.Trace.{Trace}
-use Rattle.caf_events.specs.Events.{EndsRun}
 use Rattle.caf_events.specs.Walkers.{AsksNext, IsAtLine, IsOver}
 use Rattle.trace_theory.specs.Entries.{Each, Rises, last_or}
 use Rattle.trace_theory.specs.Machines.{Move}
 use Rattle.object_rules.specs.Cells.{Declared}
 use Rattle.core_runs.specs.Beginnings.{Beginning, IsImage}
-use Rattle.core_runs.specs.CoreRuns.{IsCoreRun}
+use Rattle.core_runs.specs.CoreRuns.{IsCoreRun, of_image}
 use Rattle.core_runs.specs.Kept.{IsKept}
 use Rattle.core_runs.specs.Moments.{Rules, Moment, item_at}
 use Rattle.core_runs.specs.Lawful.{IsLawfulTrace, made_memory}
-use Rattle.core_runs.specs.Lists.{list_at}
+use Rattle.core_runs.specs.Lists.{entries_of}
 use Rattle.core_runs.specs.Orders.{IsOrderTrace, candidates}
 use Rattle.core_runs.specs.Sequences.{EndsByItself}
 use Rattle.core_runs.specs.Traces.{IsTraceOf}
 use Rattle.core_runs.specs.Waits.{HasEndedIn, IsWaiting}
 use Rattle.image_core.specs.declared.choices.Choices.{Choices}
 use Rattle.image_core.specs.declared.choices.Choices.TheVariants.{Rotate, Seed}
+use Rattle.image_core.specs.declared.choices.RunEnd.{RunEnd}
 use Rattle.image_core.specs.Choosing.{choosing}
+use Rattle.image_core.specs.Orders.{HasEnding, IsOrderRun}
 use Rattle.order_theory.specs.Races.{Cell}
 use Rattle.order_axioms.specs.FirstRaces.{HasNoRace, IsFirstRace, Allowed}
 use Rattle.order_axioms.specs.Touching.{touches, accesses}
@@ -88,17 +89,20 @@ pub record IsEndMoment {C M B : Type 0} (r : Rules C M B) (b : Beginning C M B) 
   pub kept : IsKept r b m
   pub trace : IsTraceOf m.events t
 
--- an image's last event ends the run
-pub record HasEnding (lists : List (List Event)) : Type 0 where
-  pub image : ℕ
-  pub before : List Event
-  pub last : Event
-  pub form : list_at lists image ≡ before ++ last ∷ []
-  pub ends : EndsRun last
-
 -- a run goes no further from a moment: a step ended it, or no image can step
 abbrev pub GoesNoFurther : {C M B : Type 0} → Rules C M B → Moment C M B → Type 0
 GoesNoFurther r m = HasEnding m.events ⊎ (candidates r m ≡ [])
+
+-- an ordered run by these choices from one moment to another, at which it has come to its end: it has no step behind an event that ended the run
+pub record RunsOn {C M B : Type 0} (r : Rules C M B) (s : Choices) (m m' : Moment C M B) : Type 0 where
+  pub last : Choices
+  pub end : RunEnd
+  pub run : IsOrderRun {E = NoMemory} r s m last m' (Ok end)
+
+-- and the trace at that end: each image's entries are its events of the first moment, and then its steps of the ordered run
+pub record IsTraceOn {C M B : Type 0} (r : Rules C M B) (s : Choices) (m m' : Moment C M B) (t : List Entry) : Type 0 where
+  pub on : RunsOn r s m m'
+  pub images : (i : ℕ) → of_image i t ≡ entries_of m.events i ++ of_image i on.run.steps
 
 -- every core run that begins so is a lawful trace over these coarrays
 abbrev pub AreLawful : {C M B : Type 0} → Rules C M B → Beginning C M B → List Declared → Type 0

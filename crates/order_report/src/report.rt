@@ -1,13 +1,14 @@
 //! The end of a run from where its parts are, and its report.
 
-ghost use Rattle.std.specs.Prelude.{◌≡◌, IfOk, OnOk, List, Some, None, true};
+ghost use Rattle.std.specs.Prelude.{◌≡◌, IfOk, OnOk, List, Some, None};
 ghost use Rattle.object_rules.specs.Cells.{Declared};
 ghost use Rattle.core_runs.specs.Beginnings.{Beginning, IsFirst};
 ghost use Rattle.core_runs.specs.Kept.{IsKept};
 ghost use Rattle.core_runs.specs.Moments.{rules};
-ghost use Rattle.image_core.specs.Parts.{moment, event_lists, AreNumbered, AreSound};
+ghost use Rattle.image_core.specs.declared.choices.Choices.TheVariants.{Rotate};
+ghost use Rattle.image_core.specs.Parts.{moment, AreNumbered, AreSound};
 ghost use Rattle.caf_report.specs.Ends.{HasEnd};
-ghost use Rattle.order_report.specs.Reports.{AreLawful, EndByThemselves, GoesNoFurther, HasEnding, IsEndMoment, IsRunReport};
+ghost use Rattle.order_report.specs.Reports.{choices_of, AreLawful, EndByThemselves, GoesNoFurther, IsEndMoment, IsRunReport, IsTraceOn, RunsOn};
 
 use crate::race::first_race;
 use crate::waits::{choices_of_seed, held};
@@ -72,24 +73,15 @@ pub fn report_order<M: Walker, O: Object, B: Inert>(
     ensures at_end { IfOk result (λ report. (b : Beginning M.Config O.Made B.Made)
         → IsKept (rules M.Walker O.Object B.Object) b (moment M.Walker O.Object B.Object parts.old)
         → IsEndMoment (rules M.Walker O.Object B.Object) b report.trace.entries (moment M.Walker O.Object B.Object parts.new)) }
+    // The steps made are those of the SEED's order from where the parts were.
+    ensures on { IfOk result (λ report. IsTraceOn (rules M.Walker O.Object B.Object) (choices_of seed) (moment M.Walker O.Object B.Object parts.old)
+        (moment M.Walker O.Object B.Object parts.new) report.trace.entries) }
     ensures numbered { IfOk result (λ _. AreNumbered parts.new.images.items) }
 {
     let mut choices = choices_of_seed(seed);
     parts.run_order(&mut choices)?;
     let report = report_here(alloc, parts, names)?;
     Ok(report)
-}
-
-// Whether an image's last event ends the run.
-fn has_ended<M: Walker, O, B>(parts: &PartsOf<M, O, B>) -> bool
-    ensures { result ≡ true → HasEnding (event_lists parts.now.images.items) }
-{
-    for k in 0..parts.images.len() {
-        if parts.images[k].ended_run() {
-            return true;
-        }
-    }
-    false
 }
 
 // The run from where the parts are to its end: by rotation, where no step has ended it.
@@ -99,10 +91,8 @@ fn finish<M: Walker, O: Object, B: Inert>(parts: &mut PartsOf<M, O, B>) -> Resul
     ensures kept { (b : Beginning M.Config O.Made B.Made) → IsKept (rules M.Walker O.Object B.Object) b (moment M.Walker O.Object B.Object parts.old)
         → IsKept (rules M.Walker O.Object B.Object) b (moment M.Walker O.Object B.Object parts.new) }
     ensures over { OnOk result (GoesNoFurther (rules M.Walker O.Object B.Object) (moment M.Walker O.Object B.Object parts.new)) }
+    ensures on { OnOk result (RunsOn (rules M.Walker O.Object B.Object) (Rotate 0) (moment M.Walker O.Object B.Object parts.old) (moment M.Walker O.Object B.Object parts.new)) }
 {
-    if has_ended(parts) {
-        return Ok(());
-    }
     parts.run_order(&mut Choices::Rotate { last: 0 })?;
     Ok(())
 }
@@ -128,6 +118,9 @@ pub fn report_rest<M: Walker, O: Object, B: Inert>(
     ensures at_end { IfOk result (λ report. (b : Beginning M.Config O.Made B.Made)
         → IsKept (rules M.Walker O.Object B.Object) b (moment M.Walker O.Object B.Object parts.old)
         → IsEndMoment (rules M.Walker O.Object B.Object) b report.trace.entries (moment M.Walker O.Object B.Object parts.new)) }
+    // The steps made are those of the rotation from where the parts were.
+    ensures on { IfOk result (λ report. IsTraceOn (rules M.Walker O.Object B.Object) (Rotate 0) (moment M.Walker O.Object B.Object parts.old)
+        (moment M.Walker O.Object B.Object parts.new) report.trace.entries) }
     ensures numbered { IfOk result (λ _. AreNumbered parts.new.images.items) }
 {
     finish(parts)?;
