@@ -119,7 +119,7 @@ given_signed names t [] h = tt
 given_signed names t (e ∷ es) h = either_signed (number_in_reply t e.event.reply) (given_number t es)
     (reply_signed t e.event.reply h.0.reply) (given_signed names t es h.1)
 
-after_signed : (names : List (List ℕ)) (before : List Entry) → Each (HasText names) before → (t : ℕ)
+pub after_signed : (names : List (List ℕ)) (before : List Entry) → Each (HasText names) before → (t : ℕ)
     → IsGivenSigned (number_behind before t)
 after_signed names before h t = by (nat_eq t 1)
   where
@@ -128,7 +128,7 @@ after_signed names before h t = by (nat_eq t 1)
     by false = given_signed names t before h
 
 -- ---- lines
-line_is : (st im ln pl a r : List ℕ) → st ++ (32 ∷ im) ++ (32 ∷ ln) ++ (32 ∷ pl) ++ (32 ∷ a) ++ codes " > " ++ r
+pub line_is : (st im ln pl a r : List ℕ) → st ++ (32 ∷ im) ++ (32 ∷ ln) ++ (32 ∷ pl) ++ (32 ∷ a) ++ codes " > " ++ r
     ++ codes "\n" ≡ st ++ (32 ∷ (im ++ (32 ∷ (ln ++ (32 ∷ (pl ++ (32 ∷ (a ++ (32 ∷ 62 ∷ 32 ∷ (r ++ (10 ∷ [])))))))))))
 line_is st im ln pl a r =
     append_assoc ((((((st ++ (32 ∷ im)) ++ (32 ∷ ln)) ++ (32 ∷ pl)) ++ (32 ∷ a)) ++ (32 ∷ 62 ∷ 32 ∷ []))) r (10 ∷ [])

@@ -22,11 +22,11 @@ use Rattle.trace_forms.proofs.Fields.{Field, is_field, field_byte, field_of, cut
 use Rattle.trace_forms.proofs.Fields.{fields_same}
 
 -- ---- allocated coarrays
-allot_text : List (List ℕ) → Allotted → List ℕ
+pub allot_text : List (List ℕ) → Allotted → List ℕ
 allot_text names a = name_text names a.coarray
     ++ (shape_text a.dims ++ (91 ∷ (flat_map cobound_text a.codims ++ (decimal_text a.last ++ (58 ∷ 42 ∷ 93 ∷ [])))))
 
-allot_is : (names : List (List ℕ)) (a : Allotted) → allotted_text names a ≡ behind (32 ∷ []) (allot_text names) a
+pub allot_is : (names : List (List ℕ)) (a : Allotted) → allotted_text names a ≡ behind (32 ∷ []) (allot_text names) a
 unfolding allot_text
 allot_is names a = simp append_assoc
 
@@ -51,7 +51,7 @@ shape_stop [] r = refl
 shape_stop (d ∷ ds) r = refl
 
 module _ (names : List (List ℕ)) (are : AreNames names) where
-  allot_inside : (a : Allotted) → AllottedHasText names a → list_all is_field (allot_text names a) ≡ true
+  pub allot_inside : (a : Allotted) → AllottedHasText names a → list_all is_field (allot_text names a) ≡ true
   unfolding allot_text
   allot_inside a h =
       all_append is_field (name_text names a.coarray) _
@@ -61,7 +61,7 @@ module _ (names : List (List ℕ)) (are : AreNames names) where
       (all_append is_field (decimal_text a.last) (58 ∷ 42 ∷ 93 ∷ [])
       (field_of is_dec refl refl (decimal_text a.last) (signed_dec a.last h.last)) refl)))
 
-  allot_some : (a : Allotted) → AllottedHasText names a → 0 < length (allot_text names a)
+  pub allot_some : (a : Allotted) → AllottedHasText names a → 0 < length (allot_text names a)
   unfolding allot_text
   allot_some a h = let k = name_some names are a.coarray h.named in
       omega (
@@ -159,10 +159,10 @@ module _ (names : List (List ℕ)) (are : AreNames names) where
   arriving_same (arrivings.Deallocate xs) (arrivings.Allocate ys) p q r s e = absurd (by_byte 1 100 _ _ refl refl e)
 
 -- ---- teams
-form_text : FormedTeam → List ℕ
+pub form_text : FormedTeam → List ℕ
 form_text t = number_text t.team.0 ++ (47 ∷ (decimal_text t.number ++ (58 ∷ joined (46 ∷ []) image_text t.members)))
 
-form_is : (t : FormedTeam) → team_text t ≡ behind (32 ∷ []) form_text t
+pub form_is : (t : FormedTeam) → team_text t ≡ behind (32 ∷ []) form_text t
 unfolding form_text
 form_is t = simp append_assoc
 
@@ -171,7 +171,7 @@ members_inside : (xs : List ImageNo) → Each IsImageNumber xs
 members_inside xs h = joined_inside IsImageNumber is_digit_byte 46 image_text (image_items 46 refl) is_field refl
     (field_byte is_digit_byte refl refl) xs h
 
-form_inside : (t : FormedTeam) → FormedHasText t → list_all is_field (form_text t) ≡ true
+pub form_inside : (t : FormedTeam) → FormedHasText t → list_all is_field (form_text t) ≡ true
 unfolding form_text
 form_inside t h =
     let small = h.team in
@@ -199,7 +199,7 @@ form_same t u p q e =
 form_items : Items FormedHasText is_field 32 form_text
 form_items = record { outside = refl; inside = form_inside; same = form_same }
 
-forms_is : (xs : List FormedTeam) → flat_map team_text xs ≡ flat_map (behind (32 ∷ []) form_text) xs
+pub forms_is : (xs : List FormedTeam) → flat_map team_text xs ≡ flat_map (behind (32 ∷ []) form_text) xs
 forms_is [] = refl
 forms_is (x ∷ xs) = (λ i. form_is x i ++ forms_is xs i)
 

@@ -178,6 +178,17 @@ is_control (asks.Query owner span) = false
 is_control (asks.Free owner span) = false
 is_control ask = true
 
+-- whether the ask names a team
+abbrev pub names_team : Ask → Bool
+names_team (asks.Arrive team arriving) = true
+names_team (asks.Leave team round) = true
+names_team (asks.Gather team op root kind vs) = true
+names_team (asks.Take team round) = true
+names_team (asks.Failed team) = true
+names_team (asks.Stopped team) = true
+names_team (asks.Status team index) = true
+names_team ask = false
+
 abbrev pub ask_text : (ℕ → List ℕ) → List (List ℕ) → Ask → List ℕ
 ask_text of_team names ask = ask_word ask ++ operands_text of_team names ask
 

@@ -36,7 +36,8 @@ fn atomic_name(op: AtomicOp) -> &'static str
     }
 }
 
-fn gather_name(op: GatherOp) -> &'static str
+/// The name of a collective operation.
+pub(crate) fn gather_name(op: GatherOp) -> &'static str
     ensures { result.now ≡ gather_word op }
 {
     match op {
@@ -47,7 +48,8 @@ fn gather_name(op: GatherOp) -> &'static str
     }
 }
 
-fn kind_name(kind: Kind) -> &'static str
+/// The name of a kind.
+pub(crate) fn kind_name(kind: Kind) -> &'static str
     ensures { result.now ≡ kind_word kind }
 {
     match kind {
@@ -57,8 +59,8 @@ fn kind_name(kind: Kind) -> &'static str
     }
 }
 
-// Appends values behind a blank.
-fn push_list(out: &mut Vec<u8>, values: &[Value]) -> Result<(), NoMemory>
+/// Appends values behind a blank.
+pub(crate) fn push_list(out: &mut Vec<u8>, values: &[Value]) -> Result<(), NoMemory>
     ensures { OnOk result (out.new.items ≡ out.old.items ++ spaced (values_text values.now)) }
 {
     push_text(out, " ")?;

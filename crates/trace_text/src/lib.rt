@@ -6,7 +6,8 @@
 #![tactic(auto)]
 
 mod ask;
-mod line;
+mod first;
+pub mod line;
 mod numbers;
 pub mod piece;
 mod reply;

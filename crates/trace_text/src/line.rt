@@ -1,11 +1,12 @@
 //! The line of a step.
 
 ghost use Rattle.std.specs.Prelude.{◌≡◌, ◌++◌, OnOk, codes};
-ghost use Rattle.trace_text.specs.TraceText.{spaced, place_word, ask_text, reply_text, entry_line};
+ghost use Rattle.trace_text.specs.TraceText.{number_text, spaced, place_word, ask_text, reply_text, entry_line};
 ghost use Rattle.trace_text.specs.Forms.{number_in_reply, team_by_table, Gains};
 ghost use Rattle.caf_events.specs.Asks.{place_of};
 
 use crate::ask::push_ask;
+use crate::first::push_first_ask;
 use crate::numbers::note_reply;
 use crate::piece::{push_count, push_spaced, push_text};
 use crate::reply::push_reply;
@@ -78,7 +79,7 @@ fn push_exchange(
 
 /// Appends the line of a step: stamp, image, line, object, ask and reply, with the team numbers that the table has. It puts
 /// those that the reply gives into the table.
-pub(crate) fn push_entry(
+pub fn push_entry(
     alloc: Global,
     out: &mut Vec<u8>,
     names: &[Text],
@@ -92,4 +93,48 @@ pub(crate) fn push_entry(
     push_spaced(out, u64::from(entry.image.0))?;
     push_spaced(out, u64::from(entry.event.line()))?;
     push_exchange(alloc, out, names, numbers, &entry.event)
+}
+
+// Appends the object and the ask in the first form.
+fn push_first_asked(
+    alloc: Global,
+    out: &mut Vec<u8>,
+    names: &[Text],
+    ask: &Ask,
+) -> Result<(), NoMemory>
+    ensures { OnOk result (out.new.items ≡ out.old.items ++ (spaced (place_word (place_of ask.now)) ++ spaced (ask_text number_text names.now ask.now))) }
+{
+    push_place(out, ask.place())?;
+    push_text(out, " ")?;
+    push_first_ask(alloc, out, names, ask)
+}
+
+// Appends the object, the ask and the reply in the first form.
+fn push_first_exchange(
+    alloc: Global,
+    out: &mut Vec<u8>,
+    names: &[Text],
+    event: &Event,
+) -> Result<(), NoMemory>
+    ensures { OnOk result (out.new.items ≡ out.old.items ++ (spaced (place_word (place_of event.now.ask)) ++ spaced (ask_text number_text names.now event.now.ask) ++ codes " > " ++ reply_text event.now.reply ++ codes "\n")) }
+{
+    push_first_asked(alloc, out, names, &event.told().ask(alloc))?;
+    push_text(out, " > ")?;
+    push_reply(out, &event.reply(alloc))?;
+    push_text(out, "\n")
+}
+
+/// Appends the line of a step in the first form: stamp, image, line, object, ask and reply.
+pub fn push_first_entry(
+    alloc: Global,
+    out: &mut Vec<u8>,
+    names: &[Text],
+    entry: &Entry,
+) -> Result<(), NoMemory>
+    ensures { OnOk result (out.new.items ≡ out.old.items ++ entry_line number_text names.now entry.now) }
+{
+    push_count(out, entry.event.stamp())?;
+    push_spaced(out, u64::from(entry.image.0))?;
+    push_spaced(out, u64::from(entry.event.line()))?;
+    push_first_exchange(alloc, out, names, &entry.event)
 }

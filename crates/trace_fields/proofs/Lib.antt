@@ -1,0 +1,10 @@
+pub mod Cut
+pub mod Items
+pub mod Parts
+pub mod Rows
+pub mod Spans
+pub mod Shapes
+pub mod Arrivals
+pub mod Printing
+pub mod Operators
+pub mod Table

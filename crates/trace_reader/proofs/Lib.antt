@@ -1,0 +1,10 @@
+pub mod Owners
+pub mod Boards
+pub mod Replies
+pub mod Tests
+pub mod Feeds
+pub mod Seconds
+pub mod Growing
+pub mod TeamTexts
+pub mod Steps
+pub mod Bad

@@ -1,0 +1,5 @@
+pub mod Kinds
+pub mod Checks
+pub mod Reading
+pub mod Tables
+pub mod Files
