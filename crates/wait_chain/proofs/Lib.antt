@@ -1,0 +1,16 @@
+pub mod Ended
+pub mod Least
+pub mod Images
+pub mod Inside
+pub mod LockTurns
+pub mod LockLeft
+pub mod Births
+pub mod Tellings
+pub mod Awaiting
+pub mod Holding
+pub mod Blocked
+pub mod Chaining
+pub mod Tries
+pub mod OneChain
+pub mod Reporting
+pub mod Behinds

@@ -1,0 +1,7 @@
+pub mod Stuck
+pub mod Told
+pub mod Counts
+pub mod Holders
+pub mod Awaited
+pub mod Links
+pub mod Reports
