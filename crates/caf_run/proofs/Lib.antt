@@ -3,6 +3,7 @@ pub mod Readings
 pub mod Settled
 pub mod Tasks
 pub mod Made
+pub mod Traced
 pub mod Trees
 pub mod WhatIsDue
 pub mod Written

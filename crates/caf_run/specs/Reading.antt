@@ -1,4 +1,4 @@
--- What a file read whole is, where the files of a source are told; and the bytes that a run or a check is of.
+-- What a file read whole is, where the files of a source are told; and the bytes that a task is of.
 use Rattle.std.specs.Prelude.{ℕ, ◌≡◌, ◌<◌, List, [], length, Option, None, Some, ⊤}
 use Rattle.caf_base.specs.Outside.{Files, file_of}
 use Rattle.caf_words.specs.Words.{Origin}
@@ -24,6 +24,11 @@ HasNothingLeft (Some files) left = left ≡ Some []
 abbrev pub IsLonger : Option Files → List ℕ → ℕ → Type 0
 IsLonger None name limit = ⊤
 IsLonger (Some files) name limit = (bytes : List ℕ) × (file_of name files ≡ Some bytes) × (limit < length bytes)
+
+-- the files are told, and the first one of that name has more bytes than the limit
+abbrev pub IsLongTold : Option Files → List ℕ → ℕ → Type 0
+IsLongTold None name limit = ⊥
+IsLongTold (Some files) name limit = (bytes : List ℕ) × (file_of name files ≡ Some bytes) × (limit < length bytes)
 
 -- where the files are told, these are the bytes of the source: of the file, or those that the seed and the size make
 abbrev pub IsSourceIfTold : Option Files → Origin → List ℕ → Type 0
