@@ -1,5 +1,5 @@
 -- The words of the command line: which lists of them are valid, what a valid list means, and the usage number of the others.
-use Rattle.std.specs.Prelude.{ℕ, ◌≡◌, ◌≢◌, ◌≤◌, ◌-◌, ◌^◌, ◌⊎◌, List, [], ◌∷◌, ◌++◌, length, map, codes, Option, None, Some, Bool, false, true, string_bytes}
+use Rattle.std.specs.Prelude.{ℕ, ◌≡◌, ◌≢◌, ◌≤◌, ◌+◌, ◌-◌, ◌^◌, ◌⊎◌, List, [], ◌∷◌, ◌++◌, length, map, codes, Option, None, Some, Bool, false, true, string_bytes, ⊤}
 use Rattle.std.specs.Fmt.{decimal}
 use Rattle.std.specs.declared.alloc.Global.{Global}
 use Rattle.std.specs.declared.string.String.{String}
@@ -11,9 +11,14 @@ use Rattle.caf_words.specs.declared.options.Given.{Given}
 use Rattle.caf_words.specs.declared.command.FailAt.{FailAt}
 use Rattle.caf_words.specs.declared.command.Options.{Options}
 use Rattle.caf_words.specs.declared.command.Command.{Command}
-use Rattle.caf_words.specs.declared.command.Command.TheVariants.{Run, Check, Make}
+use Rattle.caf_words.specs.declared.command.Command.TheVariants.{Run, Traced, Check, Make}
+use Rattle.caf_words.specs.declared.command.Goal.{Goal}
+use Rattle.caf_words.specs.declared.command.Goal.TheVariants.{Judge, Replay}
 use Rattle.caf_words.specs.declared.command.Input.{Input}
 use Rattle.caf_words.specs.declared.command.Input.TheVariants.{File, Made}
+use Rattle.caf_words.specs.declared.command.Places.{Places}
+use Rattle.caf_words.specs.declared.command.Verb.{Verb}
+use Rattle.caf_words.specs.declared.command.Verb.TheVariants as verbs
 use Rattle.caf_words.specs.declared.command.Way.{Way}
 use Rattle.caf_words.specs.declared.command.Way.TheVariants.{Order, Workers}
 
@@ -44,20 +49,48 @@ abbrev pub is_made : Origin → Bool
 is_made (from_file file) = false
 is_made (from_made seed size) = true
 
+-- what stands behind the options: of a run, where its source comes from; of a judgement or a replay, the names of the files TRACE and FILE
+pub data Operands : Type 0 where
+  of_source : Origin → Operands
+  of_trace : Word → Word → Operands
+
+-- a seed and a size make the source, so that the run is summed up
+abbrev pub is_summed : Operands → Bool
+is_summed (of_source origin) = is_made origin
+is_summed (of_trace trace file) = false
+
+-- the word that a command with options begins with
+abbrev pub verb_word : Verb → Word
+verb_word verbs.Run = codes "run"
+verb_word (verbs.Traced Judge) = codes "judge"
+verb_word (verbs.Traced Replay) = codes "replay"
+
+-- the options may say how the images run: those of a run alone, since a trace has its own order
+abbrev pub MayOrder : Verb → Type 0
+MayOrder verbs.Run = ⊤
+MayOrder (verbs.Traced goal) = ⊥
+
+-- the options may say what is shown of a run: not those of a judgement, which shows none
+abbrev pub MayShow : Verb → Type 0
+MayShow verbs.Run = ⊤
+MayShow (verbs.Traced Judge) = ⊥
+MayShow (verbs.Traced Replay) = ⊤
+
 -- no options yet
 abbrev pub nothing : Given
 nothing = record { images = None; workers = None; order = None; steps = None; trace = false; vars = false }
 
--- One option that may come next, as its words; what is given with it, and the failures that it names. Each stands once at most, but --fail, and -w and --order exclude each other.
+-- One option that may come next behind a verb, as its words; what is given with it, and the failures that it names. Each stands once at most,
+-- but --fail, and -w and --order exclude each other. A judgement and a replay have neither of these, and a judgement neither --trace nor --vars.
 -- Numbers are in decimal: without a sign, and without a leading zero other than `0` itself.
-pub data IsOption (g : Given) : List Word → Given → List FailAt → Type 0 where
-  images : (n : ℕ) → g.images ≡ None → 1 ≤ n → n ≤ 256 → IsOption g (codes "-n" ∷ decimal n ∷ []) (record g { images = Some n }) []
-  workers : (n : ℕ) → g.workers ≡ None → g.order ≡ None → 1 ≤ n → n ≤ 64 → IsOption g (codes "-w" ∷ decimal n ∷ []) (record g { workers = Some n }) []
-  order : (s : ℕ) → g.order ≡ None → g.workers ≡ None → s ≤ 2147483647 → IsOption g (codes "--order" ∷ decimal s ∷ []) (record g { order = Some s }) []
-  steps : (n : ℕ) → g.steps ≡ None → 1 ≤ n → n ≤ 100000000 → IsOption g (codes "--steps" ∷ decimal n ∷ []) (record g { steps = Some n }) []
-  fail : (word : Word) (f : FailAt) → IsFailure word f → IsOption g (codes "--fail" ∷ word ∷ []) g (f ∷ [])
-  trace : g.trace ≡ false → IsOption g (codes "--trace" ∷ []) (record g { trace = true }) []
-  vars : g.vars ≡ false → IsOption g (codes "--vars" ∷ []) (record g { vars = true }) []
+pub data IsOption (v : Verb) (g : Given) : List Word → Given → List FailAt → Type 0 where
+  images : (n : ℕ) → g.images ≡ None → 1 ≤ n → n ≤ 256 → IsOption v g (codes "-n" ∷ decimal n ∷ []) (record g { images = Some n }) []
+  workers : (n : ℕ) → MayOrder v → g.workers ≡ None → g.order ≡ None → 1 ≤ n → n ≤ 64 → IsOption v g (codes "-w" ∷ decimal n ∷ []) (record g { workers = Some n }) []
+  order : (s : ℕ) → MayOrder v → g.order ≡ None → g.workers ≡ None → s ≤ 2147483647 → IsOption v g (codes "--order" ∷ decimal s ∷ []) (record g { order = Some s }) []
+  steps : (n : ℕ) → g.steps ≡ None → 1 ≤ n → n ≤ 100000000 → IsOption v g (codes "--steps" ∷ decimal n ∷ []) (record g { steps = Some n }) []
+  fail : (word : Word) (f : FailAt) → IsFailure word f → IsOption v g (codes "--fail" ∷ word ∷ []) g (f ∷ [])
+  show_trace : MayShow v → g.trace ≡ false → IsOption v g (codes "--trace" ∷ []) (record g { trace = true }) []
+  show_vars : MayShow v → g.vars ≡ false → IsOption v g (codes "--vars" ∷ []) (record g { vars = true }) []
 
 -- the number that is given, or else the default
 abbrev pub given_or : ℕ → Option ℕ → ℕ
@@ -84,19 +117,41 @@ abbrev pub IsOrigin : List Word → Origin → Type 0
 IsOrigin words (from_file file) = (words ≡ file ∷ []) × IsFileName file
 IsOrigin words (from_made seed size) = (numbers : List Word) × (words ≡ codes "--made" ∷ numbers) × AreSeedAndSize numbers seed size
 
--- The words of a run behind `run` and the options that are given so far: further options in any order, then FILE or `--made SEED SIZE`, which is summed up. The failures are
--- those that these words name, in order.
-pub data IsRest : Given → List Word → Options → List FailAt → Origin → Type 0 where
-  origin_last : (g : Given) (words : List Word) (origin : Origin) → IsOrigin words origin → IsRest g words (told g (is_made origin)) [] origin
-  option_next : (g h : Given) (option : List Word) (named : List FailAt) (rest : List Word) (o : Options) (fails : List FailAt) (origin : Origin) → IsOption g option h named → IsRest h rest o fails origin
-      → IsRest g (option ++ rest) o (named ++ fails) origin
+-- the words are TRACE and FILE
+pub record AreTraceAndFile (words : List Word) (trace file : Word) : Type 0 where
+  pub form : words ≡ trace ∷ file ∷ []
+  pub trace_name : IsFileName trace
+  pub file_name : IsFileName file
 
--- the words are `run OPTIONS FILE` or `run OPTIONS --made SEED SIZE`: -n N (1 to 256; 4 where it isn't given), -w W (1 to 64; 4 where it isn't given) or --order SEED (0 to 2147483647) or neither,
--- --steps N (1 to 100000000; 1000000 where it isn't given), --fail I@K, which may stand more than once, --trace and --vars
-pub record IsRun (words : List Word) (o : Options) (fails : List FailAt) (origin : Origin) : Type 0 where
+-- the words are the operands of the verb
+abbrev pub AreOperands : Verb → List Word → Operands → Type 0
+AreOperands verbs.Run words (of_source origin) = IsOrigin words origin
+AreOperands verbs.Run words (of_trace trace file) = ⊥
+AreOperands (verbs.Traced goal) words (of_source origin) = ⊥
+AreOperands (verbs.Traced goal) words (of_trace trace file) = AreTraceAndFile words trace file
+
+-- The words behind a verb and the options that are given so far: further options in any order, then its operands. The failures are those that
+-- these words name, in order. A run of a made source is summed up.
+pub data IsRest (v : Verb) : Given → List Word → Options → List FailAt → Operands → Type 0 where
+  operands_last : (g : Given) (words : List Word) (x : Operands) → AreOperands v words x → IsRest v g words (told g (is_summed x)) [] x
+  option_next : (g h : Given) (option : List Word) (named : List FailAt) (rest : List Word) (o : Options) (fails : List FailAt) (x : Operands) → IsOption v g option h named → IsRest v h rest o fails x
+      → IsRest v g (option ++ rest) o (named ++ fails) x
+
+-- the words are the verb, its options and its operands. The options of a run: -n N (1 to 256; 4 where it isn't given),
+-- -w W (1 to 64; 4 where it isn't given) or --order SEED (0 to 2147483647) or neither, --steps N (1 to 100000000; 1000000 where it isn't given),
+-- --fail I@K, which may stand more than once, --trace and --vars; of a replay: those but -w and --order; of a judgement: -n, --steps and --fail
+pub record IsCommand (v : Verb) (words : List Word) (o : Options) (fails : List FailAt) (x : Operands) : Type 0 where
   pub rest : List Word
-  pub form : words ≡ codes "run" ∷ rest
-  pub options : IsRest nothing rest o fails origin
+  pub form : words ≡ verb_word v ∷ rest
+  pub options : IsRest v nothing rest o fails x
+
+-- the words are `run OPTIONS FILE` or `run OPTIONS --made SEED SIZE`
+abbrev pub IsRun : List Word → Options → List FailAt → Origin → Type 0
+IsRun words o fails origin = IsCommand verbs.Run words o fails (of_source origin)
+
+-- the words are `judge OPTIONS TRACE FILE` or `replay OPTIONS TRACE FILE`, by the goal
+abbrev pub IsTraced : Goal → List Word → Options → List FailAt → Word → Word → Type 0
+IsTraced goal words o fails trace file = IsCommand (verbs.Traced goal) words o fails (of_trace trace file)
 
 -- the words are `check FILE`
 pub record IsCheck (words : List Word) (file : Word) : Type 0 where
@@ -109,9 +164,9 @@ pub record IsMake (words : List Word) (seed size : ℕ) : Type 0 where
   pub form : words ≡ codes "make" ∷ numbers
   pub are : AreSeedAndSize numbers seed size
 
--- some run has these words; some check has them; they make some source
-abbrev pub RunsSome : List Word → Type 0
-RunsSome words = (o : Options) × (fails : List FailAt) × (origin : Origin) × IsRun words o fails origin
+-- some command with options has these words; some check has them; they make some source
+abbrev pub CommandsSome : List Word → Type 0
+CommandsSome words = (v : Verb) × (o : Options) × (fails : List FailAt) × (x : Operands) × IsCommand v words o fails x
 
 abbrev pub ChecksSome : List Word → Type 0
 ChecksSome words = (file : Word) × IsCheck words file
@@ -121,7 +176,7 @@ MakesSome words = (seed : ℕ) × (size : ℕ) × IsMake words seed size
 
 -- a list of words is valid
 abbrev pub IsValid : List Word → Type 0
-IsValid words = RunsSome words ⊎ ChecksSome words ⊎ MakesSome words
+IsValid words = CommandsSome words ⊎ ChecksSome words ⊎ MakesSome words
 
 -- the input tells where the source comes from; of so many words FILE is the last
 abbrev pub IsInput : Origin → ℕ → Input → Type 0
@@ -130,9 +185,15 @@ IsInput (from_file file) last (Made seed size) = ⊥
 IsInput (from_made seed size) last (File word) = ⊥
 IsInput (from_made seed size) last (Made seed' size') = (seed' ≡ seed) × (size' ≡ size)
 
+-- of so many words TRACE is the last but one, and FILE the last
+pub record ArePlaces (last : ℕ) (places : Places) : Type 0 where
+  pub trace : places.trace + 1 ≡ last
+  pub file : places.file ≡ last
+
 -- the command that valid words mean; FILE is the last of them
 abbrev pub Means : List Word → Command → Type 0
 Means words (Run input fails o) = (origin : Origin) × IsRun words o fails origin × IsInput origin (length words) input
+Means words (Traced goal places fails o) = (trace : Word) × (file : Word) × IsTraced goal words o fails trace file × ArePlaces (length words) places
 Means words (Check word) = (file : Word) × IsCheck words file × (word ≡ length words)
 Means words (Make seed size) = IsMake words seed size
 
@@ -140,11 +201,11 @@ Means words (Make seed size) = IsMake words seed size
 abbrev pub UsageIs : List Word → ℕ → Type 0
 UsageIs words k = UsageOf IsValid words k
 
--- the words are those of a run in which a failure is named
-abbrev pub RunsWithFailure : List Word → Type 0
-RunsWithFailure words = (o : Options) × (fails : List FailAt) × (origin : Origin) × IsRun words o fails origin × (fails ≢ [])
+-- the words are those of a command in which a failure is named
+abbrev pub CommandsWithFailure : List Word → Type 0
+CommandsWithFailure words = (v : Verb) × (o : Options) × (fails : List FailAt) × (x : Operands) × IsCommand v words o fails x × (fails ≢ [])
 
 -- what a refusal says of the words: their usage number; or that they are too many to be numbered, or valid with failures for whose list there was no memory
 abbrev pub IsRefusalOf : List Word → Refusal Usage → Type 0
-IsRefusalOf words NoMemory = (2 ^ 32 - 1 ≤ length words) ⊎ RunsWithFailure words
+IsRefusalOf words NoMemory = (2 ^ 32 - 1 ≤ length words) ⊎ CommandsWithFailure words
 IsRefusalOf words (Cause usage) = UsageIs words usage.word

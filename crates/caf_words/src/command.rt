@@ -11,6 +11,13 @@ pub enum Command {
         fails: Listing<FailAt>,
         options: Options,
     },
+    /// To judge a run by its trace, or to replay it: the run of the file in which these images fail.
+    Traced {
+        goal: Goal,
+        places: Places,
+        fails: Listing<FailAt>,
+        options: Options,
+    },
     /// To check the file whose name is this word, from 1.
     Check {
         word: u32,
@@ -20,6 +27,31 @@ pub enum Command {
         seed: u32,
         size: u32,
     },
+}
+
+/// What a trace and a file are for.
+#[derive(Clone, Copy)]
+pub enum Goal {
+    /// To judge whether the trace is that of a run of the file.
+    Judge,
+    /// To run the file in the order of the trace.
+    Replay,
+}
+
+/// What a command with options does.
+#[derive(Clone, Copy)]
+pub enum Verb {
+    /// To run a source.
+    Run,
+    /// To reach this goal with a trace and a file.
+    Traced(Goal),
+}
+
+/// The words, from 1, that name the files of a trace and of a source.
+#[derive(Clone, Copy)]
+pub struct Places {
+    pub trace: u32,
+    pub file: u32,
 }
 
 /// Where the source comes from.
@@ -49,7 +81,7 @@ pub struct FailAt {
     pub step: u32,
 }
 
-/// What a run is told by its options.
+/// What a run is told by its options. Those of a judgement or a replay say neither an order nor workers, and aren't summed up.
 #[derive(Clone, Copy)]
 pub struct Options {
     /// How many images there are, from 1 to 256.

@@ -1,14 +1,14 @@
-//! The options of a run, one by one.
+//! The options of a command, one by one.
 
-ghost use Rattle.std.specs.Prelude.{◌≡◌, ◌≤◌, List, IfSome, IfNone};
+ghost use Rattle.std.specs.Prelude.{◌≡◌, ◌≤◌, List, IfSome, IfNone, IsTrue, ◌↔◌};
 ghost use Rattle.caf_words.specs.declared.command.FailAt.{FailAt};
 ghost use Rattle.caf_words.specs.declared.options.Given.{Given};
 ghost use Rattle.caf_words.specs.declared.options.Key.{Key};
-ghost use Rattle.caf_words.specs.Words.{words_in};
+ghost use Rattle.caf_words.specs.Words.{words_in, MayOrder, MayShow};
 ghost use Rattle.caf_words.specs.Words as spec;
 ghost use Rattle.caf_words.specs.Readings.{IsNextKey, Flags, Gives, IsNext, listed};
 
-use crate::command::{FailAt, Options, Way};
+use crate::command::{FailAt, Goal, Options, Verb, Way};
 use crate::failure::failure_of;
 use crate::number::number_between;
 use caf_base::limits::{DEFAULT_STATEMENTS, IMAGES, STATEMENTS};
@@ -25,7 +25,7 @@ const DEFAULT_WORKERS: u32 = 4;
 /// The greatest number of workers that may be told.
 const GREATEST_WORKERS: u32 = 64;
 
-/// The options of a run that were given so far, each of which stands once at most.
+/// The options of a command that were given so far, each of which stands once at most.
 #[derive(Clone, Copy)]
 pub(crate) struct Given {
     pub images: Option<u32>,
@@ -57,12 +57,12 @@ pub(crate) struct Taken {
     pub words: u32,
 }
 
-/// What stands next among the words of a run.
+/// What stands next among the words of a command.
 #[derive(Clone, Copy)]
 pub(crate) enum Next {
     Option(Taken),
-    /// No option: what says where the source comes from has to stand here.
-    Origin,
+    /// No option: what the verb is about has to stand here.
+    Operands,
     /// An option's key, with no value of it behind.
     WrongValue,
 }
@@ -117,32 +117,53 @@ fn or_default(given: Option<u32>, default: u32) -> u32
     }
 }
 
-// The key of an option with a value that may come next.
-fn next_key(word: &str, given: Given) -> Option<Key>
-    ensures key { IfSome result (IsNextKey given word.now) }
-    ensures none { IfNone result ((k : Key) → ¬ IsNextKey given word.now k) }
+// Whether the options of a verb may say how the images run.
+fn may_order(verb: Verb) -> bool
+    ensures { IsTrue result ↔ MayOrder verb }
 {
+    match verb {
+        Verb::Run => true,
+        Verb::Traced(_) => false,
+    }
+}
+
+// Whether the options of a verb may say what is shown of a run.
+fn may_show(verb: Verb) -> bool
+    ensures { IsTrue result ↔ MayShow verb }
+{
+    match verb {
+        Verb::Run | Verb::Traced(Goal::Replay) => true,
+        Verb::Traced(Goal::Judge) => false,
+    }
+}
+
+// The key of an option with a value that may come next behind a verb.
+fn next_key(verb: Verb, word: &str, given: Given) -> Option<Key>
+    ensures key { IfSome result (IsNextKey verb given word.now) }
+    ensures none { IfNone result ((k : Key) → ¬ IsNextKey verb given word.now k) }
+{
+    let free = may_order(verb) && given.workers.is_none() && given.order.is_none();
     match word {
         "-n" if given.images.is_none() => Some(Key::Images),
-        "-w" if given.workers.is_none() && given.order.is_none() => Some(Key::Workers),
-        "--order" if given.order.is_none() && given.workers.is_none() => Some(Key::Order),
+        "-w" if free => Some(Key::Workers),
+        "--order" if free => Some(Key::Order),
         "--steps" if given.steps.is_none() => Some(Key::Steps),
         "--fail" => Some(Key::Fail),
         _ => None,
     }
 }
 
-// What is given with an option without a value that may come next.
-fn flagged_with(word: &str, given: Given) -> Option<Given>
-    ensures given { IfSome result (Flags given word.now) }
-    ensures none { IfNone result ((h : Given) → ¬ Flags given word.now h) }
+// What is given with an option without a value that may come next behind a verb.
+fn flagged_with(verb: Verb, word: &str, given: Given) -> Option<Given>
+    ensures given { IfSome result (Flags verb given word.now) }
+    ensures none { IfNone result ((h : Given) → ¬ Flags verb given word.now h) }
 {
     match word {
-        "--trace" if !given.trace => Some(Given {
+        "--trace" if may_show(verb) && !given.trace => Some(Given {
             trace: true,
             ..given
         }),
-        "--vars" if !given.vars => Some(Given {
+        "--vars" if may_show(verb) && !given.vars => Some(Given {
             vars: true,
             ..given
         }),
@@ -170,23 +191,23 @@ fn taken_with(key: Key, word: &str, given: Given) -> Option<Taken>
     Some(taken)
 }
 
-/// What stands next among the words of a run, behind the options that are given so far.
-pub(crate) fn next_option(words: &[String], given: Given) -> Next
-    ensures { IsNext given (words_in words.now) result }
+/// What stands next among the words of a command, behind its verb and the options that are given so far.
+pub(crate) fn next_option(verb: Verb, words: &[String], given: Given) -> Next
+    ensures { IsNext verb given (words_in words.now) result }
 {
     let [first, behind @ ..] = words else {
-        return Next::Origin;
+        return Next::Operands;
     };
     let word = first.as_str();
-    if let Some(given) = flagged_with(word, given) {
+    if let Some(given) = flagged_with(verb, word, given) {
         return Next::Option(Taken {
             given,
             fail: None,
             words: 1,
         });
     }
-    let Some(key) = next_key(word, given) else {
-        return Next::Origin;
+    let Some(key) = next_key(verb, word, given) else {
+        return Next::Operands;
     };
     let [second, ..] = behind else {
         return Next::WrongValue;
