@@ -6,6 +6,6 @@
 #![tactic(auto)]
 
 mod coarrays;
-mod names;
+pub mod names;
 pub mod runnable;
 pub mod running;

@@ -56,8 +56,8 @@ fn made(alloc: Global, checked: &Checked) -> Result<Code, NoMemory>
     }
 }
 
-// The code of an accepted program, if the machine can run it.
-fn runnable(alloc: Global, checked: &Checked) -> Result<Code, Refusal<Unrunnable>>
+/// The code of an accepted program, if the machine can run it.
+pub fn runnable(alloc: Global, checked: &Checked) -> Result<Code, Refusal<Unrunnable>>
     requires accepted { (x : units.Program) × Accepts x (program checked.now) }
     ensures code { IfOk result (IsCodeOf (program checked.now)) }
     ensures runnable { IfOk result IsRunnable }
@@ -75,8 +75,8 @@ fn runnable(alloc: Global, checked: &Checked) -> Result<Code, Refusal<Unrunnable
     }
 }
 
-// The coarrays of tables as each memory has them, if each has the first values that it wants.
-fn coarrays(alloc: Global, tables: &Tables) -> Result<Vec<Coarray>, Refusal<Unrunnable>>
+/// The coarrays of tables as each memory has them, if each has the first values that it wants.
+pub fn coarrays(alloc: Global, tables: &Tables) -> Result<Vec<Coarray>, Refusal<Unrunnable>>
     ensures coarrays { IfOk result (λ v. map declared_of v.items ≡ map in_memory tables.now.coarrays) }
     ensures declared { IfOk result (λ v. list_all has_first_values (map declared_of v.items) ≡ true) }
     ensures refused { IfErr result (λ refusal. IfCause refusal (λ u. (u.line ≡ 0) × (list_all has_first_values (map in_memory tables.now.coarrays) ≡ false))) }

@@ -5,7 +5,7 @@ use Rattle.std.specs.Borrow.{Bor}
 use Rattle.caf_events.specs.declared.event.Entry.{Entry}
 use Rattle.trace_theory.specs.Entries.{Earlier}
 use Rattle.core_runs.specs.Lists.{image_of, stamp_of}
-use Rattle.core_runs.specs.Moments.{Rules, Moment}
+use Rattle.core_runs.specs.Moments.{Rules, Moment, Steps}
 use Rattle.core_runs.specs.Beginnings.{Beginning}
 use Rattle.core_runs.specs.CoreRuns.{IsCoreRun}
 use Rattle.core_runs.specs.Kept.{IsKept}
@@ -27,3 +27,9 @@ pub record IsRunTo {C M B : Type 0} (r : Rules C M B) (b : Beginning C M B) (t :
   pub run : IsCoreRun r b t
   pub kept : IsKept r b m
   pub trace : IsTraceOf m.events t
+
+-- these entries, one after the other, are the steps that lead from one moment to another
+abbrev pub Leads : {C M B : Type 0} → Rules C M B → Moment C M B → List Entry → Moment C M B → Type 0
+Leads r m [] m' = m' ≡ m
+Leads {C} {M} {B} r m (x ∷ xs) m' =
+    (next : Moment C M B) × Steps r m (image_of x) x.event next × Leads r next xs m'

@@ -1,6 +1,6 @@
 //! The entries of a trace, made one after the other.
 
-ghost use Rattle.std.specs.Prelude.{◌≡◌, List, [], ◌∷◌, ◌++◌, IfOk, MatchOption, true, false, Decides};
+ghost use Rattle.std.specs.Prelude.{◌≡◌, List, [], ◌∷◌, ◌++◌, IfOk, IfNone, MatchOption, true, false, Decides};
 ghost use Rattle.caf_events.specs.declared.event.Event.{Event};
 ghost use Rattle.core_runs.specs.Lists.{image_of};
 ghost use Rattle.core_runs.specs.Moments.{rules, Steps};
@@ -9,7 +9,7 @@ ghost use Rattle.core_runs.specs.Kept.{IsKept};
 ghost use Rattle.core_runs.specs.Traces.{IsTraceOf};
 ghost use Rattle.image_core.specs.Parts.{moment, AreSound};
 ghost use Rattle.trace_judge.specs.Verdicts.{IsFirstNot, IsDueNow};
-ghost use Rattle.judged_run.specs.Judging.{IsLaterThan, IsRunTo};
+ghost use Rattle.judged_run.specs.Judging.{IsLaterThan, IsRunTo, Leads};
 
 use caf_base::refusal::NoMemory;
 use caf_events::event::{Entry, Event};
@@ -88,6 +88,9 @@ pub fn judge_entries<M: Walker, O: Object, B: Object>(
         → MatchOption step
         (IsRunTo (rules M.Walker O.Object B.Object) b entries.now (moment M.Walker O.Object B.Object parts.new))
         (IsFirstNot (rules M.Walker O.Object B.Object) b entries.now)) }
+    // The entries of a core run are the steps that were made.
+    ensures made { IfOk result (λ step. IfNone step (Leads (rules M.Walker O.Object B.Object)
+        (moment M.Walker O.Object B.Object parts.old) entries.now (moment M.Walker O.Object B.Object parts.new))) }
 {
     let mut last = None;
     for k in 0..entries.len() {

@@ -6,7 +6,7 @@
 //! Behind the moment from which they are given the parts it has the steps of the ordered run, to its end (`IsTraceOn`).
 #![tactic(auto)]
 
-mod race;
+pub mod race;
 pub mod report;
 pub mod same_end;
 mod waits;

@@ -6,5 +6,5 @@
 #![tactic(auto)]
 
 pub mod laws;
-mod machines;
+pub mod machines;
 pub mod running;

@@ -31,8 +31,8 @@ use std::alloc::Global;
 use std::sync::{Arc, Wait};
 use std::thread::Threads;
 
-// The report of a run with the final values of these variables.
-fn told(alloc: Global, ran: Ran<Machine>, listed: &[Listed]) -> Result<Report, NoMemory>
+/// The report of a run with the final values of these variables. Condition: its parts have a memory for each image.
+pub fn told(alloc: Global, ran: Ran<Machine>, listed: &[Listed]) -> Result<Report, NoMemory>
     requires { length ran.parts.images.items ≡ length ran.parts.memories.items }
     ensures { IfOk result (λ r. r ≡ record ran.report { finals = run_finals listed.now ran.parts.images.items ran.parts.memories.items }) }
 {
