@@ -60,8 +60,8 @@ traced_words words files task origin traced status text report asked given answe
     let same = one_task words task (Traced goal o fails) origin (from_file file) asked (trace, named) in
     let of_task = subst (λ t. TracedAs t (IsProgramOf files origin) traced status text report) same.of_task answered in
     let of_file = subst (λ v. TracedAs (Traced goal o fails) (IsProgramOf files v) traced status text report) same.of_origin of_task in
-    let (p, end, (bytes, whole, stands), comes, said) = of_file good in
-    (traced, bytes, p, end, trace_there words files task origin traced trace asked given (goal, o, fails, file, named), whole, stands, comes, said)
+    let (p, (bytes, whole, stands), answers) = of_file good in
+    (traced, bytes, p, trace_there words files task origin traced trace asked given (goal, o, fails, file, named), whole, stands, answers)
 
 -- a count of faults that rose in a later part of the call rose in it
 pub rose_later : (before mid now : ℕ) → before ≤ mid → Rose mid now → Rose before now

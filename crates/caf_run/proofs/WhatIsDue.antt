@@ -69,7 +69,7 @@ traced_map : (task : Task) (K L : typed.Program → Type 0) (traced : List ℕ) 
     → TracedAs task L traced status text report
 traced_map Check K L traced status text report wider answered = tt
 traced_map (Run o fails) K L traced status text report wider answered = tt
-traced_map (Traced goal o fails) K L traced status text report wider answered = λ good. (let (p, end, is, comes, said) = answered good in (p, end, wider p is, comes, said))
+traced_map (Traced goal o fails) K L traced status text report wider answered = λ good. (let (p, is, answers) = answered good in (p, wider p is, answers))
 
 -- a source that is read
 pub read_bytes : (bytes : List ℕ) (x : Program) (task : Task) (traced : List ℕ) (status : ℕ) (text : List ℕ) (report : Option Report) → IsRead bytes x → TreeDue x task traced status text report → BytesDue bytes task traced status text report

@@ -21,7 +21,7 @@ use Rattle.caf_words.specs.declared.command.Verb.{Verb}
 use Rattle.caf_run.specs.declared.task.Task.{Task}
 use Rattle.caf_run.specs.declared.task.Task.TheVariants.{Check, Run, Traced}
 use Rattle.caf_run.specs.Tasks.{Asks, NamesSource, NamesFile, NamesTrace, NamesInput, IsTrace, told_of}
-use Rattle.caf_run.specs.Traces.{TraceEnd, ComesTo, IsAnsweredAs, shown_of}
+use Rattle.caf_run.specs.Traces.{IsTraceAnswer, shown_of}
 use Rattle.caf_run.specs.Reading.{HasBytesIfTold, IsSourceIfTold, IsSource, IsLonger, IsLongTold, IsLongSource, HasNothingLeft}
 use Rattle.work_maker.specs.MadeSource.{made_source}
 use Rattle.checked_run.specs.Reports.{IsRunOf, IsRunStatus}
@@ -101,8 +101,8 @@ RunClause words files (Some r) = IsRunFrom words files r ⊎ ReplaysSome words
 abbrev pub TraceClause : List Word → Option Files → (status : ℕ) (text : List ℕ) → Option Report → Type 0
 TraceClause words files status text report =
     (goal : Goal) (o : Options) (fails : List FailAt) (trace file : Word) → IsTraced goal words o fails trace file → IsGoodStatus status
-    → (traced : List ℕ) × (bytes : List ℕ) × (p : typed.Program) × (end : TraceEnd) × HasBytesIfTold files trace traced × HasBytesIfTold files file bytes × StandsFor bytes p × ComesTo p o fails traced end
-    × IsAnsweredAs goal p o fails end status text report
+    → (traced : List ℕ) × (bytes : List ℕ) × (p : typed.Program) × HasBytesIfTold files trace traced × HasBytesIfTold files file bytes × StandsFor bytes p
+    × IsTraceAnswer goal p o fails traced status text report
 
 -- Input: after a run, a check, a judge, a replay or a refusal of a file nothing of it is left.
 abbrev pub IsReadToEnd : Option Files → Option (List ℕ) → ℕ → Type 0
@@ -235,8 +235,7 @@ RanAs (Traced goal o fails) Kind (Some r) = Unit {0}
 
 -- where the task is of a trace, what its bytes come to by a checked program of this kind is answered
 abbrev pub TracedAs : Task → (typed.Program → Type 0) → (traced : List ℕ) → (status : ℕ) (text : List ℕ) → Option Report → Type 0
-TracedAs (Traced goal o fails) Kind traced status text report =
-    IsGoodStatus status → (p : typed.Program) × (end : TraceEnd) × Kind p × ComesTo p o fails traced end × IsAnsweredAs goal p o fails end status text report
+TracedAs (Traced goal o fails) Kind traced status text report = IsGoodStatus status → (p : typed.Program) × Kind p × IsTraceAnswer goal p o fails traced status text report
 TracedAs task Kind traced status text report = Unit {0}
 
 -- what is told of a task: its report with the status and the text of that; without one `ok`, of a check, a status of its own, of a trace, or what keeps the task from being done

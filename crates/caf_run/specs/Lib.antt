@@ -3,4 +3,5 @@ pub mod Failures
 pub mod Reading
 pub mod Sources
 pub mod Tasks
+pub mod Traces
 pub mod Writing

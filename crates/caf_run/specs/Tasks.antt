@@ -3,12 +3,13 @@ use Rattle.std.specs.Prelude.{ℕ, ◌≤◌, ◌/◌, ◌⊎◌, List, length, 
 use Rattle.std.specs.List.{AllByRecursion}
 use Rattle.caf_base.specs.Outside.{Files}
 use Rattle.caf_words.specs.Usages.{Word}
-use Rattle.caf_words.specs.Words.{Origin, IsRun, IsCheck, IsTraced, IsInput}
+use Rattle.caf_words.specs.Words.{Origin, IsRun, IsCheck, IsTraced, IsInput, ArePlaces}
 use Rattle.caf_words.specs.Words.Origin.{from_file, from_made}
 use Rattle.caf_words.specs.declared.command.FailAt.{FailAt}
 use Rattle.caf_words.specs.declared.command.Goal.{Goal}
 use Rattle.caf_words.specs.declared.command.Input.{Input}
 use Rattle.caf_words.specs.declared.command.Options.{Options}
+use Rattle.caf_words.specs.declared.command.Places.{Places}
 use Rattle.caf_words.specs.declared.command.Way as words
 use Rattle.caf_words.specs.declared.command.Way.TheVariants as told
 use Rattle.full_report.specs.declared.way.Way.{Way}
@@ -86,3 +87,8 @@ told_of o = record { images = o.images; limit = o.steps; words = 16777216 / o.im
 -- the words ask for the task, of the source that the input tells
 abbrev pub AsksOf : List Word → Task → Input → Type 0
 AsksOf words task input = (origin : Origin) × Asks words task origin × IsInput origin (length words) input
+
+-- the words ask for the task, which is of a trace, and TRACE and FILE stand at these places
+abbrev pub AsksTraced : List Word → Task → Places → Type 0
+AsksTraced words (Traced goal o fails) places = (trace : Word) × (file : Word) × IsTraced goal words o fails trace file × ArePlaces (length words) places
+AsksTraced words task places = ⊥

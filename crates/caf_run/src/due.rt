@@ -1,18 +1,12 @@
-//! What is due for the words and the source: a status, a text, and the report of a run.
+//! What is due for the words, the source and the trace: a status, a text, and the report of a run.
 
 ghost use Rattle.std.specs.Prelude.{◌≡◌, ◌≤◌, ◌<◌, ℕ, List, Option, IfOk, Some, None, length, slice_get, ◌-◌};
-ghost use Rattle.caf_report.specs.Ends.{HasEnd, status_of};
-ghost use Rattle.caf_report.specs.declared.report.Report.{Report};
 ghost use Rattle.caf_base.specs.Outside.{Files};
-ghost use Rattle.caf_run.specs.Dues as spec;
-ghost use Rattle.caf_run.specs.Dues.{usage_text, IsDue, IsTold, BytesDue, SourceDue, TreeDue};
-ghost use Rattle.caf_run.specs.Sources.{refusal_text};
-ghost use Rattle.caf_run.specs.Tasks.{IsTask, IsRunTask, NamesNoFile, AsksOf};
+ghost use Rattle.caf_run.specs.Dues.{usage_text, IsDue, BytesDue, SourceDue, TreeDue};
+ghost use Rattle.caf_run.specs.Tasks.{IsTask, IsRunTask, IsTraceIfTold, NamesNoFile, AsksOf, AsksTraced};
 ghost use Rattle.caf_run.specs.declared.task.Task.TheVariants as tasks;
 ghost use Rattle.caf_words.specs.Words.{words_in, Means};
 ghost use Rattle.caf_words.specs.Words.Origin.{from_file, from_made};
-ghost use Rattle.caf_words.specs.declared.command.FailAt.{FailAt};
-ghost use Rattle.checked_run.specs.Reports.{IsRunStatus};
 ghost use Rattle.checked_tree.specs.StatementViews as typed;
 ghost use Rattle.fortran_tree.specs.UnitViews.{program};
 ghost use Rattle.fortran_tree.specs.Units as units;
@@ -21,14 +15,13 @@ ghost use Rattle.work_maker.specs.MadeSource.{made_source};
 
 use crate::failures::by_image;
 use crate::reading::{ReadEnd, read_file};
+use crate::said::{Due, refused_due, report_due, said, said_at};
 use crate::task::{Task, told_of};
+use crate::traced::traced_due;
 use caf_base::hook::Hook;
 use caf_base::outside::Source;
-use caf_base::place::Pos;
 use caf_base::refusal::{NoMemory, Refusal};
-use caf_report::report::{Report, Shown};
-use caf_text::push_number;
-use caf_words::command::{Command, FailAt, Input, Options};
+use caf_words::command::{Command, FailAt, Input, Options, Places};
 use caf_words::words::words_of;
 use checked_run::running::run_checked;
 use checked_tree::program::Checked;
@@ -44,80 +37,14 @@ use work_maker::source::make_source;
 /// The most bytes of a source.
 const SOURCE_BYTES: usize = 1_048_576;
 
-/// The status and the text that are due, and the report where a run was made.
-#[derive(Drop)]
-pub struct Due {
-    pub status: u8,
-    pub text: Vec<u8>,
-    pub report: Option<Report>,
-}
-
-// A status with its text, and no report.
-fn said(alloc: Global, status: u8, text: &[u8]) -> Result<Due, NoMemory>
-    ensures { IfOk result (λ d. (d.status ≡ status) × (d.text.items ≡ text.now) × (d.report ≡ None)) }
-{
-    Ok(Due {
-        status,
-        text: Vec::from_slice(alloc, text)?,
-        report: None,
-    })
-}
+/// The most bytes of a trace.
+const TRACE_BYTES: usize = 67_108_864;
 
 // The answer to words that aren't valid.
 fn usage_due(alloc: Global, word: u32) -> Result<Due, NoMemory>
     ensures { IfOk result (λ d. (d.status ≡ 2) × (d.text.items ≡ usage_text word) × (d.report ≡ None)) }
 {
-    let mut text = Vec::from_slice(alloc, b"usage: word ")?;
-    push_number(&mut text, i64::from(word))?;
-    text.push(b'\n')?;
-    Ok(Due {
-        status: 2,
-        text,
-        report: None,
-    })
-}
-
-// What a report's text shows of a run.
-fn shown_of(options: Options) -> Shown
-    ensures { result ≡ spec.shown_of options }
-{
-    Shown {
-        vars: options.vars,
-        trace: options.trace,
-        summary: options.summary,
-    }
-}
-
-// What is due for a run that was made: its status, and its text with what the options show.
-fn report_due(alloc: Global, report: Report, options: Options) -> Result<Due, NoMemory>
-    requires end { HasEnd report }
-    requires status { IsRunStatus (status_of report.end) }
-    ensures { IfOk result (λ d. (d.report ≡ Some report) × ((fails : List FailAt) → IsTold (tasks.Run options fails) d.report d.status d.text.items)) }
-{
-    let text = report.text(alloc, shown_of(options))?;
-    Ok(Due {
-        status: report.status(),
-        text,
-        report: Some(report),
-    })
-}
-
-// The answer to a refusal.
-fn refused_due(alloc: Global, number: u32, at: Pos) -> Result<Due, NoMemory>
-    ensures { IfOk result (λ d. (d.status ≡ 3) × (d.text.items ≡ refusal_text number at) × (d.report ≡ None)) }
-{
-    let mut text = Vec::from_slice(alloc, b"refused ")?;
-    push_number(&mut text, i64::from(number))?;
-    text.extend_from_slice(b" at ")?;
-    push_number(&mut text, i64::from(at.line))?;
-    text.push(b':')?;
-    push_number(&mut text, i64::from(at.col))?;
-    text.push(b'\n')?;
-    Ok(Due {
-        status: 3,
-        text,
-        report: None,
-    })
+    said_at(alloc, 2, b"usage: word ", u64::from(word))
 }
 
 // What is due for an accepted program that is to be run: the machine can run each of them.
@@ -154,11 +81,13 @@ fn accepted_due<R: Threads + Wait + Sync, H: Hook + Sync>(
     alloc: Global,
     checked: &Checked,
     task: &Task,
+    trace: &[u8],
     hook: &H,
 ) -> Result<Due, NoMemory>
     requires task { IsTask task.now }
     requires accepted { (x : units.Program) × Accepts x (typed.program checked.now) }
-    ensures { IfOk result (λ d. (x : units.Program) → Accepts x (typed.program checked.now) → TreeDue x task.now d.status d.text.items d.report) }
+    requires few { length trace.now ≤ 67108864 }
+    ensures { IfOk result (λ d. (x : units.Program) → Accepts x (typed.program checked.now) → TreeDue x task.now trace.now d.status d.text.items d.report) }
 {
     match task {
         Task::Check => said(alloc, 0, b"ok\n"),
@@ -170,6 +99,11 @@ fn accepted_due<R: Threads + Wait + Sync, H: Hook + Sync>(
             fails.as_slice(),
             hook,
         ),
+        Task::Traced {
+            goal,
+            options,
+            fails,
+        } => traced_due(alloc, checked, *goal, *options, fails.as_slice(), trace),
     }
 }
 
@@ -179,14 +113,16 @@ fn tree_due<R: Threads + Wait + Sync, H: Hook + Sync>(
     alloc: Global,
     tree: Program,
     task: &Task,
+    trace: &[u8],
     hook: &H,
 ) -> Result<Due, NoMemory>
-    requires { IsTask task.now }
-    ensures { IfOk result (λ d. TreeDue (program tree) task.now d.status d.text.items d.report) }
+    requires task { IsTask task.now }
+    requires few { length trace.now ≤ 67108864 }
+    ensures { IfOk result (λ d. TreeDue (program tree) task.now trace.now d.status d.text.items d.report) }
 {
     match check(alloc, tree) {
         Ok(checked) => {
-            let due = accepted_due(rt, alloc, &checked, task, hook);
+            let due = accepted_due(rt, alloc, &checked, task, trace, hook);
             drop(checked);
             due
         }
@@ -201,14 +137,16 @@ fn bytes_due<R: Threads + Wait + Sync, H: Hook + Sync>(
     alloc: Global,
     bytes: &[u8],
     task: &Task,
+    trace: &[u8],
     hook: &H,
 ) -> Result<Due, NoMemory>
     requires task { IsTask task.now }
+    requires few { length trace.now ≤ 67108864 }
     requires short { length bytes.now ≤ 1048576 }
-    ensures { IfOk result (λ d. BytesDue bytes.now task.now d.status d.text.items d.report) }
+    ensures { IfOk result (λ d. BytesDue bytes.now task.now trace.now d.status d.text.items d.report) }
 {
     match read(alloc, bytes) {
-        Ok(tree) => tree_due(rt, alloc, tree, task, hook),
+        Ok(tree) => tree_due(rt, alloc, tree, task, trace, hook),
         Err(Refusal::Cause(fault)) => refused_due(alloc, number(fault), at(fault)),
         Err(Refusal::NoMemory) => Err(NoMemory),
     }
@@ -221,15 +159,17 @@ fn file_due<R: Threads + Wait + Sync, S: Source, H: Hook + Sync>(
     source: &mut S,
     name: &str,
     task: &Task,
+    trace: &[u8],
     hook: &H,
 ) -> Result<Due, NoMemory>
     requires task { IsTask task.now }
+    requires few { length trace.now ≤ 67108864 }
     ensures files { S.files source.new ≡ S.files source.old }
     ensures later { S.faults source.old ≤ S.faults source.new }
-    ensures due { IfOk result (λ d. SourceDue (S.files source.old) (from_file name.now) task.now (S.left source.new) (S.faults source.old) (S.faults source.new) d.status d.text.items d.report) }
+    ensures due { IfOk result (λ d. SourceDue (S.files source.old) (from_file name.now) task.now trace.now (S.left source.new) (S.faults source.old) (S.faults source.new) d.status d.text.items d.report) }
 {
     match read_file(alloc, source, name, SOURCE_BYTES) {
-        Ok(bytes) => bytes_due(rt, alloc, bytes.as_slice(), task, hook),
+        Ok(bytes) => bytes_due(rt, alloc, bytes.as_slice(), task, trace, hook),
         Err(ReadEnd::Fault) => said(alloc, 10, b"read fault\n"),
         Err(ReadEnd::TooLong) => said(alloc, 13, b"too long\n"),
         Err(ReadEnd::NoMemory) => Err(NoMemory),
@@ -243,16 +183,18 @@ fn made_due<R: Threads + Wait + Sync, H: Hook + Sync>(
     seed: u32,
     size: u32,
     task: &Task,
+    trace: &[u8],
     hook: &H,
 ) -> Result<Due, NoMemory>
     requires task { IsTask task.now }
+    requires few { length trace.now ≤ 67108864 }
     requires seed { seed ≤ 2147483647 }
     requires size { (1 ≤ size) × (size ≤ 4096) }
     ensures { IfOk result (λ d. (files : Option Files) (left : Option (List ℕ)) (faults faults' : ℕ)
-        → SourceDue files (from_made seed size) task.now left faults faults' d.status d.text.items d.report) }
+        → SourceDue files (from_made seed size) task.now trace.now left faults faults' d.status d.text.items d.report) }
 {
     let bytes = make_source(alloc, seed, size)?;
-    bytes_due(rt, alloc, bytes.as_slice(), task, hook)
+    bytes_due(rt, alloc, bytes.as_slice(), task, trace, hook)
 }
 
 // The word of a number from 1.
@@ -263,7 +205,7 @@ fn word_at(words: &[String], number: u32) -> &str
     words[(number - 1) as usize].as_str()
 }
 
-// What is due for words that ask for a task, of the source that this input is. A made source leaves the files as they were.
+// What is due for words that ask for a task, of the source that this input is, and of these bytes of a trace where the task is of one. A made source leaves the files as they were.
 fn task_due<R: Threads + Wait + Sync, S: Source, H: Hook + Sync>(
     rt: &R,
     alloc: Global,
@@ -271,17 +213,63 @@ fn task_due<R: Threads + Wait + Sync, S: Source, H: Hook + Sync>(
     source: &mut S,
     input: Input,
     task: &Task,
+    trace: &[u8],
     hook: &H,
 ) -> Result<Due, NoMemory>
     requires asks { AsksOf (words_in words.now) task.now input }
+    requires trace { IsTraceIfTold (words_in words.now) (S.files source.old) task.now trace.now }
+    requires few { length trace.now ≤ 67108864 }
     ensures files { S.files source.new ≡ S.files source.old }
     ensures later { S.faults source.old ≤ S.faults source.new }
     ensures untouched { NamesNoFile (words_in words.now) → source.new ≡ source.old }
     ensures due { IfOk result (λ d. IsDue (words_in words.now) (S.files source.old) (S.left source.new) (S.faults source.old) (S.faults source.new) d.status d.text.items d.report) }
 {
     match input {
-        Input::File { word } => file_due(rt, alloc, source, word_at(words, word), task, hook),
-        Input::Made { seed, size } => made_due(rt, alloc, seed, size, task, hook),
+        Input::File { word } => file_due(
+            rt,
+            alloc,
+            source,
+            word_at(words, word),
+            task,
+            trace,
+            hook,
+        ),
+        Input::Made { seed, size } => made_due(rt, alloc, seed, size, task, trace, hook),
+    }
+}
+
+// What is due for words that judge or replay a trace: its bytes are read, and then those of the source.
+fn trace_and_file_due<R: Threads + Wait + Sync, S: Source, H: Hook + Sync>(
+    rt: &R,
+    alloc: Global,
+    words: &[String],
+    source: &mut S,
+    places: Places,
+    task: &Task,
+    hook: &H,
+) -> Result<Due, NoMemory>
+    requires asks { AsksTraced (words_in words.now) task.now places }
+    ensures files { S.files source.new ≡ S.files source.old }
+    ensures later { S.faults source.old ≤ S.faults source.new }
+    ensures untouched { NamesNoFile (words_in words.now) → source.new ≡ source.old }
+    ensures due { IfOk result (λ d. IsDue (words_in words.now) (S.files source.old) (S.left source.new) (S.faults source.old) (S.faults source.new) d.status d.text.items d.report) }
+{
+    let name = word_at(words, places.trace);
+    let word = places.file;
+    match read_file(alloc, source, name, TRACE_BYTES) {
+        Ok(trace) => task_due(
+            rt,
+            alloc,
+            words,
+            source,
+            Input::File { word },
+            task,
+            trace.as_slice(),
+            hook,
+        ),
+        Err(ReadEnd::Fault) => said(alloc, 10, b"read fault\n"),
+        Err(ReadEnd::TooLong) => said(alloc, 13, b"too long\n"),
+        Err(ReadEnd::NoMemory) => Err(NoMemory),
     }
 }
 
@@ -320,7 +308,20 @@ fn command_due<R: Threads + Wait + Sync, S: Source, H: Hook + Sync>(
             options,
         } => {
             let task = Task::Run { options, fails };
-            task_due(rt, alloc, words, source, input, &task, hook)
+            task_due(rt, alloc, words, source, input, &task, &[], hook)
+        }
+        Command::Traced {
+            goal,
+            places,
+            fails,
+            options,
+        } => {
+            let task = Task::Traced {
+                goal,
+                options,
+                fails,
+            };
+            trace_and_file_due(rt, alloc, words, source, places, &task, hook)
         }
         Command::Check { word } => {
             task_due(
@@ -330,6 +331,7 @@ fn command_due<R: Threads + Wait + Sync, S: Source, H: Hook + Sync>(
                 source,
                 Input::File { word },
                 &Task::Check,
+                &[],
                 hook,
             )
         }

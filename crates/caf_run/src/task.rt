@@ -6,7 +6,7 @@ ghost use Rattle.caf_run.specs.Tasks as spec;
 use caf_base::limits::RECORDED_WORDS;
 use caf_base::listing::Listing;
 use caf_words::command as words;
-use caf_words::command::{FailAt, Options};
+use caf_words::command::{FailAt, Goal, Options};
 use checked_run::running::Told;
 use full_report::way::Way;
 
@@ -17,6 +17,12 @@ pub enum Task {
     Check,
     /// To check it, and then to run it as the options say, with these failures.
     Run {
+        options: Options,
+        fails: Listing<FailAt>,
+    },
+    /// To check it, and then to judge or replay a trace as one of a run as the options say, with these failures.
+    Traced {
+        goal: Goal,
         options: Options,
         fails: Listing<FailAt>,
     },

@@ -1,0 +1,91 @@
+//! What is due, as a status and a text.
+
+ghost use Rattle.std.specs.Prelude.{◌≡◌, ◌++◌, IfOk, Some, None, codes};
+ghost use Rattle.std.specs.Fmt.{decimal};
+ghost use Rattle.caf_report.specs.Ends.{HasEnd, status_of};
+ghost use Rattle.caf_report.specs.ReportText.{report_text};
+ghost use Rattle.caf_run.specs.Sources.{refusal_text};
+ghost use Rattle.caf_run.specs.Traces as spec;
+
+use caf_base::place::Pos;
+use caf_base::refusal::NoMemory;
+use caf_report::report::{Report, Shown};
+use caf_text::push_number;
+use caf_words::command::Options;
+use std::alloc::Global;
+use trace_text::piece::push_count;
+
+/// The status and the text that are due, and the report where a run was made.
+#[derive(Drop)]
+pub struct Due {
+    pub status: u8,
+    pub text: Vec<u8>,
+    pub report: Option<Report>,
+}
+
+/// A status with its text, and no report.
+pub(crate) fn said(alloc: Global, status: u8, text: &[u8]) -> Result<Due, NoMemory>
+    ensures { IfOk result (λ d. (d.status ≡ status) × (d.text.items ≡ text.now) × (d.report ≡ None)) }
+{
+    Ok(Due {
+        status,
+        text: Vec::from_slice(alloc, text)?,
+        report: None,
+    })
+}
+
+/// A status with a text and a number, on a line, and no report.
+pub(crate) fn said_at(alloc: Global, status: u8, text: &[u8], number: u64) -> Result<Due, NoMemory>
+    ensures { IfOk result (λ d. (d.status ≡ status) × (d.text.items ≡ text.now ++ decimal number ++ codes "\n") × (d.report ≡ None)) }
+{
+    let mut line = Vec::from_slice(alloc, text)?;
+    push_count(&mut line, number)?;
+    line.push(b'\n')?;
+    Ok(Due {
+        status,
+        text: line,
+        report: None,
+    })
+}
+
+// What a report's text shows of a run.
+fn shown_of(options: Options) -> Shown
+    ensures { result ≡ spec.shown_of options }
+{
+    Shown {
+        vars: options.vars,
+        trace: options.trace,
+        summary: options.summary,
+    }
+}
+
+/// What is due for a run that was made, or that went on behind a trace: the status of its report, and the text of that with what the options show.
+pub(crate) fn report_due(alloc: Global, report: Report, options: Options) -> Result<Due, NoMemory>
+    requires { HasEnd report }
+    ensures { IfOk result (λ d. (d.report ≡ Some report) × (d.status ≡ status_of report.end) × (d.text.items ≡ report_text (spec.shown_of options) report)) }
+{
+    let text = report.text(alloc, shown_of(options))?;
+    Ok(Due {
+        status: report.status(),
+        text,
+        report: Some(report),
+    })
+}
+
+/// The answer to a refusal.
+pub(crate) fn refused_due(alloc: Global, number: u32, at: Pos) -> Result<Due, NoMemory>
+    ensures { IfOk result (λ d. (d.status ≡ 3) × (d.text.items ≡ refusal_text number at) × (d.report ≡ None)) }
+{
+    let mut text = Vec::from_slice(alloc, b"refused ")?;
+    push_number(&mut text, i64::from(number))?;
+    text.extend_from_slice(b" at ")?;
+    push_number(&mut text, i64::from(at.line))?;
+    text.push(b':')?;
+    push_number(&mut text, i64::from(at.col))?;
+    text.push(b'\n')?;
+    Ok(Due {
+        status: 3,
+        text,
+        report: None,
+    })
+}
