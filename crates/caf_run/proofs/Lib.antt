@@ -1,3 +1,4 @@
+pub mod Answered
 pub mod FirstFailures
 pub mod Readings
 pub mod Settled

@@ -1,5 +1,5 @@
 -- What words ask of a made source: it is no longer than a file may be, and it is good.
-use Rattle.std.proofs.Common.{ℕ, ◌≤◌, ◌<◌, List, length, arith}
+use Rattle.std.proofs.Common.{ℕ, ◌≤◌, ◌<◌, List, [], length, inl, inr, arith}
 use Rattle.std.specs.Prelude.{Option}
 use Rattle.caf_base.specs.Outside.{Files}
 use Rattle.caf_words.specs.Usages.{Word}
@@ -9,9 +9,10 @@ use Rattle.work_maker.specs.MadeSource.{made_source}
 use Rattle.made_laws.proofs.Lengths.{made_is_short}
 use Rattle.made_program.proofs.Good.{made_is_good}
 use Rattle.caf_run.specs.declared.task.Task.{Task}
+use Rattle.caf_run.specs.declared.task.Task.TheVariants.{Check, Run, Traced}
 use Rattle.caf_run.specs.Reading.{IsLonger, IsLongSource}
 use Rattle.caf_run.specs.Sources.{IsGood}
-use Rattle.caf_run.specs.Tasks.{Asks, NamesFile}
+use Rattle.caf_run.specs.Tasks.{Asks, NamesFile, NamesInput, IsTrace}
 use Rattle.caf_run.proofs.Tasks.{one_task, made_within}
 
 pub made_short : (words : List Word) (task : Task) (seed size : ℕ) → Asks words task (from_made seed size) → length (made_source seed size) ≤ 1048576
@@ -26,6 +27,16 @@ made_good words task seed size asked =
 -- words that ask for one name no file
 pub made_no_file : (words : List Word) (task : Task) (seed size : ℕ) (file : Word) → Asks words task (from_made seed size) → NamesFile words file → ⊥
 made_no_file words task seed size file asked (other, named) = let same = (one_task words task other (from_made seed size) (from_file file) asked named).of_origin in cc
+
+pub made_no_input : (words : List Word) (task : Task) (seed size : ℕ) (file : Word) → Asks words task (from_made seed size) → NamesInput words file → ⊥
+made_no_input words task seed size file asked (inl named) = made_no_file words task seed size file asked named
+made_no_input words task seed size file asked (inr (goal, o, fails, other, named)) = made_no_file words task seed size other asked (Traced goal o fails, (file, named))
+
+-- such a task is of no trace, so that a short source is all that is asked
+pub made_trace : (words : List Word) (files : Option Files) (task : Task) (seed size : ℕ) → Asks words task (from_made seed size) → IsTrace words files task []
+made_trace words files Check seed size asked = tt
+made_trace words files (Run o fails) seed size asked = tt
+made_trace words files (Traced goal o fails) seed size asked = absurd asked
 
 not_longer : (n : ℕ) → n ≤ 1048576 → 1048576 < n → ⊥
 not_longer n h k = omega arith

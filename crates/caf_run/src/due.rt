@@ -58,7 +58,7 @@ fn run_due<R: Threads + Wait + Sync, H: Hook + Sync>(
 ) -> Result<Due, NoMemory>
     requires task { IsRunTask options fails.now }
     requires accepted { (x : units.Program) × Accepts x (typed.program checked.now) }
-    ensures { IfOk result (λ d. (x : units.Program) → Accepts x (typed.program checked.now) → TreeDue x (tasks.Run options fails.now) d.status d.text.items d.report) }
+    ensures { IfOk result (λ d. (x : units.Program) (trace : List ℕ) → Accepts x (typed.program checked.now) → TreeDue x (tasks.Run options fails.now) trace d.status d.text.items d.report) }
 {
     let events = by_image(alloc, fails)?;
     match run_checked(

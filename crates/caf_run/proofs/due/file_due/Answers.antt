@@ -7,8 +7,8 @@ use Rattle.caf_run.proofs.due.file_due.Goals as goal
 pub returns-in-Ok-clause-due : goal.returns-in-Ok-clause-due
 returns-in-Ok-clause-due g c =
     if_ok_map c.bytes_due.result _ _
-    (λ d b. whole_source (g.S.Source.files c.args.source.now) (from_file c.args.name.now) c.args.task.now (g.S.Source.left c.read_file.new.source) (g.S.Source.faults c.args.source.now) (g.S.Source.faults c.read_file.new.source)
+    (λ d b. whole_source (g.S.Source.files c.args.source.now) (from_file c.args.name.now) c.args.task.now c.args.trace.now (g.S.Source.left c.read_file.new.source) (g.S.Source.faults c.args.source.now) (g.S.Source.faults c.read_file.new.source)
     c.as_slice.result.now d.status d.text.items d.report
     (subst (HasBytesIfTold (g.S.Source.files c.args.source.now) c.args.name.now) (sym c.as_slice.ensures.value) c.in-Ok.ensures.whole)
-    (omega (arith, c.in-Ok.ensures.fits)) (λ _ _. c.in-Ok.ensures.end) b)
+    c.requires.few (omega (arith, c.in-Ok.ensures.fits)) (λ _ _. c.in-Ok.ensures.end) b)
     c.bytes_due.ensures

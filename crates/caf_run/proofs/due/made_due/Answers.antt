@@ -11,7 +11,7 @@ bytes_due-requires-clause-short g c κs within =
 pub returns : goal.returns
 returns g c =
     if_ok_map c.bytes_due.result _ _
-    (λ d b files left faults faults'. whole_source files (from_made c.args.seed c.args.size) c.args.task.now left faults faults' c.as_slice.result.now d.status d.text.items d.report
-    (c.as_slice.ensures.value ∙ c.in_ok-bytes.ensures)
+    (λ d b files left faults faults'. whole_source files (from_made c.args.seed c.args.size) c.args.task.now c.args.trace.now left faults faults' c.as_slice.result.now d.status d.text.items d.report
+    (c.as_slice.ensures.value ∙ c.in_ok-bytes.ensures) c.requires.few
     (subst (λ v. length v ≤ 1048576) (sym (c.as_slice.ensures.value ∙ c.in_ok-bytes.ensures)) (made_is_short c.args.seed c.args.size c.requires.size.1)) (λ file e. cc (e)) b)
     c.bytes_due.ensures

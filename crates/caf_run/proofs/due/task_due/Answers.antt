@@ -38,9 +38,9 @@ pub returns-in-File-clause-due : goal.returns-in-File-clause-due
 returns-in-File-clause-due g c =
     let r = asks_file (words_in c.args.words.now) c.args.task.now c.in-File.word (subst (AsksOf (words_in c.args.words.now) c.args.task.now) c.in-File.is c.requires.asks) in
     if_ok_map c.file_due.result _ _
-    (λ d f. source_named (words_in c.args.words.now) c.args.task.now (from_file r.file) (g.S.Source.files c.args.source.now) (g.S.Source.left c.file_due.new.source) (g.S.Source.faults c.args.source.now)
-    (g.S.Source.faults c.file_due.new.source) d.status d.text.items d.report r.asked
-    (subst (λ name. SourceDue (g.S.Source.files c.args.source.now) (from_file name) c.args.task.now (g.S.Source.left c.file_due.new.source) (g.S.Source.faults c.args.source.now) (g.S.Source.faults c.file_due.new.source) d.status d.text.items d.report)
+    (λ d f. source_named (words_in c.args.words.now) c.args.task.now (from_file r.file) c.args.trace.now (g.S.Source.files c.args.source.now) (g.S.Source.left c.file_due.new.source) (g.S.Source.faults c.args.source.now)
+    (g.S.Source.faults c.file_due.new.source) d.status d.text.items d.report r.asked c.requires.trace c.requires.few
+    (subst (λ name. SourceDue (g.S.Source.files c.args.source.now) (from_file name) c.args.task.now c.args.trace.now (g.S.Source.left c.file_due.new.source) (g.S.Source.faults c.args.source.now) (g.S.Source.faults c.file_due.new.source) d.status d.text.items d.report)
     (last_word (words_in c.args.words.now) c.args.task.now c.in-File.word c.word_at.result.now r c.word_at.ensures) f))
     c.file_due.ensures.due
 
@@ -48,7 +48,7 @@ pub returns-in-Made-clause-due : goal.returns-in-Made-clause-due
 returns-in-Made-clause-due g c =
     let asked = asks_made (words_in c.args.words.now) c.args.task.now c.in-Made.seed c.in-Made.size (subst (AsksOf (words_in c.args.words.now) c.args.task.now) c.in-Made.is c.requires.asks) in
     if_ok_map c.made_due.result _ _
-    (λ d f. source_named (words_in c.args.words.now) c.args.task.now (from_made c.in-Made.seed c.in-Made.size) (g.S.Source.files c.args.source.now) (g.S.Source.left c.args.source.now) (g.S.Source.faults c.args.source.now)
-    (g.S.Source.faults c.args.source.now) d.status d.text.items d.report asked
+    (λ d f. source_named (words_in c.args.words.now) c.args.task.now (from_made c.in-Made.seed c.in-Made.size) c.args.trace.now (g.S.Source.files c.args.source.now) (g.S.Source.left c.args.source.now) (g.S.Source.faults c.args.source.now)
+    (g.S.Source.faults c.args.source.now) d.status d.text.items d.report asked c.requires.trace c.requires.few
     (f (g.S.Source.files c.args.source.now) (g.S.Source.left c.args.source.now) (g.S.Source.faults c.args.source.now) (g.S.Source.faults c.args.source.now)))
     c.made_due.ensures
