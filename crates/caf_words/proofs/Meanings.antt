@@ -3,7 +3,7 @@ use Rattle.std.proofs.Common.{◌≡◌, ℕ, ◌≤◌, List, [], ◌∷◌, �
 use Rattle.std.specs.Prelude.{slice_get, Some, codes, ⊤}
 use Rattle.std.specs.List.{AllByRecursion}
 use Rattle.caf_words.specs.Usages.{Word}
-use Rattle.caf_words.specs.Words.{Origin, Operands, IsOption, AreSeedAndSize, IsOrigin, AreOperands, IsRest, IsCommand, IsRun, IsTraced, IsCheck, IsMake, IsInput, ArePlaces, Means, verb_word, nothing, told, is_summed, given_or}
+use Rattle.caf_words.specs.Words.{Origin, Operands, IsOption, AreSeedAndSize, IsOrigin, AreOperands, IsRest, IsCommand, IsRun, IsCheck, IsMake, IsInput, ArePlaces, Means, verb_word, nothing, told, is_summed, given_or}
 use Rattle.caf_words.specs.Words.Origin.{from_file, from_made}
 use Rattle.caf_words.specs.Words.IsOption.{images, workers, order, steps, fail, show_trace, show_vars}
 use Rattle.caf_words.specs.Words.IsRest.{operands_last, option_next}
@@ -28,21 +28,22 @@ pub record Same (o : Options) (fails : List FailAt) (origin : Origin) (o' : Opti
   pub failures : fails ≡ fails'
   pub source : origin ≡ origin'
 
--- what a command is told, which failures are named, and its operands
-pub record SameCommand (o : Options) (fails : List FailAt) (x : Operands) (o' : Options) (fails' : List FailAt) (y : Operands) : Type 0 where
+-- a command's verb, what it is told, which failures are named, and its operands
+pub record SameCommand (v : Verb) (o : Options) (fails : List FailAt) (x : Operands) (w : Verb) (o' : Options) (fails' : List FailAt) (y : Operands) : Type 0 where
+  pub verb : v ≡ w
   pub options : o ≡ o'
   pub failures : fails ≡ fails'
   pub operands : x ≡ y
 
 -- the rest of a command means one thing
 one_rest : (v : Verb) (g : Given) (words : List Word) (o : Options) (fails : List FailAt) (x : Operands) → IsRest v g words o fails x → (o' : Options) (fails' : List FailAt) (y : Operands)
-    → IsRest v g words o' fails' y → SameCommand o fails x o' fails' y
+    → IsRest v g words o' fails' y → SameCommand v o fails x v o' fails' y
 one_rest v _ _ _ _ _ (operands_last g words x is) o' fails' y other =
     let f = operands_first v words x is in
     elim (first_is v g words o' fails' y other f.first f.behind f.form) [
       | by_operands i none is' ↦
           let same : x ≡ y = one_operands v words x y is (subst (λ w. AreOperands v w y) (sym f.form) is') in
-          record { options = ap (λ x. told g (is_summed x)) same ∙ sym i; failures = sym none; operands = same }
+          record { verb = refl; options = ap (λ x. told g (is_summed x)) same ∙ sym i; failures = sym none; operands = same }
       | by_key k value behind h some more key e gives next all ↦ absurd (no_operands v g f.first k key f.begins)
       | by_flag h flag next ↦ absurd (no_flag_operands v g h f.first flag f.begins)
     ]
@@ -55,7 +56,7 @@ one_rest v _ _ _ _ _ (option_next g h option some behind o more x is next) o' fa
         let same_rest : behind ≡ behind' = cc e in
         let gift = gives_once g k value h h' some some' gives (rw (same, same_value) gives') in
         let tail = one_rest v h behind o more x next o' more' y (rw (gift.given, same_rest) next') in
-        record { options = tail.options; failures = rw (gift.failures, tail.failures) (sym all); operands = tail.operands }
+        record { verb = refl; options = tail.options; failures = rw (gift.failures, tail.failures) (sym all); operands = tail.operands }
     | by_flag h' flag next' ↦ absurd (key_or_flag v g h' key k is_key flag)
   ]
   | flagged key form flag none ↦ elim (first_is v g (option ++ behind) o' fails' y other key behind (rw form refl)) [
@@ -64,53 +65,37 @@ one_rest v _ _ _ _ _ (option_next g h option some behind o more x is next) o' fa
     | by_flag h' flag' next' ↦
         let same : h ≡ h' = flag_once v g h h' key flag flag' in
         let tail = one_rest v h behind o more x next o' fails' y (rw same next') in
-        record { options = tail.options; failures = rw none tail.failures; operands = tail.operands }
+        record { verb = refl; options = tail.options; failures = rw none tail.failures; operands = tail.operands }
   ]
 ]
 
--- a command has one verb and one meaning
-pub one_verb : (v w : Verb) (words : List Word) (o : Options) (fails : List FailAt) (x : Operands) (o' : Options) (fails' : List FailAt) (y : Operands) → IsCommand v words o fails x → IsCommand w words o' fails' y → v ≡ w
-one_verb v w words o fails x o' fails' y first second = verb_once v w (cc (first.form, second.form))
-
-one_command : (v : Verb) (words : List Word) (o : Options) (fails : List FailAt) (x : Operands) (o' : Options) (fails' : List FailAt) (y : Operands) → IsCommand v words o fails x → IsCommand v words o' fails' y
-    → SameCommand o fails x o' fails' y
-one_command v words o fails x o' fails' y first second =
+-- a command has one meaning
+pub one_command : (v w : Verb) (words : List Word) (o : Options) (fails : List FailAt) (x : Operands) (o' : Options) (fails' : List FailAt) (y : Operands) → IsCommand v words o fails x → IsCommand w words o' fails' y
+    → SameCommand v o fails x w o' fails' y
+one_command v w words o fails x o' fails' y first second =
+    let verbs : v ≡ w = verb_once v w (cc (first.form, second.form)) in
     let same : first.rest ≡ second.rest = cc (first.form, second.form) in
-    one_rest v nothing first.rest o fails x first.options o' fails' y (rw same second.options)
+    let rest = one_rest v nothing first.rest o fails x first.options o' fails' y (rw (verbs, same) second.options) in
+    record { verb = verbs; options = rest.options; failures = rest.failures; operands = rest.operands }
 
 -- a run has one meaning
 pub one_run : (words : List Word) (o : Options) (fails : List FailAt) (origin : Origin) (o' : Options) (fails' : List FailAt) (origin' : Origin) → IsRun words o fails origin → IsRun words o' fails' origin'
     → Same o fails origin o' fails' origin'
 one_run words o fails origin o' fails' origin' first second =
-    let same = one_command verbs.Run words o fails (of_source origin) o' fails' (of_source origin') first second in
+    let same = one_command verbs.Run verbs.Run words o fails (of_source origin) o' fails' (of_source origin') first second in
     record { options = same.options; failures = same.failures; source = cc (same.operands) }
 
--- a judgement and a replay have one goal and one meaning
-pub record SameTraced (g : Goal) (o : Options) (fails : List FailAt) (t f : Word) (g' : Goal) (o' : Options) (fails' : List FailAt) (t' f' : Word) : Type 0 where
-  pub goal : g ≡ g'
-  pub options : o ≡ o'
-  pub failures : fails ≡ fails'
-  pub trace : t ≡ t'
-  pub file : f ≡ f'
-
-one_goal : (words : List Word) (goal goal' : Goal) (o : Options) (fails : List FailAt) (trace file : Word) (o' : Options) (fails' : List FailAt) (trace' file' : Word) → IsTraced goal words o fails trace file
-    → IsTraced goal' words o' fails' trace' file' → goal ≡ goal'
-one_goal words goal goal' o fails trace file o' fails' trace' file' first second =
-    let same = one_verb (verbs.Traced goal) (verbs.Traced goal') words o fails (of_trace trace file) o' fails' (of_trace trace' file') first second in cc same
-
-pub one_traced : (words : List Word) (goal : Goal) (o : Options) (fails : List FailAt) (trace file : Word) (goal' : Goal) (o' : Options) (fails' : List FailAt) (trace' file' : Word) → IsTraced goal words o fails trace file
-    → IsTraced goal' words o' fails' trace' file' → SameTraced goal o fails trace file goal' o' fails' trace' file'
-one_traced words goal o fails trace file goal' o' fails' trace' file' first second =
-    let goals : goal ≡ goal' = one_goal words goal goal' o fails trace file o' fails' trace' file' first second in
-    let same = one_command (verbs.Traced goal) words o fails (of_trace trace file) o' fails' (of_trace trace' file') first (rw goals second) in
-    record { goal = goals; options = same.options; failures = same.failures; trace = cc (same.operands); file = cc (same.operands) }
-
--- no words are a command with options and a check, such a command and a make, or a check and a make; nor a run and a judgement or replay
-not_command_and_check : (v : Verb) (words : List Word) (o : Options) (fails : List FailAt) (x : Operands) (file : Word) → IsCommand v words o fails x → IsCheck words file → ⊥
+-- no words are a command with options and a check, such a command and a make, or a check and a make; nor a run and a command with a trace
+pub not_command_and_check : (v : Verb) (words : List Word) (o : Options) (fails : List FailAt) (x : Operands) (file : Word) → IsCommand v words o fails x → IsCheck words file → ⊥
 not_command_and_check v words o fails x file command check = verb_no_check v (cc (command.form, check.form))
 
-not_command_and_make : (v : Verb) (words : List Word) (o : Options) (fails : List FailAt) (x : Operands) (seed size : ℕ) → IsCommand v words o fails x → IsMake words seed size → ⊥
+pub not_command_and_make : (v : Verb) (words : List Word) (o : Options) (fails : List FailAt) (x : Operands) (seed size : ℕ) → IsCommand v words o fails x → IsMake words seed size → ⊥
 not_command_and_make v words o fails x seed size command make = verb_no_make v (cc (command.form, make.form))
+
+pub not_run_and_trace : (v : Verb) (words : List Word) (o : Options) (fails : List FailAt) (origin : Origin) (o' : Options) (fails' : List FailAt) (trace file : Word) → IsRun words o fails origin
+    → IsCommand v words o' fails' (of_trace trace file) → ⊥
+not_run_and_trace v words o fails origin o' fails' trace file run command =
+    let same = one_command verbs.Run v words o fails (of_source origin) o' fails' (of_trace trace file) run command in cc (same.operands)
 
 pub not_both : (words : List Word) (o : Options) (fails : List FailAt) (origin : Origin) (file : Word) → IsRun words o fails origin → IsCheck words file → ⊥
 not_both words o fails origin file run check = not_command_and_check verbs.Run words o fails (of_source origin) file run check
@@ -120,17 +105,6 @@ not_run_and_make words o fails origin seed size run make = not_command_and_make 
 
 pub not_check_and_make : (words : List Word) (file : Word) (seed size : ℕ) → IsCheck words file → IsMake words seed size → ⊥
 not_check_and_make words file seed size check make = cc (check.form, make.form)
-
-pub not_traced_and_run : (words : List Word) (goal : Goal) (o : Options) (fails : List FailAt) (trace file : Word) (o' : Options) (fails' : List FailAt) (origin : Origin) → IsTraced goal words o fails trace file
-    → IsRun words o' fails' origin → ⊥
-not_traced_and_run words goal o fails trace file o' fails' origin traced run =
-    let same = one_verb (verbs.Traced goal) verbs.Run words o fails (of_trace trace file) o' fails' (of_source origin) traced run in cc same
-
-pub not_traced_and_check : (words : List Word) (goal : Goal) (o : Options) (fails : List FailAt) (trace file : Word) (other : Word) → IsTraced goal words o fails trace file → IsCheck words other → ⊥
-not_traced_and_check words goal o fails trace file other traced check = not_command_and_check (verbs.Traced goal) words o fails (of_trace trace file) other traced check
-
-pub not_traced_and_make : (words : List Word) (goal : Goal) (o : Options) (fails : List FailAt) (trace file : Word) (seed size : ℕ) → IsTraced goal words o fails trace file → IsMake words seed size → ⊥
-not_traced_and_make words goal o fails trace file seed size traced make = not_command_and_make (verbs.Traced goal) words o fails (of_trace trace file) seed size traced make
 
 -- words make one source
 pub one_make : (words : List Word) (seed size seed' size' : ℕ) → IsMake words seed size → IsMake words seed' size' → (seed ≡ seed') × (size ≡ size')
@@ -163,24 +137,29 @@ one_meaning words (Run input fails o) (Run input' fails' o') (origin, run, of) (
     let same = one_run words o fails origin o' fails' origin' run run' in
     let inputs : input ≡ input' = one_input origin (length words) input input' of (subst (λ s. IsInput s (length words) input') (sym same.source) of') in
     cc (same.options, same.failures, inputs)
-one_meaning words (Run input fails o) (Traced goal places fails' o') (origin, run, of) (trace, file, traced, are) = absurd (not_traced_and_run words goal o' fails' trace file o fails origin traced run)
+one_meaning words (Run input fails o) (Traced goal places fails' o') (origin, run, of) (trace, file, traced, are) = absurd (not_run_and_trace (verbs.Traced goal) words o fails origin o' fails' trace file run traced)
 one_meaning words (Run input fails o) (Check word) first second = absurd (not_both words o fails first.0 second.0 first.1 second.1)
 one_meaning words (Run input fails o) (Make seed size) first second = absurd (not_run_and_make words o fails first.0 seed size first.1 second)
-one_meaning words (Traced goal places fails o) (Run input fails' o') (trace, file, traced, are) (origin, run, of) = absurd (not_traced_and_run words goal o fails trace file o' fails' origin traced run)
+one_meaning words (Traced goal places fails o) (Run input fails' o') (trace, file, traced, are) (origin, run, of) = absurd (not_run_and_trace (verbs.Traced goal) words o' fails' origin o fails trace file run traced)
 one_meaning words (Traced goal places fails o) (Traced goal' places' fails' o') (trace, file, traced, are) (trace', file', traced', are') =
-    let same = one_traced words goal o fails trace file goal' o' fails' trace' file' traced traced' in
+    let same = one_command (verbs.Traced goal) (verbs.Traced goal') words o fails (of_trace trace file) o' fails' (of_trace trace' file') traced traced' in
+    let goals : goal ≡ goal' = cc (same.verb) in
     let there : places ≡ places' = one_places (length words) places places' are are' in
-    cc (same.goal, same.options, same.failures, there)
-one_meaning words (Traced goal places fails o) (Check word) (trace, file, traced, are) (other, check, last) = absurd (not_traced_and_check words goal o fails trace file other traced check)
-one_meaning words (Traced goal places fails o) (Make seed size) (trace, file, traced, are) make = absurd (not_traced_and_make words goal o fails trace file seed size traced make)
+    cc (goals, same.options, same.failures, there)
+one_meaning words (Traced goal places fails o) (Check word) (trace, file, traced, are) (other, check, last) =
+    absurd (not_command_and_check (verbs.Traced goal) words o fails (of_trace trace file) other traced check)
+one_meaning words (Traced goal places fails o) (Make seed size) (trace, file, traced, are) make =
+    absurd (not_command_and_make (verbs.Traced goal) words o fails (of_trace trace file) seed size traced make)
 one_meaning words (Check word) (Run input fails o) first second = absurd (not_both words o fails second.0 first.0 second.1 first.1)
-one_meaning words (Check word) (Traced goal places fails o) (other, check, last) (trace, file, traced, are) = absurd (not_traced_and_check words goal o fails trace file other traced check)
+one_meaning words (Check word) (Traced goal places fails o) (other, check, last) (trace, file, traced, are) =
+    absurd (not_command_and_check (verbs.Traced goal) words o fails (of_trace trace file) other traced check)
 one_meaning words (Check word) (Check word') first second =
     let place : word ≡ word' = first.2 ∙ sym second.2 in
     cc place
 one_meaning words (Check word) (Make seed size) first second = absurd (not_check_and_make words first.0 seed size first.1 second)
 one_meaning words (Make seed size) (Run input fails o) first second = absurd (not_run_and_make words o fails second.0 seed size second.1 first)
-one_meaning words (Make seed size) (Traced goal places fails o) make (trace, file, traced, are) = absurd (not_traced_and_make words goal o fails trace file seed size traced make)
+one_meaning words (Make seed size) (Traced goal places fails o) make (trace, file, traced, are) =
+    absurd (not_command_and_make (verbs.Traced goal) words o fails (of_trace trace file) seed size traced make)
 one_meaning words (Make seed size) (Check word) first second = absurd (not_check_and_make words second.0 seed size second.1 first)
 one_meaning words (Make seed size) (Make seed' size') first second =
     let same = one_make words seed size seed' size' first second in
@@ -209,15 +188,12 @@ rest_within : (v : Verb) (g : Given) (words : List Word) (o : Options) (fails : 
 rest_within v _ _ _ _ _ (operands_last g words x is) w = w
 rest_within v _ _ _ _ _ (option_next g h option some behind o more x is next) w = rest_within v h behind o more x next (option_within v g h option some is w)
 
-command_within : (v : Verb) (words : List Word) (o : Options) (fails : List FailAt) (x : Operands) → IsCommand v words o fails x → IsWithin o.images o.steps
+pub command_within : (v : Verb) (words : List Word) (o : Options) (fails : List FailAt) (x : Operands) → IsCommand v words o fails x → IsWithin o.images o.steps
 command_within v words o fails x command =
     rest_within v nothing command.rest o fails x command.options (record { least_images = omega arith; most_images = omega arith; least_steps = omega arith; most_steps = omega arith })
 
 pub run_within : (words : List Word) (o : Options) (fails : List FailAt) (origin : Origin) → IsRun words o fails origin → IsWithin o.images o.steps
 run_within words o fails origin run = command_within verbs.Run words o fails (of_source origin) run
-
-pub traced_within : (words : List Word) (goal : Goal) (o : Options) (fails : List FailAt) (trace file : Word) → IsTraced goal words o fails trace file → IsWithin o.images o.steps
-traced_within words goal o fails trace file traced = command_within (verbs.Traced goal) words o fails (of_trace trace file) traced
 
 -- its failures are of images from 1 to 256
 abbrev pub IsOfImage : FailAt → Type 0
@@ -236,11 +212,11 @@ rest_images : (v : Verb) (g : Given) (words : List Word) (o : Options) (fails : 
 rest_images v _ _ _ _ _ (operands_last g words x is) = tt
 rest_images v _ _ _ _ _ (option_next g h option some behind o more x is next) = option_images v g h option some more is (rest_images v h behind o more x next)
 
-pub run_images : (words : List Word) (o : Options) (fails : List FailAt) (origin : Origin) → IsRun words o fails origin → AllByRecursion IsOfImage fails
-run_images words o fails origin run = rest_images verbs.Run nothing run.rest o fails (of_source origin) run.options
+pub command_images : (v : Verb) (words : List Word) (o : Options) (fails : List FailAt) (x : Operands) → IsCommand v words o fails x → AllByRecursion IsOfImage fails
+command_images v words o fails x command = rest_images v nothing command.rest o fails x command.options
 
-pub traced_images : (words : List Word) (goal : Goal) (o : Options) (fails : List FailAt) (trace file : Word) → IsTraced goal words o fails trace file → AllByRecursion IsOfImage fails
-traced_images words goal o fails trace file traced = rest_images (verbs.Traced goal) nothing traced.rest o fails (of_trace trace file) traced.options
+pub run_images : (words : List Word) (o : Options) (fails : List FailAt) (origin : Origin) → IsRun words o fails origin → AllByRecursion IsOfImage fails
+run_images words o fails origin run = command_images verbs.Run words o fails (of_source origin) run
 
 -- FILE is the last word, and TRACE the last but one
 later : (a : Word) (rest : List Word) (i : ℕ) (file : Word) → 1 ≤ i → i ≤ length rest → slice_get rest (length rest - i) ≡ Some file → slice_get (a ∷ rest) (length (a ∷ rest) - i) ≡ Some file
@@ -289,9 +265,9 @@ command_at_end v words o fails x command = rw command.form (end_more x (verb_wor
 pub run_last : (words : List Word) (o : Options) (fails : List FailAt) (file : Word) → IsRun words o fails (from_file file) → slice_get words (length words - 1) ≡ Some file
 run_last words o fails file run = let l = command_at_end verbs.Run words o fails (of_source (from_file file)) run in l.there
 
-pub traced_last : (words : List Word) (goal : Goal) (o : Options) (fails : List FailAt) (trace file : Word) → IsTraced goal words o fails trace file
-    → (slice_get words (length words - 2) ≡ Some trace) × (slice_get words (length words - 1) ≡ Some file)
-traced_last words goal o fails trace file traced = let l = command_at_end (verbs.Traced goal) words o fails (of_trace trace file) traced in (l.0.there, l.1.there)
+pub traced_last : (v : Verb) (words : List Word) (o : Options) (fails : List FailAt) (trace file : Word) → IsCommand v words o fails (of_trace trace file)
+    → (2 ≤ length words) × (slice_get words (length words - 2) ≡ Some trace) × (slice_get words (length words - 1) ≡ Some file)
+traced_last v words o fails trace file traced = let l = command_at_end v words o fails (of_trace trace file) traced in (l.0.few, l.0.there, l.1.there)
 
 pub check_last : (words : List Word) (file : Word) → IsCheck words file → slice_get words (length words - 1) ≡ Some file
 check_last words file check = rw check.form refl
