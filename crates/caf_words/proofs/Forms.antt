@@ -1,22 +1,27 @@
--- The words of a run and of a check, one by one.
+-- The words of a command, one by one.
 use Rattle.std.proofs.Common.{◌≡◌, ◌≢◌, ◌⊎◌, ℕ, suc, ◌+◌, ◌≤◌, List, [], ◌∷◌, ◌++◌, length, get_or, refl, sym, ap, ◌∙◌, subst, inl, inr, arith, cond, eqb, String, Global}
 use Rattle.std.specs.Prelude.{Some, codes, string_bytes}
 use Rattle.std.specs.Fmt.{decimal}
 use Rattle.std.proofs.lemmas.Fmt.{decimal_injective}
+use Rattle.std.proofs.lemmas.List.{length-map}
 use Rattle.caf_words.specs.Usages.{Word, Begins, UsageOf}
-use Rattle.caf_words.specs.Words.{words_in, Origin, IsFileName, IsFailure, IsOption, AreSeedAndSize, IsOrigin, IsRest, told, is_made}
+use Rattle.caf_words.specs.Words.{words_in, Origin, Operands, IsFileName, IsFailure, IsOption, AreSeedAndSize, IsOrigin, AreTraceAndFile, AreOperands, IsRest, told, is_summed}
 use Rattle.caf_words.specs.Words.Origin.{from_file, from_made}
-use Rattle.caf_words.specs.Words.IsOption.{images, workers, order, steps, fail, trace, vars}
-use Rattle.caf_words.specs.Words.IsRest.{origin_last, option_next}
-use Rattle.caf_words.specs.Readings.{Rests, FileAlone, IsSize, SizeAlone, MadeAlone, OriginAlone, IsInputOf, key_word, IsNextKey, Flags, IsNoOption, BeginsNoOption, Gives, BehindKey}
+use Rattle.caf_words.specs.Words.Operands.{of_source, of_trace}
+use Rattle.caf_words.specs.Words.IsOption.{images, workers, order, steps, fail, show_trace, show_vars}
+use Rattle.caf_words.specs.Words.IsRest.{operands_last, option_next}
+use Rattle.caf_words.specs.Readings.{Rests, FileAlone, IsSize, SizeAlone, MadeAlone, OriginAlone, TraceAlone, OperandsAlone, IsInputOf, ArePlacesOf, key_word, IsNextKey, Flags, IsNoOption, BeginsNoOption, Gives, BehindKey}
 use Rattle.caf_words.specs.declared.options.Given.{Given}
 use Rattle.caf_words.specs.declared.options.Key.{Key}
 use Rattle.caf_words.specs.declared.options.Key.TheVariants as keys
 use Rattle.caf_words.specs.declared.command.FailAt.{FailAt}
 use Rattle.caf_words.specs.declared.command.Options.{Options}
+use Rattle.caf_words.specs.declared.command.Goal.{Goal}
 use Rattle.caf_words.specs.declared.command.Input.TheVariants.{Made}
+use Rattle.caf_words.specs.declared.command.Verb.{Verb}
+use Rattle.caf_words.specs.declared.command.Verb.TheVariants as verbs
 use Rattle.caf_words.proofs.Failures.{one_failure}
-use Rattle.caf_words.proofs.Usages.{usage_none, usage_first, usage_behind, usage_alike_none, usage_alike}
+use Rattle.caf_words.proofs.Usages.{usage_none, usage_first, usage_behind, usage_alike_none, usage_alike, usage_same}
 
 a_is_name : IsFileName (codes "a")
 a_is_name = λ (e : 97 ≡ 45). omega arith
@@ -49,17 +54,17 @@ key_other keys.Fail n e odd = elim odd [ inl a ↦ omega arith | inr other ↦ e
 abbrev IsFlag : Word → Type 0
 IsFlag word = (word ≡ codes "--trace") ⊎ (word ≡ codes "--vars")
 
-flag_word : (g h : Given) (word : Word) → Flags g word h → IsFlag word
-flag_word g h word (inl is) = inl is.0
-flag_word g h word (inr is) = inr is.0
+flag_word : (v : Verb) (g h : Given) (word : Word) → Flags v g word h → IsFlag word
+flag_word v g h word (inl is) = inl is.0
+flag_word v g h word (inr is) = inr is.0
 
 key_no_flag : (k : Key) (word : Word) → word ≡ key_word k → IsFlag word → ⊥
 key_no_flag k word e (inl is) = key_other k 161 (ap letters (sym e ∙ is)) (inr (inl refl))
 key_no_flag k word e (inr is) = key_other k 163 (ap letters (sym e ∙ is)) (inr (inr refl))
 
--- what says where a source comes from begins with a file's name or with `--made`
-abbrev pub BeginsOrigin : Word → Type 0
-BeginsOrigin word = IsFileName word ⊎ (word ≡ codes "--made")
+-- operands begin with a file's name or with `--made`
+abbrev pub BeginsOperands : Word → Type 0
+BeginsOperands word = IsFileName word ⊎ (word ≡ codes "--made")
 
 -- options begin with `-`, and are no file's name
 key_odd : (k : Key) → ¬ IsFileName (key_word k)
@@ -69,25 +74,25 @@ key_odd keys.Order name = name refl
 key_odd keys.Steps name = name refl
 key_odd keys.Fail name = name refl
 
-pub no_origin : (g : Given) (word : Word) (k : Key) → IsNextKey g word k → ¬ BeginsOrigin word
-no_origin g word k is (inl name) = key_odd k (subst IsFileName is.0 name)
-no_origin g word k is (inr made) = key_other k 154 (ap letters (sym is.0 ∙ made)) (inl refl)
+pub no_operands : (v : Verb) (g : Given) (word : Word) (k : Key) → IsNextKey v g word k → ¬ BeginsOperands word
+no_operands v g word k is (inl name) = key_odd k (subst IsFileName is.0 name)
+no_operands v g word k is (inr made) = key_other k 154 (ap letters (sym is.0 ∙ made)) (inl refl)
 
-flag_odd : (word : Word) → IsFlag word → ¬ BeginsOrigin word
+flag_odd : (word : Word) → IsFlag word → ¬ BeginsOperands word
 flag_odd word (inl is) (inl name) = (subst IsFileName is name) refl
 flag_odd word (inr is) (inl name) = (subst IsFileName is name) refl
 flag_odd word (inl is) (inr made) = let l : ◌≡◌ {A = ℕ} 161 154 = ap letters (sym is ∙ made) in omega arith
 flag_odd word (inr is) (inr made) = let l : ◌≡◌ {A = ℕ} 163 154 = ap letters (sym is ∙ made) in omega arith
 
-pub no_flag_origin : (g h : Given) (word : Word) → Flags g word h → ¬ BeginsOrigin word
-no_flag_origin g h word is begins = flag_odd word (flag_word g h word is) begins
+pub no_flag_operands : (v : Verb) (g h : Given) (word : Word) → Flags v g word h → ¬ BeginsOperands word
+no_flag_operands v g h word is begins = flag_odd word (flag_word v g h word is) begins
 
 -- an option without a value gives one thing
-pub flag_once : (g h i : Given) (word : Word) → Flags g word h → Flags g word i → h ≡ i
-flag_once g h i word (inl first) (inl second) = first.2 ∙ sym second.2
-flag_once g h i word (inr first) (inr second) = first.2 ∙ sym second.2
-flag_once g h i word (inl first) (inr second) = let l : ◌≡◌ {A = ℕ} 161 163 = ap letters (sym first.0 ∙ second.0) in absurd (omega arith)
-flag_once g h i word (inr first) (inl second) = let l : ◌≡◌ {A = ℕ} 163 161 = ap letters (sym first.0 ∙ second.0) in absurd (omega arith)
+pub flag_once : (v : Verb) (g h i : Given) (word : Word) → Flags v g word h → Flags v g word i → h ≡ i
+flag_once v g h i word (inl first) (inl second) = first.3 ∙ sym second.3
+flag_once v g h i word (inr first) (inr second) = first.3 ∙ sym second.3
+flag_once v g h i word (inl first) (inr second) = let l : ◌≡◌ {A = ℕ} 161 163 = ap letters (sym first.0 ∙ second.0) in absurd (omega arith)
+flag_once v g h i word (inr first) (inl second) = let l : ◌≡◌ {A = ℕ} 163 161 = ap letters (sym first.0 ∙ second.0) in absurd (omega arith)
 
 -- a file's name alone
 
@@ -174,14 +179,11 @@ pub record HasFirst (words : List Word) : Type 0 where
   pub first : Word
   pub behind : List Word
   pub form : words ≡ first ∷ behind
-  pub begins : BeginsOrigin first
+  pub begins : BeginsOperands first
 
 pub origin_first : (words : List Word) (origin : Origin) → IsOrigin words origin → HasFirst words
 origin_first words (from_file file) (form, name) = record { first = file; behind = []; form = form; begins = inl name }
 origin_first words (from_made seed size) (numbers, form, are) = record { first = codes "--made"; behind = numbers; form = form; begins = inr refl }
-
-pub origin_named : (word : Word) (words : List Word) (origin : Origin) → IsOrigin (word ∷ words) origin → BeginsOrigin word
-origin_named word words origin is = let f = origin_first (word ∷ words) origin is in let e : f.first ≡ word = cc (f.form) in subst BeginsOrigin e f.begins
 
 origin_none : OriginAlone [] → ⊥
 origin_none (origin, is) = let f = origin_first [] origin is in cc (f.form)
@@ -235,31 +237,118 @@ one_origin words (from_made seed size) (from_made seed' size') (numbers, form, a
     let same = one_seed_and_size numbers seed size seed' size' are (rw e are') in
     ap (λ n. from_made n size) same.0 ∙ ap (λ n. from_made seed' n) same.1
 
+-- a TRACE and a FILE
+
+trace_begins : Begins TraceAlone []
+trace_begins = (codes "a" ∷ codes "a" ∷ [], (codes "a", codes "a", record { form = refl; trace_name = a_is_name; file_name = a_is_name }))
+
+trace_none : TraceAlone [] → ⊥
+trace_none (trace, file, are) = cc are.form
+
+pub usage_trace_none : UsageOf TraceAlone [] 1
+usage_trace_none = usage_none TraceAlone trace_begins trace_none
+
+trace_named : (word : Word) (rest : List Word) → TraceAlone (word ∷ rest) → IsFileName word
+trace_named word rest (trace, file, are) = let e : trace ≡ word = cc are.form in subst IsFileName e are.trace_name
+
+pub usage_trace_named : (word : Word) (words : List Word) → ¬ IsFileName word → UsageOf TraceAlone (word ∷ words) 1
+usage_trace_named word words odd = usage_first TraceAlone word words trace_begins (λ rest are. odd (trace_named word rest are))
+
+pub trace_onward : (word : Word) (rest : List Word) → IsFileName word → FileAlone rest → TraceAlone (word ∷ rest)
+trace_onward word rest name (file, form, is) = (word, file, record { form = ap (λ l. word ∷ l) form; trace_name = name; file_name = is })
+
+trace_back : (word : Word) (rest : List Word) → TraceAlone (word ∷ rest) → FileAlone rest
+trace_back word rest (trace, file, are) = (file, cc are.form, are.file_name)
+
+-- words that go wrong behind a TRACE
+pub usage_trace : (word : Word) (words : List Word) (k : ℕ) → IsFileName word → UsageOf FileAlone words k → UsageOf TraceAlone (word ∷ words) (suc k)
+usage_trace word words k name usage = usage_behind TraceAlone FileAlone word words k trace_begins (λ rest file. trace_onward word rest name file) (λ rest are. trace_back word rest are) usage
+
+-- the places of a TRACE and a FILE
+pub places_named : (words behind : List (String Global)) (first : String Global) (place at : ℕ) → words ≡ first ∷ behind → IsFileName (string_bytes first) → FileAlone (words_in behind) → at ≡ place + 1 + length behind
+    → ArePlacesOf (words_in words) (place + length words) (record { trace = place + 1; file = at })
+places_named words behind first place at e name alone is =
+    let one : length (words_in behind) ≡ 1 = ap length alone.1 in
+    let long : length behind ≡ 1 = omega (arith, one, length-map behind string_bytes) in
+    rw e (trace_onward (string_bytes first) (words_in behind) name alone, record { trace = omega (arith, long); file = omega (arith, is) })
+
+one_trace : (words : List Word) (trace file trace' file' : Word) → AreTraceAndFile words trace file → AreTraceAndFile words trace' file' → of_trace trace file ≡ of_trace trace' file'
+one_trace words trace file trace' file' first second =
+    let traces : trace ≡ trace' = cc (first.form, second.form) in
+    let files : file ≡ file' = cc (first.form, second.form) in
+    cc (traces, files)
+
+-- the operands of a verb
+
+operands_begin : (v : Verb) → Begins (OperandsAlone v) []
+operands_begin verbs.Run = (codes "a" ∷ [], (of_source (from_file (codes "a")), (refl, a_is_name)))
+operands_begin (verbs.Traced goal) = (codes "a" ∷ codes "a" ∷ [], (of_trace (codes "a") (codes "a"), record { form = refl; trace_name = a_is_name; file_name = a_is_name }))
+
+pub operands_first : (v : Verb) (words : List Word) (x : Operands) → AreOperands v words x → HasFirst words
+operands_first verbs.Run words (of_source origin) is = origin_first words origin is
+operands_first verbs.Run words (of_trace trace file) is = absurd is
+operands_first (verbs.Traced goal) words (of_source origin) is = absurd is
+operands_first (verbs.Traced goal) words (of_trace trace file) is = record { first = trace; behind = file ∷ []; form = is.form; begins = inl is.trace_name }
+
+pub operands_named : (v : Verb) (word : Word) (words : List Word) (x : Operands) → AreOperands v (word ∷ words) x → BeginsOperands word
+operands_named v word words x is = let f = operands_first v (word ∷ words) x is in let e : f.first ≡ word = cc (f.form) in subst BeginsOperands e f.begins
+
+operands_none : (v : Verb) (x : Operands) → AreOperands v [] x → ⊥
+operands_none v x is = let f = operands_first v [] x is in cc (f.form)
+
+pub one_operands : (v : Verb) (words : List Word) (x y : Operands) → AreOperands v words x → AreOperands v words y → x ≡ y
+one_operands verbs.Run words (of_source a) (of_source b) first second = ap of_source (one_origin words a b first second)
+one_operands verbs.Run words (of_source a) (of_trace trace file) first second = absurd second
+one_operands verbs.Run words (of_trace trace file) y first second = absurd first
+one_operands (verbs.Traced goal) words (of_source a) y first second = absurd first
+one_operands (verbs.Traced goal) words (of_trace trace file) (of_source b) first second = absurd second
+one_operands (verbs.Traced goal) words (of_trace trace file) (of_trace trace' file') first second = one_trace words trace file trace' file' first second
+
+run_onward : (words : List Word) → OriginAlone words → OperandsAlone verbs.Run words
+run_onward words (origin, is) = (of_source origin, is)
+
+run_back : (words : List Word) → OperandsAlone verbs.Run words → OriginAlone words
+run_back words (of_source origin, is) = (origin, is)
+run_back words (of_trace trace file, is) = absurd is
+
+traced_onward : (goal : Goal) (words : List Word) → TraceAlone words → OperandsAlone (verbs.Traced goal) words
+traced_onward goal words (trace, file, are) = (of_trace trace file, are)
+
+traced_back : (goal : Goal) (words : List Word) → OperandsAlone (verbs.Traced goal) words → TraceAlone words
+traced_back goal words (of_source origin, is) = absurd is
+traced_back goal words (of_trace trace file, is) = (trace, file, is)
+
+pub usage_run : (words : List Word) (k : ℕ) → UsageOf OriginAlone words k → UsageOf (OperandsAlone verbs.Run) words k
+usage_run words k usage = usage_same OriginAlone (OperandsAlone verbs.Run) words k run_onward run_back usage
+
+pub usage_traced : (goal : Goal) (words : List Word) (k : ℕ) → UsageOf TraceAlone words k → UsageOf (OperandsAlone (verbs.Traced goal)) words k
+usage_traced goal words k usage = usage_same TraceAlone (OperandsAlone (verbs.Traced goal)) words k (traced_onward goal) (traced_back goal) usage
+
 -- an option is a key with its value, or a flag
 
-pub data Form (g : Given) (words : List Word) (h : Given) (named : List FailAt) : Type 0 where
-  keyed : (k : Key) (word value : Word) → words ≡ word ∷ value ∷ [] → IsNextKey g word k → Gives g k value h named → Form g words h named
-  flagged : (word : Word) → words ≡ word ∷ [] → Flags g word h → named ≡ [] → Form g words h named
+pub data Form (v : Verb) (g : Given) (words : List Word) (h : Given) (named : List FailAt) : Type 0 where
+  keyed : (k : Key) (word value : Word) → words ≡ word ∷ value ∷ [] → IsNextKey v g word k → Gives g k value h named → Form v g words h named
+  flagged : (word : Word) → words ≡ word ∷ [] → Flags v g word h → named ≡ [] → Form v g words h named
 
-pub form_of : (g h : Given) (words : List Word) (named : List FailAt) → IsOption g words h named → Form g words h named
-form_of g _ _ _ (images n free low high) = keyed keys.Images (codes "-n") (decimal n) refl (refl, free) (n, refl, low, high, refl, refl)
-form_of g _ _ _ (workers n free unordered low high) = keyed keys.Workers (codes "-w") (decimal n) refl (refl, (free, unordered)) (n, refl, low, high, refl, refl)
-form_of g _ _ _ (order s free no_workers high) = keyed keys.Order (codes "--order") (decimal s) refl (refl, (free, no_workers)) (s, refl, high, refl, refl)
-form_of g _ _ _ (steps n free low high) = keyed keys.Steps (codes "--steps") (decimal n) refl (refl, free) (n, refl, low, high, refl, refl)
-form_of g _ _ _ (fail word f is) = keyed keys.Fail (codes "--fail") word refl (refl, tt) (f, is, refl, refl)
-form_of g _ _ _ (trace free) = flagged (codes "--trace") refl (inl (refl, free, refl)) refl
-form_of g _ _ _ (vars free) = flagged (codes "--vars") refl (inr (refl, free, refl)) refl
+pub form_of : (v : Verb) (g h : Given) (words : List Word) (named : List FailAt) → IsOption v g words h named → Form v g words h named
+form_of v g _ _ _ (images n free low high) = keyed keys.Images (codes "-n") (decimal n) refl (refl, free) (n, refl, low, high, refl, refl)
+form_of v g _ _ _ (workers n may free unordered low high) = keyed keys.Workers (codes "-w") (decimal n) refl (refl, (may, free, unordered)) (n, refl, low, high, refl, refl)
+form_of v g _ _ _ (order s may free no_workers high) = keyed keys.Order (codes "--order") (decimal s) refl (refl, (may, free, no_workers)) (s, refl, high, refl, refl)
+form_of v g _ _ _ (steps n free low high) = keyed keys.Steps (codes "--steps") (decimal n) refl (refl, free) (n, refl, low, high, refl, refl)
+form_of v g _ _ _ (fail word f is) = keyed keys.Fail (codes "--fail") word refl (refl, tt) (f, is, refl, refl)
+form_of v g _ _ _ (show_trace may free) = flagged (codes "--trace") refl (inl (refl, may, free, refl)) refl
+form_of v g _ _ _ (show_vars may free) = flagged (codes "--vars") refl (inr (refl, may, free, refl)) refl
 
-pub keyed_option : (g h : Given) (k : Key) (word value : Word) (named : List FailAt) → IsNextKey g word k → Gives g k value h named → IsOption g (word ∷ value ∷ []) h named
-keyed_option g h keys.Images word value named is (n, said, low, high, given, none) = rw (is.0, said, given, none) (images n is.1 low high)
-keyed_option g h keys.Workers word value named is (n, said, low, high, given, none) = rw (is.0, said, given, none) (workers n is.1.0 is.1.1 low high)
-keyed_option g h keys.Order word value named is (s, said, high, given, none) = rw (is.0, said, given, none) (order s is.1.0 is.1.1 high)
-keyed_option g h keys.Steps word value named is (n, said, low, high, given, none) = rw (is.0, said, given, none) (steps n is.1 low high)
-keyed_option g h keys.Fail word value named is (f, said, given, one) = rw (is.0, given, one) (fail value f said)
+pub keyed_option : (v : Verb) (g h : Given) (k : Key) (word value : Word) (named : List FailAt) → IsNextKey v g word k → Gives g k value h named → IsOption v g (word ∷ value ∷ []) h named
+keyed_option v g h keys.Images word value named is (n, said, low, high, given, none) = rw (is.0, said, given, none) (images n is.1 low high)
+keyed_option v g h keys.Workers word value named is (n, said, low, high, given, none) = rw (is.0, said, given, none) (workers n is.1.0 is.1.1 is.1.2 low high)
+keyed_option v g h keys.Order word value named is (s, said, high, given, none) = rw (is.0, said, given, none) (order s is.1.0 is.1.1 is.1.2 high)
+keyed_option v g h keys.Steps word value named is (n, said, low, high, given, none) = rw (is.0, said, given, none) (steps n is.1 low high)
+keyed_option v g h keys.Fail word value named is (f, said, given, one) = rw (is.0, given, one) (fail value f said)
 
-pub flag_option : (g h : Given) (word : Word) → Flags g word h → IsOption g (word ∷ []) h []
-flag_option g h word (inl (is, free, given)) = rw (is, given) (trace free)
-flag_option g h word (inr (is, free, given)) = rw (is, given) (vars free)
+pub flag_option : (v : Verb) (g h : Given) (word : Word) → Flags v g word h → IsOption v g (word ∷ []) h []
+flag_option v g h word (inl (is, may, free, given)) = rw (is, given) (show_trace may free)
+flag_option v g h word (inr (is, may, free, given)) = rw (is, given) (show_vars may free)
 
 -- a value gives one thing
 pub record SameGift (h : Given) (named : List FailAt) (h' : Given) (named' : List FailAt) : Type 0 where
@@ -282,33 +371,33 @@ gives_once g keys.Steps word h i named named' (m, first, low, high, is, none) (n
 gives_once g keys.Fail word h i named named' (f, first, is, one) (f', second, is', one') =
     record { given = is ∙ sym is'; failures = one ∙ ap (λ x. x ∷ []) (one_failure word f f' first second) ∙ sym one' }
 
-pub key_same : (g : Given) (word : Word) (k l : Key) → IsNextKey g word k → IsNextKey g word l → k ≡ l
-key_same g word k l is other = key_once k l (sym is.0 ∙ other.0)
+pub key_same : (v : Verb) (g : Given) (word : Word) (k l : Key) → IsNextKey v g word k → IsNextKey v g word l → k ≡ l
+key_same v g word k l is other = key_once k l (sym is.0 ∙ other.0)
 
-pub key_or_flag : (g h : Given) (word : Word) (k : Key) → IsNextKey g word k → Flags g word h → ⊥
-key_or_flag g h word k is flag = key_no_flag k word is.0 (flag_word g h word flag)
+pub key_or_flag : (v : Verb) (g h : Given) (word : Word) (k : Key) → IsNextKey v g word k → Flags v g word h → ⊥
+key_or_flag v g h word k is flag = key_no_flag k word is.0 (flag_word v g h word flag)
 
--- the rest of a run
+-- the rest of a command
 
-pub rests_from_origin : (g : Given) (words : List Word) → OriginAlone words → Rests g words
-rests_from_origin g words (origin, is) = (told g (is_made origin), [], origin, origin_last g words origin is)
+pub rests_from_operands : (v : Verb) (g : Given) (words : List Word) → OperandsAlone v words → Rests v g words
+rests_from_operands v g words (x, is) = (told g (is_summed x), [], x, operands_last g words x is)
 
-pub rests_begin : (g : Given) → Begins (Rests g) []
-rests_begin g = (codes "a" ∷ [], rests_from_origin g (codes "a" ∷ []) (from_file (codes "a"), (refl, a_is_name)))
+pub rests_begin : (v : Verb) (g : Given) → Begins (Rests v g) []
+rests_begin v g = let b = operands_begin v in (b.0, rests_from_operands v g b.0 b.1)
 
--- the first word of the rest of a run is the key of an option that may come next, an option without a value, or says where the source comes from
-pub data First (g : Given) (word : Word) (rest : List Word) (o : Options) (fails : List FailAt) (origin : Origin) : Type 0 where
-  by_origin : o ≡ told g (is_made origin) → fails ≡ [] → IsOrigin (word ∷ rest) origin → First g word rest o fails origin
-  by_key : (k : Key) (value : Word) (behind : List Word) (h : Given) (some more : List FailAt) → IsNextKey g word k → rest ≡ value ∷ behind → Gives g k value h some → IsRest h behind o more origin
-      → fails ≡ some ++ more → First g word rest o fails origin
-  by_flag : (h : Given) → Flags g word h → IsRest h rest o fails origin → First g word rest o fails origin
+-- the first word of the rest of a command is the key of an option that may come next, an option without a value, or begins the operands
+pub data First (v : Verb) (g : Given) (word : Word) (rest : List Word) (o : Options) (fails : List FailAt) (x : Operands) : Type 0 where
+  by_operands : o ≡ told g (is_summed x) → fails ≡ [] → AreOperands v (word ∷ rest) x → First v g word rest o fails x
+  by_key : (k : Key) (value : Word) (behind : List Word) (h : Given) (some more : List FailAt) → IsNextKey v g word k → rest ≡ value ∷ behind → Gives g k value h some → IsRest v h behind o more x
+      → fails ≡ some ++ more → First v g word rest o fails x
+  by_flag : (h : Given) → Flags v g word h → IsRest v h rest o fails x → First v g word rest o fails x
 
-pub first_is : (g : Given) (words : List Word) (o : Options) (fails : List FailAt) (origin : Origin) → IsRest g words o fails origin → (word : Word) (rest : List Word) → words ≡ word ∷ rest
-    → First g word rest o fails origin
-first_is _ _ _ _ _ (origin_last g words origin is) word rest e = by_origin refl refl (subst (λ w. IsOrigin w origin) e is)
-first_is _ _ _ _ _ (option_next g h option some behind o more origin is next) word rest e = by_form (form_of g h option some is)
+pub first_is : (v : Verb) (g : Given) (words : List Word) (o : Options) (fails : List FailAt) (x : Operands) → IsRest v g words o fails x → (word : Word) (rest : List Word) → words ≡ word ∷ rest
+    → First v g word rest o fails x
+first_is v _ _ _ _ _ (operands_last g words x is) word rest e = by_operands refl refl (subst (λ w. AreOperands v w x) e is)
+first_is v _ _ _ _ _ (option_next g h option some behind o more x is next) word rest e = by_form (form_of v g h option some is)
   where
-    by_form : Form g option h some → First g word rest o (some ++ more) origin
+    by_form : Form v g option h some → First v g word rest o (some ++ more) x
     by_form (keyed k key value form is_key gives) =
         let whole : key ∷ value ∷ behind ≡ word ∷ rest = rw form at e in
         by_key k value behind h some more (let same : key ≡ word = cc whole in rw (← same) is_key) (let same : value ∷ behind ≡ rest = cc whole in sym same) gives next refl
@@ -318,91 +407,91 @@ first_is _ _ _ _ _ (option_next g h option some behind o more origin is next) wo
         let last : behind ≡ rest = cc whole in
         by_flag h (rw (← same) flag) (rw (none, ← last) next)
 
-rests_none : (g : Given) (words : List Word) (o : Options) (fails : List FailAt) (origin : Origin) → IsRest g words o fails origin → words ≡ [] → ⊥
-rests_none _ _ _ _ _ (origin_last g words origin is) e = origin_none (origin, subst (λ w. IsOrigin w origin) e is)
-rests_none _ _ _ _ _ (option_next g h option some behind o more origin is next) e = by_form (form_of g h option some is)
+rests_none : (v : Verb) (g : Given) (words : List Word) (o : Options) (fails : List FailAt) (x : Operands) → IsRest v g words o fails x → words ≡ [] → ⊥
+rests_none v _ _ _ _ _ (operands_last g words x is) e = operands_none v x (subst (λ w. AreOperands v w x) e is)
+rests_none v _ _ _ _ _ (option_next g h option some behind o more x is next) e = by_form (form_of v g h option some is)
   where
-    by_form : Form g option h some → ⊥
+    by_form : Form v g option h some → ⊥
     by_form (keyed k key value form is_key gives) = let whole : key ∷ value ∷ behind ≡ [] = rw form at e in cc whole
     by_form (flagged key form flag none) = let whole : key ∷ behind ≡ [] = rw form at e in cc whole
 
-rests_not_none : (g : Given) → Rests g [] → ⊥
-rests_not_none g r = rests_none g [] r.0 r.1 r.2 r.3 refl
+rests_not_none : (v : Verb) (g : Given) → Rests v g [] → ⊥
+rests_not_none v g r = rests_none v g [] r.0 r.1 r.2 r.3 refl
 
--- where no option stands, the words say where the source comes from
-rests_origin : (g : Given) (word : Word) (rest : List Word) → IsNoOption g word → Rests g (word ∷ rest) → OriginAlone (word ∷ rest)
-rests_origin g word rest odd r = elim (first_is g (word ∷ rest) r.0 r.1 r.2 r.3 word rest refl) [
-  | by_origin i none is ↦ (r.2, is)
+-- where no option stands, the words are the operands
+rests_operands : (v : Verb) (g : Given) (word : Word) (rest : List Word) → IsNoOption v g word → Rests v g (word ∷ rest) → OperandsAlone v (word ∷ rest)
+rests_operands v g word rest odd r = elim (first_is v g (word ∷ rest) r.0 r.1 r.2 r.3 word rest refl) [
+  | by_operands i none is ↦ (r.2, is)
   | by_key k value behind h some more is e gives next all ↦ absurd (odd.no_key k is)
   | by_flag h flag next ↦ absurd (odd.no_flag h flag)
 ]
 
--- what goes wrong where the words have to say where the source comes from, behind the options of a run
-pub usage_origin : (g : Given) (words : List Word) (k : ℕ) → BeginsNoOption g words → UsageOf OriginAlone words k → UsageOf (Rests g) words k
-usage_origin g [] k odd usage = usage_alike_none OriginAlone (Rests g) k origin_begins (rests_begin g) (rests_not_none g) usage
-usage_origin g (word ∷ words) k odd usage =
-    usage_alike OriginAlone (Rests g) word words k origin_begins (rests_begin g) (λ rest origin. rests_from_origin g (word ∷ rest) origin) (λ rest r. rests_origin g word rest odd r) usage
+-- what goes wrong where the operands have to stand, behind the options of a command
+pub usage_operands : (v : Verb) (g : Given) (words : List Word) (k : ℕ) → BeginsNoOption v g words → UsageOf (OperandsAlone v) words k → UsageOf (Rests v g) words k
+usage_operands v g [] k odd usage = usage_alike_none (OperandsAlone v) (Rests v g) k (operands_begin v) (rests_begin v g) (rests_not_none v g) usage
+usage_operands v g (word ∷ words) k odd usage =
+    usage_alike (OperandsAlone v) (Rests v g) word words k (operands_begin v) (rests_begin v g) (λ rest are. rests_from_operands v g (word ∷ rest) are) (λ rest r. rests_operands v g word rest odd r) usage
 
 -- an option without a value
-flag_rests : (g h : Given) (word : Word) (rest : List Word) → Flags g word h → Rests h rest → Rests g (word ∷ rest)
-flag_rests g h word rest is (o, fails, origin, next) = (o, fails, origin, option_next g h (word ∷ []) [] rest o fails origin (flag_option g h word is) next)
+flag_rests : (v : Verb) (g h : Given) (word : Word) (rest : List Word) → Flags v g word h → Rests v h rest → Rests v g (word ∷ rest)
+flag_rests v g h word rest is (o, fails, x, next) = (o, fails, x, option_next g h (word ∷ []) [] rest o fails x (flag_option v g h word is) next)
 
-rests_flag : (g h : Given) (word : Word) (rest : List Word) → Flags g word h → Rests g (word ∷ rest) → Rests h rest
-rests_flag g h word rest is r = elim (first_is g (word ∷ rest) r.0 r.1 r.2 r.3 word rest refl) [
-  | by_origin i none named ↦ absurd (no_flag_origin g h word is (origin_named word rest r.2 named))
-  | by_key k value behind i some more key e gives next all ↦ absurd (key_or_flag g h word k key is)
-  | by_flag i flag next ↦ let same : h ≡ i = flag_once g h i word is flag in (r.0, r.1, r.2, rw same next)
+rests_flag : (v : Verb) (g h : Given) (word : Word) (rest : List Word) → Flags v g word h → Rests v g (word ∷ rest) → Rests v h rest
+rests_flag v g h word rest is r = elim (first_is v g (word ∷ rest) r.0 r.1 r.2 r.3 word rest refl) [
+  | by_operands i none named ↦ absurd (no_flag_operands v g h word is (operands_named v word rest r.2 named))
+  | by_key k value behind i some more key e gives next all ↦ absurd (key_or_flag v g h word k key is)
+  | by_flag i flag next ↦ let same : h ≡ i = flag_once v g h i word is flag in (r.0, r.1, r.2, rw same next)
 ]
 
-usage_flag : (g h : Given) (word : Word) (words : List Word) (n : ℕ) → Flags g word h → UsageOf (Rests h) words n → UsageOf (Rests g) (word ∷ words) (suc n)
-usage_flag g h word words n is usage = usage_behind (Rests g) (Rests h) word words n (rests_begin g) (λ rest r. flag_rests g h word rest is r) (λ rest r. rests_flag g h word rest is r) usage
+usage_flag : (v : Verb) (g h : Given) (word : Word) (words : List Word) (n : ℕ) → Flags v g word h → UsageOf (Rests v h) words n → UsageOf (Rests v g) (word ∷ words) (suc n)
+usage_flag v g h word words n is usage = usage_behind (Rests v g) (Rests v h) word words n (rests_begin v g) (λ rest r. flag_rests v g h word rest is r) (λ rest r. rests_flag v g h word rest is r) usage
 
 -- the key of an option with its value
-rests_behind : (g : Given) (k : Key) (word : Word) (rest : List Word) → IsNextKey g word k → BehindKey g k rest → Rests g (word ∷ rest)
-rests_behind g k word rest is (value, behind, h, some, form, gives, (o, fails, origin, next)) =
-    (o, some ++ fails, origin, rw form (option_next g h (word ∷ value ∷ []) some behind o fails origin (keyed_option g h k word value some is gives) next))
+rests_behind : (v : Verb) (g : Given) (k : Key) (word : Word) (rest : List Word) → IsNextKey v g word k → BehindKey v g k rest → Rests v g (word ∷ rest)
+rests_behind v g k word rest is (value, behind, h, some, form, gives, (o, fails, x, next)) =
+    (o, some ++ fails, x, rw form (option_next g h (word ∷ value ∷ []) some behind o fails x (keyed_option v g h k word value some is gives) next))
 
-behind_rests : (g : Given) (k : Key) (word : Word) (rest : List Word) → IsNextKey g word k → Rests g (word ∷ rest) → BehindKey g k rest
-behind_rests g k word rest is r = elim (first_is g (word ∷ rest) r.0 r.1 r.2 r.3 word rest refl) [
-  | by_origin i none named ↦ absurd (no_origin g word k is (origin_named word rest r.2 named))
+behind_rests : (v : Verb) (g : Given) (k : Key) (word : Word) (rest : List Word) → IsNextKey v g word k → Rests v g (word ∷ rest) → BehindKey v g k rest
+behind_rests v g k word rest is r = elim (first_is v g (word ∷ rest) r.0 r.1 r.2 r.3 word rest refl) [
+  | by_operands i none named ↦ absurd (no_operands v g word k is (operands_named v word rest r.2 named))
   | by_key l value behind h some more key e gives next all ↦
-      let same : k ≡ l = key_same g word k l is key in
+      let same : k ≡ l = key_same v g word k l is key in
       (value, behind, h, some, e, rw same gives, (r.0, more, r.2, next))
-  | by_flag h flag next ↦ absurd (key_or_flag g h word k is flag)
+  | by_flag h flag next ↦ absurd (key_or_flag v g h word k is flag)
 ]
 
-behind_begins : (g : Given) (k : Key) → Begins (BehindKey g k) []
-behind_begins g keys.Images = let h : Given = record g { images = Some 1 } in let b = rests_begin h in (decimal 1 ∷ b.0, (decimal 1, b.0, h, [], refl, (1, refl, omega arith, omega arith, refl, refl), b.1))
-behind_begins g keys.Workers = let h : Given = record g { workers = Some 1 } in let b = rests_begin h in (decimal 1 ∷ b.0, (decimal 1, b.0, h, [], refl, (1, refl, omega arith, omega arith, refl, refl), b.1))
-behind_begins g keys.Order = let h : Given = record g { order = Some 0 } in let b = rests_begin h in (decimal 0 ∷ b.0, (decimal 0, b.0, h, [], refl, (0, refl, omega arith, refl, refl), b.1))
-behind_begins g keys.Steps = let h : Given = record g { steps = Some 1 } in let b = rests_begin h in (decimal 1 ∷ b.0, (decimal 1, b.0, h, [], refl, (1, refl, omega arith, omega arith, refl, refl), b.1))
-behind_begins g keys.Fail =
+behind_begins : (v : Verb) (g : Given) (k : Key) → Begins (BehindKey v g k) []
+behind_begins v g keys.Images = let h : Given = record g { images = Some 1 } in let b = rests_begin v h in (decimal 1 ∷ b.0, (decimal 1, b.0, h, [], refl, (1, refl, omega arith, omega arith, refl, refl), b.1))
+behind_begins v g keys.Workers = let h : Given = record g { workers = Some 1 } in let b = rests_begin v h in (decimal 1 ∷ b.0, (decimal 1, b.0, h, [], refl, (1, refl, omega arith, omega arith, refl, refl), b.1))
+behind_begins v g keys.Order = let h : Given = record g { order = Some 0 } in let b = rests_begin v h in (decimal 0 ∷ b.0, (decimal 0, b.0, h, [], refl, (0, refl, omega arith, refl, refl), b.1))
+behind_begins v g keys.Steps = let h : Given = record g { steps = Some 1 } in let b = rests_begin v h in (decimal 1 ∷ b.0, (decimal 1, b.0, h, [], refl, (1, refl, omega arith, omega arith, refl, refl), b.1))
+behind_begins v g keys.Fail =
     let f : FailAt = record { image = 1; step = 1 } in
     let word : Word = decimal 1 ++ 64 ∷ decimal 1 in
     let is : IsFailure word f = record { form = refl; least_image = omega arith; most_image = omega arith; least_step = omega arith; most_step = omega arith } in
-    let b = rests_begin g in
+    let b = rests_begin v g in
     (word ∷ b.0, (word, b.0, g, f ∷ [], refl, (f, is, refl, refl), b.1))
 
-behind_none : (g : Given) (k : Key) → BehindKey g k [] → ⊥
-behind_none g k (value, behind, h, some, form, gives, more) = cc form
+behind_none : (v : Verb) (g : Given) (k : Key) → BehindKey v g k [] → ⊥
+behind_none v g k (value, behind, h, some, form, gives, more) = cc form
 
 -- a key without its value
-pub usage_key : (g : Given) (k : Key) (word : Word) → IsNextKey g word k → UsageOf (Rests g) (word ∷ []) 2
-usage_key g k word is = usage_behind (Rests g) (BehindKey g k) word [] 1 (rests_begin g) (λ rest b. rests_behind g k word rest is b) (λ rest r. behind_rests g k word rest is r)
-    (usage_none (BehindKey g k) (behind_begins g k) (behind_none g k))
+pub usage_key : (v : Verb) (g : Given) (k : Key) (word : Word) → IsNextKey v g word k → UsageOf (Rests v g) (word ∷ []) 2
+usage_key v g k word is = usage_behind (Rests v g) (BehindKey v g k) word [] 1 (rests_begin v g) (λ rest b. rests_behind v g k word rest is b) (λ rest r. behind_rests v g k word rest is r)
+    (usage_none (BehindKey v g k) (behind_begins v g k) (behind_none v g k))
 
 -- a key with what gives no value to it
-pub usage_value : (g : Given) (k : Key) (word value : Word) (words : List Word) → IsNextKey g word k → ((h : Given) (named : List FailAt) → ¬ Gives g k value h named) → UsageOf (Rests g) (word ∷ value ∷ words) 2
-usage_value g k word value words is odd = usage_behind (Rests g) (BehindKey g k) word (value ∷ words) 1 (rests_begin g) (λ rest b. rests_behind g k word rest is b) (λ rest r. behind_rests g k word rest is r)
-    (usage_first (BehindKey g k) value words (behind_begins g k) (λ rest b. odd b.2 b.3 (let e : value ≡ b.0 = cc (b.4) in rw e b.5)))
+pub usage_value : (v : Verb) (g : Given) (k : Key) (word value : Word) (words : List Word) → IsNextKey v g word k → ((h : Given) (named : List FailAt) → ¬ Gives g k value h named) → UsageOf (Rests v g) (word ∷ value ∷ words) 2
+usage_value v g k word value words is odd = usage_behind (Rests v g) (BehindKey v g k) word (value ∷ words) 1 (rests_begin v g) (λ rest b. rests_behind v g k word rest is b) (λ rest r. behind_rests v g k word rest is r)
+    (usage_first (BehindKey v g k) value words (behind_begins v g k) (λ rest b. odd b.2 b.3 (let e : value ≡ b.0 = cc (b.4) in rw e b.5)))
 
 -- an option with its value, and words that go wrong behind it
-usage_keyed : (g h : Given) (k : Key) (word value : Word) (some : List FailAt) (words : List Word) (n : ℕ) → IsNextKey g word k → Gives g k value h some → UsageOf (Rests h) words n
-    → UsageOf (Rests g) (word ∷ value ∷ words) (suc (suc n))
-usage_keyed g h k word value some words n is gives usage = usage_behind (Rests g) (BehindKey g k) word (value ∷ words) (suc n) (rests_begin g) (λ rest b. rests_behind g k word rest is b) (λ rest r. behind_rests g k word rest is r)
-    (usage_behind (BehindKey g k) (Rests h) value words n (behind_begins g k) (λ rest r. (value, rest, h, some, refl, gives, r)) back usage)
+usage_keyed : (v : Verb) (g h : Given) (k : Key) (word value : Word) (some : List FailAt) (words : List Word) (n : ℕ) → IsNextKey v g word k → Gives g k value h some → UsageOf (Rests v h) words n
+    → UsageOf (Rests v g) (word ∷ value ∷ words) (suc (suc n))
+usage_keyed v g h k word value some words n is gives usage = usage_behind (Rests v g) (BehindKey v g k) word (value ∷ words) (suc n) (rests_begin v g) (λ rest b. rests_behind v g k word rest is b) (λ rest r. behind_rests v g k word rest is r)
+    (usage_behind (BehindKey v g k) (Rests v h) value words n (behind_begins v g k) (λ rest r. (value, rest, h, some, refl, gives, r)) back usage)
   where
-    back : (rest : List Word) → BehindKey g k (value ∷ rest) → Rests h rest
+    back : (rest : List Word) → BehindKey v g k (value ∷ rest) → Rests v h rest
     back rest (value', rest', i, some', form, gives', more) =
         let e : value ≡ value' = cc form in
         let f : rest ≡ rest' = cc form in
@@ -410,9 +499,9 @@ usage_keyed g h k word value some words n is gives usage = usage_behind (Rests g
         rw (f, same.given) more
 
 -- words that go wrong behind an option
-pub usage_option : (g h : Given) (option : List Word) (some : List FailAt) (words : List Word) (n : ℕ) → IsOption g option h some → UsageOf (Rests h) words n → UsageOf (Rests g) (option ++ words) (length option + n)
-usage_option g h option some words n is usage = by_form (form_of g h option some is)
+pub usage_option : (v : Verb) (g h : Given) (option : List Word) (some : List FailAt) (words : List Word) (n : ℕ) → IsOption v g option h some → UsageOf (Rests v h) words n → UsageOf (Rests v g) (option ++ words) (length option + n)
+usage_option v g h option some words n is usage = by_form (form_of v g h option some is)
   where
-    by_form : Form g option h some → UsageOf (Rests g) (option ++ words) (length option + n)
-    by_form (keyed k key value form is_key gives) = let two : 2 + n ≡ suc (suc n) = omega arith in rw (form, two) (usage_keyed g h k key value some words n is_key gives usage)
-    by_form (flagged key form flag none) = let one : 1 + n ≡ suc n = omega arith in rw (form, one) (usage_flag g h key words n flag usage)
+    by_form : Form v g option h some → UsageOf (Rests v g) (option ++ words) (length option + n)
+    by_form (keyed k key value form is_key gives) = let two : 2 + n ≡ suc (suc n) = omega arith in rw (form, two) (usage_keyed v g h k key value some words n is_key gives usage)
+    by_form (flagged key form flag none) = let one : 1 + n ≡ suc n = omega arith in rw (form, one) (usage_flag v g h key words n flag usage)

@@ -52,6 +52,14 @@ usage_alike V W word words k begins_v begins_w onward back (inr cut) = inr (reco
   next = cut.next;
 })
 
+-- two notions of valid lists that agree
+pub usage_same : (V W : List Word → Type 0) (words : List Word) (k : ℕ) → ((all : List Word) → V all → W all) → ((all : List Word) → W all → V all) → UsageOf V words k → UsageOf W words k
+usage_same V W words k onward back (inl at_word) = inl (record {
+  wrong = λ b. at_word.wrong (b.0, back (take k words ++ b.0) b.1);
+  least = λ j low. (let b = at_word.least j low in (b.0, onward (take j words ++ b.0) b.1));
+})
+usage_same V W words k onward back (inr cut) = inr (record { begins = (cut.begins.0, onward (words ++ cut.begins.0) cut.begins.1); open_end = λ w. cut.open_end (back words w); next = cut.next })
+
 -- words that are cut short or go wrong aren't valid
 pub usage_invalid : (V : List Word → Type 0) (words : List Word) (k : ℕ) → UsageOf V words k → V words → ⊥
 usage_invalid V words k (inl at_word) valid = at_word.wrong (drop k words, rw (take-append-drop k words) valid)
