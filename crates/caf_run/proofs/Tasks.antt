@@ -19,7 +19,7 @@ use Rattle.caf_words.specs.declared.command.Verb.TheVariants as verbs
 use Rattle.caf_words.proofs.Meanings.{one_command, not_command_and_check, not_command_and_make, not_check_and_make, command_within, command_images, run_last, run_made, traced_last, check_last}
 use Rattle.caf_run.specs.declared.task.Task.{Task}
 use Rattle.caf_run.specs.declared.task.Task.TheVariants.{Check, Run, Traced}
-use Rattle.caf_run.specs.Tasks.{Asks, IsOfSource, IsRunTask, IsTask, NamesNoFile, NamesTrace, AsksOf}
+use Rattle.caf_run.specs.Tasks.{Asks, IsOfSource, IsRunTask, IsTask, NamesNoFile, NamesTrace, AsksOf, AsksTraced}
 
 pub asks_valid : (words : List Word) (task : Task) (origin : Origin) → Asks words task origin → IsValid words
 asks_valid words Check (from_file file) asked = inr (inl (file, asked))
@@ -100,8 +100,48 @@ run_asked words input fails o means = means
 pub check_asked : (words : List Word) (word : ℕ) → Means words (commands.Check word) → AsksOf words Check (File word)
 check_asked words word (file, check, last) = (from_file file, check, last)
 
-pub traced_asked : (words : List Word) (goal : Goal) (places : Places) (fails : List FailAt) (o : Options) → Means words (commands.Traced goal places fails o) → AsksOf words (Traced goal o fails) (File places.file)
-traced_asked words goal places fails o (trace, file, asked, are) = (from_file file, (trace, asked), are.file)
+pub traced_asked : (words : List Word) (goal : Goal) (places : Places) (fails : List FailAt) (o : Options) → Means words (commands.Traced goal places fails o) → AsksTraced words (Traced goal o fails) places
+traced_asked words goal places fails o means = means
+
+-- so is one that judges or replays a trace, whose name stands last but one
+pub record NamesTraced (words : List Word) (task : Task) (places : Places) : Type 0 where
+  pub goal : Goal
+  pub options : Options
+  pub failures : List FailAt
+  pub trace : Word
+  pub file : Word
+  pub is : task ≡ Traced goal options failures
+  pub asked : IsTraced goal words options failures trace file
+  pub are : ArePlaces (length words) places
+
+pub names_traced : (words : List Word) (task : Task) (places : Places) → AsksTraced words task places → NamesTraced words task places
+names_traced words Check places asked = absurd asked
+names_traced words (Run o fails) places asked = absurd asked
+names_traced words (Traced goal o fails) places (trace, file, asked, are) = record { goal = goal; options = o; failures = fails; trace = trace; file = file; is = refl; asked = asked; are = are }
+
+pub traced_input : (words : List Word) (task : Task) (places : Places) → AsksTraced words task places → AsksOf words task (File places.file)
+traced_input words Check places asked = absurd asked
+traced_input words (Run o fails) places asked = absurd asked
+traced_input words (Traced goal o fails) places (trace, file, asked, are) = (from_file file, (trace, asked), are.file)
+
+pub trace_place : (texts : List (String Global)) (task : Task) (places : Places) → AsksTraced (words_in texts) task places → (0 < places.trace) × (places.trace ≤ length texts)
+trace_place texts task places asked =
+    let r = names_traced (words_in texts) task places asked in
+    let many : length (words_in texts) ≡ length texts = length-map texts _ in
+    let last = traced_last (verbs.Traced r.goal) (words_in texts) r.options r.failures r.trace r.file r.asked in
+    (omega (arith, many, last.0, r.are.trace), omega (arith, many, last.0, r.are.trace))
+
+pub trace_word : (words : List Word) (task : Task) (places : Places) (name : Word) (r : NamesTraced words task places) → slice_get words (places.trace - 1) ≡ Some name → name ≡ r.trace
+trace_word words task places name r here =
+    let last = traced_last (verbs.Traced r.goal) words r.options r.failures r.trace r.file r.asked in
+    let at : places.trace - 1 ≡ length words - 2 = omega (arith, last.0, r.are.trace) in
+    let there = subst (λ k. slice_get words k ≡ Some name) at here in
+    cc (there, last.1)
+
+pub traced_named : (words : List Word) (task : Task) (places : Places) → AsksTraced words task places → NamesNoFile words → ⊥
+traced_named words task places asked none =
+    let r = names_traced words task places asked in
+    none r.file (Traced r.goal r.options r.failures, (r.trace, r.asked))
 
 -- an input by its place is a file's, and that is the last of the words
 pub record AsksFile (words : List Word) (task : Task) (number : ℕ) : Type 0 where
@@ -116,7 +156,7 @@ asks_file words task number (from_made seed size, asked, last) = absurd last
 pub asks_last : (words : List Word) (task : Task) (file : Word) → Asks words task (from_file file) → slice_get words (length words - 1) ≡ Some file
 asks_last words Check file asked = check_last words file asked
 asks_last words (Run o fails) file asked = run_last words o fails file asked
-asks_last words (Traced goal o fails) file (trace, asked) = (traced_last goal words o fails trace file asked).last
+asks_last words (Traced goal o fails) file (trace, asked) = (traced_last (verbs.Traced goal) words o fails trace file asked).2
 
 pub last_word : (words : List Word) (task : Task) (number : ℕ) (name : Word) (r : AsksFile words task number) → slice_get words (number - 1) ≡ Some name → name ≡ r.file
 last_word words task number name r h =

@@ -1,6 +1,6 @@
 -- What is due where the words judge or replay a trace.
 use Rattle.std.proofs.Common.{◌≡◌, ℕ, ◌≤◌, ◌<◌, length, List, ◌⊎◌, inl, inr, refl, sym, ap, ◌∙◌, subst, arith}
-use Rattle.std.specs.Prelude.{Option, None, Some, codes}
+use Rattle.std.specs.Prelude.{Option, None, Some, ◌-◌, codes, slice_get}
 use Rattle.checked_tree.specs.Statements as typed
 use Rattle.caf_base.specs.Outside.{Files, Rose, HaveNot, MayNotBegin}
 use Rattle.caf_report.specs.declared.report.Report.{Report}
@@ -11,15 +11,16 @@ use Rattle.caf_words.specs.Words.Operands.{of_trace}
 use Rattle.caf_words.specs.declared.command.FailAt.{FailAt}
 use Rattle.caf_words.specs.declared.command.Goal.{Goal}
 use Rattle.caf_words.specs.declared.command.Options.{Options}
+use Rattle.caf_words.specs.declared.command.Places.{Places}
 use Rattle.caf_words.specs.declared.command.Verb.TheVariants as verbs
 use Rattle.caf_words.proofs.Meanings.{not_command_and_make}
 use Rattle.caf_run.specs.declared.task.Task.{Task}
 use Rattle.caf_run.specs.declared.task.Task.TheVariants.{Check, Run, Traced}
 use Rattle.caf_run.specs.Reading.{HasBytesIfTold, HasBytes, IsSource, IsLonger, IsLongTold}
-use Rattle.caf_run.specs.Tasks.{Asks, NamesTrace, IsTrace, IsTraceIfTold}
+use Rattle.caf_run.specs.Tasks.{Asks, AsksTraced, NamesTrace, IsTrace, IsTraceIfTold}
 use Rattle.caf_run.specs.Dues.{IsProgramOf, Settle, IsDue, TracedAs, ReportClause, RunClause, TraceClause}
 use Rattle.caf_run.proofs.Settled.{not_good, same_bytes, whole_has, longer_has, fault_settles, many_settle}
-use Rattle.caf_run.proofs.Tasks.{one_task, one_trace, one_traced, no_trace_named}
+use Rattle.caf_run.proofs.Tasks.{NamesTraced, names_traced, trace_word, one_task, one_trace, no_trace_named}
 
 -- where the source isn't good, nothing is answered of a trace
 pub no_trace_answered : (task : Task) (K : typed.Program → Type 0) (traced : List ℕ) (status : ℕ) (text : List ℕ) (report : Option Report) → (status ≡ 2) ⊎ (status ≡ 3) ⊎ (status ≡ 10) ⊎ (status ≡ 13)
@@ -170,3 +171,27 @@ long_trace words goal o fails trace file files left' faults faults' status text 
 
     here : NamesTrace words trace
     here = (goal, o, fails, file, named)
+
+-- what is due by the place of the trace's name
+pub trace_given : (words : List Word) (files : Option Files) (task : Task) (places : Places) (name : Word) (traced : List ℕ) → AsksTraced words task places → slice_get words (places.trace - 1) ≡ Some name
+    → HasBytesIfTold files name traced → IsTraceIfTold words files task traced
+trace_given words files task places name traced asked here has =
+    let r = names_traced words task places asked in
+    let same = trace_word words task places name r here in
+    let given : IsTraceIfTold words files (Traced r.goal r.options r.failures) traced =
+        (r.trace, (r.goal, r.options, r.failures, r.file, r.asked), subst (λ v. HasBytesIfTold files v traced) same has) in
+    subst (λ t. IsTraceIfTold words files t traced) (sym r.is) given
+
+pub fault_named : (words : List Word) (task : Task) (places : Places) (name : Word) (files : Option Files) (left' : Option (List ℕ)) (faults faults' status : ℕ) (text : List ℕ) (report : Option Report) → AsksTraced words task places
+    → slice_get words (places.trace - 1) ≡ Some name → MayNotBegin files name faults faults' → status ≡ 10 → text ≡ codes "read fault\n" → report ≡ None → IsDue words files left' faults faults' status text report
+fault_named words task places name files left' faults faults' status text report asked here may s t none =
+    let r = names_traced words task places asked in
+    let same = trace_word words task places name r here in
+    fault_trace words r.goal r.options r.failures r.trace r.file files left' faults faults' status text report r.asked (subst (λ v. MayNotBegin files v faults faults') same may) s t none
+
+pub long_named : (words : List Word) (task : Task) (places : Places) (name : Word) (files : Option Files) (left' : Option (List ℕ)) (faults faults' status : ℕ) (text : List ℕ) (report : Option Report) → AsksTraced words task places
+    → slice_get words (places.trace - 1) ≡ Some name → IsLonger files name 67108864 → status ≡ 13 → text ≡ codes "too long\n" → report ≡ None → IsDue words files left' faults faults' status text report
+long_named words task places name files left' faults faults' status text report asked here longer s t none =
+    let r = names_traced words task places asked in
+    let same = trace_word words task places name r here in
+    long_trace words r.goal r.options r.failures r.trace r.file files left' faults faults' status text report r.asked (subst (λ v. IsLonger files v 67108864) same longer) s t none
