@@ -4,7 +4,7 @@ pub mod Readings
 pub mod Settled
 pub mod Tasks
 pub mod Made
-pub mod Traced
+pub mod TraceDue
 pub mod Trees
 pub mod WhatIsDue
 pub mod Written

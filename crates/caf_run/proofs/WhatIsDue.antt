@@ -30,7 +30,7 @@ use Rattle.caf_run.specs.Dues.{usage_text, IsDoneStatus, IsBad, IsProgramOf, Set
 use Rattle.caf_run.specs.Sources.{BreaksFirst, StandsFor, IsRefusedAs, IsRefusal, refusal_text}
 use Rattle.caf_run.proofs.Settled.{not_good, not_done, good_done, fault_settles, whole_has, whole_settles, long_settles, source_has, long_has}
 use Rattle.caf_run.proofs.Tasks.{Same, asks_valid, asks_no_make, one_task}
-use Rattle.caf_run.proofs.Traced.{no_trace_answered, trace_there, not_long_told, traced_settle, traced_words}
+use Rattle.caf_run.proofs.TraceDue.{no_trace_answered, trace_there, not_long_told, traced_settle, traced_words}
 use Rattle.caf_run.proofs.Made.{long_file}
 use Rattle.caf_run.proofs.Trees.{none_first}
 

@@ -4,7 +4,7 @@ use Rattle.caf_run.specs.Dues.{IsDue}
 use Rattle.caf_run.specs.Reading.{HasBytesIfTold}
 use Rattle.caf_run.specs.Tasks.{IsTraceIfTold}
 use Rattle.caf_run.proofs.Tasks.{trace_place, traced_input, traced_named}
-use Rattle.caf_run.proofs.Traced.{due_later, fault_named, long_named, trace_given}
+use Rattle.caf_run.proofs.TraceDue.{due_later, fault_named, long_named, trace_given}
 use Rattle.caf_run.proofs.WhatIsDue.{if_ok_map}
 use Rattle.caf_run.proofs.due.trace_and_file_due.Goals as goal
 
