@@ -9,8 +9,8 @@ ghost use Rattle.checked_run.specs.Runnable.{IsUnrunnable};
 ghost use Rattle.checked_traces.specs.Beginnings.{BeginsAs};
 
 use caf_base::refusal::Refusal;
-use checked_run::running::{coarrays, runnable};
 use checked_run::runnable::Unrunnable;
+use checked_run::running::{coarrays, runnable};
 use checked_tree::program::Checked;
 use coarray_memory::coarray::Coarray;
 use image_code::code::Code;

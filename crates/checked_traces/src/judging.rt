@@ -13,8 +13,8 @@ ghost use Rattle.checked_traces.specs.Beginnings.{BeginsAs};
 ghost use Rattle.checked_traces.specs.Traces.{core_run, ComesTo, IsRunAsTold, IsNoRunOf, IsToldAs};
 
 use crate::beginning::{Begun, begun};
-use crate::no_run::NoRun;
 use crate::file::trace_of;
+use crate::no_run::NoRun;
 use caf_base::listing::{Listing, Text};
 use caf_base::refusal::Refusal;
 use caf_events::event::Trace;

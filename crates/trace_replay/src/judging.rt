@@ -58,7 +58,8 @@ fn first_parts(
         (moment ⟦<Lane<Machine> as Walker>⟧ ⟦<Memory as Object>⟧ ⟦<Board as Object>⟧ parts)) }
 {
     let machines = machines(alloc, code, n, limit)?;
-    start_full(alloc, machines, coarrays, fails, words)
+    let parts = start_full(alloc, machines, coarrays, fails, words)?;
+    Ok(parts)
 }
 
 /// The parts of the run of code on n images behind a trace, at the moment to which its steps lead; where it is the trace of no run, the first step at which it is none. Each memory has these
