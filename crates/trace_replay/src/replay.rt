@@ -1,9 +1,8 @@
 //! The run that goes on behind a trace that was given, and its report.
 
-ghost use Rattle.std.specs.Prelude.{◌≡◌, ◌≤◌, [], ℕ, List, Some, None, true, length, map, IfOk, IfErr};
+ghost use Rattle.std.specs.Prelude.{◌≡◌, ◌≤◌, None, true, map, IfOk, IfErr};
 ghost use Rattle.std.specs.Arc.{arc_value};
 ghost use Rattle.std.specs.List.{list_all};
-ghost use Rattle.caf_events.specs.declared.event.Entry.{Entry};
 ghost use Rattle.object_rules.specs.MemoryRules.{has_first_values};
 ghost use Rattle.coarray_memory.specs.Memories.{declared_of};
 ghost use Rattle.checked_tree.specs.Statements as checked;
@@ -20,7 +19,7 @@ ghost use Rattle.trace_replay.specs.Replays.{GoesOn};
 
 use crate::judging::{NotARun, parts_behind};
 use caf_base::listing::{Listing, Text};
-use caf_base::refusal::{NoMemory, Refusal};
+use caf_base::refusal::Refusal;
 use caf_events::event::Trace;
 use caf_report::report::Report;
 use coarray_memory::coarray::Coarray;
@@ -64,15 +63,7 @@ pub fn replay_code(
     ensures not_a_run { IfErr result (λ refusal. IfCause refusal (λ bad. IsNoRunOfCode (arc_value code.now) limit (map declared_of coarrays.now) n (fails_at fails.now) words trace.now.entries bad.step)) }
 {
     let mut parts = parts_behind(alloc, code, n, limit, coarrays, fails, words, trace)?;
-    let rest = report_rest(alloc, &mut parts, names);
-    match rest {
-        Ok(report) => {
-            let told = told(alloc, Ran { report, parts }, listed)?;
-            Ok(told)
-        }
-        Err(NoMemory) => {
-            drop(parts);
-            Err(Refusal::NoMemory)
-        }
-    }
+    let report = report_rest(alloc, &mut parts, names)?;
+    let told = told(alloc, Ran { report, parts }, listed)?;
+    Ok(told)
 }
