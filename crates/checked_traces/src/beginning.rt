@@ -32,6 +32,9 @@ pub(crate) fn begun(alloc: Global, checked: &Checked) -> Result<Begun, Refusal<U
 {
     let code = runnable(alloc, checked)?;
     let coarrays = coarrays(alloc, code.tables())?;
-    let code = Arc::new(alloc, code)?;
-    Ok(Begun { code, coarrays })
+    let shared = Arc::new(alloc, code)?;
+    Ok(Begun {
+        code: shared,
+        coarrays,
+    })
 }

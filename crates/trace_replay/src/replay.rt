@@ -14,7 +14,7 @@ ghost use Rattle.program_run.specs.Finals.{AreProgramFinals};
 ghost use Rattle.program_run.specs.Machines.{IsRunnable};
 ghost use Rattle.program_run.specs.Reports.{IsProgramReport};
 ghost use Rattle.program_walks.specs.Runs.{program_rules, program_begins};
-ghost use Rattle.trace_replay.specs.Judging.{IsNoRunOfCode};
+ghost use Rattle.trace_replay.specs.Judging.{IsRunOfCode, IsNoRunOfCode};
 ghost use Rattle.trace_replay.specs.Replays.{GoesOn};
 
 use crate::judging::{NotARun, parts_behind};
@@ -50,6 +50,7 @@ pub fn replay_code(
     requires declared { list_all has_first_values (map declared_of coarrays.now) ≡ true }
     requires program { (p : checked.Program) × HasWalksOn p limit n (arc_value code.now) }
     requires runnable { IsRunnable (arc_value code.now) }
+    ensures run { IfOk result (λ report. IsRunOfCode (arc_value code.now) limit (map declared_of coarrays.now) n (fails_at fails.now) words trace.now.entries) }
     // It is that of a run of each program whose walks the code has.
     ensures report { IfOk result (λ report. (p : checked.Program) → HasWalksOn p limit n (arc_value code.now)
         → IsProgramReport p limit (map declared_of coarrays.now) n (fails_at fails.now) words None report) }

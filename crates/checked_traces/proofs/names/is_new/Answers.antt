@@ -6,8 +6,7 @@ use Rattle.checked_traces.proofs.names.is_new.Goals as goal
 pub returns-then-are_alike : goal.returns-then-are_alike
 returns-then-are_alike c =
     let there = slice_get_read c.args.texts.now _ c.loop-text.text-index c.text-item.result refl c.loop-text-test.true c.text-item.is in
-    let same = c.are_alike.ensures.0 c.if-are_alike.true in
-    (
+    let same = c.are_alike.ensures.0 c.if-are_alike.true in (
       λ no. absurd (true≢false (sym no)),
       λ none. absurd (none c.loop-text.text-index (there ∙ ap Some (sym c.as_slice.ensures ∙ same))),
     )

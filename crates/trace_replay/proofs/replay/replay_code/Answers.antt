@@ -12,7 +12,7 @@ use Rattle.program_run.proofs.Ended.{lane_at, memories_count, program_finals}
 use Rattle.program_run.proofs.Program.{program_report, with_finals}
 use Rattle.program_walks.specs.Runs.{program_rules, program_begins}
 use Rattle.trace_replay.specs.Replays.{GoesOn}
-use Rattle.trace_replay.proofs.Judged.{are_lawful, end_so, goes_onward}
+use Rattle.trace_replay.proofs.Judged.{are_lawful, end_so, goes_onward, is_run}
 use Rattle.trace_replay.proofs.replay.replay_code.Goals as goal
 
 pub report_rest-requires-clause-lawful : goal.report_rest-requires-clause-lawful
@@ -81,3 +81,7 @@ returns-clause-finals c p h =
     subst (λ (r : Report). AreProgramFinals p c.args.limit coarrays c.args.n fails c.args.words c.args.listed.now r.trace.entries r.finals) (sym c.in_ok-told.ensures)
     (program_finals p w c.args.limit stands.rooms coarrays c.args.n fails c.args.words h c.args.listed.now c.in_ok-report.report.trace.entries _ (c.in_ok-report.ensures.at_end b stands.run.kept)
     lane_at (λ l. refl) parts.images.items parts.memories.items refl refl refl refl c.in_ok-report.ensures.numbered)
+
+pub returns-clause-run : goal.returns-clause-run
+returns-clause-run c =
+    is_run (arc_value c.args.code.now) c.args.limit (map declared_of c.args.coarrays.now) c.args.n (fails_at c.args.fails.now) c.args.words c.args.trace.now.entries _ c.in_ok-parts.ensures.stands
