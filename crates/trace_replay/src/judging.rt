@@ -87,17 +87,10 @@ pub fn parts_behind(
     ensures not_a_run { IfErr result (λ refusal. IfCause refusal (λ bad. IsNoRunOfCode (arc_value code.now) limit (map declared_of coarrays.now) n (fails_at fails.now) words trace.now.entries bad.step)) }
 {
     let mut parts = first_parts(alloc, code, n, limit, coarrays, fails, words)?;
-    let verdict = judge_entries(alloc, &mut parts, trace.entries.as_slice());
-    match verdict {
+    match judge_entries(alloc, &mut parts, trace.entries.as_slice()) {
         Ok(None) => Ok(parts),
-        Ok(Some(step)) => {
-            drop(parts);
-            Err(Refusal::Cause(NotARun { step }))
-        }
-        Err(NoMemory) => {
-            drop(parts);
-            Err(Refusal::NoMemory)
-        }
+        Ok(Some(step)) => Err(Refusal::Cause(NotARun { step })),
+        Err(NoMemory) => Err(Refusal::NoMemory),
     }
 }
 
