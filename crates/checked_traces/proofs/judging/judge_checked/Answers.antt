@@ -12,4 +12,6 @@ returns-in-Ok-clause-run c =
     (subst (λ names. Written c.args.bytes.now names c.in-Ok.trace.entries) named c.in-Ok.ensures.written, c.in_ok-race.ensures.run)
 
 pub returns-in-Err-Cause-clause-refused : goal.returns-in-Err-Cause-clause-refused
-returns-in-Err-Cause-clause-refused c = subst (λ names. IsBadLine (lines_of c.args.bytes.now) names c.in-Err-Cause.bad.line) (c.as_slice.ensures ∙ c.in_ok-names.ensures) c.in-Err-Cause.ensures.bad
+returns-in-Err-Cause-clause-refused c =
+    let bad = c.in-Err-Cause.ensures.bad in
+    subst (λ names. IsBadLine (lines_of c.args.bytes.now) names c.in-Err-Cause.bad.line) (c.as_slice.ensures ∙ c.in_ok-names.ensures) (rw c.in-Err-Cause.field-0-is at bad)

@@ -13,7 +13,9 @@ returns-in-Ok-None-clause-stands c =
     let fails = fails_at c.args.fails.now in
     let begun = c.in_ok-parts.ensures.begun in
     let b = machines_begin w c.args.limit begun.rooms coarrays c.args.n fails c.args.words in
-    stands_on w c.args.limit coarrays c.args.n fails c.args.words c.args.trace.now.entries _ _ begun c.in-Ok-None.ensures.made (c.in-Ok-None.ensures.verdict b begun.run.kept begun.run.trace)
+    let made = c.in-Ok-None.ensures.made in
+    let verdict = c.in-Ok-None.ensures.verdict b begun.run.kept begun.run.trace in
+    stands_on w c.args.limit coarrays c.args.n fails c.args.words c.args.trace.now.entries _ _ begun (rw (c.in-Ok-None.field-0-is, c.as_slice.ensures) at made) (rw (c.in-Ok-None.field-0-is, c.as_slice.ensures) at verdict)
 
 pub returns-in-Ok-Some-clause-not_a_run : goal.returns-in-Ok-Some-clause-not_a_run
 returns-in-Ok-Some-clause-not_a_run c =
@@ -22,4 +24,5 @@ returns-in-Ok-Some-clause-not_a_run c =
     let fails = fails_at c.args.fails.now in
     let begun = c.in_ok-parts.ensures.begun in
     let b = machines_begin w c.args.limit begun.rooms coarrays c.args.n fails c.args.words in
-    no_run w c.args.limit coarrays c.args.n fails c.args.words c.args.trace.now.entries begun.rooms c.in-Ok-Some.step (c.in-Ok-Some.ensures.verdict b begun.run.kept begun.run.trace)
+    let verdict = c.in-Ok-Some.ensures.verdict b begun.run.kept begun.run.trace in
+    no_run w c.args.limit coarrays c.args.n fails c.args.words c.args.trace.now.entries begun.rooms c.in-Ok-Some.step (rw (c.in-Ok-Some.field-0-is, c.as_slice.ensures) at verdict)
