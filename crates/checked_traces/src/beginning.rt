@@ -9,8 +9,8 @@ ghost use Rattle.checked_run.specs.Runnable.{IsUnrunnable};
 ghost use Rattle.checked_traces.specs.Beginnings.{BeginsAs};
 
 use caf_base::refusal::Refusal;
-use checked_run::running::{coarrays, runnable};
 use checked_run::runnable::Unrunnable;
+use checked_run::running::{coarrays, runnable};
 use checked_tree::program::Checked;
 use coarray_memory::coarray::Coarray;
 use image_code::code::Code;
@@ -32,6 +32,9 @@ pub(crate) fn begun(alloc: Global, checked: &Checked) -> Result<Begun, Refusal<U
 {
     let code = runnable(alloc, checked)?;
     let coarrays = coarrays(alloc, code.tables())?;
-    let code = Arc::new(alloc, code)?;
-    Ok(Begun { code, coarrays })
+    let shared = Arc::new(alloc, code)?;
+    Ok(Begun {
+        code: shared,
+        coarrays,
+    })
 }

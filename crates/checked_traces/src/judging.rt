@@ -13,8 +13,8 @@ ghost use Rattle.checked_traces.specs.Beginnings.{BeginsAs};
 ghost use Rattle.checked_traces.specs.Traces.{core_run, ComesTo, IsRunAsTold, IsNoRunOf, IsToldAs};
 
 use crate::beginning::{Begun, begun};
-use crate::no_run::NoRun;
 use crate::file::trace_of;
+use crate::no_run::NoRun;
 use caf_base::listing::{Listing, Text};
 use caf_base::refusal::Refusal;
 use caf_events::event::Trace;
@@ -49,7 +49,7 @@ fn judge_begun(
     ensures stands { IfOk result (RaceIn trace.now) }
     ensures refused { IfErr result (λ refusal. IfCause refusal (λ cause. (p : Program) → BeginsAs p begun → IsNoRunOf p told (fails_at fails.now) trace.now.entries cause)) }
 {
-    let verdict = judge_code(
+    match judge_code(
         alloc,
         &begun.code,
         told.images,
@@ -58,9 +58,7 @@ fn judge_begun(
         fails,
         told.words,
         trace,
-    );
-    drop(begun);
-    match verdict {
+    ) {
         Ok(race) => Ok(race),
         Err(Refusal::Cause(bad)) => Err(Refusal::Cause(NoRun::NotARun { step: bad.step })),
         Err(Refusal::NoMemory) => Err(Refusal::NoMemory),

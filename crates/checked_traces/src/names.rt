@@ -1,6 +1,7 @@
 //! Whether texts are names of coarrays as the text of a trace can show them.
 
 ghost use Rattle.std.specs.Prelude.{◌≡◌, ℕ, List, Decides, Some, slice_get};
+ghost use Rattle.std.specs.List.{list_all};
 ghost use Rattle.trace_forms.specs.Names as spec;
 
 use caf_base::listing::Text;
@@ -15,19 +16,36 @@ fn is_name_byte(byte: u8) -> bool
         || byte == b'.'
 }
 
+// Whether each byte of a text is one of these.
+fn are_name_bytes(text: &[u8]) -> bool
+    ensures { result ≡ list_all spec.is_name_byte text.now }
+{
+    text.iter().all(|byte| is_name_byte(*byte))
+}
+
 // Whether a text is a name: one such byte or more.
 fn is_name(text: &[u8]) -> bool
     ensures { Decides result (spec.IsName text.now) }
 {
-    !text.is_empty() && text.iter().all(|byte| is_name_byte(*byte))
+    if text.is_empty() {
+        return false;
+    }
+    are_name_bytes(text)
+}
+
+// Whether two texts are alike.
+fn are_alike(a: &[u8], b: &[u8]) -> bool
+    ensures { Decides result (a.now ≡ b.now) }
+{
+    a == b
 }
 
 // Whether none of the texts is this one.
-fn is_new(texts: &[Text], name: &Text) -> bool
+fn is_new(texts: &[Text], name: &[u8]) -> bool
     ensures { Decides result ((k : ℕ) → slice_get texts.now k ≡ Some name.now → ⊥) }
 {
     for text in texts {
-        if text.as_slice() == name.as_slice() {
+        if are_alike(text.as_slice(), name) {
             return false;
         }
     }
@@ -39,8 +57,8 @@ pub(crate) fn are_names(texts: &[Text]) -> bool
     ensures { Decides result (spec.AreNames texts.now) }
 {
     for k in 0..texts.len() {
-        let text = &texts[k];
-        if !is_name(text.as_slice()) {
+        let text = texts[k].as_slice();
+        if !is_name(text) {
             return false;
         }
         if !is_new(&texts[..k], text) {

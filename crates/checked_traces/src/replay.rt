@@ -45,7 +45,7 @@ fn replay_begun(
     ensures has_end { IfOk result HasEnd }
     ensures refused { IfErr result (λ refusal. IfCause refusal (λ cause. (p : Program) → BeginsAs p begun → IsNoRunOf p told (fails_at fails.now) trace.now.entries cause)) }
 {
-    let replayed = replay_code(
+    match replay_code(
         alloc,
         &begun.code,
         told.images,
@@ -56,9 +56,7 @@ fn replay_begun(
         trace,
         names,
         listed,
-    );
-    drop(begun);
-    match replayed {
+    ) {
         Ok(report) => Ok(report),
         Err(Refusal::Cause(bad)) => Err(Refusal::Cause(NoRun::NotARun { step: bad.step })),
         Err(Refusal::NoMemory) => Err(Refusal::NoMemory),

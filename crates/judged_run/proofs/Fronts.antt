@@ -18,7 +18,7 @@ use Rattle.trace_judge.specs.Verdicts.{IsFirstNot, IsBehind, IsDueNow}
 use Rattle.trace_judge.proofs.Next.{due_now, all_behind}
 use Rattle.trace_judge.proofs.Made.{behind_last}
 use Rattle.trace_judge.proofs.Verdict.{trace_more, first_not}
-use Rattle.judged_run.specs.Judging.{IsLaterThan, IsLastOf, IsRunTo}
+use Rattle.judged_run.specs.Judging.{IsLaterThan, IsLastOf, IsRunTo, Leads}
 
 -- a list around one of its items
 around : {A : Type 0} (xs : List A) (k : ℕ) (x : A) → k < length xs → x ≡ slice_index_or xs k x → take k xs
@@ -90,3 +90,18 @@ pub whole : {C M B : Type 0} (r : Rules C M B) (b : Beginning C M B) (m : Moment
 whole r b m entries k long kept trace =
     let t = subst (IsTraceOf m.events) (take_all k entries long) trace in
     record { run = core_run r b m entries kept t; kept = kept; trace = t }
+
+-- one step more leads further
+leads_more : {C M B : Type 0} (r : Rules C M B) (m m' m'' : Moment C M B) (t : List Entry) (e : Entry) → Leads r m t m'
+    → Steps r m' (image_of e) e.event m'' → Leads r m (t ++ e ∷ []) m''
+leads_more r m m' m'' [] e p s = (m'', subst (λ v. Steps r v (image_of e) e.event m'') p s, refl)
+leads_more r m m' m'' (x ∷ xs) e (next, one, rest) s = (next, one, leads_more r next m' m'' xs e rest s)
+
+module _ {C M B : Type 0} (r : Rules C M B) (m m' : Moment C M B) (entries : List Entry) (k : ℕ) where
+  pub leads_on : (e : Entry) (m'' : Moment C M B) → k < length entries → e ≡ slice_index_or entries k e
+      → Leads r m (take k entries) m' → Steps r m' (image_of e) e.event m'' → Leads r m (take (k + 1) entries) m''
+  leads_on e m'' within is leads s =
+      subst (λ xs. Leads r m xs m'') (one_more entries k e within is) (leads_more r m m' m'' (take k entries) e leads s)
+
+  pub leads_all : length entries ≤ k → Leads r m (take k entries) m' → Leads r m entries m'
+  leads_all long leads = subst (λ xs. Leads r m xs m') (take_all k entries long) leads

@@ -28,7 +28,12 @@ fn machine(alloc: Global, code: &Arc<Code>, k: u32, n: u32, limit: u64) -> Resul
 
 /// The machines of the images from 1 to n, each at its first ask or its end, made one after another. Conditions: there are at most 100,000,000 statements, and the machine
 /// can run the code.
-pub fn machines(alloc: Global, code: &Arc<Code>, n: u32, limit: u64) -> Result<Vec<Machine>, NoMemory>
+pub fn machines(
+    alloc: Global,
+    code: &Arc<Code>,
+    n: u32,
+    limit: u64,
+) -> Result<Vec<Machine>, NoMemory>
     requires images { n < 2 ^ 31 }
     requires limit { limit ≤ 100000000 }
     requires code { IsRunnable (arc_value code.now) }

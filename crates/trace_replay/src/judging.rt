@@ -58,7 +58,8 @@ fn first_parts(
         (moment ⟦<Lane<Machine> as Walker>⟧ ⟦<Memory as Object>⟧ ⟦<Board as Object>⟧ parts)) }
 {
     let machines = machines(alloc, code, n, limit)?;
-    start_full(alloc, machines, coarrays, fails, words)
+    let parts = start_full(alloc, machines, coarrays, fails, words)?;
+    Ok(parts)
 }
 
 /// The parts of the run of code on n images behind a trace, at the moment to which its steps lead; where it is the trace of no run, the first step at which it is none. Each memory has these
@@ -86,17 +87,10 @@ pub fn parts_behind(
     ensures not_a_run { IfErr result (λ refusal. IfCause refusal (λ bad. IsNoRunOfCode (arc_value code.now) limit (map declared_of coarrays.now) n (fails_at fails.now) words trace.now.entries bad.step)) }
 {
     let mut parts = first_parts(alloc, code, n, limit, coarrays, fails, words)?;
-    let verdict = judge_entries(alloc, &mut parts, trace.entries.as_slice());
-    match verdict {
+    match judge_entries(alloc, &mut parts, trace.entries.as_slice()) {
         Ok(None) => Ok(parts),
-        Ok(Some(step)) => {
-            drop(parts);
-            Err(Refusal::Cause(NotARun { step }))
-        }
-        Err(NoMemory) => {
-            drop(parts);
-            Err(Refusal::NoMemory)
-        }
+        Ok(Some(step)) => Err(Refusal::Cause(NotARun { step })),
+        Err(NoMemory) => Err(Refusal::NoMemory),
     }
 }
 

@@ -1,9 +1,8 @@
 //! The run that goes on behind a trace that was given, and its report.
 
-ghost use Rattle.std.specs.Prelude.{◌≡◌, ◌≤◌, [], ℕ, List, Some, None, true, length, map, IfOk, IfErr};
+ghost use Rattle.std.specs.Prelude.{◌≡◌, ◌≤◌, None, true, map, IfOk, IfErr};
 ghost use Rattle.std.specs.Arc.{arc_value};
 ghost use Rattle.std.specs.List.{list_all};
-ghost use Rattle.caf_events.specs.declared.event.Entry.{Entry};
 ghost use Rattle.object_rules.specs.MemoryRules.{has_first_values};
 ghost use Rattle.coarray_memory.specs.Memories.{declared_of};
 ghost use Rattle.checked_tree.specs.Statements as checked;
@@ -15,12 +14,12 @@ ghost use Rattle.program_run.specs.Finals.{AreProgramFinals};
 ghost use Rattle.program_run.specs.Machines.{IsRunnable};
 ghost use Rattle.program_run.specs.Reports.{IsProgramReport};
 ghost use Rattle.program_walks.specs.Runs.{program_rules, program_begins};
-ghost use Rattle.trace_replay.specs.Judging.{IsNoRunOfCode};
+ghost use Rattle.trace_replay.specs.Judging.{IsRunOfCode, IsNoRunOfCode};
 ghost use Rattle.trace_replay.specs.Replays.{GoesOn};
 
 use crate::judging::{NotARun, parts_behind};
 use caf_base::listing::{Listing, Text};
-use caf_base::refusal::{NoMemory, Refusal};
+use caf_base::refusal::Refusal;
 use caf_events::event::Trace;
 use caf_report::report::Report;
 use coarray_memory::coarray::Coarray;
@@ -51,6 +50,7 @@ pub fn replay_code(
     requires declared { list_all has_first_values (map declared_of coarrays.now) ≡ true }
     requires program { (p : checked.Program) × HasWalksOn p limit n (arc_value code.now) }
     requires runnable { IsRunnable (arc_value code.now) }
+    ensures run { IfOk result (λ report. IsRunOfCode (arc_value code.now) limit (map declared_of coarrays.now) n (fails_at fails.now) words trace.now.entries) }
     // It is that of a run of each program whose walks the code has.
     ensures report { IfOk result (λ report. (p : checked.Program) → HasWalksOn p limit n (arc_value code.now)
         → IsProgramReport p limit (map declared_of coarrays.now) n (fails_at fails.now) words None report) }
@@ -64,15 +64,7 @@ pub fn replay_code(
     ensures not_a_run { IfErr result (λ refusal. IfCause refusal (λ bad. IsNoRunOfCode (arc_value code.now) limit (map declared_of coarrays.now) n (fails_at fails.now) words trace.now.entries bad.step)) }
 {
     let mut parts = parts_behind(alloc, code, n, limit, coarrays, fails, words, trace)?;
-    let rest = report_rest(alloc, &mut parts, names);
-    match rest {
-        Ok(report) => {
-            let told = told(alloc, Ran { report, parts }, listed)?;
-            Ok(told)
-        }
-        Err(NoMemory) => {
-            drop(parts);
-            Err(Refusal::NoMemory)
-        }
-    }
+    let report = report_rest(alloc, &mut parts, names)?;
+    let told = told(alloc, Ran { report, parts }, listed)?;
+    Ok(told)
 }

@@ -1,7 +1,7 @@
 use Rattle.std.proofs.Common.{◌<◌, ◌≤◌, length, take, sym, ◌∙◌, arith, true≢false}
 use Rattle.core_runs.specs.Moments.{rules}
 use Rattle.image_core.specs.Parts.{moment}
-use Rattle.judged_run.proofs.Fronts.{one_more, stop_late, stop_other, go_on, whole}
+use Rattle.judged_run.proofs.Fronts.{one_more, stop_late, stop_other, go_on, whole, leads_on, leads_all}
 use Rattle.judged_run.proofs.judge.judge_entries.Goals as goal
 
 pub returns-then-not-is_later-clause-verdict : goal.returns-then-not-is_later-clause-verdict
@@ -35,6 +35,11 @@ loop-k-preserved g c =
         sym
             (one_more c.args.entries.now c.loop-k.k c.index-entries-k.result within c.index-entries-k.is),
       ),
+      leads_on (rules g.M.Walker g.O.Object g.B.Object)
+          (moment g.M.Walker g.O.Object g.B.Object c.args.parts.now)
+          (moment g.M.Walker g.O.Object g.B.Object c.loop-k.parts) c.args.entries.now c.loop-k.k c.index-entries-k.result
+          (moment g.M.Walker g.O.Object g.B.Object c.make_entry.new.parts) within c.index-entries-k.is
+          c.loop-k.invariant.3 (c.in_ok-make_entry.ensures.yes c.if-not-branch.false),
     )
 
 pub returns-clause-verdict : goal.returns-clause-verdict
@@ -43,3 +48,9 @@ returns-clause-verdict g c b kept none =
     let long : length c.args.entries.now ≤ c.loop-k.k = omega arith in
     whole (rules g.M.Walker g.O.Object g.B.Object) b (moment g.M.Walker g.O.Object g.B.Object c.loop-k.parts)
     c.args.entries.now c.loop-k.k long at.0 at.1
+
+pub returns-clause-made : goal.returns-clause-made
+returns-clause-made g c =
+    let long : length c.args.entries.now ≤ c.loop-k.k = omega arith in
+    leads_all (rules g.M.Walker g.O.Object g.B.Object) (moment g.M.Walker g.O.Object g.B.Object c.args.parts.now)
+    (moment g.M.Walker g.O.Object g.B.Object c.loop-k.parts) c.args.entries.now c.loop-k.k long c.loop-k.invariant.3

@@ -4,7 +4,7 @@ use Rattle.core_runs.specs.Beginnings.{Beginning}
 use Rattle.core_runs.specs.Kept.{IsKept}
 use Rattle.core_runs.specs.Traces.{IsTraceOf}
 use Rattle.image_core.specs.Parts.{moment, AreSound}
-use Rattle.judged_run.specs.Judging.{IsLastOf}
+use Rattle.judged_run.specs.Judging.{IsLastOf, Leads}
 use Rattle.judged_run.proofs.judge.judge_entries.Given as goal
 
 abbrev pub invariant-loop-k : goal.invariant-loop-k
@@ -16,3 +16,5 @@ invariant-loop-k g l =
     → IsKept (rules g.M.Walker g.O.Object g.B.Object) b (moment g.M.Walker g.O.Object g.B.Object l.parts)
     × IsTraceOf (moment g.M.Walker g.O.Object g.B.Object l.parts).events (take l.k l.entries))
     × IsLastOf l.last (take l.k l.entries)
+    × Leads (rules g.M.Walker g.O.Object g.B.Object) (moment g.M.Walker g.O.Object g.B.Object l.fn.parts) (take l.k l.entries)
+    (moment g.M.Walker g.O.Object g.B.Object l.parts)

@@ -1,0 +1,4 @@
+pub mod Judged
+pub mod Onward
+pub mod Served
+pub mod Still
