@@ -1,6 +1,6 @@
 -- Words mean one command.
 use Rattle.std.proofs.Common.{◌≡◌, ℕ, ◌≤◌, List, [], ◌∷◌, ◌++◌, length, refl, sym, ap, ◌∙◌, subst, arith, ◌-◌, suc}
-use Rattle.std.specs.Prelude.{slice_get, Some, codes, ⊤}
+use Rattle.std.specs.Prelude.{slice_get, Some, ⊤}
 use Rattle.std.specs.List.{AllByRecursion}
 use Rattle.caf_words.specs.Usages.{Word}
 use Rattle.caf_words.specs.Words.{Origin, Operands, IsOption, AreSeedAndSize, IsOrigin, AreOperands, IsRest, IsCommand, IsRun, IsCheck, IsMake, IsInput, ArePlaces, Means, verb_word, nothing, told, is_summed, given_or}
@@ -13,7 +13,6 @@ use Rattle.caf_words.specs.declared.command.FailAt.{FailAt}
 use Rattle.caf_words.specs.declared.command.Options.{Options}
 use Rattle.caf_words.specs.declared.command.Command.{Command}
 use Rattle.caf_words.specs.declared.command.Command.TheVariants.{Run, Traced, Check, Make}
-use Rattle.caf_words.specs.declared.command.Goal.{Goal}
 use Rattle.caf_words.specs.declared.command.Places.{Places}
 use Rattle.caf_words.specs.declared.command.Verb.{Verb}
 use Rattle.caf_words.specs.declared.command.Verb.TheVariants as verbs

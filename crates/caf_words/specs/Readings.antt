@@ -29,7 +29,8 @@ Rests v g words = (o : Options) × (fails : List FailAt) × (x : Operands) × Is
 abbrev pub FileAlone : List Word → Type 0
 FileAlone words = (file : Word) × (words ≡ file ∷ []) × IsFileName file
 
--- words of a SIZE alone; of a SEED and a SIZE; of what says where a run has its source from; of a TRACE and a FILE; of a verb's operands
+-- words of a SIZE alone; of a SEED and a SIZE; of what says where a run has its source from; of a TRACE and a FILE; of
+-- a verb's operands
 abbrev pub IsSize : List Word → ℕ → Type 0
 IsSize words size = (words ≡ decimal size ∷ []) × (1 ≤ size) × (size ≤ 4096)
 
@@ -100,7 +101,8 @@ abbrev pub BeginsNoOption : Verb → Given → List Word → Type 0
 BeginsNoOption v g [] = ⊤
 BeginsNoOption v g (word ∷ words) = IsNoOption v g word
 
--- what stands next: an option of some of the words; no option; or a key without its value, with which the second word goes wrong
+-- what stands next: an option of some of the words; no option; or a key without its value, with which the second word
+-- goes wrong
 abbrev pub IsNext : Verb → Given → List Word → Next → Type 0
 IsNext v g words (nexts.Option t) = (1 ≤ t.words) × (t.words ≤ length words) × IsOption v g (take t.words words) t.given (listed t.fail)
 IsNext v g words nexts.Operands = BeginsNoOption v g words
@@ -119,7 +121,8 @@ IsInputOf words last input = (origin : Origin) × IsOrigin words origin × IsInp
 abbrev pub ArePlacesOf : List Word → ℕ → Places → Type 0
 ArePlacesOf words last places = TraceAlone words × ArePlaces last places
 
--- the words end a command of the verb, with what is given and the failures that are kept; FILE is the last of so many words
+-- the words end a command of the verb, with what is given and the failures that are kept; FILE is the last of so many
+-- words
 abbrev pub EndsCommand : Verb → Given → List Word → ℕ → Option (List FailAt) → Command → Type 0
 EndsCommand v g words last kept (Run input fails o) = (v ≡ verbs.Run) × (origin : Origin) × IsRest v g words o [] (of_source origin) × IsInput origin last input × (kept ≡ Some fails)
 EndsCommand v g words last kept (Traced goal places fails o) =

@@ -49,7 +49,8 @@ abbrev pub is_made : Origin → Bool
 is_made (from_file file) = false
 is_made (from_made seed size) = true
 
--- what stands behind the options: of a run, where its source comes from; of a judgement or a replay, the names of the files TRACE and FILE
+-- what stands behind the options: of a run, where its source comes from; of a judgement or a replay, the names of the
+-- files TRACE and FILE
 pub data Operands : Type 0 where
   of_source : Origin → Operands
   of_trace : Word → Word → Operands
@@ -80,9 +81,10 @@ MayShow (verbs.Traced Replay) = ⊤
 abbrev pub nothing : Given
 nothing = record { images = None; workers = None; order = None; steps = None; trace = false; vars = false }
 
--- One option that may come next behind a verb, as its words; what is given with it, and the failures that it names. Each stands once at most,
--- but --fail, and -w and --order exclude each other. A judgement and a replay have neither of these, and a judgement neither --trace nor --vars.
--- Numbers are in decimal: without a sign, and without a leading zero other than `0` itself.
+-- One option that may come next behind a verb, as its words; what is given with it, and the failures that it names.
+-- Each stands once at most, but --fail, and -w and --order exclude each other. A judgement and a replay have neither of
+-- these, and a judgement neither --trace nor --vars. Numbers are in decimal: without a sign, and without a leading zero
+-- other than `0` itself.
 pub data IsOption (v : Verb) (g : Given) : List Word → Given → List FailAt → Type 0 where
   images : (n : ℕ) → g.images ≡ None → 1 ≤ n → n ≤ 256 → IsOption v g (codes "-n" ∷ decimal n ∷ []) (record g { images = Some n }) []
   workers : (n : ℕ) → MayOrder v → g.workers ≡ None → g.order ≡ None → 1 ≤ n → n ≤ 64 → IsOption v g (codes "-w" ∷ decimal n ∷ []) (record g { workers = Some n }) []
@@ -130,16 +132,17 @@ AreOperands verbs.Run words (of_trace trace file) = ⊥
 AreOperands (verbs.Traced goal) words (of_source origin) = ⊥
 AreOperands (verbs.Traced goal) words (of_trace trace file) = AreTraceAndFile words trace file
 
--- The words behind a verb and the options that are given so far: further options in any order, then its operands. The failures are those that
--- these words name, in order. A run of a made source is summed up.
+-- The words behind a verb and the options that are given so far: further options in any order, then its operands. The
+-- failures are those that these words name, in order. A run of a made source is summed up.
 pub data IsRest (v : Verb) : Given → List Word → Options → List FailAt → Operands → Type 0 where
   operands_last : (g : Given) (words : List Word) (x : Operands) → AreOperands v words x → IsRest v g words (told g (is_summed x)) [] x
   option_next : (g h : Given) (option : List Word) (named : List FailAt) (rest : List Word) (o : Options) (fails : List FailAt) (x : Operands) → IsOption v g option h named → IsRest v h rest o fails x
       → IsRest v g (option ++ rest) o (named ++ fails) x
 
 -- the words are the verb, its options and its operands. The options of a run: -n N (1 to 256; 4 where it isn't given),
--- -w W (1 to 64; 4 where it isn't given) or --order SEED (0 to 2147483647) or neither, --steps N (1 to 100000000; 1000000 where it isn't given),
--- --fail I@K, which may stand more than once, --trace and --vars; of a replay: those but -w and --order; of a judgement: -n, --steps and --fail
+-- -w W (1 to 64; 4 where it isn't given) or --order SEED (0 to 2147483647) or neither, --steps N (1 to 100000000;
+-- 1000000 where it isn't given), --fail I@K, which may stand more than once, --trace and --vars; of a replay: those but
+-- -w and --order; of a judgement: -n, --steps and --fail
 pub record IsCommand (v : Verb) (words : List Word) (o : Options) (fails : List FailAt) (x : Operands) : Type 0 where
   pub rest : List Word
   pub form : words ≡ verb_word v ∷ rest

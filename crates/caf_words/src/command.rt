@@ -81,7 +81,8 @@ pub struct FailAt {
     pub step: u32,
 }
 
-/// What a run is told by its options. Those of a judgement or a replay say neither an order nor workers, and aren't summed up.
+/// What a command is told by its options. A judgement or a replay is told neither an order nor workers, so that its way
+/// is the 4 workers that stand where the words don't say it, and has no summary.
 #[derive(Clone, Copy)]
 pub struct Options {
     /// How many images there are, from 1 to 256.

@@ -61,7 +61,7 @@ pub(crate) struct Taken {
 #[derive(Clone, Copy)]
 pub(crate) enum Next {
     Option(Taken),
-    /// No option: what the verb is about has to stand here.
+    /// No option: the verb's operands have to stand here.
     Operands,
     /// An option's key, with no value of it behind.
     WrongValue,

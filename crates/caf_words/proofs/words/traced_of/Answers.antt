@@ -1,4 +1,4 @@
-use Rattle.std.proofs.Common.{◌≡◌, inl, inr, refl}
+use Rattle.std.proofs.Common.{inl, inr, refl}
 use Rattle.caf_words.specs.Words.{words_in}
 use Rattle.caf_words.specs.Words.IsRest.{operands_last}
 use Rattle.caf_words.specs.Words.Operands.{of_trace}
