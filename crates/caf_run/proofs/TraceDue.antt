@@ -179,7 +179,7 @@ trace_given words files task places name traced asked here has =
     let r = names_traced words task places asked in
     let same = trace_word words task places name r here in
     let given : IsTraceIfTold words files (Traced r.goal r.options r.failures) traced =
-        (r.trace, (r.goal, r.options, r.failures, r.file, r.asked), subst (λ v. HasBytesIfTold files v traced) same has) in
+    (r.trace, (r.goal, r.options, r.failures, r.file, r.asked), subst (λ v. HasBytesIfTold files v traced) same has) in
     subst (λ t. IsTraceIfTold words files t traced) (sym r.is) given
 
 pub fault_named : (words : List Word) (task : Task) (places : Places) (name : Word) (files : Option Files) (left' : Option (List ℕ)) (faults faults' status : ℕ) (text : List ℕ) (report : Option Report) → AsksTraced words task places

@@ -1,4 +1,5 @@
--- What a call of the program owes: the status and the text that are due, and what the words, the source, the trace and the run have to do with them.
+-- What a call of the program owes: the status and the text that are due, and what the words, the source, the trace and
+-- the run have to do with them.
 use Rattle.std.specs.Prelude.{ℕ, ◌≡◌, ◌≤◌, ◌<◌, ◌⊎◌, ◌↔◌, List, ◌++◌, length, codes, Option, None, Some, IsNone}
 use Rattle.std.specs.Fmt.{decimal}
 use Rattle.std.specs.Io.KnownBytes.{Appends, Keeps}
@@ -49,7 +50,8 @@ IsGoodStatus s = IsRunStatus s ⊎ IsNoRunStatus s
 abbrev pub IsJudgeStatus : ℕ → Type 0
 IsJudgeStatus s = ((s ≡ 0) ⊎ (s ≡ 5)) ⊎ IsNoRunStatus s
 
--- a status with which the task is done: 0 of a check, of a run that of its end, of a trace one of its own; so of a replay that of the end, where the trace is that of a run
+-- a status with which the task is done: 0 of a check, of a run that of its end, of a trace one of its own; so of a
+-- replay that of the end, where the trace is that of a run
 abbrev pub IsDoneStatus : Task → ℕ → Type 0
 IsDoneStatus Check s = s ≡ 0
 IsDoneStatus (Run o fails) s = IsRunStatus s
@@ -69,15 +71,18 @@ pub record UsageClause (words : List Word) (status : ℕ) (text : List ℕ) : Ty
 abbrev pub HasSourceBytes : List Word → Option Files → List ℕ → Type 0
 HasSourceBytes words files bytes = (origin : Origin) × NamesSource words origin × IsSourceIfTold files origin bytes
 
--- Refusal: status 3 is due where the source's bytes aren't good; the text has the number and the place of the refusal that they have.
+-- Refusal: status 3 is due where the source's bytes aren't good; the text has the number and the place of the refusal
+-- that they have.
 pub record RefusalClause (words : List Word) (files : Option Files) (status : ℕ) (text : List ℕ) : Type 0 where
   pub refused : status ≡ 3 → (bytes : List ℕ) × HasSourceBytes words files bytes × IsBad bytes × IsRefusal bytes text
 
--- Acceptance: where the status of a run, of a check or of a trace is due, the source's bytes are accepted; else the words make a source.
+-- Acceptance: where the status of a run, of a check or of a trace is due, the source's bytes are accepted; else the
+-- words make a source.
 pub record AcceptanceClause (words : List Word) (files : Option Files) (status : ℕ) : Type 0 where
   pub accepted : IsGoodStatus status → ((bytes : List ℕ) × HasSourceBytes words files bytes × IsAccepted bytes) ⊎ MakesSome words
 
--- the report is that of a run of the checked program as the words tell it: on their images, with their failures and limits, and where they give a SEED in its order
+-- the report is that of a run of the checked program as the words tell it: on their images, with their failures and
+-- limits, and where they give a SEED in its order
 abbrev pub IsToldRun : typed.Program → Options → List FailAt → Report → Type 0
 IsToldRun p o fails r = IsRunOf p (told_of o) (first_failure fails) r
 
@@ -90,14 +95,17 @@ IsRunFrom words files r = (o : Options) × (fails : List FailAt) × (origin : Or
 abbrev pub ReplaysSome : List Word → Type 0
 ReplaysSome words = (o : Options) × (fails : List FailAt) × (trace : Word) × (file : Word) × IsTraced Replay words o fails trace file
 
--- Run: with a report, and where the words replay no trace, the report is of the run that they tell. So a race is told exactly where the run's trace has
--- one, and up to it each reference that isn't atomic gives the last definition in segment order (`IsRunReport`: `end`, `allowed`).
+-- Run: with a report, and where the words replay no trace, the report is of the run that they tell. So a race is told
+-- exactly where the run's trace has one, and up to it each reference that isn't atomic gives the last definition in
+-- segment order (`IsRunReport`: `end`, `allowed`).
 abbrev pub RunClause : List Word → Option Files → Option Report → Type 0
 RunClause words files None = Unit {0}
 RunClause words files (Some r) = IsRunFrom words files r ⊎ ReplaysSome words
 
--- Trace: behind a good source, what the bytes of TRACE come to by a checked program for which the source's bytes stand, as the words tell its run, is answered. So `core run` is said exactly where the bytes are
--- those of the trace of a run, with the line of its first race exactly where it has one; and the report of a replay is that of the run that goes on behind the trace.
+-- Trace: behind a good source, what the bytes of TRACE come to by a checked program for which the source's bytes
+-- stand, as the words tell its run, is answered. So `core run` is said exactly where the bytes are those of the trace
+-- of a run, with the line of its first race exactly where it has one; and the report of a replay is that of the run
+-- that goes on behind the trace.
 abbrev pub TraceClause : List Word → Option Files → (status : ℕ) (text : List ℕ) → Option Report → Type 0
 TraceClause words files status text report =
     (goal : Goal) (o : Options) (fails : List FailAt) (trace file : Word) → IsTraced goal words o fails trace file → IsGoodStatus status
@@ -119,7 +127,8 @@ IsTraceLong words files = (trace : Word) × NamesTrace words trace × IsLonger f
 abbrev pub IsFileLong : List Word → Option Files → Type 0
 IsFileLong words files = (file : Word) × NamesFile words file × IsLonger files file 1048576
 
--- Causes: a read fault comes only of a file that the words name, where the count of faults rose or the files haven't the name, and only a longer file or trace is too long: a source that words make never is.
+-- Causes: a read fault comes only of a file that the words name, where the count of faults rose or the files haven't
+-- the name, and only a longer file or trace is too long: a source that words make never is.
 pub record CausesClause (words : List Word) (files : Option Files) (faults faults' status : ℕ) (text : List ℕ) : Type 0 where
   pub read_fault : status ≡ 10 → (file : Word) × NamesInput words file × MayNotBegin files file faults faults' × (text ≡ codes "read fault\n")
   pub too_long : status ≡ 13 → (IsFileLong words files ⊎ IsTraceLong words files) × (text ≡ codes "too long\n")
@@ -133,14 +142,16 @@ abbrev pub IsShort : Task → (traced bytes : List ℕ) → Type 0
 IsShort (Traced goal o fails) traced bytes = (length traced ≤ 67108864) × (length bytes ≤ 1048576)
 IsShort task traced bytes = length bytes ≤ 1048576
 
--- the bytes of the source and of the trace settle the status of a task: 13 exactly where they are too many, else 3 exactly where the source's aren't good, a status with which it is done exactly where they are
+-- the bytes of the source and of the trace settle the status of a task: 13 exactly where they are too many, else 3
+-- exactly where the source's aren't good, a status with which it is done exactly where they are
 pub record Settle (task : Task) (traced bytes : List ℕ) (status : ℕ) : Type 0 where
   pub too_long : (status ≡ 13) ↔ IsLong task traced bytes
   pub refused : (status ≡ 3) ↔ (IsShort task traced bytes × IsBad bytes)
   pub done : IsDoneStatus task status ↔ (IsShort task traced bytes × IsGood bytes)
 
--- Exactness: where the files are told, 10 is due where they haven't TRACE, or haven't FILE and no TRACE is too long; where they have them, their bytes settle the status, or 10 stands in its place after a rise
--- of the count of faults. So do the bytes that SEED and SIZE make.
+-- Exactness: where the files are told, 10 is due where they haven't TRACE, or haven't FILE and no TRACE is too long;
+-- where they have them, their bytes settle the status, or 10 stands in its place after a rise of the count of faults.
+-- So do the bytes that SEED and SIZE make.
 pub record ExactClause (words : List Word) (files : Option Files) (faults faults' status : ℕ) : Type 0 where
   pub no_trace : (trace : Word) → NamesTrace words trace → HaveNot files trace → status ≡ 10
   pub long_trace : (trace : Word) → NamesTrace words trace → IsLongTold files trace 67108864 → (status ≡ 13) ⊎ ((status ≡ 10) × Rose faults faults')
@@ -169,8 +180,10 @@ IsSaidStatus Replay status = IsNoRunStatus status
 abbrev pub IsSaidOfTrace : List Word → ℕ → Type 0
 IsSaidOfTrace words status = (goal : Goal) × (o : Options) × (fails : List FailAt) × (trace : Word) × (file : Word) × IsTraced goal words o fails trace file × IsSaidStatus goal status
 
--- Report: one is there exactly where the status of a run or of a replay is due, which is that of its end, and the text due is its text, with the final values, the trace and the summary exactly where the words
--- ask for them; without one 0 is due of a check, whose text is `ok`, of words that make a source, and of a judge; 14 and 15 are due of a judge and of a replay, and 5 of a judge.
+-- Report: one is there exactly where the status of a run or of a replay is due, which is that of its end, and the text
+-- due is its text, with the final values, the trace and the summary exactly where the words ask for them; without one
+-- 0 is due of a check, whose text is `ok`, of words that make a source, and of a judge; 14 and 15 are due of a judge
+-- and of a replay, and 5 of a judge.
 abbrev pub ReportClause : List Word → Option Report → ℕ → List ℕ → Type 0
 ReportClause words None status text = (status ≡ 2) ⊎ (status ≡ 3) ⊎ (status ≡ 10) ⊎ (status ≡ 13) ⊎ ((status ≡ 0) × IsSaid words text) ⊎ IsSaidOfTrace words status
 ReportClause words (Some r) status text = IsRunStatus status × (status ≡ status_of r.end) × IsTextOf words r text
@@ -210,16 +223,19 @@ IsAnswer words files left' faults faults' written written' sink_faults sink_faul
 abbrev pub IsReported : Option Report → ℕ → Type 0
 IsReported report answered = (r : Report) × (report ≡ Some r) × (answered ≡ status_of r.end)
 
--- a task is done: a check by 0 and no report, a run by a report and exactly the status of its end; a judge by a status of its own and no report, and a replay by either
+-- a task is done: a check by 0 and no report, a run by a report and exactly the status of its end; a judge by a status
+-- of its own and no report, and a replay by either
 abbrev pub IsTaskDone : Task → Option Report → ℕ → Type 0
 IsTaskDone Check report answered = IsNone report × (answered ≡ 0)
 IsTaskDone (Run o fails) report answered = IsReported report answered
 IsTaskDone (Traced Judge o fails) report answered = IsNone report × IsJudgeStatus answered
 IsTaskDone (Traced Replay o fails) report answered = IsReported report answered ⊎ (IsNone report × IsNoRunStatus answered)
 
--- Completeness: valid words, a source of at most 1,048,576 bytes that is good, of a judge and a replay a trace of at most 67,108,864 bytes, and no rise of either count of faults give a report and exactly
--- the status of its end, of a check 0, of a trace a status of its own (which one, `TraceClause` says), or want of memory. So does a run of a made source, whatever its seed and its size are, and no rise of the
--- sink's count; and words that make a source, and no rise of that count, give 0.
+-- Completeness: valid words, a source of at most 1,048,576 bytes that is good, of a judge and a replay a trace of at
+-- most 67,108,864 bytes, and no rise of either count of faults give a report and exactly the status of its end, of a
+-- check 0, of a trace a status of its own (which one, `TraceClause` says), or want of memory. So does a run of a made
+-- source, whatever its seed and its size are, and no rise of the sink's count; and words that make a source, and no
+-- rise of that count, give 0.
 pub record CompletenessClause (words : List Word) (files : Option Files) (faults faults' sink_faults sink_faults' answered : ℕ) (report : Option Report) : Type 0 where
   pub task_done : (task : Task) (origin : Origin) (traced bytes : List ℕ) → Asks words task origin → IsTrace words files task traced → IsSource files origin bytes → IsShort task traced bytes → IsGood bytes
       → (Rose faults faults' → ⊥) → (Rose sink_faults sink_faults' → ⊥) → IsTaskDone task report answered ⊎ (answered ≡ 12)
@@ -238,7 +254,8 @@ abbrev pub TracedAs : Task → (typed.Program → Type 0) → (traced : List ℕ
 TracedAs (Traced goal o fails) Kind traced status text report = IsGoodStatus status → (p : typed.Program) × Kind p × IsTraceAnswer goal p o fails traced status text report
 TracedAs task Kind traced status text report = Unit {0}
 
--- what is told of a task: its report with the status and the text of that; without one `ok`, of a check, a status of its own, of a trace, or what keeps the task from being done
+-- what is told of a task: its report with the status and the text of that; without one `ok`, of a check, a status of
+-- its own, of a trace, or what keeps the task from being done
 abbrev pub IsOk : Task → ℕ → List ℕ → Type 0
 IsOk Check status text = (status ≡ 0) × (text ≡ ok_text)
 IsOk (Run o fails) status text = ⊥
@@ -283,7 +300,8 @@ pub record BytesDue (bytes : List ℕ) (task : Task) (traced : List ℕ) (status
 abbrev pub IsProgramOf : Option Files → Origin → typed.Program → Type 0
 IsProgramOf files origin p = (bytes : List ℕ) × IsSourceIfTold files origin bytes × StandsFor bytes p
 
--- what is due for a source: of a named file, or a made one; of a trace of at most 67,108,864 bytes, where the task is of one
+-- what is due for a source: of a named file, or a made one; of a trace of at most 67,108,864 bytes, where the task is
+-- of one
 pub record SourceDue (files : Option Files) (origin : Origin) (task : Task) (traced : List ℕ) (left' : Option (List ℕ)) (faults faults' status : ℕ) (text : List ℕ) (report : Option Report) : Type 0 where
   pub usage : status ≡ 2 → ⊥
   pub refused : status ≡ 3 → (bytes : List ℕ) × IsSourceIfTold files origin bytes × IsBad bytes × IsRefusal bytes text

@@ -14,7 +14,8 @@ use Rattle.source_reader.specs.declared.fault.ReadFault.{ReadFault}
 abbrev pub BreaksNone : Program → Type 0
 BreaksNone x = (program_judged x).breaks ≡ []
 
--- this rule is broken at this place; of the rules that are, the first one in the source, and at one place the lower number
+-- this rule is broken at this place; of the rules that are, the first one in the source, and at one place the lower
+-- number
 abbrev pub BreaksFirst : Program → ℕ → Pos → Type 0
 BreaksFirst x r at = first_break x ≡ Some (record { rule = r; at = at })
 

@@ -1,4 +1,5 @@
--- What the words ask of a source: to check it, to run it, or to judge or replay a trace as one of its run; and which source and which trace they name.
+-- What the words ask of a source: to check it, to run it, or to judge or replay a trace as one of its run; and which
+-- source and which trace they name.
 use Rattle.std.specs.Prelude.{ℕ, ◌≤◌, ◌/◌, ◌⊎◌, List, length, min, Option, ⊤}
 use Rattle.std.specs.List.{AllByRecursion}
 use Rattle.caf_base.specs.Outside.{Files}
@@ -79,8 +80,8 @@ abbrev pub way_of : words.Way → ℕ → Way
 way_of (told.Order seed) images = Order seed
 way_of (told.Workers workers) images = Workers (min workers images)
 
--- what a run is told: the images, the limit and the way of the options; the limit of an image's recorded words is its share of
--- the 16,777,216 of the run
+-- what a run is told: the images, the limit and the way of the options; the limit of an image's recorded words is its
+-- share of the 16,777,216 of the run
 abbrev pub told_of : Options → Told
 told_of o = record { images = o.images; limit = o.steps; words = 16777216 / o.images; way = way_of o.way o.images }
 

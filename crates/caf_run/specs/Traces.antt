@@ -1,4 +1,5 @@
--- What is answered where the words judge or replay a trace: by what its bytes come to for a checked program, on the images of the words, with their limits and failures.
+-- What is answered where the words judge or replay a trace: by what its bytes come to for a checked program, on the
+-- images of the words, with their limits and failures.
 use Rattle.std.specs.Prelude.{ℕ, ◌≡◌, List, [], ◌++◌, codes, Option, None, Some}
 use Rattle.std.specs.Fmt.{decimal}
 use Rattle.caf_events.specs.declared.event.Trace.{Trace}

@@ -205,7 +205,8 @@ fn word_at(words: &[String], number: u32) -> &str
     words[(number - 1) as usize].as_str()
 }
 
-// What is due for words that ask for a task, of the source that this input is, and of these bytes of a trace where the task is of one. A made source leaves the files as they were.
+// What is due for words that ask for a task, of the source that this input is, and of these bytes of a trace where the
+// task is of one. A made source leaves the files as they were.
 fn task_due<R: Threads + Wait + Sync, S: Source, H: Hook + Sync>(
     rt: &R,
     alloc: Global,
@@ -339,7 +340,8 @@ fn command_due<R: Threads + Wait + Sync, S: Source, H: Hook + Sync>(
     }
 }
 
-/// What is due for the words over a source. Words that name no file leave the source as it was. A run on workers may wait for them, and calls the hook at each turn.
+/// What is due for the words over a source. Words that name no file leave the source as it was. A run on workers may
+/// wait for them, and calls the hook at each turn.
 pub fn what_is_due<R: Threads + Wait + Sync, S: Source, H: Hook + Sync>(
     rt: &R,
     alloc: Global,

@@ -46,8 +46,8 @@ const PIECE_BYTES: usize = 4_096;
 ///
 /// # Errors
 ///
-/// `Fault` where a call to the source failed, `TooLong` where the file has more bytes than `limit`, which is below 2^32, and
-/// `NoMemory`.
+/// `Fault` where a call to the source failed, `TooLong` where the file has more bytes than `limit`, which is below
+/// 2^32, and `NoMemory`.
 pub fn read_file<S: Source>(
     alloc: Global,
     source: &mut S,

@@ -59,7 +59,8 @@ fn shown_of(options: Options) -> Shown
     }
 }
 
-/// What is due for a run that was made, or that went on behind a trace: the status of its report, and the text of that with what the options show.
+/// What is due for a run that was made, or that went on behind a trace: the status of its report, and the text of that
+/// with what the options show.
 pub(crate) fn report_due(alloc: Global, report: Report, options: Options) -> Result<Due, NoMemory>
     requires { HasEnd report }
     ensures { IfOk result (λ d. (d.report ≡ Some report) × (d.status ≡ status_of report.end) × (d.text.items ≡ report_text (spec.shown_of options) report)) }

@@ -28,7 +28,8 @@ pub enum Task {
     },
 }
 
-/// What a run is told: the images, the limit and the way of the options, and an image's share of the words that a run records.
+/// What a run is told: the images, the limit and the way of the options, and an image's share of the words that a run
+/// records.
 pub fn told_of(options: Options) -> Told
     requires { 1 ≤ options.images }
     ensures { result ≡ spec.told_of options }

@@ -23,14 +23,17 @@ pub struct Done {
     pub report: Option<Report>,
 }
 
-/// All that the program does with the words behind its name: it judges them, reads the trace's file and then the source's file that they name to its end, or makes the source that they say,
-/// reads the program, checks it, runs it, or judges or replays the trace, where the words say so, and writes what is due. Status 0 finished, of a check that the
-/// program breaks no rule, of `make` that the source is made, of `judge` that the trace is that of a run without a race, 2 usage, 3 refused, 4 error stop, 5 race, 6 stuck, 7 limit, 8 run fault, 9 clash,
-/// 10 read fault, 11 write fault, 12 want of memory, 13 too long, 14 the trace of no run, 15 bytes of no trace.
+/// All that the program does with the words behind its name: it judges them, reads the trace's file and then the
+/// source's file that they name to its end, or makes the source that they say, reads the program, checks it, runs it,
+/// or judges or replays the trace, where the words say so, and writes what is due. Status 0 finished, of a check that
+/// the program breaks no rule, of `make` that the source is made, of `judge` that the trace is that of a run without a
+/// race, 2 usage, 3 refused, 4 error stop, 5 race, 6 stuck, 7 limit, 8 run fault, 9 clash, 10 read fault, 11 write
+/// fault, 12 want of memory, 13 too long, 14 the trace of no run, 15 bytes of no trace.
 ///
-/// Words that name no file leave the source as it was. Where the source tells its files and its count of faults doesn't rise in this call, the words and the files settle whether the status
-/// that is due is 3, 13 or that of what the words ask for; where the sink's doesn't rise either, that is the answer, or 12. A run without a stated order is on workers: the call may wait for them, and calls the hook at each
-/// turn at a memory or the board.
+/// Words that name no file leave the source as it was. Where the source tells its files and its count of faults
+/// doesn't rise in this call, the words and the files settle whether the status that is due is 3, 13 or that of what
+/// the words ask for; where the sink's doesn't rise either, that is the answer, or 12. A run without a stated order is
+/// on workers: the call may wait for them, and calls the hook at each turn at a memory or the board.
 pub fn caf<R: Threads + Wait + Sync, S: Source, K: Sink, H: Hook + Sync>(
     rt: &R,
     alloc: Global,

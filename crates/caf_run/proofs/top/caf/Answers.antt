@@ -74,9 +74,11 @@ replay_done words o fails trace file status text report asked clause (inr none) 
 
 task_done : (words : List Word) (task : Task) (origin : Origin) (files : Option Files) (status : ℕ) (text : List ℕ) (report : Option Report) → Asks words task origin → ReportClause words report status text → RunClause words files report
     → IsDoneStatus task status → IsTaskDone task report status
-task_done words Check (from_file file) files status text report asked clause ran done =
-    (rw (report_none words files report (λ o fails origin run. not_command_and_check verbs.Run words o fails (of_source origin) file run asked)
-    (λ (o, fails, trace, other, named). not_command_and_check (verbs.Traced Replay) words o fails (of_trace trace other) file named asked) ran) refl, done)
+task_done words Check (from_file file) files status text report asked clause ran done = (
+  rw (report_none words files report (λ o fails origin run. not_command_and_check verbs.Run words o fails (of_source origin) file run asked)
+      (λ (o, fails, trace, other, named). not_command_and_check (verbs.Traced Replay) words o fails (of_trace trace other) file named asked) ran) refl,
+  done,
+)
 task_done words Check (from_made seed size) files status text report asked clause ran done = absurd asked
 task_done words (Run o fails) origin files status text report asked clause ran done = report_there words verbs.Run o fails (of_source origin) status text report tt asked clause done
 task_done words (Traced goal o fails) (from_made seed size) files status text report asked clause ran done = absurd asked
@@ -97,8 +99,11 @@ complete_of words files left' faults faults' sink_faults sink_faults' status tex
         (settle.done.1 (all_short task [] (made_source seed size) (omega arith) (made_short words task seed size asked), made_good words task seed size asked)))
     | inr stopped ↦ (let fault = due.causes.read_fault stopped.0 in absurd (made_no_input words task seed size fault.0 asked fault.1))
   ];
-  source_made = λ seed size make _. inl (rw (report_none words files report (λ o fails origin run. not_command_and_make verbs.Run words o fails (of_source origin) seed size run make)
-      (λ (o, fails, trace, file, named). not_command_and_make (verbs.Traced Replay) words o fails (of_trace trace file) seed size named make) due.ran) refl, (due.made seed size make).0);
+  source_made = λ seed size make _. inl (
+    rw (report_none words files report (λ o fails origin run. not_command_and_make verbs.Run words o fails (of_source origin) seed size run make)
+        (λ (o, fails, trace, file, named). not_command_and_make (verbs.Traced Replay) words o fails (of_trace trace file) seed size named make) due.ran) refl,
+    (due.made seed size make).0,
+  );
 }
 
 pub returns-in-Ok-write_all-clause-complete : goal.returns-in-Ok-write_all-clause-complete
