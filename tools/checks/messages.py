@@ -105,7 +105,7 @@ def check_tables(checks: Checks) -> None:
     """The tables have each number once, each place lies in its example, and each example is answered as they say."""
     entries = tables.read_tables(tables.tables_path(HOME)).entries
     found = [(it.kind, it.key) for it in entries]
-    wanted = [(Kind.STATUS, str(it)) for it in range(14)]
+    wanted = [(Kind.STATUS, str(it)) for it in range(16)]
     wanted += [(Kind.REFUSAL, str(it)) for it in range(1, 60) if it <= 9 or it >= 20]
     for kind, key in wanted:
         checks.holds(f"{kind.value} {key} stands {found.count((kind, key))} times", found.count((kind, key)) == 1)
