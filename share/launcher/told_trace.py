@@ -24,7 +24,7 @@ def told_not_a_run(caller: Caller, asked: Asked, number: int) -> Message:
     line = trace.step(number)
     images = images_asked(asked.words)
     case = "step" if number > 1 else "first step"
-    found = {"file": asked.shown_name(), "images": images, "count": number - 1}
+    found = {"file": asked.shown_name(), "images": images, "number": number}
     text = sentences.say("NotARun", case, **found)
     helps = [_what_differs(sentences, trace.images(), images)]
     notes = _place_in_source(sentences, asked, line)

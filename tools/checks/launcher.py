@@ -5,8 +5,8 @@ import sys
 
 from checks.comparing import HOME, LAUNCHER, Checks, call, folder, read, started, with_status, write
 
-HELP_WORDS = """run judge replay check make -n -w --order --steps --fail --trace --vars --made FILE TRACE --try --prove --which --explain
---version --message-format Statuses"""
+HELP_WORDS = """run judge replay check make -n -w --order --steps --fail --trace --vars --made FILE TRACE
+--try --prove --which --explain --version --message-format Statuses"""
 NEIGHBOUR = ["run", "-n", "4", "--order", "0", "examples/neighbour.f90"]
 # A program whose trace is long, and which ends by a fault in its last statement.
 TRACED = b"integer :: i, x[*]\ndo i = 1, 20000\nx = i\nend do\nx = x / (x - x)\nend\n"

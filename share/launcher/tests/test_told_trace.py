@@ -15,7 +15,7 @@ HOME = os.path.dirname(os.path.dirname(os.path.dirname(os.path.dirname(os.path.a
 SOURCE = b"integer :: x[*]\n  x = this_image()\nend\n"
 STEPS = b"1 1 2 m1 write x:0 1 > ok\n1 2 2 m2 write x:0 3 > ok\n"
 EXPLAIN = ("help: caf --explain NotARun says more", "help: caf --explain BadTrace says more")
-FORM = "help: a step is a line STAMP IMAGE LINE OBJECT ASK > REPLY, as --trace writes it"
+FORM = "help: a line that begins with digits and a blank is a step: STAMP IMAGE LINE OBJECT ASK > REPLY"
 
 
 def asked(trace: bytes, words: str = "judge -n 2 t a.f90") -> Asked:
@@ -35,7 +35,7 @@ class NotARunTest(unittest.TestCase):
 
     def test_a_step(self) -> None:
         wanted = [
-            "t:3:1: error: no run of a.f90 on 2 images has this step behind the 1 before it [NotARun]",
+            "t:3:1: error: no run of a.f90 on 2 images goes on with step 2 of this trace [NotARun]",
             "    3 | 1 2 2 m2 write x:0 3 > ok",
             "      | ^",
             "a.f90:2:3: note: the step of image 2 names this line",
@@ -78,8 +78,7 @@ class BadTraceTest(unittest.TestCase):
 
     def test_a_line(self) -> None:
         wanted = [
-            "t:2:1: error: a line that begins with digits and a blank is a step, and this is none that a.f90 may make "
-            "[BadTrace]",
+            "t:2:1: error: this is no line of a trace of a.f90 [BadTrace]",
             "    2 | 1 1 2 m1 sing",
             "      | ^",
             FORM,
@@ -96,15 +95,15 @@ class BadTraceTest(unittest.TestCase):
 
     def test_the_other_form(self) -> None:
         got = said(b"2 1 3 board arrive 1/-1 sync > round 1\n", 15, "bad trace at line 1")
-        self.assertIn("this step is in form 2, and no line `trace 2 images N` stands before", got[0])
+        self.assertIn("this step is in form 2, and no line `trace 2 images N` stands before the first [", got[0])
         got = said(b"trace 2 images 2\n2 1 3 board leave 1 1 > 0\n", 15, "bad trace at line 2")
-        self.assertIn("this step is in form 1, and the line `trace 2 images N` before it says form 2", got[0])
+        self.assertIn("this step is in form 1, behind a line `trace 2 images N` [", got[0])
         got = said(b"trace 2 images 2\n2 1 3 board leave 7/5 1 > 0\n", 15, "bad trace at line 2")
-        self.assertIn("this is none that a.f90 may make", got[0])
+        self.assertIn("this is no line of a trace of a.f90 [", got[0])
 
     def test_a_line_that_is_gone(self) -> None:
         got = said(b"", 15, "bad trace at line 2")
-        self.assertTrue(got[0].startswith("t: error: a line that begins with"))
+        self.assertTrue(got[0].startswith("t: error: this is no line of"))
 
 
 class TraceFileTest(unittest.TestCase):
