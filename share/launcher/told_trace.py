@@ -24,7 +24,7 @@ def told_not_a_run(caller: Caller, asked: Asked, number: int) -> Message:
     line = trace.step(number)
     images = images_asked(asked.words)
     case = "step" if number > 1 else "first step"
-    found = {"file": asked.shown_name(), "images": images, "number": number}
+    found = {"file": asked.shown_name(), "images": _images_said(images), "number": number}
     text = sentences.say("NotARun", case, **found)
     helps = [_what_differs(sentences, trace.images(), images)]
     notes = _place_in_source(sentences, asked, line)
@@ -50,10 +50,14 @@ def _message(caller: Caller, asked: Asked, told: Message, line: Optional[TraceLi
     return told._replace(file=file, line=line.number, column=1, source_line=line.text, helps=helps)
 
 
+def _images_said(number: int) -> str:
+    return f"{number} image{'s' if number > 1 else ''}"
+
+
 def _what_differs(sentences: Sentences, told: Optional[int], images: int) -> str:
     """Says which word of the call may differ from those of the run."""
     if told is not None and told != images:
-        return sentences.say("NotARun", "images help", images=told)
+        return sentences.say("NotARun", "images help", images=_images_said(told), count=told)
     return sentences.say("NotARun", "help")
 
 

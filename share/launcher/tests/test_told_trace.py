@@ -95,7 +95,7 @@ class BadTraceTest(unittest.TestCase):
 
     def test_the_other_form(self) -> None:
         got = said(b"2 1 3 board arrive 1/-1 sync > round 1\n", 15, "bad trace at line 1")
-        self.assertIn("this step is in form 2, and no line `trace 2 images N` stands before the first [", got[0])
+        self.assertIn("this step is in form 2, with no line `trace 2 images N` before the first [", got[0])
         got = said(b"trace 2 images 2\n2 1 3 board leave 1 1 > 0\n", 15, "bad trace at line 2")
         self.assertIn("this step is in form 1, behind a line `trace 2 images N` [", got[0])
         got = said(b"trace 2 images 2\n2 1 3 board leave 7/5 1 > 0\n", 15, "bad trace at line 2")
