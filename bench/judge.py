@@ -3,9 +3,10 @@
 
 The traces are those of runs of four images that assign, or that meet in SYNC ALL, in as many steps as there is room
 for, filled up with lines that are passed over; steps as short as they can be; and line feeds alone. Reading is the time
-of a call whose last line is no step's, so that no step is judged (status 15); it should take 3 seconds and 1 GB at most.
-Judging is the time that a call with a core run takes beyond that, a million steps a second at least. The best of TRIES
-(3) counts. The program is crates/caf/out/caf, or the one that CAF_PROGRAM names; the status is 0 where all is in time.
+of a call whose last line is no step's, so that no step is judged (status 15); it should take 3 seconds and 1 GB at
+most. Judging is the time that a call with a core run takes beyond that, a million steps a second at least. The best of
+TRIES (3) counts. The program is crates/caf/out/caf, or the one that CAF_PROGRAM names; the status is 0 where all is in
+time.
 """
 
 import os

@@ -21,7 +21,7 @@ _HEAD = re.compile(r"== ([^:]*): status ([0-9]+), (.*)")
 
 
 class Case(NamedTuple):
-    """A case: its name, the status, the words, and the source, the text and the messages, with a trace t where the words
+    """A case: its name, the status, the words, and the source, the text and the messages, with a trace t where they
     name one."""
 
     name: str

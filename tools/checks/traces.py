@@ -1,4 +1,5 @@
-"""Kept traces: the text of each example's run, in order and on workers, is judged a core run and made again as it was."""
+"""Kept traces: the text of each example's run, in order and on workers, is judged a core run, and made again as it
+was."""
 
 import glob
 import re

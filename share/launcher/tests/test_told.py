@@ -175,7 +175,7 @@ class UsageTest(unittest.TestCase):
             ("judge t -n", 3, "word 3 is wrong, -n: no value stands behind it"),
             ("judge - -", 3, "word 3 is wrong, -: standard input is read once"),
             ("replay --order 0 t a", 2, "word 2 is wrong, --order: there is no such option of replay"),
-            ("replay --fail t a", 3, "word 3 is wrong, t: it has to be the I@K of --fail, I 1 to 256 and K 1 to 1000000"),
+            ("replay --steps t a", 3, "word 3 is wrong, t: it has to be the N of --steps, 1 to 100000000"),
         ]
         for words, number, wanted in table:
             with self.subTest(words=words):

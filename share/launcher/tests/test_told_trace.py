@@ -1,4 +1,4 @@
-"""What is said of a trace that is no run of the source, of a line that is none of a trace, and of a race that is judged."""
+"""What is said of a trace that is no run of the source, of a line that is none of a trace, and of a judged race."""
 
 import json
 import os
