@@ -1,6 +1,6 @@
 -- Piles in a row of items, and the row from its other end.
 use Rattle.std.proofs.Common.{◌≡◌, ℕ, zero, suc, ◌+◌, ◌-◌, ◌<◌, ◌≤◌, List, [], ◌∷◌, ◌++◌, length, get_or, take, drop, refl, ap, sym, subst, ◌∙◌, arith}
-use Rattle.std.specs.Prelude.{reverse, Option, Some, None}
+use Rattle.std.specs.Prelude.{reverse}
 use Rattle.std.proofs.lemmas.List.{length-take, length-drop, length-reverse, reverse-append, reverse-reverse, take-append-drop, take_rest}
 use Rattle.std.proofs.Math.Seq.{take-add, take-suc, take-length, drop-append_seam, take-append_seam}
 use Rattle.image_stores.specs.Piles.{Pile, Piled, pile, items_in, newest, merged, with_last, piles_of, counts}
@@ -58,19 +58,6 @@ piles_with_last (b ∷ bs) x y zs p = last_seen b.head b.count bs x y zs p
 newest_within : {H T : Type 0} (bs : List (Base H)) (xs : List T) → length (newest (piles_of bs xs)) ≤ length xs
 newest_within [] xs = omega arith
 newest_within (b ∷ bs) xs = (let l = length-take b.count xs in omega arith)
-
--- the last one of a row is the first one from its other end
-pub last_turned : {X : Type 0} (xs ys : List X) (n : ℕ) (x : X) → ys ≡ reverse xs → 0 < n → n ≡ length ys → x ≡ get_or ys (n - 1) x → elim xs [ [] ↦ None | y ∷ zs ↦ Some y ] ≡ Some x
-last_turned [] ys n x e p l g = absurd (let k = ap length e in omega arith)
-last_turned (y ∷ zs) ys n x e p l g =
-    let k : suc (n - 1) ≡ length ys = omega arith in
-    let f : ys ≡ take (n - 1) ys ++ x ∷ [] = sym (take-length ys) ∙ ap (λ j. take j ys) (sym k) ∙ take-suc ys (n - 1) x (omega arith) ∙ ap (λ z. take (n - 1) ys ++ z ∷ []) (sym g) in
-    let r : y ∷ zs ≡ x ∷ reverse (take (n - 1) ys) = sym (reverse-reverse (y ∷ zs)) ∙ ap reverse (sym e) ∙ last_first ys (take (n - 1) ys) x f in
-    cc
-
-pub none_turned : {X : Type 0} (xs ys : List X) → ys ≡ reverse xs → length ys ≡ 0 → elim xs [ [] ↦ None | y ∷ zs ↦ Some y ] ≡ None
-none_turned [] ys e l = refl
-none_turned (y ∷ zs) ys e l = absurd (let k = ap length e in let r = length-reverse (y ∷ zs) in omega arith)
 
 module _ {H T : Type 0} where
   abbrev piled : List (Pile H T) → ℕ → ℕ → Piled H T
