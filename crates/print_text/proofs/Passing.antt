@@ -1,6 +1,6 @@
 -- Passes over a format, piece by piece.
 use Rattle.std.proofs.Common.{◌≡◌, ◌∙◌, subst, ℕ, zero, suc, ◌+◌, ◌-◌, ◌<◌, ◌≤◌, ◌^◌, Bool, true, false, cond, List, [], ◌∷◌, ◌++◌, length, replicate, refl, sym, ap, arith, append_assoc}
-use Rattle.std.proofs.lemmas.List.{append-nil}
+use Rattle.std.proofs.lemmas.List.{append-nil, length-map}
 use Rattle.std.specs.Prelude.{Option, Some, None, Result, Ok, Err, IfOk}
 use Rattle.walk_theory.specs.Terms.{Found, found, at_fault, with_found}
 use Rattle.image_acts.specs.Core as core
@@ -17,7 +17,7 @@ use Rattle.print_text.specs.declared.item.Portion.{Portion}
 use Rattle.print_text.specs.declared.item.Portion.TheVariants as portions
 use Rattle.print_text.specs.declared.items.Run.{Run}
 use Rattle.print_text.specs.declared.items.Items.{Items}
-use Rattle.print_text.specs.Items.{item_of, items_of, items_left, literals_from, in_run, in_portions}
+use Rattle.print_text.specs.Items.{item_of, items_of, items_left, passes_left, literals_from, in_run, in_portions}
 use Rattle.print_text.specs.Pieces.{IsNumeric, IsOnce, edit, kept, Means, Reads, characters}
 use Rattle.print_text.specs.Passes.{values_ahead, is_literal, after, behind, bare, is_found, upon}
 
@@ -270,6 +270,20 @@ module _ (n : ℕ) (ds : List Descriptor) (xs : List core.Item) (some : 0 < n) w
   text_more out made (y ∷ ys) h e =
       ap (upon out) (one_pass n ds xs some)
       ∙ upon_more (passes (n - 1) ds) out made (pass ds xs 0) y ys (e ∙ ap (λ (l : List ℕ). passed l (y ∷ ys)) (append-nil made))
+
+-- a pass less may come behind one
+module _ (p : Option Items) (x : Items) (e : p ≡ Some x) where
+  pub has_pass : 0 < passes_left p
+  has_pass = (let f = ap passes_left e in omega arith)
+
+  pub fewer_passes : (q : Option Items) → passes_left q ≡ length (items_left x) → passes_left p - 1 ≡ passes_left q
+  fewer_passes q h = (let f = ap passes_left e in omega arith)
+
+pub no_pass : (p : Option Items) → p ≡ None → passes_left p ≡ 0
+no_pass p e = ap passes_left e
+
+pub first_passes : (texts : List (List ℕ)) (x : Items) → passes_left (Some x) ≡ length (items_of texts (items_left x)) + 1
+first_passes texts x = (let l = length-map (items_left x) (item_of texts) in omega arith)
 
 -- a format's one fault
 fault_only : (next : List core.Item → Found (List ℕ)) → ((ys : List core.Item) → is_found (next ys) ≡ false → next ys ≡ at_fault format_fault) → (p : Pass)

@@ -1,7 +1,7 @@
 -- The items of portions, as the core has them.
-use Rattle.std.proofs.Common.{◌≡◌, ◌∙◌, refl, ap, sym, ℕ, zero, suc, ◌+◌, ◌-◌, ◌<◌, ◌≤◌, List, [], ◌∷◌, ◌++◌, map, reverse, arith, append_assoc}
-use Rattle.std.specs.Prelude.{Option, Some, None}
-use Rattle.std.proofs.lemmas.List.{append-nil, reverse-append, reverse-reverse, map_push, map-append}
+use Rattle.std.proofs.Common.{◌≡◌, ◌∙◌, refl, ap, sym, ℕ, zero, suc, ◌+◌, ◌-◌, ◌<◌, ◌≤◌, List, [], ◌∷◌, ◌++◌, map, reverse, arith}
+use Rattle.std.specs.Prelude.{Some, None}
+use Rattle.std.proofs.lemmas.List.{reverse-append, reverse-reverse, map_push, map-append}
 use Rattle.image_acts.specs.Core as core
 use Rattle.image_acts.specs.Operate.Printing.{spread}
 use Rattle.image_acts.specs.Operate.Printing.{items_of as items_in_core}

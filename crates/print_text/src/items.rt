@@ -94,6 +94,13 @@ fn first_in(portions: &[Portion]) -> Option<(Item, Items<'_>)>
     Some(match first {
         Portion::Integer(value) => (Item::Integer(*value), Items::new(rest)),
         Portion::Logical(value) => (Item::Logical(*value), Items::new(rest)),
-        Portion::Literals(number, more) => first_of(Run { first: *number, gone: 0, more: *more }, rest),
+        Portion::Literals(number, more) => first_of(
+            Run {
+                first: *number,
+                gone: 0,
+                more: *more,
+            },
+            rest,
+        ),
     })
 }

@@ -1,6 +1,6 @@
 //! The text of a PRINT.
 
-ghost use Rattle.std.specs.Prelude.{◌≡◌, cond, IfOk};
+ghost use Rattle.std.specs.Prelude.{◌≡◌, cond, IfOk, Some, None};
 ghost use Rattle.walk_theory.specs.Terms.{found, at_fault};
 ghost use Rattle.image_acts.specs.Faults.{format_fault};
 ghost use Rattle.image_acts.specs.Formats.{formatted};
@@ -42,6 +42,32 @@ fn push_formatted(
     Ok(true)
 }
 
+/// The text of a list-directed PRINT of these portions.
+fn listed_text(alloc: Global, texts: &[Text], portions: &[Portion]) -> Result<Text, NoMemory>
+    ensures { IfOk result (λ t. text_of (printing_of texts.now None portions.now) ≡ found t) }
+{
+    let mut out = Vec::new(alloc);
+    push_listed(&mut out, texts, Items::new(portions))?;
+    Ok(Text::from_vec(out))
+}
+
+/// The text of a PRINT of these portions by the format with this number.
+#[tactic(auto, using(crate::proofs::Judging::formatted_found))]
+fn formatted_text(
+    alloc: Global,
+    texts: &[Text],
+    number: u32,
+    portions: &[Portion],
+) -> Result<Text, NoMemory>
+    requires { IsFound (text_of (printing_of texts.now (Some number) portions.now)) }
+    ensures { IfOk result (λ t. text_of (printing_of texts.now (Some number) portions.now) ≡ found t) }
+{
+    let mut out = Vec::new(alloc);
+    let format = text_in(texts, number as usize);
+    let _right = push_formatted(&mut out, texts, format, Items::new(portions))?;
+    Ok(Text::from_vec(out))
+}
+
 /// The text of a PRINT of these portions, which is no fault: by the format with this number in the table of texts, or list-directed (13.4, 13.10.4). Lines are parted by
 /// the byte 10. A field of 2 ** 32 places and more is want of memory.
 pub fn text_of(
@@ -53,13 +79,8 @@ pub fn text_of(
     requires { IsFound (text_of (printing_of texts.now format portions.now)) }
     ensures { IfOk result (λ t. text_of (printing_of texts.now format portions.now) ≡ found t) }
 {
-    let mut out = Vec::new(alloc);
-    let items = Items::new(portions);
     match format {
-        None => push_listed(&mut out, texts, items)?,
-        Some(number) => {
-            let _right = push_formatted(&mut out, texts, text_in(texts, number as usize), items)?;
-        }
+        None => listed_text(alloc, texts, portions),
+        Some(number) => formatted_text(alloc, texts, number, portions),
     }
-    Ok(Text::from_vec(out))
 }

@@ -63,7 +63,7 @@ returns c =
     let all : c.loop-taken.taken ≡ c.args.times = omega arith in
     λ texts n w s ds e o.
     let h = all_taken c.args.kind n c.args.times c.loop-taken.taken (values_ahead (items_left c.loop-taken.left)) (values_ahead (items_left c.args.items)) (length c.args.items.portions.now)
-        e o all c.loop-taken.invariant.gone (left_few c.args.items) small in
+    e o all c.loop-taken.invariant.gone (left_few c.args.items) small in
     let g : c.loop-taken.taken ≤ n = omega arith in
     sym (c.loop-taken.invariant.same texts n w s ds g)
     ∙ ap (λ (l : List Descriptor). bare (pass l (items_of texts (items_left c.loop-taken.left)) 0)) (none_of n c.loop-taken.taken (edit c.args.kind w) ds h)

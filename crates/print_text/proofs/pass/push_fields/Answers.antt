@@ -15,7 +15,7 @@ returns c =
     let k = c.args.fields.kind in
     λ n w ds e o v.
     let h = all_taken k n c.args.fields.times c.loop-taken.taken (values_ahead (items_left c.loop-taken.left)) (values_ahead (items_left c.args.items)) (length c.args.items.portions.now)
-        e o all c.loop-taken.invariant.gone (left_few c.args.items) small in
+    e o all c.loop-taken.invariant.gone (left_few c.args.items) small in
     let g : c.loop-taken.taken ≤ n = omega arith in
     sym (c.loop-taken.invariant.same n w ds g v)
     ∙ ap (λ (l : List Descriptor). behind c.loop-taken.out.items (pass l (items_of c.args.texts.now (items_left c.loop-taken.left)) 0)) (none_of n c.loop-taken.taken (edit k w) ds h)
