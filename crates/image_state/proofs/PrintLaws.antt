@@ -191,8 +191,6 @@ module _ (n : ℕ) (old : Piled (Option ℕ) Portion) (size : old.size ≡ 13132
       subst (λ (x : Piled (Option ℕ) Portion). IsPut n old x) (sym e) (record {
         printings = λ texts. literal_joined texts n p old.piles h;
         within = omega arith;
-        most = refl;
-        size = refl;
       })
 
   pub put_apart : (new : Piled (Option ℕ) Portion) → with_next (last_of old.piles) n ≡ None → 0 < length old.piles → items_in old.piles < 131329
@@ -202,8 +200,6 @@ module _ (n : ℕ) (old : Piled (Option ℕ) Portion) (size : old.size ≡ 13132
       subst (λ (x : Piled (Option ℕ) Portion). IsPut n old x) (sym e) (record {
         printings = λ texts. literal_apart texts n old.piles h;
         within = omega arith;
-        most = refl;
-        size = refl;
       })
 
   pub not_put : (new : Piled (Option ℕ) Portion) → with_next (last_of old.piles) n ≡ None → 0 < length old.piles → 131329 ≤ items_in old.piles → new ≡ old → HasNoRoom n old new
@@ -215,6 +211,38 @@ module _ (n : ℕ) (old : Piled (Option ℕ) Portion) (size : old.size ≡ 13132
         let i = items_open texts (heaped (Literals n 0) old.piles) in
         omega arith;
   }
+
+-- what a literal comes to in a core
+module _ (k now : Kept) (n : ℕ) (texts : List (List ℕ)) (old new : Piled (Option ℕ) Portion) (e : k ≡ now) (p : k.core.printing ≡ printings_in texts old.piles) (t : texts ≡ texts_of k) where
+  with_it : printings_in texts new.piles ≡ with_literal n (text_at texts n) (printings_in texts old.piles) → printings_in texts new.piles ≡ with_literal n (text_at (texts_of now) n) now.core.printing
+  with_it h =
+      h
+      ∙ ap (λ (us : List (List ℕ)). with_literal n (text_at us n) (printings_in texts old.piles)) t
+      ∙ ap (with_literal n (text_at (texts_of k) n)) (sym p)
+      ∙ ap (λ (j : Kept). with_literal n (text_at (texts_of j) n) j.core.printing) e
+
+  told : (ps qs : List Printing) (most : ℕ) → ps ≡ qs → most ≡ k.rooms.texts → record k { core = with_texts k.core ps; rooms = record k.rooms { texts = most } } ≡ with_core now (with_texts now.core qs)
+  told ps qs most g h = ap (λ (xs : List Printing). record k { core = with_texts k.core xs; rooms = record k.rooms { texts = most } }) g
+      ∙ ap (λ (m : ℕ). record k { core = with_texts k.core qs; rooms = record k.rooms { texts = m } }) h
+      ∙ ap (λ (j : Kept). with_core j (with_texts j.core qs)) e
+
+  pub literal_put : IsPut n old new → new.most ≡ k.rooms.texts
+      → (record k { core = with_texts k.core (printings_in texts new.piles); rooms = record k.rooms { texts = new.most } } ≡ with_core now (with_texts now.core (with_literal n (text_at (texts_of now) n) now.core.printing)))
+      × (open_portions (with_literal n (text_at (texts_of now) n) now.core.printing) ≤ 131329)
+  literal_put h m =
+      let w = with_it (h.printings texts) in
+      let o = ap open_portions w in
+      let i = items_open texts new.piles in
+      let j = h.within in
+      (told (printings_in texts new.piles) (with_literal n (text_at (texts_of now) n) now.core.printing) new.most w m, omega arith)
+
+  pub literal_refused : HasNoRoom n old new → new.most ≡ k.rooms.texts
+      → (record k { core = with_texts k.core (printings_in texts new.piles); rooms = record k.rooms { texts = new.most } } ≡ now) × (131329 < open_portions (with_literal n (text_at (texts_of now) n) now.core.printing))
+  literal_refused h m =
+      let same = ap (λ (x : Piled (Option ℕ) Portion). printings_in texts x.piles) h.same in
+      let c = ap open_portions (ap (λ (us : List (List ℕ)). with_literal n (text_at us n) (printings_in texts old.piles)) t ∙ ap (with_literal n (text_at (texts_of k) n)) (sym p) ∙ ap (λ (j : Kept). with_literal n (text_at (texts_of j) n) j.core.printing) e) in
+      let l = h.crowded texts in
+      (told (printings_in texts new.piles) k.core.printing new.most (same ∙ sym p) m ∙ ap (λ (x : List Printing). with_core now (with_texts now.core x)) (ap (λ (j : Kept). j.core.printing) e), omega arith)
 
 module _ (m : Kept) (f : List core.Portion → List core.Portion) (d : Core) where
   abbrev renewed_on : List Printing → Acted
