@@ -1,0 +1,6 @@
+pub mod Clean
+pub mod Pieces
+pub mod Lines
+pub mod Reports
+pub mod Fitting
+pub mod Entries
