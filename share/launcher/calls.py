@@ -5,12 +5,12 @@ import signal
 from typing import List
 
 from ending import DONE, NO_PROGRAM, READ_FAULT, USAGE, WRITE_FAULT, Caller, end_by
-from given_file import STANDARD_INPUT, Asked, CannotRead, GivenFile, take_file
+from given_file import MOST_TRACE_BYTES, STANDARD_INPUT, Asked, CannotRead, GivenFile, take_file
 from message import FORMS, TEXT, Message
 from report import report, tell_as, tell_rest
 from spelling import OPTION, spelt, take_form
 from texts import NO_MORE_TAKEN, NothingMoreTaken, answer, keep_streams, tell, text_of, words_of_call
-from words import Wrong, read_words
+from words import Valid, Wrong, read_words
 
 # The modules of the other answers are read where they are needed: a call that only answers words has to be quick.
 
@@ -147,17 +147,29 @@ def _run(caller: Caller, way: str, words: List[str]) -> int:
     read = read_words(words)
     if isinstance(read, Wrong):
         return _tell_usage(caller, words, read.word)
-    asked = Asked(words)
-    if read.file is not None:
-        try:
-            asked = Asked(words, read.file, take_file(words[read.file]))
-        except CannotRead as wrong:
-            answer("read fault\n")
-            report(caller, [Message(str(wrong), "ReadFault", status=READ_FAULT)], READ_FAULT)
-            return READ_FAULT
+    try:
+        asked = _asked(words, read)
+    except CannotRead as wrong:
+        answer("read fault\n")
+        report(caller, [Message(str(wrong), "ReadFault", status=READ_FAULT)], READ_FAULT)
+        return READ_FAULT
     import programs_called
 
     return programs_called.run_program(caller, way, asked)
+
+
+def _asked(words: List[str], read: Valid) -> Asked:
+    """Takes the files of valid words: TRACE first, as the program reads it first. Only one can be its standard input;
+    raises CannotRead where one can't be read."""
+    if read.file is None:
+        return Asked(words)
+    if read.trace is None:
+        return Asked(words, read.file, take_file(words[read.file]))
+    trace = take_file(words[read.trace], MOST_TRACE_BYTES)
+    file = take_file(words[read.file])
+    if trace.kept is not None and file.kept is not None:
+        file = file.by_another_name()
+    return Asked(words, read.file, file, read.trace, trace)
 
 
 def _tell_usage(caller: Caller, words: List[str], number: int) -> int:

@@ -8,10 +8,11 @@ from __future__ import annotations
 
 import re
 from dataclasses import dataclass
-from typing import List, Sequence, Tuple
+from typing import Callable, List, Sequence, Tuple
 
 from manual import Help, Item
 from tables import Tables
+from words import OF_A_TRACE
 
 # How the meaning of an option begins that one of show, picture and explore has beside those of a run.
 _OWN = re.compile("(show|picture|explore): ")
@@ -32,6 +33,10 @@ class Words:
     ahead: Tuple[str, ...]
     options: Tuple[Item, ...]
     known: Tuple[str, ...]
+
+    def options_of(self, command: str) -> List[Item]:
+        """Returns the options of a command that takes a TRACE."""
+        return [it for it in self.options if name_of(it) in OF_A_TRACE[command]]
 
     def taking(self, count: int) -> List[str]:
         """Returns the options that are followed by at least so many words."""
@@ -66,10 +71,14 @@ _caf() {
     fi
     case ${COMP_WORDS[at]} in
     --explain) mapfile -t COMPREPLY < <(compgen -W 'KNOWN' -- "$now") ;;
-    run | show | picture | explore)
+    run | judge | replay | show | picture | explore)
         if [[ $one == @(TAKE_ONE) || $two == @(TAKE_TWO) ]]; then return; fi
         if [[ $now == -* ]]; then
-            mapfile -t COMPREPLY < <(compgen -W 'OPTIONS' -- "$now")
+            case ${COMP_WORDS[at]} in
+            judge) mapfile -t COMPREPLY < <(compgen -W 'JUDGED' -- "$now") ;;
+            replay) mapfile -t COMPREPLY < <(compgen -W 'REPLAYED' -- "$now") ;;
+            *) mapfile -t COMPREPLY < <(compgen -W 'OPTIONS' -- "$now") ;;
+            esac
             return
         fi
         ;&
@@ -96,8 +105,12 @@ _caf() {
         return
     fi
     case ${words[at]} in
+    judge) options=(JUDGED) ;;
+    replay) options=(REPLAYED) ;;
+    esac
+    case ${words[at]} in
     --explain) compadd -- KNOWN ;;
-    run|show|picture|explore)
+    run|judge|replay|show|picture|explore)
         if [[ ${words[CURRENT - 1]} == (TAKE_ONE) || ${words[CURRENT - 2]} == (TAKE_TWO) ]]; then return; fi
         if [[ ${words[CURRENT]} == -* ]]; then _describe -o 'options' options; else _files; fi
         ;;
@@ -113,33 +126,39 @@ def quoted(text: str) -> str:
     return "'" + text.replace("'", "'\\''") + "'"
 
 
+def named(items: Sequence[Item]) -> str:
+    """Returns the words alone, for compgen of bash."""
+    return " ".join(name_of(it) for it in items)
+
+
 def described(items: Sequence[Item]) -> str:
     """Returns the words with their meanings, for _describe of zsh."""
     return " ".join(quoted(f"{name_of(it)}:{it.text}") for it in items)
 
 
-def filled(frame: str, words: Words, first: str, options: str) -> str:
+def filled(frame: str, words: Words, listed: Callable[[Sequence[Item]], str]) -> str:
     """Returns a completion with its words in their places."""
     places = {
         "AHEAD": "|".join(words.ahead),
-        "FIRST": first,
-        "OPTIONS": options,
+        "FIRST": listed(words.first),
+        "OPTIONS": listed(words.options),
+        "JUDGED": listed(words.options_of("judge")),
+        "REPLAYED": listed(words.options_of("replay")),
         "KNOWN": " ".join(words.known),
         "TAKE_ONE": "|".join(words.taking(1)),
         "TAKE_TWO": "|".join(words.taking(2)),
     }
-    return re.sub(r"\b(AHEAD|FIRST|OPTIONS|KNOWN|TAKE_ONE|TAKE_TWO)\b", lambda it: places[it[1]], frame)
+    return re.sub(rf"\b({'|'.join(places)})\b", lambda it: places[it[1]], frame)
 
 
 def bash_completion(words: Words) -> str:
     """Returns the completion for bash 4 and later."""
-    first, options = (" ".join(name_of(it) for it in items) for items in (words.first, words.options))
-    return filled(BASH, words, first, options)
+    return filled(BASH, words, named)
 
 
 def zsh_completion(words: Words) -> str:
     """Returns the completion for zsh."""
-    return filled(ZSH, words, described(words.first), described(words.options))
+    return filled(ZSH, words, described)
 
 
 def fish_option(item: Item, behind: str, more: str = "") -> str:
@@ -160,6 +179,8 @@ def fish_completion(words: Words) -> str:
             lines.append(fish_option(item, "__fish_use_subcommand", more))
         else:
             lines.append(f"complete -c caf -n __fish_use_subcommand -a {name} -d {quoted(item.text)}")
-    lines += [fish_option(item, "'__fish_seen_subcommand_from run show picture explore'") for item in words.options]
-    lines.append("complete -c caf -n '__fish_seen_subcommand_from run show picture explore check' -F")
+    for item in words.options:
+        behind = ["run", "show", "picture", "explore", *(it for it in OF_A_TRACE if item in words.options_of(it))]
+        lines.append(fish_option(item, f"'__fish_seen_subcommand_from {' '.join(behind)}'"))
+    lines.append("complete -c caf -n '__fish_seen_subcommand_from run judge replay show picture explore check' -F")
     return "\n".join(lines) + "\n"

@@ -4,7 +4,18 @@ import re
 from typing import List, NamedTuple, Sequence, Tuple
 
 # What the lines of an end begin with; those of an image's output and of the trace begin with a number.
-WORDS = ("refused", "usage:", "fault", "error", "clash", "limit", "stuck", "race")
+WORDS = (
+    "refused",
+    "usage:",
+    "fault",
+    "error",
+    "clash",
+    "limit",
+    "stuck",
+    "race",
+    "not a run at step",
+    "bad trace at line",
+)
 
 
 class Place(NamedTuple):
@@ -36,6 +47,8 @@ _FORMS = (
     ("clash", re.compile("clash image ([0-9]+) line ([0-9]+) against image ([0-9]+) line ([0-9]+)")),
     ("limit", re.compile("limit image ([0-9]+) line ([0-9]+) ([^ ]+) ([0-9]+)")),
     ("stuck", re.compile("stuck image ([0-9]+) line ([0-9]+) ([^ ]+)")),
+    ("no run", re.compile("not a run at step ([0-9]+)")),
+    ("bad trace", re.compile("bad trace at line ([0-9]+)")),
     ("race", re.compile(f"race on ([^:]+):([0-9]+) of image ([0-9]+): {_SIDE}, {_SIDE}")),
 )
 

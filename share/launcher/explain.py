@@ -12,7 +12,7 @@ from tables import Case, Entry, Kind, Tables
 from texts import lower
 
 KINDS = (
-    "a status (0 to 13), the number of a refusal (1 to 9, 20 to 59), a run fault (Overflow), a code (6000 to 6006), "
+    "a status (0 to 15), the number of a refusal (1 to 9, 20 to 59), a run fault (Overflow), a code (6000 to 6006), "
     "or a name of these"
 )
 

@@ -6,14 +6,15 @@ TEXT, JSON, SARIF = FORMS = ("text", "json", "sarif")
 
 
 class Note(NamedTuple):
-    """A further place of the same source, and what is said there. Line 0 is no place, and column 0 the first character
-    that isn't a blank."""
+    """A further place, and what is said there: of the message's file, or of another one that is named. Line 0 is no
+    place, and column 0 the first character that isn't a blank."""
 
     line: int
     column: int
     text: str
     source_line: Optional[str] = None
     length: int = 1
+    file: str = ""
 
 
 class Message(NamedTuple):

@@ -1,15 +1,15 @@
 """What an answer of the program means: messages, each with its place, its line and what helps."""
 
-import shlex
-from typing import List, NamedTuple, Optional, Sequence
+from typing import List, NamedTuple, Sequence, Union
 
 from ending import Caller
 from ends import End, Place, read_ends
 from given_file import Asked, why_unread
 from message import Message, Note
 from report import rendered
-from texts import NO_MORE_TAKEN
+from texts import NO_MORE_TAKEN, bytes_of
 from traced import KeptTrace
+from traced_file import TraceFile
 
 # The ends for which the trace is asked: of a refusal or of wrong words there is none, and a limit needs none.
 TRACED = ("fault", "stop", "clash", "stuck", "race")
@@ -22,7 +22,7 @@ class Answered(NamedTuple):
 
     status: int
     lines: Sequence[str]
-    trace: Optional[KeptTrace] = None
+    trace: Union[KeptTrace, TraceFile, None] = None
 
 
 def messages(caller: Caller, asked: Asked, answered: Answered) -> str:
@@ -33,18 +33,18 @@ def messages(caller: Caller, asked: Asked, answered: Answered) -> str:
 def messages_of(caller: Caller, asked: Asked, answered: Answered) -> List[Message]:
     """Returns what an answer means."""
     status = answered.status
-    if 2 <= status <= 9:
+    if 2 <= status <= 9 or status in (14, 15):
         return _end_messages(caller, asked, answered)
-    texts = {
-        11: NO_MORE_TAKEN[_CAF:],
-        12: "there was no memory for the next step",
-        13: f"{asked.shown_name()} has more than 1,048,576 bytes",
-    }
+    texts = {11: NO_MORE_TAKEN[_CAF:], 12: "there was no memory for the next step"}
     if status == 10:
-        return [Message(why_unread(asked.path(), asked.shown_name()), "ReadFault", status=10)]
+        unread = asked.unread()
+        return [Message(why_unread(bytes_of(unread.word), unread.shown_name), "ReadFault", status=10)]
+    if status == 13:
+        name, most = asked.too_long()
+        return [Message(f"{name} has more than {most:,} bytes", "TooLong", status=13)]
     if status > 128:
         return [Message(f"the program was ended from outside, by signal {status - 128}", "Signal", status=status)]
-    names = {11: "WriteFault", 12: "NoMemory", 13: "TooLong"}
+    names = {11: "WriteFault", 12: "NoMemory"}
     return [Message(texts[status], names[status], status=status)] if status in texts else []
 
 
@@ -59,6 +59,11 @@ def _end_messages(caller: Caller, asked: Asked, answered: Answered) -> List[Mess
         return usage_told(caller, asked.words, ends[0].number(0))
     if ends[0].kind == "refused":
         return [_refusal(caller, asked, ends[0])]
+    if ends[0].kind in ("no run", "bad trace"):
+        from told_trace import told_bad_trace, told_not_a_run  # here, since most calls don't need it
+
+        told = told_not_a_run if ends[0].kind == "no run" else told_bad_trace
+        return [told(caller, asked, ends[0].number(0))]
     return [_run_message(caller, asked, answered, ends)]
 
 
@@ -90,12 +95,13 @@ def _refusal(caller: Caller, asked: Asked, end: End) -> Message:
 
 def _run_message(caller: Caller, asked: Asked, answered: Answered, ends: Sequence[End]) -> Message:
     """Returns what is said of the end of a run."""
-    from scene import first_column  # here, since a check needs none of it
+    from again import calls_again  # here, since a check needs none of it
+    from scene import first_column
     from told import told_end
 
     told, scene = told_end(caller.home, asked, answered.trace, ends)
     text = scene.source.line(told.line)
-    helps = [*told.helps, *_again(caller, asked.words, told.code)]
+    helps = [*told.helps, *calls_again(caller, asked.words, told.code)]
     helps.append(f"{caller.called} --explain {told.hint} says more")
     return Message(
         told.text,
@@ -109,21 +115,3 @@ def _run_message(caller: Caller, asked: Asked, answered: Answered, ends: Sequenc
         helps=tuple(helps),
         status=answered.status,
     )
-
-
-def _again(caller: Caller, words: Sequence[str], code: str) -> List[str]:
-    """Returns how a run on workers is looked for again; an error stop of the program itself shows in any order."""
-    from sentences import read_sentences
-    from words import is_on_workers
-
-    if not is_on_workers(words) or code in ("statements", "words"):
-        return []
-    left, place = [], 1
-    while place < len(words):
-        if words[place] in ("--trace", "--vars", "-w") and place < len(words) - 1:
-            place += 2 if words[place] == "-w" else 1
-            continue
-        left.append("FILE" if words[place] in ("-", "/dev/stdin") else words[place])
-        place += 1
-    call = " ".join(shlex.quote(it) for it in [caller.called, "explore", *left])
-    return [f"{read_sentences(caller.home).say('Workers', 'again')}\n{call}"]

@@ -14,6 +14,7 @@ from report import report
 from running import run, run_again
 from texts import answer, text_of
 from traced import Cut, KeptTrace
+from traced_file import TraceFile
 from words import is_on_workers
 
 
@@ -101,12 +102,15 @@ def closing(program: programs.Program) -> List[Message]:
 
 def _answered(path: str, asked: Asked) -> Answered:
     """Runs the program. A run on workers is asked for its trace, which is cut off where the call didn't ask for it: no
-    other run is the same one. One in a stated order is run again for it, where its end is told by it."""
+    other run is the same one. One in a stated order is run again for it, where its end is told by it, and so is a
+    replay; a judged trace stands in its file."""
     words = asked.words_for_program()
     kept = KeptTrace()
     has_trace = is_on_workers(words)
     cut = Cut(kept, "--vars" in asked.options(), "--trace" in asked.options()) if has_trace else None
     outcome = run(path, _traced(asked, words, ["--trace"]) if has_trace else words, asked.standard_input(), cut)
+    if words[0] == "judge":
+        return Answered(outcome.status, outcome.lines, TraceFile(asked.trace_file()))
     if not has_trace and any(it.kind in TRACED for it in read_ends(outcome.lines)):
         again = run_again(path, _traced(asked, words, ["--trace", "--vars"]), asked.standard_input(), kept)
         if again != outcome:

@@ -30,7 +30,7 @@ def text_line(message: Message) -> str:
 
 
 def _note(file: str, note: Note) -> Dict[str, Any]:
-    return {**_place(file, note.line, note.column, note.length), "text": shown(note.text)}
+    return {**_place(note.file or file, note.line, note.column, note.length), "text": shown(note.text)}
 
 
 def _place(file: str, line: int, column: int, length: int) -> Dict[str, Any]:

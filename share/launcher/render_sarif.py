@@ -41,7 +41,7 @@ def _result(message: Message, codes: List[str]) -> Dict[str, Any]:
         place = Note(message.line, message.column, "", message.source_line, message.length)
         told["locations"] = [_location(message.file, place)]
     if message.notes:
-        related = (_location(message.file, it) for it in message.notes)
+        related = (_location(it.file or message.file, it) for it in message.notes)
         told["relatedLocations"] = [{"id": number, **it} for number, it in enumerate(related, 1)]
     return told
 

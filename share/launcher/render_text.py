@@ -70,7 +70,7 @@ class TextRenderer:
             lines += self._excerpt(message.line, message.column, message.source_line, message.length)
         lines += message.shown
         for note in message.notes:
-            lines += self._note_lines(message.file, note)
+            lines += self._note_lines(note.file or message.file, note)
         for it in message.helps:
             lines += self._help_lines(it)
         return lines

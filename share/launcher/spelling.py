@@ -5,6 +5,7 @@ are judged as they were written."""
 from typing import Dict, List, NamedTuple, Optional, Sequence, Tuple
 
 from message import FORMS, TEXT
+from words import OF_A_TRACE
 
 OPTION = "--message-format"
 HELP = ("-h", "--help")
@@ -79,6 +80,8 @@ def _takes(command: str) -> Optional[Dict[str, int]]:
     """Returns the options of a command."""
     if command == "run":
         return _OF_A_RUN
+    if command in OF_A_TRACE:
+        return {it: _OF_A_RUN[it] for it in OF_A_TRACE[command]}
     if command in _RUNS:
         from view_words import OWN  # here, since most calls don't need it
 

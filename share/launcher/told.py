@@ -1,6 +1,6 @@
 """What is said of how a run ended: each kind of end by the module that knows it."""
 
-from typing import List, Optional, Sequence, Tuple
+from typing import List, Optional, Sequence, Tuple, Union
 
 from ends import End
 from given_file import Asked
@@ -11,10 +11,13 @@ from survey import survey
 from tables import read_tables, tables_path
 from trace import Race, Side, Wait
 from traced import KeptTrace
+from traced_file import TraceFile
 from words import images_asked
 
 
-def told_end(home: str, asked: Asked, trace: Optional[KeptTrace], ends: Sequence[End]) -> Tuple[Told, Scene]:
+def told_end(
+    home: str, asked: Asked, trace: Union[KeptTrace, TraceFile, None], ends: Sequence[End]
+) -> Tuple[Told, Scene]:
     """Returns what is said of the lines of an end, and what was looked at."""
     end = ends[0]
     race = _race(end) if end.kind == "race" else None

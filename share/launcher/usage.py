@@ -8,7 +8,7 @@ from excerpts import excerpt
 from help import help_lines, help_words
 from message import Message
 from report import rendered
-from words import range_of
+from words import OF_A_TRACE, range_of
 
 _VALUE = re.compile("[A-Z][A-Z@]*")
 _RIVAL = re.compile("not beside (-[-a-z]+)")
@@ -26,6 +26,10 @@ class Form(NamedTuple):
         """Tells whether a line of the form has OPTIONS."""
         return any(" OPTIONS " in line for line in self.lines)
 
+    def files(self) -> List[str]:
+        """Returns which files stand last: FILE, or TRACE and FILE."""
+        return ["TRACE", "FILE"] if any(" TRACE FILE " in line for line in self.lines) else ["FILE"]
+
 
 class Help(NamedTuple):
     """The commands and the options of the help text, by their words, in its order; and all lines of commands."""
@@ -36,11 +40,11 @@ class Help(NamedTuple):
 
 
 class Words(NamedTuple):
-    """What the words before the wrong one are: the options among them, whether one is FILE, and the value that the last
+    """What the words before the wrong one are: the options among them, how many are files, and the value that the last
     option, or the command itself, lacks."""
 
     given: Set[str]
-    has_file: bool
+    files: int
     option: str
     wanted: Optional[str]
 
@@ -85,7 +89,7 @@ def _read_words(told: Help, words: Sequence[str], number: int) -> Words:
     option = words[0] if words else ""
     left = list((command or told.options.get(option) or Form([], [])).values)
     given: Set[str] = set()
-    has_file = False
+    files = 0
     for word in words[1 : number - 1]:
         if left:
             left.pop(0)
@@ -94,8 +98,8 @@ def _read_words(told: Help, words: Sequence[str], number: int) -> Words:
             given.add(word)
             left = list(told.options[word].values)
         else:
-            has_file = True
-    return Words(given, has_file, option, left[0] if left else None)
+            files += 1
+    return Words(given, files, option, left[0] if left else None)
 
 
 def _reason(told: Help, words: Sequence[str], number: int, before: Words) -> str:
@@ -110,27 +114,32 @@ def _reason(told: Help, words: Sequence[str], number: int, before: Words) -> str
     command = told.commands.get(words[0], Form([], []))
     if command.values:
         return f"nothing stands behind {command.values[-1]}"
+    wanted = command.files()[before.files :]
     if number > len(words):
-        return "it has to be FILE"
+        return f"it has to be {wanted[0] if wanted else 'FILE'}"
     word = words[number - 1]
-    if before.has_file and not word.startswith("-"):
+    if word == "-" and word in words[: number - 1]:
+        return "standard input is read once"
+    if not wanted and (word == "-" or not word.startswith("-")):
         return "there is a FILE before it"
-    if before.has_file and word in told.options:
+    if before.files and word in told.options and word in OF_A_TRACE.get(words[0], (word,)):
         return "no value stands behind it"
+    if word == "":
+        return f"{wanted[0]} is empty"
     return _reason_of_word(told, words[0], word, before.given)
 
 
 def _reason_of_word(told: Help, command: str, word: str, given: Set[str]) -> str:
-    """Says why a word is wrong where an option or FILE may stand."""
+    """Says why a word is wrong where an option or a file may stand."""
     if word in given:
         return f"{word} stands twice"
     rival = told.options[word].rival if word in told.options else None
     if rival in given:
         return f"{word} and {rival} exclude each other"
     if word.startswith("-"):
-        takes_options = command in told.commands and told.commands[command].takes_options()
-        return "there is no such option" + ("" if takes_options else f" of {command}")
-    return "FILE is empty" if word == "" else ""
+        takes_all = command in told.commands and told.commands[command].takes_options() and command not in OF_A_TRACE
+        return "there is no such option" + ("" if takes_all else f" of {command}")
+    return ""
 
 
 def usage_message(caller: Caller, words: Sequence[str], number: int) -> str:

@@ -1,11 +1,12 @@
 """Which lists of words are valid, and where the others go wrong: what the program answers, but for `-` as FILE.
 
-The words are those of `run OPTIONS FILE`, `run OPTIONS --made SEED SIZE`, `check FILE` and `make SEED SIZE`. FILE isn't
-empty and doesn't begin with `-`, but `-` itself, which is standard input, is one.
+The words are those of `run OPTIONS FILE`, `run OPTIONS --made SEED SIZE`, `judge OPTIONS TRACE FILE`, `replay OPTIONS
+TRACE FILE`, `check FILE` and `make SEED SIZE`. FILE and TRACE aren't empty and don't begin with `-`; but one of them
+may be `-` itself, which is standard input.
 """
 
 import re
-from typing import Dict, NamedTuple, Optional, Sequence, Set, Union
+from typing import Dict, NamedTuple, Optional, Sequence, Set, Tuple, Union
 
 from texts import is_text
 
@@ -36,10 +37,11 @@ class Range(NamedTuple):
 
 
 class Valid(NamedTuple):
-    """Valid words: the command, and the place of FILE among the words, from 0, where it has one."""
+    """Valid words: the command, and the places of FILE and of TRACE among the words, from 0, where it has them."""
 
     command: str
     file: Optional[int]
+    trace: Optional[int] = None
 
 
 class Wrong(NamedTuple):
@@ -66,6 +68,11 @@ _FAIL_IMAGE = Range(1, GREATEST_IMAGES)
 _FAIL_STEP = Range(1, 1000000)
 # Of these two only one may stand.
 _RIVALS = {"-w": "--order", "--order": "-w"}
+# The commands that take a TRACE before FILE, with the options of a run that each of them takes.
+OF_A_TRACE: Dict[str, Tuple[str, ...]] = {
+    "judge": ("-n", "--steps", "--fail"),
+    "replay": ("-n", "--steps", "--fail", "--trace", "--vars"),
+}
 
 
 def range_of(option: str, value: str) -> str:
@@ -78,7 +85,7 @@ def range_of(option: str, value: str) -> str:
 
 
 def options_of(words: Sequence[str]) -> Dict[str, str]:
-    """Returns the options of valid words of a run with their values; of one that stands twice the last."""
+    """Returns the options of valid words with their values; of one that stands twice the last."""
     found: Dict[str, str] = {}
     place = 1
     while place < len(words) and (words[place] in _NUMBERS or words[place] in _FLAGS or words[place] == _FAIL):
@@ -94,7 +101,7 @@ def is_on_workers(words: Sequence[str]) -> bool:
 
 
 def images_asked(words: Sequence[str]) -> int:
-    """Returns how many images valid words of a run ask for."""
+    """Returns how many images valid words of a run, or of a trace, ask for."""
     return int(options_of(words).get("-n", DEFAULT_IMAGES))
 
 
@@ -103,8 +110,8 @@ def read_words(words: Sequence[str]) -> Union[Valid, Wrong]:
     does."""
     if not words or not all(is_text(word) for word in words):
         return Wrong(1)
-    if words[0] == "run":
-        return _read_run(words)
+    if words[0] == "run" or words[0] in OF_A_TRACE:
+        return _read_behind_options(words)
     if words[0] == "check":
         return _read_file("check", words, 1)
     if words[0] == "make":
@@ -112,10 +119,11 @@ def read_words(words: Sequence[str]) -> Union[Valid, Wrong]:
     return Wrong(1)
 
 
-def _read_run(words: Sequence[str]) -> Union[Valid, Wrong]:
+def _read_behind_options(words: Sequence[str]) -> Union[Valid, Wrong]:
+    """Reads the words of a command that takes options."""
     given: Set[str] = set()
     place = 1
-    while place < len(words) and _may_stand(words[place], given):
+    while place < len(words) and _may_stand(words[0], words[place], given):
         option = words[place]
         given.add(option)
         place += 1
@@ -123,13 +131,17 @@ def _read_run(words: Sequence[str]) -> Union[Valid, Wrong]:
             if place == len(words) or not _is_value(option, words[place]):
                 return Wrong(place + 1)
             place += 1
+    if words[0] in OF_A_TRACE:
+        return _read_trace(words[0], words, place)
     if place < len(words) and words[place] == "--made":
         return _read_made("run", words, place + 1)
     return _read_file("run", words, place)
 
 
-def _may_stand(option: str, given: Set[str]) -> bool:
-    """Tells whether a word is an option that may stand behind those that are given."""
+def _may_stand(command: str, option: str, given: Set[str]) -> bool:
+    """Tells whether a word is an option of the command that may stand behind those that are given."""
+    if option not in OF_A_TRACE.get(command, (option,)):
+        return False
     if option == _FAIL:
         return True
     is_option = option in _NUMBERS or option in _FLAGS
@@ -143,11 +155,26 @@ def _is_value(option: str, word: str) -> bool:
     return at == "@" and _FAIL_IMAGE.has(image) and _FAIL_STEP.has(step)
 
 
+def _is_name(words: Sequence[str], place: int) -> bool:
+    """Tells whether the word at a place is one for FILE or TRACE."""
+    return place < len(words) and words[place] != "" and (words[place][0] != "-" or words[place] == "-")
+
+
 def _read_file(command: str, words: Sequence[str], place: int) -> Union[Valid, Wrong]:
     """Reads FILE, which stands alone behind all others."""
-    if place == len(words) or words[place] == "" or (words[place][0] == "-" and words[place] != "-"):
+    if not _is_name(words, place):
         return Wrong(place + 1)
     return Valid(command, place) if len(words) == place + 1 else Wrong(place + 2)
+
+
+def _read_trace(command: str, words: Sequence[str], place: int) -> Union[Valid, Wrong]:
+    """Reads TRACE and FILE, which stand alone behind all others. Standard input is read once."""
+    if not _is_name(words, place):
+        return Wrong(place + 1)
+    if words[place : place + 2] == ["-", "-"]:
+        return Wrong(place + 2)
+    read = _read_file(command, words, place + 1)
+    return Valid(command, read.file, place) if isinstance(read, Valid) else read
 
 
 def _read_made(command: str, words: Sequence[str], place: int) -> Union[Valid, Wrong]:

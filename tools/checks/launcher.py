@@ -5,8 +5,8 @@ import sys
 
 from checks.comparing import HOME, LAUNCHER, Checks, call, folder, read, started, with_status, write
 
-HELP_WORDS = """run check make -n -w --order --steps --fail --trace --vars --made FILE --try --prove --which --explain
---version --message-format Statuses"""
+HELP_WORDS = """run judge replay check make -n -w --order --steps --fail --trace --vars --made FILE TRACE
+--try --prove --which --explain --version --message-format Statuses"""
 NEIGHBOUR = ["run", "-n", "4", "--order", "0", "examples/neighbour.f90"]
 # A program whose trace is long, and which ends by a fault in its last statement.
 TRACED = b"integer :: i, x[*]\ndo i = 1, 20000\nx = i\nend do\nx = x / (x - x)\nend\n"
@@ -31,6 +31,9 @@ ANSWERED_BEFORE = (
     ("--try", "run"),
     ("--prove", "run -n"),
     ("", "check absent.f90"),
+    ("", "judge -n 2"),
+    ("", "judge absent.trace examples/empty.f90"),
+    ("--prove", "replay examples/deadlock.trace docs"),
     ("--prove", "check docs"),
 )
 MOST_KILOBYTES = 60000
@@ -63,7 +66,7 @@ def _check_words(checks: Checks) -> None:
     for word in HELP_WORDS.split():
         checks.holds(f"./caf --help has {word}", word.encode() in told.text)
     lines = [line.split()[:1] for line in told.text.split(b"Statuses:")[-1].splitlines()]
-    for status in range(14):
+    for status in range(16):
         checks.holds(f"./caf --help has the status {status}", lines.count([b"%d" % status]) == 1)
     for word in ("-h", "help"):
         checks.same(f"./caf {word}", with_status(told), with_status(call([LAUNCHER, word])))

@@ -21,7 +21,8 @@ _HEAD = re.compile(r"== ([^:]*): status ([0-9]+), (.*)")
 
 
 class Case(NamedTuple):
-    """A case: its name, the status, the words, and the source, the text and the messages."""
+    """A case: its name, the status, the words, and the source, the text and the messages, with a trace t where they
+    name one."""
 
     name: str
     status: int
@@ -47,6 +48,7 @@ def check_messages(checks: Checks) -> None:
         os.chdir(work)
         for case in cases():
             write("a.f90", bytes_of(case.parts["source"]))
+            write("t", bytes_of(case.parts.get("trace", "")))
             own = call([checks.program, *case.words], folder=work)
             got = call(["./caf", *case.words], folder=work)
             if own.status == case.status:
@@ -87,9 +89,12 @@ def _check_cases(checks: Checks) -> None:
 
 def _asked(words: List[str]) -> Asked:
     read_as = read_words(words)
-    if isinstance(read_as, Valid) and read_as.file is not None:
-        return Asked(words, read_as.file, GivenFile(words[read_as.file], words[read_as.file]))
-    return Asked(words)
+    if not isinstance(read_as, Valid) or read_as.file is None:
+        return Asked(words)
+    asked = Asked(words, read_as.file, GivenFile(words[read_as.file], words[read_as.file]))
+    if read_as.trace is None:
+        return asked
+    return asked._replace(trace_place=read_as.trace, trace=GivenFile(words[read_as.trace], words[read_as.trace]))
 
 
 def _check_uses(checks: Checks) -> None:
@@ -105,7 +110,7 @@ def check_tables(checks: Checks) -> None:
     """The tables have each number once, each place lies in its example, and each example is answered as they say."""
     entries = tables.read_tables(tables.tables_path(HOME)).entries
     found = [(it.kind, it.key) for it in entries]
-    wanted = [(Kind.STATUS, str(it)) for it in range(14)]
+    wanted = [(Kind.STATUS, str(it)) for it in range(16)]
     wanted += [(Kind.REFUSAL, str(it)) for it in range(1, 60) if it <= 9 or it >= 20]
     for kind, key in wanted:
         checks.holds(f"{kind.value} {key} stands {found.count((kind, key))} times", found.count((kind, key)) == 1)

@@ -10,9 +10,9 @@ from texts import bytes_of
 from words import Valid, Wrong, read_words
 
 # What drawn lists are made of.
-_PIECES = """run check make -n -n -w -w --order --order --steps --fail --trace --vars --made a.f90 b.f90 1 1 4 16 64 65
-256 257 0 3@1 3@0 007 _ -x 2147483647 4096 4097 1000000 100000001""".split()
-DRAWN = 150
+_PIECES = """run judge replay check make -n -n -w -w --order --order --steps --fail --trace --vars --made a.f90 b.f90
+1 1 4 16 64 65 256 257 0 3@1 3@0 007 _ -x 2147483647 4096 4097 1000000 100000001""".split()
+DRAWN = 240
 # Of so many lists one is given to the launcher itself too.
 STEP = 8
 
@@ -21,7 +21,7 @@ def _drawn() -> Iterator[List[str]]:
     """Gives lists that begin as a call does, drawn alike at each call."""
     draw = random.Random(1539)
     for _ in range(DRAWN):
-        front = [draw.choice(["run", "run", "run", "run", "check", "make"])]
+        front = [draw.choice(["run", "run", "run", "judge", "judge", "replay", "replay", "check", "make"])]
         yield front + ["" if it == "_" else it for it in draw.choices(_PIECES, k=draw.randrange(0, 9))]
 
 

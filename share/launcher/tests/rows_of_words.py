@@ -164,6 +164,63 @@ _ROWS = """
 2 run --mad 1 4
 6 run -n 2 --order 0
 3 run a.f90 --made 1 4
+1 Judge a.trace a.f90
+1 judges a.trace a.f90
+2 judge
+3 judge a.trace
+0 judge a.trace a.f90
+0 judge a.f90 a.f90
+0 judge judge replay
+0 judge 1 4
+2 judge _ a.f90
+2 judge -a.trace a.f90
+2 judge --
+3 judge a.trace _
+3 judge a.trace -a.f90
+3 judge a.trace -n 2 a.f90
+4 judge a.trace a.f90 b.f90
+4 judge a.trace a.f90 _
+4 judge a.trace a.f90 -n
+0 judge -n 1 a.trace a.f90
+0 judge -n 256 a.trace a.f90
+3 judge -n
+3 judge -n 0 a.trace a.f90
+3 judge -n 257 a.trace a.f90
+4 judge -n 2
+5 judge -n 2 a.trace
+4 judge -n 2 -n 2 a.trace a.f90
+2 judge -w 2 a.trace a.f90
+2 judge --order 0 a.trace a.f90
+2 judge --trace a.trace a.f90
+2 judge --vars a.trace a.f90
+2 judge --made 1 4
+4 judge -n 2 --trace a.trace a.f90
+4 judge -n 2 --made 1 4
+0 judge --steps 100000000 a.trace a.f90
+3 judge --steps 100000001 a.trace a.f90
+4 judge --steps 9 --steps 9 a.trace a.f90
+0 judge --fail 256@1000000 --fail 1@1 a.trace a.f90
+3 judge --fail 257@1 a.trace a.f90
+5 judge --fail 1@1 --fail 1@0 a.trace a.f90
+0 judge --fail 1@2 -n 2 --fail 2@2 --steps 9 a.trace a.f90
+2 replay
+3 replay a.trace
+0 replay a.trace a.f90
+4 replay a.trace a.f90 b.f90
+2 replay _ a.f90
+3 replay a.trace --trace a.f90
+0 replay --trace a.trace a.f90
+0 replay --vars a.trace a.f90
+0 replay --vars -n 2 --fail 1@1 --trace --steps 9 a.trace a.f90
+3 replay --trace --trace a.trace a.f90
+3 replay --vars --vars a.trace a.f90
+4 replay --trace a.trace
+2 replay -w 2 a.trace a.f90
+2 replay --order 0 a.trace a.f90
+3 replay --trace -w 2 a.trace a.f90
+2 replay --made 1 4
+3 replay -n 257 a.trace a.f90
+1 replay \xff a.f90
 0 make 0 1
 0 make 2147483647 4096
 2 make
@@ -192,6 +249,11 @@ _STANDARD_INPUT = """
 3 run - -n
 5 run --order 0 - 1
 3 run -n - a.f90
+0 judge - a.f90
+0 judge a.trace -
+3 judge - -
+0 replay -n 2 - a.f90
+4 replay - a.f90 -
 2 make -
 """
 

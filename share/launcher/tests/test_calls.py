@@ -127,6 +127,26 @@ class CallsTest(unittest.TestCase):
         self.assertEqual(self.call("run", "-n", "2", FILE), 0)
         self.assertEqual(self.programs_run(), [("/found", ["run", "--trace", "-n", "2", FILE])])
 
+    def test_a_trace(self) -> None:
+        self.assertEqual(self.call("judge", FILE, FILE, "-n2"), 0)
+        self.assertEqual(self.call("replay", "--vars", FILE, FILE), 0)
+        words = [["judge", "-n", "2", FILE, FILE], ["replay", "--vars", FILE, FILE]]
+        self.assertEqual(self.programs_run(), [("/found", it) for it in words])
+        for given in (("judge", "/nonexistent", FILE), ("replay", FILE, "/nonexistent")):
+            self.assertEqual(self.call(*given), 10)
+        self.assertEqual(self.answered, ["read fault\n"] * 2)
+        self.assertEqual(self.said, ["caf: there is no file /nonexistent\n"] * 2)
+        self.assertEqual(len(self.programs_run()), 2)
+
+    def test_a_trace_whose_run_ends_badly_is_replayed_again(self) -> None:
+        outcome = Outcome(6, ["stuck image 1 line 1 lock"])
+        self.run_program.return_value = outcome
+        again = self.put(mock.patch("programs_called.run_again", return_value=outcome))
+        self.assertEqual(self.call("replay", "-n", "2", "--trace", FILE, FILE), 6)
+        self.assertEqual(again.call_args.args[:2], ("/found", ["replay", "--vars", "-n", "2", "--trace", FILE, FILE]))
+        self.assertEqual(self.call("judge", FILE, FILE), 6)
+        self.assertEqual(again.call_count, 1)
+
     def test_several_files(self) -> None:
         self.run_program.side_effect = [Outcome(0, []), Outcome(3, ["refused 7 at 1:1"]), Outcome(13, ["too long"])]
         self.assertEqual(self.call("check", FILE, FILE, "/nonexistent", FILE), 3)

@@ -13,7 +13,7 @@ HOME = os.path.dirname(os.path.dirname(os.path.dirname(os.path.dirname(os.path.a
 EDITORS = os.path.join(HOME, "docs", "editors")
 # The pattern of VS Code's own matcher `$gcc`.
 GCC = r"^(.*):(\d+):(\d+):\s+(warning|error):\s+(.*)$"
-PLACE = re.compile(r"a\.f90:\d+:\d+: (error|note): ")
+PLACE = re.compile(r"(?:a\.f90|t):\d+:\d+: (error|note): ")
 
 Found = Tuple[str, int, int, str]
 

@@ -27,7 +27,8 @@ class HelpTest(unittest.TestCase):
         self.assertEqual([it for it in listed if it.startswith("     ")], [])
 
     def test_wrong_words(self) -> None:
-        words = ["", "run", "check", "make", "show", "picture", "explore -x", "run --only", "run --message-format"]
+        words = ["", "run", "judge", "replay", "check", "make", "show", "picture", "explore -x", "run --only"]
+        words.append("run --message-format")
         words += [f"run {option}" for option in read_help(help_words(HOME)).options]
         words += [f"{it} -x a" for it in words]
         for it in words:

@@ -162,10 +162,14 @@ class Completions(unittest.TestCase):
         self.assertEqual(offered("run", "-n", ""), [])
         self.assertEqual(offered("run", "--made", "1", ""), [])
         self.assertEqual(offered("check", "-"), [])
+        self.assertEqual(offered("judge", "-"), ["-n"])
+        self.assertEqual(offered("replay", "-n", "4", "-"), ["-n", "--trace"])
 
     def test_files(self) -> None:
         self.assertIn("usr", offered("run", "-n", "4", "us"))
         self.assertIn("usr", offered("check", "us"))
+        self.assertIn("usr", offered("judge", "-n", "4", "us"))
+        self.assertIn("usr", offered("replay", "a.trace", "us"))
         self.assertEqual(offered("make", "us"), [])
 
     def test_entries(self) -> None:
@@ -182,12 +186,14 @@ class Completions(unittest.TestCase):
         made = completions.fish_completion(WORDS).splitlines()
         first = "complete -c caf -n __fish_use_subcommand"
         run = "complete -c caf -n '__fish_seen_subcommand_from run show picture explore'"
+        traced = "complete -c caf -n '__fish_seen_subcommand_from run show picture explore judge replay'"
+        replayed = "complete -c caf -n '__fish_seen_subcommand_from run show picture explore replay'"
         self.assertIn(f"{first} -a check -d 'say ok'", made)
         self.assertIn(f"{first} -l try -d 'the same, with nothing proved'", made)
         self.assertIn(f"{first} -l prove -d 'prove all'", made)
         self.assertIn(f"{first} -l help -d 'this text'", made)
-        self.assertIn(f"{run} -s n -x -d 'so many images; 4 where it isn'\\''t given'", made)
-        self.assertIn(f"{run} -l trace -d 'the trace: a line a step'", made)
+        self.assertIn(f"{traced} -s n -x -d 'so many images; 4 where it isn'\\''t given'", made)
+        self.assertIn(f"{replayed} -l trace -d 'the trace: a line a step'", made)
         self.assertIn(f"{run} -l made -x -d 'in the place of FILE'", made)
 
 

@@ -9,6 +9,7 @@ from ending import Caller
 from given_file import Asked, GivenFile
 from messages import Answered, messages
 
+KEEP = ("run --trace 'a b.f90' >run.trace", "replay run.trace 'a b.f90'")
 HOME = os.path.dirname(os.path.dirname(os.path.dirname(os.path.dirname(os.path.abspath(__file__)))))
 
 
@@ -136,6 +137,27 @@ class MessagesTest(unittest.TestCase):
         self.assertIn("\n    caf explore -n 3 FILE\n", told)
         asked = Asked(["run", "--order", "2", "a"], 3, GivenFile("a", "a", b"stop\n"))
         self.assertNotIn("explore", messages(Caller(HOME, "caf"), asked, Answered(8, ["fault image 1 line 1 Shape"])))
+
+    def test_a_run_on_workers_tells_how_it_is_kept(self) -> None:
+        def told(words: str) -> List[str]:
+            """Returns the calls that are told of a run with these words."""
+            given = words.split()
+            asked = Asked(given, len(given) - 1, GivenFile("a b.f90", "a b.f90", b"stop\n"))
+            asked = asked._replace(words=[*given[:-1], "a b.f90"])
+            lines = messages(Caller(HOME, "caf"), asked, Answered(6, ["stuck image 1 line 1 lock"])).split("\n")
+            return [it[4:] for it in lines if it.startswith("    caf ")]
+
+        kept = "caf replay -n 3 --fail 1@2 run.trace 'a b.f90'"
+        keep = "caf run --trace -w 2 -n 3 --fail 1@2 'a b.f90' >run.trace"
+        explored = "caf explore -n 3 --fail 1@2 'a b.f90'"
+        self.assertEqual(told("run -w 2 --vars -n 3 --fail 1@2 a"), [explored, keep, kept])
+        self.assertEqual(told("run -w 2 --trace -n 3 --fail 1@2 a"), [explored, kept])
+        self.assertEqual(told("run a"), ["caf explore 'a b.f90'", *(f"caf {it}" for it in KEEP)])
+        self.assertEqual(told("run --order 2 a"), [])
+        self.assertEqual(told("replay run.trace a"), [])
+        asked = Asked("run -n 2 --made 1 4".split())
+        got = messages(Caller(HOME, "caf"), asked, Answered(6, ["stuck image 1 line 10 leave"]))
+        self.assertEqual(("explore" in got, "replay" in got), (True, False))
 
     def test_a_made_source(self) -> None:
         asked = Asked(["run", "--made", "1", "4"])

@@ -20,6 +20,15 @@ class SpellingTest(unittest.TestCase):
             ("show a --image=1,3", "show --image 1,3 a"),
             ("explore a --runs 5 --fails", "explore --runs 5 --fails a"),
             ("make 1 4", "make 1 4"),
+            ("judge t a -n2", "judge -n 2 t a"),
+            ("judge t -n 2 --fail=1@1 a", "judge -n 2 --fail 1@1 t a"),
+            ("judge -- -t a", "judge ./-t a"),
+            ("replay t a --trace --steps 9", "replay --trace --steps 9 t a"),
+            ("replay - a", "replay - a"),
+            ("judge --trace t a", None),
+            ("judge -w2 t a", None),
+            ("replay --order=0 t a", None),
+            ("replay t a -n", None),
             ("run -n", None),
             ("run a -n", None),
             ("run --trace=1 a", None),
@@ -35,7 +44,7 @@ class SpellingTest(unittest.TestCase):
                 self.assertEqual(" ".join(got.words) if got else None, wanted)
 
     def test_help(self) -> None:
-        for given in ("run --help", "run -n 4 -h", "check a --help"):
+        for given in ("run --help", "run -n 4 -h", "check a --help", "judge -h", "replay t --help"):
             self.assertTrue(spelt(given.split()).wants_help)
         self.assertFalse(spelt("run -- --help".split()).wants_help)
 

@@ -121,7 +121,7 @@ class TablesTest(unittest.TestCase):
         tables, sentences = read_tables(tables_path(HOME)), read_sentences(HOME)
         found = {said.words for entry in tables.entries for said in sentences.of_entry(entry)}
         missing = [case for case, said in sentences.rows.items() if not any(it.endswith(said) for it in found)]
-        self.assertEqual(missing, [("Workers", "again")])
+        self.assertEqual(missing, [("Workers", "again"), ("Workers", "keep"), ("Workers", "kept")])
 
 
 class ExcerptTest(unittest.TestCase):
@@ -153,7 +153,7 @@ class UsageTest(unittest.TestCase):
 
     def test_reasons(self) -> None:
         table = [
-            ("", 1, "word 1 is missing: the command is run or check or make or show or picture or explore"),
+            ("", 1, "word 1 is missing: the command is run or judge or replay or check or make or show or picture or"),
             ("run -n", 3, "word 3 is missing: it has to be the N of -n, 1 to 256"),
             ("run --made 1 4 5", 5, f"word 5 is wrong, 5: {BEHIND_SIZE}"),
             ("run --made 1", 4, "word 4 is missing: it has to be the SIZE of --made, 1 to 4096"),
@@ -164,12 +164,28 @@ class UsageTest(unittest.TestCase):
             ("run a b", 3, "word 3 is wrong, b: there is a FILE before it"),
             ("run a -n", 3, "word 3 is wrong, -n: no value stands behind it"),
             ("run a --step", 3, "word 3 is wrong, --step: there is no such option"),
+            ("run a -", 3, "word 3 is wrong, -: there is a FILE before it"),
+            ("judge", 2, "word 2 is missing: it has to be TRACE"),
+            ("judge t", 3, "word 3 is missing: it has to be FILE"),
+            ("judge t a b", 4, "word 4 is wrong, b: there is a FILE before it"),
+            ("judge -n 2 t", 5, "word 5 is missing: it has to be FILE"),
+            ("judge -w 2 t a", 2, "word 2 is wrong, -w: there is no such option of judge"),
+            ("judge --trace t a", 2, "word 2 is wrong, --trace: there is no such option of judge"),
+            ("judge -n 2 -n", 4, "word 4 is wrong, -n: -n stands twice"),
+            ("judge t -n", 3, "word 3 is wrong, -n: no value stands behind it"),
+            ("judge - -", 3, "word 3 is wrong, -: standard input is read once"),
+            ("replay --order 0 t a", 2, "word 2 is wrong, --order: there is no such option of replay"),
+            ("replay --steps t a", 3, "word 3 is wrong, t: it has to be the N of --steps, 1 to 100000000"),
         ]
         for words, number, wanted in table:
             with self.subTest(words=words):
                 self.assertEqual(self.told(words, number), f"caf: {wanted}")
         got = usage_message(Caller(HOME, "caf"), ["check", ""], 2).split("\n")[0]
         self.assertEqual(got, "caf: word 2 is wrong, '': FILE is empty")
+        got = usage_message(Caller(HOME, "caf"), ["judge", ""], 2).split("\n")[0]
+        self.assertEqual(got, "caf: word 2 is wrong, '': TRACE is empty")
+        got = usage_message(Caller(HOME, "caf"), ["judge", "t", ""], 3).split("\n")[0]
+        self.assertEqual(got, "caf: word 3 is wrong, '': FILE is empty")
 
     def test_the_help_text(self) -> None:
         lines = ["    caf go A B   goes", "    -x N   x; not beside -y", "    FILE  f", "Standard output", "    -z   z"]
@@ -202,6 +218,34 @@ class GivenFileTest(unittest.TestCase):
         self.assertEqual(os.read(number, 100), b"end\n")
         os.close(number)
         self.assertIsNone(Asked(["check", "a"], 1, GivenFile("a", "a")).standard_input())
+
+    def test_a_trace_and_a_source_that_are_both_kept(self) -> None:
+        trace = GivenFile("/dev/stdin", "<stdin>", b"1 1 1 own memory > ok\n")
+        file = GivenFile("/dev/stdin", "/dev/fd/63", b"end\n").by_another_name()
+        asked = Asked(["judge", "-", "/dev/fd/63"], 2, file, 1, trace)
+        _, first, second = asked.words_for_program()
+        self.assertEqual((first, asked.source()), ("/dev/stdin", "end\n"))
+        with open(second, "rb") as opened:
+            self.assertEqual(opened.read(), b"end\n")
+        number = asked.standard_input()
+        assert number is not None
+        self.assertEqual(os.read(number, 100), trace.kept)
+        os.close(number)
+        os.close(int(second.rpartition("/")[2]))
+
+    def test_which_file_is_told(self) -> None:
+        with tempfile.TemporaryDirectory() as work:
+            long, short = f"{work}/a.trace", f"{work}/a.f90"
+            for path, size in ((long, 67108865), (short, 1048577)):
+                with open(path, "wb") as made:
+                    made.truncate(size)
+            trace, file = GivenFile(long, "t"), GivenFile(short, "a")
+            self.assertEqual(Asked(["judge"], 2, file, 1, trace).too_long(), ("t", 67108864))
+            os.truncate(long, 67108864)
+            self.assertEqual(Asked(["judge"], 2, file, 1, trace).too_long(), ("a", 1048576))
+            self.assertEqual(Asked(["judge"], 2, file, 1, trace).unread(), file)
+            os.remove(long)
+            self.assertEqual(Asked(["judge"], 2, file, 1, trace).unread(), trace)
 
 
 if __name__ == "__main__":

@@ -18,10 +18,13 @@ class WordsTest(unittest.TestCase):
         self.assertEqual(read_words(["run", "-n", "4", "--trace", "a.f90"]), Valid("run", 4))
         self.assertEqual(read_words(["run", "--made", "1", "4"]), Valid("run", None))
         self.assertEqual(read_words(["make", "1", "4"]), Valid("make", None))
+        self.assertEqual(read_words(["judge", "-n", "4", "a.trace", "a.f90"]), Valid("judge", 4, 3))
+        self.assertEqual(read_words(["replay", "--vars", "a.trace", "a.f90"]), Valid("replay", 3, 2))
 
     def test_what_begins_a_valid_list(self) -> None:
         # The words before the wrong one begin a valid list, which some words complete.
-        endings = ([], ["a.f90"], ["1", "a.f90"], ["1@1", "a.f90"], ["1"], ["1", "1"])
+        one = ([], ["a.f90"], ["1", "a.f90"], ["1@1", "a.f90"], ["1"], ["1", "1"])
+        endings = (*one, *([*it, "b.f90"] for it in one))
         for number, words in rows():
             if number > 1:
                 with self.subTest(words=words):
