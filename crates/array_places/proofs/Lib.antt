@@ -4,3 +4,5 @@ pub mod Sizes
 pub mod Subscripts
 pub mod Ways
 pub mod Orders
+pub mod Rests
+pub mod Found

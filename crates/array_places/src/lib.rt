@@ -7,6 +7,7 @@
 
 pub mod bounds;
 pub mod elements;
+pub mod empty;
 pub mod images;
 pub mod laws;
 pub mod list;

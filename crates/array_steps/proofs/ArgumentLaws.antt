@@ -9,7 +9,7 @@ use Rattle.image_acts.specs.Acts.{here}
 use Rattle.image_acts.specs.Core.{Core, Array, Local, with_array, elements_in}
 use Rattle.image_acts.specs.Faults.{room, shape_fault}
 use Rattle.image_acts.specs.Frames.{array_in, local_size, with_array_in}
-use Rattle.image_acts.specs.Places.{spread_of}
+use Rattle.image_acts.specs.Places.{are_small}
 use Rattle.image_acts.specs.Taking.{Acted, given, unless}
 use Rattle.image_acts.specs.Operate.Bounds.{same_extents}
 use Rattle.image_acts.specs.Operate.Calling.{call_effect, extents_of_bounds, has_extents}
@@ -93,11 +93,11 @@ module _ (m : Kept) (x : ℕ) where
   pub out_missing : array ≡ None → Acts m (call_effect (a.copy_out x) m.core) m actings.Stuck
   out_missing h = subst (λ o. Acts m (copied o) m actings.Stuck) (sym h) (refl, refl)
 
-  wide_of : (o : Option Local) (bs : List (ℤ × ℤ)) → bounds_in o ≡ Some bs → nat_lt (spread_of bs) 9223372036854775808 ≡ false → Acts m (copied o) m (actings.Fault 11)
+  wide_of : (o : Option Local) (bs : List (ℤ × ℤ)) → bounds_in o ≡ Some bs → are_small bs ≡ false → Acts m (copied o) m (actings.Fault 11)
   wide_of None bs h w = absurd (cc)
-  wide_of (Some l) bs h w = (let k : l.bounds ≡ bs = cc in rw (ap (λ t. nat_lt (spread_of t) 9223372036854775808) k ∙ w) (refl, refl))
+  wide_of (Some l) bs h w = (let k : l.bounds ≡ bs = cc in rw (ap are_small k ∙ w) (refl, refl))
 
-  pub out_wide : (bs : List (ℤ × ℤ)) → bounds_in array ≡ Some bs → nat_lt (spread_of bs) 9223372036854775808 ≡ false → Acts m (call_effect (a.copy_out x) m.core) m (actings.Fault 11)
+  pub out_wide : (bs : List (ℤ × ℤ)) → bounds_in array ≡ Some bs → are_small bs ≡ false → Acts m (call_effect (a.copy_out x) m.core) m (actings.Fault 11)
   out_wide bs h w = wide_of array bs h w
 
   full_of : (t : Bool) (f : Acted) → Acts m (unless room (t && false) f) m (actings.Fault 11)
@@ -111,15 +111,15 @@ module _ (m : Kept) (x : ℕ) where
   pub out_full : (bs : List (ℤ × ℤ)) → bounds_in array ≡ Some bs → 524288 < elements_in m.core.arrays + local_size array → Acts m (call_effect (a.copy_out x) m.core) m (actings.Fault 11)
   out_full bs h l = out_full_of array bs h l
 
-  copied_out_of : (e : Kept) (o : Option Local) (bs : List (ℤ × ℤ)) (ns : List ℕ) → bounds_in o ≡ Some bs → nat_lt (spread_of bs) 9223372036854775808 ≡ true → elements_in m.core.arrays + local_size o ≤ 524288 → ns ≡ map extent_of bs
+  copied_out_of : (e : Kept) (o : Option Local) (bs : List (ℤ × ℤ)) (ns : List ℕ) → bounds_in o ≡ Some bs → are_small bs ≡ true → elements_in m.core.arrays + local_size o ≤ 524288 → ns ≡ map extent_of bs
       → ((l : Local) → o ≡ Some l → e ≡ with_core m (with_array (record { extents = ns; elements = l.elements }) m.core)) → Acts m (copied o) e actings.Done
   copied_out_of e None bs ns h w l i g = absurd (cc)
   copied_out_of e (Some k) bs ns h w l i g =
       let q : k.bounds ≡ bs = cc in
-      let t : has_extents k ≡ true = ap (λ t. nat_lt (spread_of t) 9223372036854775808) q ∙ w in
+      let t : has_extents k ≡ true = ap are_small q ∙ w in
       let j : ns ≡ extents_of_bounds k = i ∙ ap (λ t. map extent_of t) (sym q) in
       rw (t, le-leb (elements_in m.core.arrays + length k.elements) 524288 l) (refl, g k refl ∙ ap (λ (us : List ℕ). with_core m (with_array (record { extents = us; elements = k.elements }) m.core)) j)
 
-  pub copied_out : (e : Kept) (bs : List (ℤ × ℤ)) (ns : List ℕ) → bounds_in array ≡ Some bs → nat_lt (spread_of bs) 9223372036854775808 ≡ true → elements_in m.core.arrays + local_size array ≤ 524288 → ns ≡ map extent_of bs
+  pub copied_out : (e : Kept) (bs : List (ℤ × ℤ)) (ns : List ℕ) → bounds_in array ≡ Some bs → are_small bs ≡ true → elements_in m.core.arrays + local_size array ≤ 524288 → ns ≡ map extent_of bs
       → ((l : Local) → array ≡ Some l → e ≡ with_core m (with_array (record { extents = ns; elements = l.elements }) m.core)) → Acts m (call_effect (a.copy_out x) m.core) e actings.Done
   copied_out e bs ns h w l i g = copied_out_of e array bs ns h w l i g

@@ -12,7 +12,7 @@ ghost use Rattle.array_steps.specs.Arguments.{has_shape};
 use crate::extents::{agree, extents_between};
 use crate::locals::{bounds, elements};
 use crate::sections::ROOM;
-use array_places::section::has_places;
+use array_places::empty::are_small;
 use array_values::extents::Extents;
 use image_code::step::Scope;
 use image_state::state::{Acting, ImageState};
@@ -71,7 +71,7 @@ pub fn copy_out(image: &mut ImageState, x: u32) -> Acting
     let Some(bounds) = bounds(image, Scope::Here, x) else {
         return Acting::Stuck;
     };
-    if !has_places(bounds) {
+    if !are_small(bounds) {
         return Acting::Fault(ROOM);
     }
     let extents = extents_between(bounds);

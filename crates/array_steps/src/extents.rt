@@ -1,10 +1,10 @@
 //! Bounds of arrays, and the extents between them (ISO/IEC 1539-1:2018, 5.4.6).
 
-ghost use Rattle.std.specs.Prelude.{◌≡◌, ◌<◌, ◌≤◌, ◌+◌, ◌*◌, ◌-◌, ◌^◌, ◌∷◌, [], ℕ, List, false, map, length, IfSome, IfNone};
+ghost use Rattle.std.specs.Prelude.{◌≡◌, ◌<◌, ◌≤◌, ◌+◌, ◌*◌, ◌-◌, ◌^◌, ◌∷◌, [], ℕ, List, true, false, map, length, IfSome, IfNone};
 ghost use Rattle.caf_base.specs.Arithmetic.{natural};
 ghost use Rattle.coarray_types.specs.Places.{extent_of};
 ghost use Rattle.image_acts.specs.Frames.{pairs_in, pairs_numbers};
-ghost use Rattle.image_acts.specs.Places.{spread_of};
+ghost use Rattle.image_acts.specs.Places.{are_small};
 ghost use Rattle.image_acts.specs.Operate.Bounds.{same_extents};
 ghost use Rattle.array_values.specs.Extents.{listed};
 
@@ -100,10 +100,10 @@ fn count(lower: &i64, upper: &i64) -> i64
     extent(lower, upper) as i64
 }
 
-/// The extents of an array with these bounds, whose places are of 64 bits.
+/// The extents of an array with these bounds, each of 63 bits.
 pub(crate) fn extents_between(bounds: &[i64]) -> Extents
     requires few { length bounds.now ≤ 7 }
-    requires small { spread_of (pairs_in bounds.now) < 2 ^ 63 }
+    requires small { are_small (pairs_in bounds.now) ≡ true }
     ensures { listed result ≡ map extent_of (pairs_in bounds.now) }
 {
     let Some((a, b, rest)) = first_pair(bounds) else {

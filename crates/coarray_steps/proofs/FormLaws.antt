@@ -1,14 +1,14 @@
 -- How many numbers the section subscripts of a form are, and how many the place is that they name.
 use Rattle.std.proofs.Common.{◌≡◌, ℕ, zero, suc, ◌+◌, ◌-◌, ◌*◌, ◌/◌, ◌%◌, ◌≤◌, ℤ, pos, ◌+ℤ◌, ◌*ℤ◌, Bool, true, false, ◌&&◌, ◌||◌, cond, List, [], ◌∷◌, length, drop, refl, ap, ◌∙◌, arith}
-use Rattle.std.specs.Prelude.{Option, Some, None, ◌==◌, nat_lt, unwrap_or}
+use Rattle.std.specs.Prelude.{Option, Some, None, ◌==◌, unwrap_or}
 use Rattle.std.specs.Ordering.{int_eq}
 use Rattle.caf_base.specs.Arithmetic.{is_within, iterations}
 use Rattle.coarray_types.specs.Places.{extent_of}
 use Rattle.walk_theory.specs.Terms.{Found, found, at_fault, with_found}
 use Rattle.image_acts.specs.Core.{Own}
-use Rattle.image_acts.specs.Faults.{room}
-use Rattle.image_acts.specs.Places.{Subscript, single, triplet, apart_by, Dimension, Place, numbers_in, numbers_of_form, digits, with_digit, triplets, dimension, dimensions, start_of, steps_of, dims_numbers, no_place, place_numbers, place_of, place_size, spread_of, subscripts_in}
+use Rattle.image_acts.specs.Places.{Subscript, single, triplet, apart_by, Dimension, Place, numbers_in, numbers_of_form, digits, with_digit, triplets, dimension, dimensions, steps_of, dims_numbers, no_place, place_numbers, place_size, place_within, subscripts_in}
 use Rattle.array_places.specs.Sections.{numbers_of}
+use Rattle.array_places.proofs.Found.{found_steps}
 use Rattle.coarray_tables.specs.Sections.{own_place}
 
 -- a digit of 0 is no subscript
@@ -88,19 +88,14 @@ steps_many (b ∷ bs) (s ∷ ss) ds w e =
     ap (λ (es : List Dimension). length (dims_numbers (steps_of w (b ∷ bs) es))) p.4 ∙ one_more p.0.is_kept x (steps_of n bs p.1) (kept_in ss) h
     ∙ ap (λ (t : Bool). 2 * (one_where t + kept_in ss)) (dimension_kept b s p.0 p.2)
 
-abbrev placed : List (ℤ × ℤ) → List Dimension → Place
-placed bs ds = record { start = start_of 1 bs ds; dims = steps_of 1 bs ds }
-
-place_by : (bs : List (ℤ × ℤ)) (ss : List Subscript) (ps : List ℤ) (x : Found (List Dimension)) → dimensions bs ss ≡ x → numbers_of (with_found x (λ ds. found (placed bs ds))) ≡ found ps → length ps ≡ 1 + 2 * kept_in ss
-place_by bs ss ps (found ds) a e =
-    let q : ps ≡ place_numbers (placed bs ds) = cc in
-    let h : length (dims_numbers (steps_of 1 bs ds)) ≡ 2 * kept_in ss = steps_many bs ss ds 1 a in
+place_by : (bs : List (ℤ × ℤ)) (ss : List Subscript) (ps : List ℤ) (x : Found Place) → place_within bs ss ≡ x → numbers_of x ≡ found ps → length ps ≡ 1 + 2 * kept_in ss
+place_by bs ss ps (found p) a e =
+    let q : ps ≡ place_numbers p = cc in
+    let y = found_steps bs ss p a in
+    let h : length (dims_numbers (steps_of 1 bs y.0)) ≡ 2 * kept_in ss = steps_many bs ss y.0 1 y.1 in
+    let n = y.2 in
     ap length q ∙ omega arith
 place_by bs ss ps (at_fault k) a e = absurd (cc)
-
-within_by : (t : Bool) (x : Found Place) (ps : List ℤ) (k : ℕ) → numbers_of (cond t x (at_fault k)) ≡ found ps → numbers_of x ≡ found ps
-within_by true x ps k e = e
-within_by false x ps k e = absurd (cc)
 
 nowhere : (n : ℕ) → length (place_numbers (no_place n)) ≡ 1 + 2 * n
 nowhere zero = refl
@@ -110,7 +105,7 @@ place_many : (o : Option Own) (ds : List ℕ) (vs ps : List ℤ) → numbers_of 
 place_many None ds vs ps e = let q : ps ≡ place_numbers (no_place (triplets ds)) = cc in ap length q ∙ nowhere (triplets ds)
 place_many (Some o) ds vs ps e =
     let ss = subscripts_in ds vs in
-    place_by o.bounds ss ps (dimensions o.bounds ss) refl (within_by (nat_lt (spread_of o.bounds) 9223372036854775808) (place_of o.bounds ss) ps room e)
+    place_by o.bounds ss ps (place_within o.bounds ss) refl e
     ∙ ap (λ (n : ℕ). 1 + 2 * n) (as_triplets ds vs)
 
 -- so many numbers as there is room for

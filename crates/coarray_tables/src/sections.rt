@@ -11,11 +11,9 @@ ghost use Rattle.coarray_tables.specs.Owns.{own_at};
 ghost use Rattle.coarray_tables.specs.Sections.{own_place};
 
 use crate::coarrays::Coarrays;
+use array_places::empty::wide_place;
 use array_places::list::PlaceNumbers;
 use array_places::section::{has_places, place_of};
-
-/// The number of the run fault Room.
-const ROOM: u32 = 11;
 
 /// Whether a digit of a form is a triplet, as a number.
 fn triplet(digit: u32) -> u32
@@ -46,15 +44,16 @@ fn no_place(form: u32) -> PlaceNumbers
     place
 }
 
-/// The place of an element or section of an array with these bounds; or the run fault Room, where its numbers needn't be of 64 bits, ZeroStep or Bounds.
+/// The place of an element or section of an array with these bounds, or the run fault that is found first.
 fn place_within(bounds: &[i64], form: u32, numbers: &[i64]) -> Result<PlaceNumbers, u32>
     ensures found { IfOk result (λ p. numbers_of (places.place_within (pairs_in bounds.now) (subscripts_in (digits form) numbers.now)) ≡ found p) }
     ensures faults { IfErr result (λ k. numbers_of (places.place_within (pairs_in bounds.now) (subscripts_in (digits form) numbers.now)) ≡ at_fault k) }
 {
-    if !has_places(bounds) {
-        return Err(ROOM);
+    if has_places(bounds) {
+        place_of(bounds, form, numbers)
+    } else {
+        wide_place(bounds, form, numbers)
     }
-    place_of(bounds, form, numbers)
 }
 
 impl Coarrays {

@@ -26,7 +26,7 @@ use Rattle.image_acts.specs.Operate.Operators.{in_kind, divided}
 use Rattle.image_acts.specs.Acts as a
 use Rattle.image_acts.specs.Acts.{Act, Scope, here, host, operator, variable, selector, stack, bounded, ask}
 use Rattle.image_acts.specs.Core.{Core, Own, Team, pushed, with_values}
-use Rattle.image_acts.specs.Places.{Place, spread_of, place_numbers}
+use Rattle.image_acts.specs.Places.{Place, spread_of, is_empty, place_numbers}
 use Rattle.image_acts.specs.Words.{word}
 use Rattle.image_acts.specs.Replies.{with_status}
 use Rattle.image_acts.specs.Teams.{is_in, team_in, is_index_of, cosubscripts_behind}
@@ -204,15 +204,17 @@ with_team_agrees orders.Reversed m n f p q r l c h h' k k' last =
     (λ v y. last v t y))))
 
 -- a scalar coarray's place; one of an array by hand is no scalar
-bad_place : {Y : Type 0} (lay : Y → State → Core) (b : Bool) (f : Place → Does Y) (g : Place → Acted) (x : Act) (k : Core → Outcome Core) (l : ℕ) (d : Core)
-    → Agrees lay ((cond b (of_found (at_fault bounds_fault)) nothing_said ▹ f) l (state_of d)) (and_then (and_then (of_effect l d (settled x (found_in (cond b (at_fault bounds_fault) (at_fault room_fault)) g))) (told end_parts l)) k)
-bad_place lay true f g x k l d = refl
-bad_place lay false f g x k l d = tt
+bad_place : {Y : Type 0} (lay : Y → State → Core) (b e : Bool) (f : Place → Does Y) (g : Place → Acted) (x : Act) (k : Core → Outcome Core) (l : ℕ) (d : Core)
+    → Agrees lay ((cond b (of_found (at_fault bounds_fault)) (cond e (of_found (at_fault bounds_fault)) nothing_said) ▹ f) l (state_of d))
+    (and_then (and_then (of_effect l d (settled x (found_in (cond b (at_fault bounds_fault) (cond e (at_fault bounds_fault) (at_fault room_fault))) g))) (told end_parts l)) k)
+bad_place lay true e f g x k l d = refl
+bad_place lay false true f g x k l d = refl
+bad_place lay false false f g x k l d = tt
 
 point_of : {Y : Type 0} (lay : Y → State → Core) (n : ℕ) (f : Place → Does Y) (k : Core → Outcome Core) (l : ℕ) (c : Core) (w : Own) (bs : List (ℤ × ℤ)) → own_in n (state_of c) ≡ Some w → w.bounds ≡ bs
     → Agrees lay (f point l (state_of c)) (k (pushed (pos 0) c)) → Agrees lay ((coarray_part n 0 [] ▹ f) l (state_of c)) (and_then (told (doing (bounded (a.co_section n 0) ∷ [])) l c) k)
 point_of lay n f k l c w [] h j m = rw h (rw j m)
-point_of lay n f k l c w (b ∷ bs) h j m = rw h (rw j (bad_place lay (nat_lt (spread_of (b ∷ bs)) 9223372036854775808) f (λ p. goes_to (with_values c (put_numbers (place_numbers p) c.values))) (bounded (a.co_section n 0)) k l c))
+point_of lay n f k l c w (b ∷ bs) h j m = rw h (rw j (bad_place lay (nat_lt (spread_of (b ∷ bs)) 9223372036854775808) (is_empty (b ∷ bs)) f (λ p. goes_to (with_values c (put_numbers (place_numbers p) c.values))) (bounded (a.co_section n 0)) k l c))
 
 point_agrees : {Y : Type 0} (lay : Y → State → Core) (n : ℕ) (f : Place → Does Y) (k : Core → Outcome Core) (l : ℕ) (c : Core) (o : Option Own) → own_in n (state_of c) ≡ o
     → Agrees lay (f point l (state_of c)) (k (pushed (pos 0) c)) → Agrees lay ((coarray_part n 0 [] ▹ f) l (state_of c)) (and_then (told (doing (bounded (a.co_section n 0) ∷ [])) l c) k)

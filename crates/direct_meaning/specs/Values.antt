@@ -11,7 +11,7 @@ use Rattle.image_acts.specs.Acts.{Scope}
 use Rattle.image_acts.specs.Statuses.{most_cells, failed_image}
 use Rattle.image_acts.specs.Faults.{overflow, bounds_fault, not_allocated, room, shape_fault}
 use Rattle.image_acts.specs.Core.{Array, Local, Own}
-use Rattle.image_acts.specs.Places.{Place, Subscript, place_of, spread_of, no_place, extents_of, cells_of, offsets, elements_at, with_elements_at}
+use Rattle.image_acts.specs.Places.{Place, Subscript, place_of, spread_of, is_empty, empty_place, no_place, extents_of, cells_of, offsets, elements_at, with_elements_at}
 use Rattle.image_acts.specs.Operate.Asking.{span_of}
 use Rattle.direct_meaning.specs.States.{scalar_in, with_scalar, array_in, with_array, own_in}
 use Rattle.direct_meaning.specs.Outcomes.{Does, giving, fault, nothing_said, ◌▹◌, asking, unless, of_found, of_some, or_fault, changing}
@@ -60,11 +60,10 @@ set_scalar x n v = λ l s. giving tt l (with_scalar x n v s)
 abbrev pub allocated : Scope → ℕ → Does Local
 allocated x n = λ l s. or_fault not_allocated (array_in x n s) l s
 
--- the part of an array by its subscripts (9.5.3): within bounds, with a stride that isn't 0
--- (Nothing is said yet of an array without elements whose other extents come to 2 ** 63: there the walk is at fault, which the
--- profile isn't.)
+-- The part of an array by its subscripts (9.5.3): within bounds, with a stride that isn't 0. In an array without elements it is empty.
+-- (Nothing is said of bounds that no program has: of an array of 2 ** 63 elements, or without elements but with such an extent.)
 abbrev pub part_of : List (ℤ × ℤ) → List Subscript → Does Place
-part_of bs ss = cond (nat_lt (spread_of bs) 9223372036854775808) (of_found (place_of bs ss)) nothing_said
+part_of bs ss = cond (nat_lt (spread_of bs) 9223372036854775808) (of_found (place_of bs ss)) (cond (is_empty bs) (of_found (empty_place bs ss)) nothing_said)
 
 -- its elements; nothing is said of a part with more elements than the array
 abbrev pub elements_of : Local → Place → Option (List ℤ)

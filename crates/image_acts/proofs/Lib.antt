@@ -1,3 +1,4 @@
 pub mod Images
 pub mod Sections
 pub mod Teams
+pub mod Portions

@@ -10,12 +10,13 @@ use Rattle.std.proofs.lemmas.List.Elements.{All-nil, All-cons, All-head, All-tai
 use Rattle.caf_base.specs.Spans.{row_of, rows_of, offsets_from}
 use Rattle.caf_base.specs.Arithmetic.{is_within, iterations}
 use Rattle.coarray_types.specs.Distances.{distance}
-use Rattle.coarray_types.specs.Places.{extent_of, AllWithin, subscript_order}
+use Rattle.coarray_types.specs.Places.{extent_of, size_of, AllWithin, subscript_order}
+use Rattle.coarray_types.proofs.PlaceLemmas.{within-below}
 use Rattle.coarray_types.specs.Sections.{Triplet, firsts_of, crossed, elements_of, with_dim, dims_of}
 use Rattle.coarray_types.proofs.SectionLemmas.{section_places}
 use Rattle.walk_theory.specs.Terms.{Found, found, at_fault, with_found}
 use Rattle.image_acts.specs.Faults.{room}
-use Rattle.image_acts.specs.Places.{apart_by, Subscript, single, triplet, Dimension, Place, dimension, dimensions, start_of, steps_of, spread_of, place_of, place_within, offsets}
+use Rattle.image_acts.specs.Places.{apart_by, are_small, empty_place, is_empty, resting, Subscript, single, triplet, Dimension, Place, dimension, dimensions, start_of, steps_of, spread_of, place_of, place_within, offsets}
 use Rattle.image_acts.specs.Sections.{triplet_of, triplets_of}
 use Rattle.image_acts.proofs.Images.{left_one, right_one}
 
@@ -249,11 +250,76 @@ section_in_order bs ss p q e = go (dimensions bs ss) refl e where
   go (found ds) a h = let same : p ≡ placed bs ds = cc in (all_within bs ss q (dims_found bs ss ds a).1, ap offsets same ∙ cells_in_order bs ss ds q a)
   go (at_fault k) a h = cc
 
+-- an array without elements has no section with any, and no place of one has a cell
+no_count : (b : ℤ × ℤ) (t : Triplet) → Fits b t → extent_of b ≡ 0 → t.count ≡ 0
+no_count b t h e = go t.count refl where
+  go : (n : ℕ) → t.count ≡ n → t.count ≡ 0
+  go zero k = k
+  go (suc m) k = let below = within-below b.0 b.1 t.first (h m k).0 (h m k).1 in absurd (omega arith)
+
+crossed_none : (rests : List (List ℤ)) → crossed [] rests ≡ []
+crossed_none [] = refl
+crossed_none (ss ∷ more) = crossed_none more
+
+no_factor : (m n : ℕ) → m * n ≡ 0 → (m ≡ 0) ⊎ (n ≡ 0)
+no_factor zero n h = inl refl
+no_factor (suc m) zero h = inr refl
+no_factor (suc m) (suc n) h = absurd (grind arith)
+
+abbrev HasNone : List (ℤ × ℤ) → List Subscript → Type 0
+HasNone bs ss = (elements_of (triplets_of bs ss) ≡ []) × ((x : ℤ) → offsets_from x (resting (dims_named bs ss)) ≡ [])
+
+none_of : (b : ℤ × ℤ) (bs : List (ℤ × ℤ)) (s : Subscript) (ss : List Subscript) → (triplet_of b s).count ≡ 0 → HasNone (b ∷ bs) (s ∷ ss)
+unfolding dims_named kept
+none_of b bs (single s) ss e = absurd (omega arith)
+none_of b bs (triplet f l st) ss e =
+    let t = triplet_of b (triplet f l st) in (
+      ap (λ n. crossed (row_of n t.stride t.first) (elements_of (triplets_of bs ss))) e ∙ crossed_none (elements_of (triplets_of bs ss)),
+      λ x. ap (λ n. rows_of n (pos 0) (offsets_from x (resting (dims_named bs ss)))) e ∙ no_rows (pos 0) (offsets_from x (resting (dims_named bs ss))),
+    )
+
+none_after : (b : ℤ × ℤ) (bs : List (ℤ × ℤ)) (s : Subscript) (ss : List Subscript) → HasNone bs ss → HasNone (b ∷ bs) (s ∷ ss)
+unfolding dims_named kept
+none_after b bs (single s) ss h = (ap (crossed (row_of 1 (pos 1) s)) h.0, h.1)
+none_after b bs (triplet f l st) ss h =
+    let t = triplet_of b (triplet f l st) in
+    (ap (crossed (row_of t.count t.stride t.first)) h.0, λ x. ap (rows_of t.count (pos 0)) (h.1 x))
+
+has_none : (bs : List (ℤ × ℤ)) (ss : List Subscript) → length ss ≡ length bs → AllFit bs (triplets_of bs ss) → size_of bs ≡ 0 → HasNone bs ss
+has_none [] ss q h e = absurd (omega arith)
+has_none (b ∷ bs) [] q h e = absurd (omega arith)
+has_none (b ∷ bs) (s ∷ ss) q h e = go (no_factor (extent_of b) (size_of bs) e) (λ k. has_none bs ss (omega arith) h.1 k) where
+  go : (extent_of b ≡ 0) ⊎ (size_of bs ≡ 0) → (size_of bs ≡ 0 → HasNone bs ss) → HasNone (b ∷ bs) (s ∷ ss)
+  go (inl k) f = none_of b bs s ss (no_count b (triplet_of b s) h.0 k)
+  go (inr k) f = none_after b bs s ss (f k)
+
+abbrev rested : List Dimension → Place
+rested ds = record { start = pos 0; dims = resting ds }
+
+abbrev InOrder : List (ℤ × ℤ) → List Subscript → Place → Type 0
+InOrder bs ss p = All (AllWithin bs) (elements_of (triplets_of bs ss)) × (offsets p ≡ map (λ subs. pos (subscript_order bs subs)) (elements_of (triplets_of bs ss)))
+
+none_in_order : (bs : List (ℤ × ℤ)) (ss : List Subscript) (p : Place) → length ss ≡ length bs → size_of bs ≡ 0 → empty_place bs ss ≡ found p → InOrder bs ss p
+none_in_order bs ss p q z e = go (dimensions bs ss) refl e where
+  go : (x : Found (List Dimension)) → dimensions bs ss ≡ x → with_found x (λ ds. found (rested ds)) ≡ found p → InOrder bs ss p
+  go (found ds) a h =
+      let same : p ≡ rested ds = cc in
+      let d = dims_found bs ss ds a in
+      let n = has_none bs ss q d.1 z in
+      (all_within bs ss q d.1, ap offsets same ∙ (ap (λ es. offsets (rested es)) d.0 ∙ (n.1 (pos 0) ∙ sym (ap (map (λ subs. pos (subscript_order bs subs))) n.0))))
+  go (at_fault k) a h = cc
+
 -- so has one whose numbers are of 64 bits
-kept_in : (t : Bool) (x : Found Place) (p : Place) (k : ℕ) → cond t x (at_fault k) ≡ found p → x ≡ found p
-kept_in true x p k e = e
-kept_in false x p k e = cc
+either : (t u : Bool) (x y : Found Place) (p : Place) (k : ℕ) → cond t x (cond u y (at_fault k)) ≡ found p → (x ≡ found p) ⊎ ((u ≡ true) × (y ≡ found p))
+either true u x y p k e = inl e
+either false true x y p k e = inr (refl, e)
+either false false x y p k e = cc
 
 pub within_in_order : (bs : List (ℤ × ℤ)) (ss : List Subscript) (p : Place) → length ss ≡ length bs → place_within bs ss ≡ found p
     → All (AllWithin bs) (elements_of (triplets_of bs ss)) × (offsets p ≡ map (λ subs. pos (subscript_order bs subs)) (elements_of (triplets_of bs ss)))
-within_in_order bs ss p q e = section_in_order bs ss p q (kept_in (nat_lt (spread_of bs) 9223372036854775808) (place_of bs ss) p room e)
+within_in_order bs ss p q e = go (either (nat_lt (spread_of bs) 9223372036854775808) (is_empty bs) (place_of bs ss) (empty_place bs ss) p room e) where
+  go : (place_of bs ss ≡ found p) ⊎ ((is_empty bs ≡ true) × (empty_place bs ss ≡ found p)) → InOrder bs ss p
+  go (inl h) = section_in_order bs ss p q h
+  go (inr h) =
+      let z : (size_of bs == 0) ≡ true = left_one (size_of bs == 0) (are_small bs) h.0 in
+      none_in_order bs ss p q (grind arith) h.1

@@ -35,9 +35,10 @@ most_frames = 256
 abbrev pub most_teams : ℕ
 most_teams = 32768
 
--- the most items of the texts that are begun: values have as many evaluation cells at most, literals have none
-abbrev pub most_items : ℕ
-most_items = 131072
+-- The most portions of the texts that are begun. Values have as many evaluation cells at most, which are 65,536; literals are one portion where no value stands between
+-- them, so there is one beside each value and one more in each text; and a text is begun at most in each of 257 bodies.
+abbrev pub most_portions : ℕ
+most_portions = 131329
 
 -- The most elements of the array values that are being evaluated: 65,536 are counted at most; a return, a load or a reply puts down as many before they are counted, one of
 -- them at a time; six bounds stand for each of 64 levels in 257 bodies (98,688), and the 256 images of a SYNC IMAGES (*) in each of these bodies (65,792), with a reply's 257 more.

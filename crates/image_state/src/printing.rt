@@ -1,27 +1,29 @@
 //! Texts that were begun, and what is to be printed (ISO/IEC 1539-1:2018, 12.6.3).
 
-ghost use Rattle.std.specs.Prelude.{◌≡◌, ◌<◌, ◌≤◌, ◌+◌, ◌∷◌, [], drop, length, map, IsTrue, IsFalse, IfOk};
+ghost use Rattle.std.specs.Prelude.{◌≡◌, ◌<◌, ◌≤◌, ◌+◌, ◌∷◌, [], drop, length, map, IsTrue, IsFalse, IfOk, Some};
 ghost use Rattle.std.specs.Option.{option_map};
 ghost use Rattle.image_acts.specs.Acts as acts;
 ghost use Rattle.image_acts.specs.Core.{with_values};
 ghost use Rattle.image_acts.specs.Taking.{using};
 ghost use Rattle.walk_theory.specs.Terms.{found, at_fault};
 ghost use Rattle.image_acts.specs.Faults.{format_fault};
-ghost use Rattle.image_acts.specs.Operate.Printing.{open_items, printed, print_effect, text_of};
+ghost use Rattle.image_acts.specs.Operate.Printing.{open_portions, printed, print_effect, text_of};
 ghost use Rattle.image_acts.specs.Operate.Printing.{item_of as item_of_kind};
 ghost use Rattle.image_stores.specs.Piles.{items_in};
 ghost use Rattle.array_values.specs.Values.{elements_on_top};
-ghost use Rattle.print_text.specs.Items.{text_at, item_of, IsFound};
+ghost use Rattle.print_text.specs.Items.{text_at, portion_of, IsFound};
+ghost use Rattle.print_text.specs.declared.item.Portion.TheVariants.{Literals};
 ghost use Rattle.image_state.specs.Acting.{with_core, Acts};
 ghost use Rattle.image_state.specs.Kept.{texts_of};
-ghost use Rattle.image_state.specs.Texts.{with_texts, with_item, with_items, innermost, begun, value_printed, element_item, heaped_all};
+ghost use Rattle.image_state.specs.Texts.{with_texts, with_portion, with_literal, with_items, innermost, begun, value_printed, element_portion, heaped_all, IsPut, HasNoRoom};
+ghost use Rattle.image_state.specs.Texts.{with_next as next_in};
 
-use crate::state::{Acting, ImageState, MOST_CELLS, MOST_ITEMS, ROOM};
+use crate::state::{Acting, ImageState, MOST_CELLS, MOST_PORTIONS, ROOM};
 use caf_base::listing::Text;
 use caf_base::refusal::NoMemory;
 use caf_base::value::Kind;
 use image_stores::piles::Piles;
-use print_text::item::Item;
+use print_text::item::Portion;
 use print_text::{fault_of, text_of};
 
 impl ImageState {
@@ -34,13 +36,13 @@ impl ImageState {
         self.prints.len() != 0
     }
 
-    /// Whether there is no room for a further item.
+    /// Whether there is no room for a further portion.
     #[tactic(auto, using(crate::proofs::PrintLaws::items_open))]
     fn is_text_full(&self) -> bool
-        ensures full { IsTrue result → 131072 ≤ open_items self.now.core.printing }
-        ensures not { IsFalse result → open_items self.now.core.printing < 131072 }
+        ensures full { IsTrue result → 131329 ≤ open_portions self.now.core.printing }
+        ensures not { IsFalse result → open_portions self.now.core.printing < 131329 }
     {
-        self.prints.total() >= MOST_ITEMS
+        self.prints.total() >= MOST_PORTIONS
     }
 
     /// Begins a text.
@@ -52,14 +54,14 @@ impl ImageState {
         self.prints.begin(format);
     }
 
-    /// Adds an item to the innermost text.
-    #[tactic(auto, using(crate::proofs::PrintLaws::texts_long, crate::proofs::PrintLaws::items_open, crate::proofs::PrintLaws::item_added))]
-    fn add_item(&mut self, item: Item)
+    /// Adds a portion to the innermost text.
+    #[tactic(auto, using(crate::proofs::PrintLaws::texts_long, crate::proofs::PrintLaws::items_open, crate::proofs::PrintLaws::portion_added))]
+    fn add_portion(&mut self, portion: Portion)
         requires there { 0 < length self.old.core.printing }
-        requires room { open_items self.old.core.printing < 131072 }
-        ensures { self.new ≡ with_core self.old (with_texts self.old.core (with_item (item_of (texts_of self.old) item) self.old.core.printing)) }
+        requires room { open_portions self.old.core.printing < 131329 }
+        ensures { self.new ≡ with_core self.old (with_texts self.old.core (with_portion (portion_of (texts_of self.old) portion) self.old.core.printing)) }
     {
-        self.prints.add(item);
+        self.prints.add(portion);
     }
 
     /// Drops the innermost text.
@@ -89,18 +91,26 @@ impl ImageState {
         Acting::Done
     }
 
+    /// Adds a literal to the innermost text, where there is room for it.
+    fn add_literal(&mut self, text: u32) -> bool
+        requires { 0 < length self.old.core.printing }
+        ensures put { IsTrue result → (self.new ≡ with_core self.old (with_texts self.old.core (with_literal text (text_at (texts_of self.old) text) self.old.core.printing))) × (open_portions (with_literal text (text_at (texts_of self.old) text) self.old.core.printing) ≤ 131329) }
+        ensures full { IsFalse result → (self.new ≡ self.old) × (131329 < open_portions (with_literal text (text_at (texts_of self.old) text) self.old.core.printing)) }
+    {
+        put_literal(&mut self.prints, text)
+    }
+
     /// Does the step `PrintLiteral`.
     #[tactic(auto, using(crate::proofs::PrintLaws::prints_nothing, crate::proofs::PrintLaws::prints_too_much, crate::proofs::PrintLaws::prints))]
     pub fn print_literal(&mut self, text: u32) -> Acting
-        ensures { Acts self.old (print_effect (acts.print_literal (text_at (texts_of self.old) text)) self.old.core) self.new result }
+        ensures { Acts self.old (print_effect (acts.print_literal text (text_at (texts_of self.old) text)) self.old.core) self.new result }
     {
         if !self.has_text() {
             return Acting::Stuck;
         }
-        if self.is_text_full() {
+        if !self.add_literal(text) {
             return Acting::Fault(ROOM);
         }
-        self.add_item(Item::Literal(text));
         Acting::Done
     }
 
@@ -111,7 +121,7 @@ impl ImageState {
     {
         match self.top() {
             None => Acting::Stuck,
-            Some(v) => self.print_value(Item::Integer(v)),
+            Some(v) => self.print_value(Portion::Integer(v)),
         }
     }
 
@@ -122,15 +132,15 @@ impl ImageState {
     {
         match self.top() {
             None => Acting::Stuck,
-            Some(v) => self.print_value(Item::Logical(v != 0)),
+            Some(v) => self.print_value(Portion::Logical(v != 0)),
         }
     }
 
     /// Prints an item for the number on top.
     #[tactic(auto, using(crate::proofs::PrintLaws::value_full, crate::proofs::PrintLaws::value_lacks, crate::proofs::PrintLaws::value_too_much, crate::proofs::PrintLaws::value_prints))]
-    fn print_value(&mut self, item: Item) -> Acting
+    fn print_value(&mut self, portion: Portion) -> Acting
         requires { 0 < length self.old.core.values }
-        ensures { Acts self.old (value_printed (item_of (texts_of self.old) item) (drop 1 self.old.core.values) self.old.core) self.new result }
+        ensures { Acts self.old (value_printed (portion_of (texts_of self.old) portion) (drop 1 self.old.core.values) self.old.core) self.new result }
     {
         if self.used >= MOST_CELLS {
             return Acting::Fault(ROOM);
@@ -141,37 +151,37 @@ impl ImageState {
         if self.is_text_full() {
             return Acting::Fault(ROOM);
         }
-        self.put_value(item);
+        self.put_value(portion);
         Acting::Done
     }
 
-    /// Drops the number on top and adds an item to the innermost text; one evaluation cell more is in use.
-    fn put_value(&mut self, item: Item)
+    /// Drops the number on top and adds a portion to the innermost text; one evaluation cell more is in use.
+    fn put_value(&mut self, portion: Portion)
         requires value { 0 < length self.old.core.values }
         requires cell { self.old.core.used < 65536 }
         requires there { 0 < length self.old.core.printing }
-        requires room { open_items self.old.core.printing < 131072 }
-        ensures { self.new ≡ with_core self.old (with_texts (record (with_values self.old.core (drop 1 self.old.core.values)) { used = self.old.core.used + 1 }) (with_item (item_of (texts_of self.old) item) self.old.core.printing)) }
+        requires room { open_portions self.old.core.printing < 131329 }
+        ensures { self.new ≡ with_core self.old (with_texts (record (with_values self.old.core (drop 1 self.old.core.values)) { used = self.old.core.used + 1 }) (with_portion (portion_of (texts_of self.old) portion) self.old.core.printing)) }
     {
         self.drop_top(1);
         self.used += 1;
-        self.add_item(item);
+        self.add_portion(portion);
     }
 
-    /// Whether there is no room for the elements of the top array among the items.
+    /// Whether there is no room for the elements of the top array among the portions.
     #[tactic(auto, using(crate::proofs::PrintLaws::items_open))]
     fn is_full_for_array(&self) -> bool
-        ensures full { IsTrue result → 131072 < open_items self.now.core.printing + length (elements_on_top self.now.core.arrays) }
-        ensures not { IsFalse result → open_items self.now.core.printing + length (elements_on_top self.now.core.arrays) ≤ 131072 }
+        ensures full { IsTrue result → 131329 < open_portions self.now.core.printing + length (elements_on_top self.now.core.arrays) }
+        ensures not { IsFalse result → open_portions self.now.core.printing + length (elements_on_top self.now.core.arrays) ≤ 131329 }
     {
-        self.elements().len() > MOST_ITEMS - self.prints.total()
+        self.elements().len() > MOST_PORTIONS - self.prints.total()
     }
 
     /// Adds the elements of the top array to the innermost text.
     #[tactic(auto, using(crate::proofs::PrintLaws::texts_long, crate::proofs::PrintLaws::items_open, crate::proofs::PrintLaws::items_added))]
     fn add_elements(&mut self, kind: Kind)
         requires there { 0 < length self.old.core.printing }
-        requires room { open_items self.old.core.printing + length (elements_on_top self.old.core.arrays) ≤ 131072 }
+        requires room { open_portions self.old.core.printing + length (elements_on_top self.old.core.arrays) ≤ 131329 }
         ensures { self.new ≡ with_core self.old (with_texts self.old.core (with_items (map (item_of_kind kind) (elements_on_top self.old.core.arrays)) self.old.core.printing)) }
     {
         put_items(&mut self.prints, kind, self.arrays.elements());
@@ -232,24 +242,65 @@ impl ImageState {
     }
 }
 
-/// A number of this kind as an item.
-fn item_of(kind: Kind, v: i64) -> Item
-    ensures { result ≡ element_item kind v }
+/// A number of this kind as a portion.
+fn portion_of(kind: Kind, v: i64) -> Portion
+    ensures { result ≡ element_portion kind v }
 {
     match kind {
-        Kind::I4 | Kind::I8 => Item::Integer(v),
-        Kind::L4 => Item::Logical(v != 0),
+        Kind::I4 | Kind::I8 => Portion::Integer(v),
+        Kind::L4 => Portion::Logical(v != 0),
     }
 }
 
 /// Adds numbers of this kind to the newest text.
 #[tactic(auto, using(crate::proofs::PrintLaws::heaped_more, crate::proofs::PrintLaws::heaped_long, crate::proofs::PrintLaws::heaped_many))]
-fn put_items(prints: &mut Piles<Option<u32>, Item>, kind: Kind, values: &[i64])
+fn put_items(prints: &mut Piles<Option<u32>, Portion>, kind: Kind, values: &[i64])
     requires some { 0 < length prints.old.piles }
     requires room { items_in prints.old.piles + length values.now ≤ prints.old.size }
-    ensures { prints.new ≡ record { piles = heaped_all (map (element_item kind) values.now) prints.old.piles; most = prints.old.most; size = prints.old.size } }
+    ensures { prints.new ≡ record { piles = heaped_all (map (element_portion kind) values.now) prints.old.piles; most = prints.old.most; size = prints.old.size } }
 {
     for i in 0..values.len() {
-        prints.add(item_of(kind, values[i]));
+        prints.add(portion_of(kind, values[i]));
     }
+}
+
+/// Literals with the one that has this number, where it comes next behind them in the program.
+fn with_next(last: Option<Portion>, text: u32) -> Option<Portion>
+    ensures { result ≡ next_in last text }
+{
+    match last {
+        Some(Portion::Literals(first, more)) => one_more(first, more, text),
+        Some(Portion::Integer(_) | Portion::Logical(_)) | None => None,
+    }
+}
+
+/// The same behind the literal with this number and so many more.
+fn one_more(first: u32, more: u32, text: u32) -> Option<Portion>
+    ensures { result ≡ next_in (Some (Literals first more)) text }
+{
+    if u64::from(text) != u64::from(first) + u64::from(more) + 1 {
+        return None;
+    }
+    Some(Portion::Literals(first, more + 1))
+}
+
+/// Puts a literal into the newest text, with the literals that stand last there where it comes next behind them in the program; says whether there was room.
+#[tactic(auto, using(crate::proofs::PrintLaws::put_joined, crate::proofs::PrintLaws::put_apart, crate::proofs::PrintLaws::not_put, crate::proofs::PrintLaws::last_there))]
+fn put_literal(prints: &mut Piles<Option<u32>, Portion>, text: u32) -> bool
+    requires some { 0 < length prints.old.piles }
+    requires size { prints.old.size ≡ 131329 }
+    ensures most { prints.new.most ≡ prints.old.most }
+    ensures size { prints.new.size ≡ prints.old.size }
+    ensures put { IsTrue result → IsPut text prints.old prints.new }
+    ensures full { IsFalse result → HasNoRoom text prints.old prints.new }
+{
+    if let Some(longer) = with_next(prints.last(), text) {
+        prints.set_last(longer);
+        return true;
+    }
+    if prints.total() >= MOST_PORTIONS {
+        return false;
+    }
+    prints.add(Portion::Literals(text, 0));
+    true
 }

@@ -1,9 +1,9 @@
 -- Piles in a row of items, and the row from its other end.
-use Rattle.std.proofs.Common.{◌≡◌, ℕ, zero, suc, ◌+◌, ◌-◌, ◌<◌, ◌≤◌, List, [], ◌∷◌, ◌++◌, length, get_or, take, drop, refl, ap, sym, ◌∙◌, arith}
+use Rattle.std.proofs.Common.{◌≡◌, ℕ, zero, suc, ◌+◌, ◌-◌, ◌<◌, ◌≤◌, List, [], ◌∷◌, ◌++◌, length, get_or, take, drop, refl, ap, sym, subst, ◌∙◌, arith}
 use Rattle.std.specs.Prelude.{reverse}
 use Rattle.std.proofs.lemmas.List.{length-take, length-drop, length-reverse, reverse-append, reverse-reverse, take-append-drop, take_rest}
 use Rattle.std.proofs.Math.Seq.{take-add, take-suc, take-length, drop-append_seam, take-append_seam}
-use Rattle.image_stores.specs.Piles.{Pile, Piled, pile, items_in, newest, merged, piles_of, counts}
+use Rattle.image_stores.specs.Piles.{Pile, Piled, pile, items_in, newest, merged, with_last, piles_of, counts}
 use Rattle.image_stores.specs.declared.piles.Base.{Base}
 
 pub piles_long : {H T : Type 0} (bs : List (Base H)) (xs : List T) → length (piles_of bs xs) ≡ length bs
@@ -45,6 +45,20 @@ last_items n xs h =
 last_first : {X : Type 0} (old new : List X) (b : X) → old ≡ new ++ b ∷ [] → reverse old ≡ b ∷ reverse new
 last_first old new b e = ap reverse e ∙ reverse-append new (b ∷ [])
 
+-- another item in the place of the last one
+last_seen : {H T : Type 0} (h : H) (k : ℕ) (bs : List (Base H)) (x y : T) (zs : List T) → 0 < length (take k (y ∷ zs))
+    → pile h (take k (x ∷ zs)) ∷ piles_of bs (drop k (x ∷ zs)) ≡ pile h (x ∷ drop 1 (take k (y ∷ zs))) ∷ piles_of bs (drop k (y ∷ zs))
+last_seen h zero bs x y zs p = absurd (omega arith)
+last_seen h (suc k) bs x y zs p = refl
+
+piles_with_last : {H T : Type 0} (bs : List (Base H)) (x y : T) (zs : List T) → 0 < length (newest (piles_of bs (y ∷ zs))) → piles_of bs (x ∷ zs) ≡ with_last x (piles_of bs (y ∷ zs))
+piles_with_last [] x y zs p = absurd (omega arith)
+piles_with_last (b ∷ bs) x y zs p = last_seen b.head b.count bs x y zs p
+
+newest_within : {H T : Type 0} (bs : List (Base H)) (xs : List T) → length (newest (piles_of bs xs)) ≤ length xs
+newest_within [] xs = omega arith
+newest_within (b ∷ bs) xs = (let l = length-take b.count xs in omega arith)
+
 module _ {H T : Type 0} where
   abbrev piled : List (Pile H T) → ℕ → ℕ → Piled H T
   piled ps m n = record { piles = ps; most = m; size = n }
@@ -82,3 +96,19 @@ module _ {H T : Type 0} where
       ∙ take_rest xs (length xs - b.count)
       ∙ last_items b.count xs w
       ∙ sym (ap (λ cs. reverse (newest (piles_of cs (reverse xs)))) (last_first bs (take (n - 1) bs) b a))
+
+  pub last_view : (bs : List (Base H)) (old mid new : List T) (x y : T) → old ≡ mid ++ y ∷ [] → new ≡ mid ++ x ∷ [] → 0 < length (newest (piles_of (reverse bs) (reverse old)))
+      → piles_of (reverse bs) (reverse new) ≡ with_last x (piles_of (reverse bs) (reverse old))
+  last_view bs old mid new x y e f p =
+      let g = last_first old mid y e in
+      ap (piles_of (reverse bs)) (last_first new mid x f)
+      ∙ piles_with_last (reverse bs) x y (reverse mid) (subst (λ zs. 0 < length (newest (piles_of (reverse bs) zs))) g p)
+      ∙ sym (ap (λ zs. with_last x (piles_of (reverse bs) zs)) g)
+
+  -- where the newest pile has an item there is one
+  pub some_item : (bs : List (Base H)) (xs : List T) (s : Piled H T) (m n : ℕ) → piled (piles_of (reverse bs) (reverse xs)) m n ≡ s → 0 < length (newest s.piles) → 0 < length xs
+  some_item bs xs s m n e p =
+      let a = newest_within (reverse bs) (reverse xs) in
+      let b = length-reverse xs in
+      let c = ap (λ (t : Piled H T). length (newest t.piles)) e in
+      omega arith

@@ -30,10 +30,18 @@ abbrev pub head_of : {H T : Type 0} → List (Pile H T) → Option H
 head_of [] = None
 head_of (p ∷ ps) = Some p.head
 
--- with one item more on the newest pile, or with another head; the newest pile on top of the one beneath, whose head stays
+-- the last item of the newest pile, where it has one
+abbrev pub last_of : {H T : Type 0} → List (Pile H T) → Option T
+last_of ps = elim (newest ps) [ [] ↦ None | x ∷ xs ↦ Some x ]
+
+-- with one item more on the newest pile, with another one as the last there, or with another head; the newest pile on top of the one beneath, whose head stays
 abbrev pub heaped : {H T : Type 0} → T → List (Pile H T) → List (Pile H T)
 heaped x [] = []
 heaped x (p ∷ ps) = pile p.head (x ∷ p.items) ∷ ps
+
+abbrev pub with_last : {H T : Type 0} → T → List (Pile H T) → List (Pile H T)
+with_last x [] = []
+with_last x (p ∷ ps) = pile p.head (x ∷ drop 1 p.items) ∷ ps
 
 abbrev pub headed : {H T : Type 0} → H → List (Pile H T) → List (Pile H T)
 headed h [] = []

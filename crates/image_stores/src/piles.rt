@@ -1,7 +1,7 @@
 //! Piles of items, one on top of the other: array values with their elements, or texts that were begun with what is to be printed.
 
 ghost use Rattle.std.specs.Prelude.{◌≡◌, ◌<◌, ◌≤◌, ◌+◌, ◌∷◌, ◌++◌, [], drop, length, reverse, IfOk};
-ghost use Rattle.image_stores.specs.Piles.{Piled, pile, items_in, newest, head_of, heaped, headed, merged};
+ghost use Rattle.image_stores.specs.Piles.{Piled, pile, items_in, newest, head_of, last_of, heaped, headed, merged, with_last};
 
 use std::alloc::{AllocError, Global};
 use std::marker::Model;
@@ -130,6 +130,31 @@ impl<H: Copy, T: Copy> Piles<H, T> {
             return None;
         }
         Some(self.bases[n - 1].head)
+    }
+
+    /// The last item of the newest pile, where there is one.
+    pub fn last(&self) -> Option<T>
+        ensures is { result ≡ last_of self.now.piles }
+        ensures within { items_in self.now.piles ≤ self.now.size }
+    {
+        if self.total() == 0 {
+            return None;
+        }
+        let newest = self.newest();
+        let n = newest.len();
+        if n == 0 {
+            return None;
+        }
+        Some(newest[n - 1])
+    }
+
+    /// Puts another item in the place of the last one of the newest pile.
+    pub fn set_last(&mut self, item: T)
+        requires { 0 < length (newest self.old.piles) }
+        ensures { self.new ≡ record { piles = with_last item self.old.piles; most = self.old.most; size = self.old.size } }
+    {
+        let _last = self.items.take_last();
+        self.items.push_reserved(item);
     }
 
     /// The items of the newest pile, the first one first; none where there is no pile.

@@ -8,13 +8,14 @@ ghost use Rattle.walk_theory.specs.Terms.{found, at_fault};
 ghost use Rattle.image_acts.specs.Places.{place_within, subscripts_in, digits};
 ghost use Rattle.array_places.specs.Sections.{numbers_of};
 
+use array_places::empty::wide_place;
 use array_places::list::PlaceNumbers;
 use array_places::section::{has_places, place_of};
 
 /// The number of the run fault Room.
 pub(crate) const ROOM: u32 = 11;
 
-/// Lower and upper bounds of at most three dimensions, and whether 64 bits hold the places in them.
+/// Lower and upper bounds of at most three dimensions, and whether they have fewer than 2 ** 63 cells, an empty dimension counting as one.
 #[derive(Clone, Copy)]
 pub struct Bounds {
     pub(crate) numbers: [i64; 6],
@@ -55,9 +56,10 @@ impl Bounds {
         ensures found { IfOk result (λ p. numbers_of (place_within (pairs_of self.now) (subscripts_in (digits form) numbers.now)) ≡ found p) }
         ensures faults { IfErr result (λ k. numbers_of (place_within (pairs_of self.now) (subscripts_in (digits form) numbers.now)) ≡ at_fault k) }
     {
-        if !self.has_places {
-            return Err(ROOM);
+        if self.has_places {
+            place_of(self.as_slice(), form, numbers)
+        } else {
+            wide_place(self.as_slice(), form, numbers)
         }
-        place_of(self.as_slice(), form, numbers)
     }
 }

@@ -1,3 +1,4 @@
+pub mod Portions
 pub mod Reading
 pub mod Literals
 pub mod Passing

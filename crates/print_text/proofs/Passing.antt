@@ -1,7 +1,7 @@
 -- Passes over a format, piece by piece.
-use Rattle.std.proofs.Common.{◌≡◌, ◌∙◌, subst, ℕ, zero, suc, ◌+◌, ◌-◌, ◌<◌, ◌≤◌, true, false, List, [], ◌∷◌, ◌++◌, length, replicate, refl, sym, ap, arith, append_assoc}
-use Rattle.std.proofs.lemmas.List.{append-nil}
-use Rattle.std.specs.Prelude.{Result, Ok, Err, IfOk}
+use Rattle.std.proofs.Common.{◌≡◌, ◌∙◌, subst, ℕ, zero, suc, ◌+◌, ◌-◌, ◌<◌, ◌≤◌, ◌^◌, Bool, true, false, cond, List, [], ◌∷◌, ◌++◌, length, replicate, refl, sym, ap, arith, append_assoc}
+use Rattle.std.proofs.lemmas.List.{append-nil, length-map}
+use Rattle.std.specs.Prelude.{Option, Some, None, Result, Ok, Err, IfOk}
 use Rattle.walk_theory.specs.Terms.{Found, found, at_fault, with_found}
 use Rattle.image_acts.specs.Core as core
 use Rattle.image_acts.specs.Faults.{format_fault}
@@ -13,9 +13,13 @@ use Rattle.print_text.specs.declared.piece.Piece.TheVariants as pieces
 use Rattle.print_text.specs.declared.item.Item.{Item}
 use Rattle.print_text.specs.declared.item.Outcome.{Outcome}
 use Rattle.print_text.specs.declared.item.Outcome.TheVariants.{Wrong, Ended, Left}
-use Rattle.print_text.specs.Items.{item_of, items_of}
-use Rattle.print_text.specs.Pieces.{edit, kept, Means, Reads, characters}
-use Rattle.print_text.specs.Passes.{after, behind, bare, is_found, upon}
+use Rattle.print_text.specs.declared.item.Portion.{Portion}
+use Rattle.print_text.specs.declared.item.Portion.TheVariants as portions
+use Rattle.print_text.specs.declared.items.Run.{Run}
+use Rattle.print_text.specs.declared.items.Items.{Items}
+use Rattle.print_text.specs.Items.{item_of, items_of, items_left, passes_left, literals_from, in_run, in_portions}
+use Rattle.print_text.specs.Pieces.{IsNumeric, IsOnce, edit, kept, Means, Reads, characters}
+use Rattle.print_text.specs.Passes.{values_ahead, is_literal, after, behind, bare, is_found, upon}
 
 pub behind_behind : (a b : List ℕ) (p : Pass) → behind a (behind b p) ≡ behind (a ++ b) p
 behind_behind a b wrong = refl
@@ -102,17 +106,43 @@ none_left (x ∷ l) h = absurd (omega arith)
 
 -- a data edit descriptor that is read, and what comes of it
 pub data_turn : (texts : List (List ℕ)) (p : Piece) (k : DataKind) (times width : ℕ) (text rest : List ℕ) (items : List Item) (o : Outcome) → Reads text p rest → p ≡ pieces.Data k times width
-    → ((n w s : ℕ) (ds : List Descriptor) → times ≡ kept n → bare (pass (replicate n (edit k w) ++ ds) (items_of texts items) s) ≡ bare (after texts [] o (λ xs. pass ds xs 0)))
+    → ((n w s : ℕ) (ds : List Descriptor) → times ≡ kept n → IsOnce k n → bare (pass (replicate n (edit k w) ++ ds) (items_of texts items) s) ≡ bare (after texts [] o (λ xs. pass ds xs 0)))
     → bare (pass (descriptors text) (items_of texts items) 0) ≡ bare (after texts [] o (λ xs. pass (descriptors rest) xs 0))
 data_turn texts p k times width text rest items o r e h =
     let m : Means (pieces.Data k times width) r.0 = subst (λ (q : Piece). Means q r.0) e r.1 in
     ap (λ (l : List Descriptor). bare (pass l (items_of texts items) 0)) (r.2 ∙ ap (λ (l : List Descriptor). l ++ descriptors rest) m.5)
-    ∙ h m.0 m.1 0 (descriptors rest) m.3
+    ∙ h m.0 m.1 0 (descriptors rest) m.3 m.6
 
 pub not_left : (texts : List (List ℕ)) (text : List ℕ) (o : Outcome) (f g : List core.Item → Pass) → ((items : _) → o ≡ Left items → ⊥) → after texts text o f ≡ after texts text o g
 not_left texts text Wrong f g h = refl
 not_left texts text Ended f g h = refl
 not_left texts text (Left items) f g h = absurd (h items refl)
+
+-- A descriptor that is there many times takes values, of which there are as few as portions: so its count is exact, though it is kept in 64 bits.
+from_literal : (n more : ℕ) (xs : List Item) → values_ahead (literals_from n more ++ xs) ≡ 0
+from_literal n zero xs = refl
+from_literal n (suc more) xs = refl
+
+values_few : (ps : List Portion) → values_ahead (in_portions ps) ≤ length ps
+values_few [] = omega arith
+values_few (portions.Integer v ∷ ps) = (let h = values_few ps in omega arith)
+values_few (portions.Logical b ∷ ps) = (let h = values_few ps in omega arith)
+values_few (portions.Literals n more ∷ ps) = (let h = from_literal n more (in_portions ps) in omega arith)
+
+run_few : (r : Option Run) (ps : List Portion) → values_ahead (in_run r ++ in_portions ps) ≤ length ps
+run_few None ps = values_few ps
+run_few (Some r) ps = (let h = from_literal (r.first + r.gone) (r.more - r.gone) (in_portions ps) in omega arith)
+
+pub left_few : (x : Items) → values_ahead (items_left x) ≤ length x.portions.now
+left_few x = run_few x.run x.portions.now
+
+pub one_ahead : (x : Item) (xs : List Item) → is_literal x ≡ false → values_ahead (x ∷ xs) ≡ suc (values_ahead xs)
+one_ahead x xs e = ap (λ (b : Bool). cond b 0 (suc (values_ahead xs))) e
+
+pub all_taken : (k : DataKind) (n times taken ahead all few : ℕ) → times ≡ kept n → IsOnce k n → taken ≡ times → (IsNumeric k → taken + ahead ≡ all) → all ≤ few → few < 2 ^ 64 - 1 → n ≡ taken
+all_taken kinds.Integer n times taken ahead all few e o t g a f = (let i = g tt in omega arith)
+all_taken kinds.Logical n times taken ahead all few e o t g a f = (let i = g tt in omega arith)
+all_taken kinds.Character n times taken ahead all few e o t g a f = omega arith
 
 -- fields behind places that were skipped
 module _ (texts : List (List ℕ)) (out : List ℕ) (items : List Item) (n : ℕ) (k : DataKind) (w s : ℕ) (ds : List Descriptor) (h : 0 < n) where
@@ -240,6 +270,20 @@ module _ (n : ℕ) (ds : List Descriptor) (xs : List core.Item) (some : 0 < n) w
   text_more out made (y ∷ ys) h e =
       ap (upon out) (one_pass n ds xs some)
       ∙ upon_more (passes (n - 1) ds) out made (pass ds xs 0) y ys (e ∙ ap (λ (l : List ℕ). passed l (y ∷ ys)) (append-nil made))
+
+-- a pass less may come behind one
+module _ (p : Option Items) (x : Items) (e : p ≡ Some x) where
+  pub has_pass : 0 < passes_left p
+  has_pass = (let f = ap passes_left e in omega arith)
+
+  pub fewer_passes : (q : Option Items) → passes_left q ≡ length (items_left x) → passes_left p - 1 ≡ passes_left q
+  fewer_passes q h = (let f = ap passes_left e in omega arith)
+
+pub no_pass : (p : Option Items) → p ≡ None → passes_left p ≡ 0
+no_pass p e = ap passes_left e
+
+pub first_passes : (texts : List (List ℕ)) (x : Items) → passes_left (Some x) ≡ length (items_of texts (items_left x)) + 1
+first_passes texts x = (let l = length-map (items_left x) (item_of texts) in omega arith)
 
 -- a format's one fault
 fault_only : (next : List core.Item → Found (List ℕ)) → ((ys : List core.Item) → is_found (next ys) ≡ false → next ys ≡ at_fault format_fault) → (p : Pass)

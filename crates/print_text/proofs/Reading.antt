@@ -7,7 +7,7 @@ use Rattle.print_text.specs.declared.sign.Sign.{Sign}
 use Rattle.print_text.specs.declared.sign.Sign.TheVariants as signs
 use Rattle.print_text.specs.declared.piece.DataKind.{DataKind}
 use Rattle.print_text.specs.declared.piece.DataKind.TheVariants as kinds
-use Rattle.print_text.specs.Pieces.{sign_seen, edit, is_integer, IsNumeric}
+use Rattle.print_text.specs.Pieces.{sign_seen, edit, is_integer, IsNumeric, IsOnce}
 
 -- what is read from this state on
 abbrev pub turn : Next → List ℕ → List Descriptor
@@ -35,6 +35,11 @@ edit_numeric : (k : DataKind) (n : ℕ) → IsNumeric k → cond (is_integer k) 
 edit_numeric kinds.Integer n h = refl
 edit_numeric kinds.Logical n h = refl
 edit_numeric kinds.Character n h = absurd h
+
+pub once : (k : DataKind) (n : ℕ) → IsNumeric k → IsOnce k n
+once kinds.Integer n h = tt
+once kinds.Logical n h = tt
+once kinds.Character n h = absurd h
 
 width_ends : (s : Sign) (i : Bool) (times n : ℕ) (bs : List ℕ) → Ends s → turn (width_next i times n (sign_seen s)) bs ≡ replicate times (cond i (i_edit n) (l_edit n)) ++ descriptors bs
 width_ends (signs.Digit d) i times n bs h = absurd h

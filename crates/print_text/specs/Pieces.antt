@@ -40,6 +40,12 @@ IsNumeric kinds.Integer = Unit {0}
 IsNumeric kinds.Logical = Unit {0}
 IsNumeric kinds.Character = ⊥
 
+-- a descriptor with a repeat count: that of literals has none
+abbrev pub IsOnce : DataKind → ℕ → Type 0
+IsOnce kinds.Integer n = Unit {0}
+IsOnce kinds.Logical n = Unit {0}
+IsOnce kinds.Character n = n ≡ 1
+
 -- the characters of a literal as it stands between its delimiters: a doubled delimiter is one (7.4.4)
 abbrev pub characters : ℕ → List ℕ → List ℕ
 characters q [] = []
@@ -48,7 +54,7 @@ characters q (b ∷ c ∷ bs) = cond (nat_eq b q) (b ∷ characters q bs) (b ∷
 
 -- the descriptors that a piece stands for
 abbrev pub Means : Piece → List Descriptor → Type 0
-Means (Data kind times width) ds = (n : ℕ) × (w : ℕ) × (0 < n) × (times ≡ kept n) × (width ≡ kept w) × (ds ≡ replicate n (edit kind w))
+Means (Data kind times width) ds = (n : ℕ) × (w : ℕ) × (0 < n) × (times ≡ kept n) × (width ≡ kept w) × (ds ≡ replicate n (edit kind w)) × IsOnce kind n
 Means (Skip places) ds = (n : ℕ) × (places ≡ kept n) × (ds ≡ x_edit n ∷ [])
 Means (Literal q inside) ds = ds ≡ text_edit (characters q inside.now) ∷ []
 

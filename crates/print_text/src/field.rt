@@ -1,12 +1,12 @@
 //! What the pieces of a format put out.
 
-ghost use Rattle.std.specs.Prelude.{◌≡◌, ◌++◌, ◌∷◌, ℕ, List, [], cond, replicate, IfOk, OnOk};
+ghost use Rattle.std.specs.Prelude.{◌≡◌, ◌++◌, ◌∷◌, ℕ, List, [], cond, false, replicate, IsTrue, IfOk, OnOk};
 ghost use Rattle.caf_text.specs.Numbers.{logical_text, right_in};
 ghost use Rattle.image_acts.specs.Core.{Item as CoreItem};
 ghost use Rattle.image_acts.specs.Formats.{Descriptor, pass, wrong};
 ghost use Rattle.print_text.specs.Items.{item_of};
-ghost use Rattle.print_text.specs.Passes.{behind};
-ghost use Rattle.print_text.specs.Pieces.{characters, edit, kept};
+ghost use Rattle.print_text.specs.Passes.{behind, is_literal};
+ghost use Rattle.print_text.specs.Pieces.{IsNumeric, characters, edit, kept};
 
 use crate::item::{Item, text_in};
 use crate::piece::DataKind;
@@ -58,21 +58,22 @@ pub fn push_field(
     texts: &[Text],
     kind: DataKind,
     width: u64,
-    item: &Item,
+    item: Item,
 ) -> Result<bool, NoMemory>
-    ensures { IfOk result (λ b. (w : ℕ) (ds : List Descriptor) (xs : List CoreItem) → width ≡ kept w → behind out.old.items (pass (edit kind w ∷ ds) (item_of texts.now item.now ∷ xs) 0) ≡ cond b (behind out.new.items (pass ds xs 0)) wrong) }
+    ensures values { IfOk result (λ b. IsTrue b → IsNumeric kind → is_literal item ≡ false) }
+    ensures puts { IfOk result (λ b. (w : ℕ) (ds : List Descriptor) (xs : List CoreItem) → width ≡ kept w → behind out.old.items (pass (edit kind w ∷ ds) (item_of texts.now item ∷ xs) 0) ≡ cond b (behind out.new.items (pass ds xs 0)) wrong) }
 {
     match (kind, item) {
         (DataKind::Integer, Item::Integer(value)) => {
-            push_i_format(out, *value, places(width)?)?;
+            push_i_format(out, value, places(width)?)?;
             Ok(true)
         }
         (DataKind::Logical, Item::Logical(value)) => {
-            push_logical_field(out, places(width)?, *value)?;
+            push_logical_field(out, places(width)?, value)?;
             Ok(true)
         }
         (DataKind::Character, Item::Literal(number)) => {
-            out.extend_from_slice(text_in(texts, *number))?;
+            out.extend_from_slice(text_in(texts, number))?;
             Ok(true)
         }
         _ => Ok(false),

@@ -1,22 +1,24 @@
 //! Whether a PRINT is a fault (ISO/IEC 1539-1:2018, 13.4): a pass over its format, without the text.
 
-ghost use Rattle.std.specs.Prelude.{◌≡◌, ◌<◌, ℕ, List, [], ◌∷◌, ◌++◌, cond, replicate, IsTrue, IsFalse};
+ghost use Rattle.std.specs.Prelude.{◌≡◌, ◌<◌, ℕ, List, [], ◌∷◌, ◌++◌, cond, false, replicate, IsTrue, IsFalse};
 ghost use Rattle.walk_theory.specs.Terms.{at_fault};
 ghost use Rattle.image_acts.specs.Core.{Item as CoreItem};
 ghost use Rattle.image_acts.specs.Faults.{format_fault};
 ghost use Rattle.image_acts.specs.Formats.{Descriptor, descriptors, formatted, pass, wrong};
 ghost use Rattle.image_acts.specs.Operate.Printing.{text_of};
-ghost use Rattle.print_text.specs.Items.{IsFound, item_of, items_of, printing_of};
-ghost use Rattle.print_text.specs.Passes.{after, bare, is_found};
-ghost use Rattle.print_text.specs.Pieces.{edit, kept};
+ghost use Rattle.print_text.specs.Items.{IsFound, item_of, items_of, items_left, printing_of};
+ghost use Rattle.print_text.specs.Passes.{after, bare, is_found, is_literal};
+ghost use Rattle.print_text.specs.Pieces.{IsNumeric, IsOnce, edit, kept};
 
-use crate::item::{Item, Outcome, text_in};
+use crate::item::{Item, Outcome, Portion, text_in};
+use crate::items::Items;
 use crate::piece::{DataKind, Piece, next_piece};
 use caf_base::listing::Text;
 
 /// Whether an item is of the type that a data edit descriptor takes.
-fn is_of(kind: DataKind, item: &Item) -> bool
-    ensures { (texts : List (List ℕ)) (w s : ℕ) (ds : List Descriptor) (xs : List CoreItem) → bare (pass (edit kind w ∷ ds) (item_of texts item.now ∷ xs) s) ≡ cond result (bare (pass ds xs 0)) wrong }
+fn is_of(kind: DataKind, item: Item) -> bool
+    ensures values { IsTrue result → IsNumeric kind → is_literal item ≡ false }
+    ensures takes { (texts : List (List ℕ)) (w s : ℕ) (ds : List Descriptor) (xs : List CoreItem) → bare (pass (edit kind w ∷ ds) (item_of texts item ∷ xs) s) ≡ cond result (bare (pass ds xs 0)) wrong }
 {
     match (kind, item) {
         (DataKind::Integer, Item::Integer(_))
@@ -27,8 +29,8 @@ fn is_of(kind: DataKind, item: &Item) -> bool
 }
 
 /// What comes of a data edit descriptor that is there so many times.
-fn behind_data(kind: DataKind, times: u64, items: &[Item]) -> Outcome<'_>
-    ensures { (texts : List (List ℕ)) (n w s : ℕ) (ds : List Descriptor) → times ≡ kept n → bare (pass (replicate n (edit kind w) ++ ds) (items_of texts items.now) s) ≡ bare (after texts [] result (λ xs. pass ds xs 0)) }
+fn behind_data(kind: DataKind, times: u64, items: Items<'_>) -> Outcome<'_>
+    ensures { (texts : List (List ℕ)) (n w s : ℕ) (ds : List Descriptor) → times ≡ kept n → IsOnce kind n → bare (pass (replicate n (edit kind w) ++ ds) (items_of texts (items_left items.entry)) s) ≡ bare (after texts [] result (λ xs. pass ds xs 0)) }
 {
     let mut left = items;
     let mut taken = 0;
@@ -46,8 +48,8 @@ fn behind_data(kind: DataKind, times: u64, items: &[Item]) -> Outcome<'_>
 }
 
 /// What one pass over a format comes to.
-fn behind_pass<'a>(format: &[u8], items: &'a [Item]) -> Outcome<'a>
-    ensures { (texts : List (List ℕ)) → bare (pass (descriptors format.now) (items_of texts items.now) 0) ≡ bare (after texts [] result (λ xs. pass [] xs 0)) }
+fn behind_pass<'a>(format: &[u8], items: Items<'a>) -> Outcome<'a>
+    ensures { (texts : List (List ℕ)) → bare (pass (descriptors format.now) (items_of texts (items_left items.entry)) 0) ≡ bare (after texts [] result (λ xs. pass [] xs 0)) }
 {
     let mut left = items;
     let mut text = format;
@@ -64,13 +66,13 @@ fn behind_pass<'a>(format: &[u8], items: &'a [Item]) -> Outcome<'a>
 }
 
 /// Whether the passes over a format come to no fault.
-fn is_right(format: &[u8], items: &[Item]) -> bool
-    ensures { (texts : List (List ℕ)) → is_found (formatted format.now (items_of texts items.now)) ≡ result }
+fn is_right(format: &[u8], items: Items<'_>) -> bool
+    ensures { (texts : List (List ℕ)) → is_found (formatted format.now (items_of texts (items_left items.entry))) ≡ result }
 {
     let mut left = items;
-    let mut passes = items.len() + 1;
-    while passes > 0 {
-        passes -= 1;
+    let mut passes = Some(items);
+    while let Some(more) = passes {
+        passes = more.further();
         match behind_pass(format, left) {
             Outcome::Wrong => return false,
             Outcome::Ended => return true,
@@ -83,13 +85,13 @@ fn is_right(format: &[u8], items: &[Item]) -> bool
     true
 }
 
-/// Whether a PRINT of these items is a fault: with a format, where an item is of another type than its descriptor takes (13.4). It takes no memory.
-pub fn fault_of(texts: &[Text], format: Option<u32>, items: &[Item]) -> bool
-    ensures faults { IsTrue result → text_of (printing_of texts.now format items.now) ≡ at_fault format_fault }
-    ensures prints { IsFalse result → IsFound (text_of (printing_of texts.now format items.now)) }
+/// Whether a PRINT of these portions is a fault: with a format, where an item is of another type than its descriptor takes (13.4). It takes no memory.
+pub fn fault_of(texts: &[Text], format: Option<u32>, portions: &[Portion]) -> bool
+    ensures faults { IsTrue result → text_of (printing_of texts.now format portions.now) ≡ at_fault format_fault }
+    ensures prints { IsFalse result → IsFound (text_of (printing_of texts.now format portions.now)) }
 {
     match format {
         None => false,
-        Some(number) => !is_right(text_in(texts, number), items),
+        Some(number) => !is_right(text_in(texts, number as usize), Items::new(portions)),
     }
 }

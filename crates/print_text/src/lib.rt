@@ -5,6 +5,7 @@
 
 mod field;
 pub mod item;
+mod items;
 mod judge;
 mod listed;
 mod pass;

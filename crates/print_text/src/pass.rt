@@ -2,12 +2,13 @@
 
 ghost use Rattle.std.specs.Prelude.{◌≡◌, ◌<◌, ◌++◌, ◌∷◌, ℕ, List, [], replicate, IfOk, OnOk};
 ghost use Rattle.image_acts.specs.Formats.{Descriptor, descriptors, pass};
-ghost use Rattle.print_text.specs.Items.{items_of};
+ghost use Rattle.print_text.specs.Items.{items_of, items_left};
 ghost use Rattle.print_text.specs.Passes.{after, behind};
-ghost use Rattle.print_text.specs.Pieces.{characters, edit, kept};
+ghost use Rattle.print_text.specs.Pieces.{IsOnce, characters, edit, kept};
 
 use crate::field::{push_blanks, push_field, push_literal};
-use crate::item::{Item, Outcome};
+use crate::item::Outcome;
+use crate::items::Items;
 use crate::piece::{DataKind, Piece, next_piece};
 use caf_base::listing::Text;
 use caf_base::refusal::NoMemory;
@@ -25,9 +26,9 @@ fn push_fields<'a>(
     out: &mut Vec<u8>,
     texts: &[Text],
     fields: Fields,
-    items: &'a [Item],
+    items: Items<'a>,
 ) -> Result<Outcome<'a>, NoMemory>
-    ensures { IfOk result (λ o. (n w : ℕ) (ds : List Descriptor) → fields.times ≡ kept n → fields.width ≡ kept w → behind out.old.items (pass (replicate n (edit fields.kind w) ++ ds) (items_of texts.now items.now) 0) ≡ after texts.now out.new.items o (λ xs. pass ds xs 0)) }
+    ensures { IfOk result (λ o. (n w : ℕ) (ds : List Descriptor) → fields.times ≡ kept n → IsOnce fields.kind n → fields.width ≡ kept w → behind out.old.items (pass (replicate n (edit fields.kind w) ++ ds) (items_of texts.now (items_left items.entry)) 0) ≡ after texts.now out.new.items o (λ xs. pass ds xs 0)) }
 {
     let mut left = items;
     let mut taken = 0;
@@ -50,9 +51,9 @@ fn push_data<'a>(
     texts: &[Text],
     skipped: u64,
     fields: Fields,
-    items: &'a [Item],
+    items: Items<'a>,
 ) -> Result<Outcome<'a>, NoMemory>
-    ensures { IfOk result (λ o. (n w s : ℕ) (ds : List Descriptor) → 0 < n → fields.times ≡ kept n → fields.width ≡ kept w → skipped ≡ kept s → behind out.old.items (pass (replicate n (edit fields.kind w) ++ ds) (items_of texts.now items.now) s) ≡ after texts.now out.new.items o (λ xs. pass ds xs 0)) }
+    ensures { IfOk result (λ o. (n w s : ℕ) (ds : List Descriptor) → 0 < n → fields.times ≡ kept n → IsOnce fields.kind n → fields.width ≡ kept w → skipped ≡ kept s → behind out.old.items (pass (replicate n (edit fields.kind w) ++ ds) (items_of texts.now (items_left items.entry)) s) ≡ after texts.now out.new.items o (λ xs. pass ds xs 0)) }
 {
     if items.is_empty() {
         return Ok(Outcome::Ended);
@@ -79,9 +80,9 @@ pub fn push_pass<'a>(
     out: &mut Vec<u8>,
     texts: &[Text],
     format: &[u8],
-    items: &'a [Item],
+    items: Items<'a>,
 ) -> Result<Outcome<'a>, NoMemory>
-    ensures { IfOk result (λ o. behind out.old.items (pass (descriptors format.now) (items_of texts.now items.now) 0) ≡ after texts.now out.new.items o (λ xs. pass [] xs 0)) }
+    ensures { IfOk result (λ o. behind out.old.items (pass (descriptors format.now) (items_of texts.now (items_left items.entry)) 0) ≡ after texts.now out.new.items o (λ xs. pass [] xs 0)) }
 {
     let mut left = items;
     let mut skipped = 0u64;

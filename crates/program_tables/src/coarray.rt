@@ -127,14 +127,18 @@ fn number(value: &Value) -> i64
     }
 }
 
-// The size of an array with these bounds.
+// The size of an array with these bounds. Behind an empty dimension nothing is counted: there the others may come to any number.
 fn size(dims: &[(i64, i64)]) -> Result<u64, NoMemory>
     ensures { IfOk result (λ n. n ≡ size_of dims.now) }
 {
     let [(lower, upper), dims @ ..] = dims else {
         return Ok(1);
     };
-    product(extent(lower, upper)?, size(dims)?)
+    let cells = extent(lower, upper)?;
+    if cells == 0 {
+        return Ok(0);
+    }
+    product(cells, size(dims)?)
 }
 
 // How many values a subscript has between its bounds.

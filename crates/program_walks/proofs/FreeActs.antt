@@ -1,7 +1,7 @@
 -- Each act but an arrival or a departure may come where nothing is owed, and leaves nothing owed. Each but the beginning and the end of a frame leaves the number
 -- of callers as it is.
 use Rattle.std.proofs.Common.{◌≡◌, ℕ, zero, suc, Bool, true, false, cond, List, [], ◌∷◌, refl, sym, subst, ap}
-use Rattle.std.specs.Prelude.{ℤ, pos, ◌+◌, ◌-◌, ◌++◌, ◌&&◌, ◌||◌, ◌==◌, not, int_le, min, nat_le, length, nat_lt, reverse, take, drop, slice_get, is_some, Option, None, Some}
+use Rattle.std.specs.Prelude.{ℤ, pos, ◌+◌, ◌-◌, ◌&&◌, ◌||◌, ◌==◌, not, int_le, min, nat_le, length, nat_lt, take, drop, slice_get, is_some, Option, None, Some}
 use Rattle.std.specs.List.{list_all}
 use Rattle.std.specs.Ordering.{int_eq}
 use Rattle.caf_base.specs.declared.value.Kind.TheVariants as kinds
@@ -17,11 +17,11 @@ use Rattle.caf_events.specs.declared.ask.Ask.TheVariants as asks
 use Rattle.caf_events.specs.declared.reply.Reply.{Reply}
 use Rattle.walk_theory.specs.Language.{goes_to, faults, asking, ends_with, stuck}
 use Rattle.walk_theory.specs.Terms.{Found, found, at_fault}
-use Rattle.image_acts.specs.Statuses.{most_frames, most_cells, most_iterations, most_access_cells, most_items}
+use Rattle.image_acts.specs.Statuses.{most_frames, most_cells, most_iterations, most_access_cells, most_portions}
 use Rattle.image_acts.specs.Faults.{room, depth_fault, shape_fault, not_allocated, no_team, zero_step, cobounds_fault, not_established, cells_fault, bounds_fault, overflow}
 use Rattle.image_acts.specs.Acts as a
 use Rattle.image_acts.specs.Acts.{Act, constant, stack, variable, operator, bounded, allocation, selector, team, call, print, ask}
-use Rattle.image_acts.specs.Core.{Core, Array, Local, Own, Team, Frame, Item, Printing, with_values, pushed, with_array}
+use Rattle.image_acts.specs.Core.{Core, Array, Local, Own, Team, Frame, Item, Portion, Printing, with_values, pushed, with_array}
 use Rattle.image_acts.specs.Places.{Place, place_in, place_size, extents_of, digits, numbers_of_form, triplets, subscripts_in, place_within, no_place, place_numbers, cells_of}
 use Rattle.image_acts.specs.Frames.{pairs_in, array_in, with_array_in, with_cell, with_frame, with_last}
 use Rattle.image_acts.specs.Owning.{own_in, with_own}
@@ -35,7 +35,7 @@ use Rattle.image_acts.specs.Operate.Allocating.{allocation_effect, bounds_size, 
 use Rattle.image_acts.specs.Operate.Selecting.{selector_effect, teamed}
 use Rattle.image_acts.specs.Operate.Teaming.{team_effect}
 use Rattle.image_acts.specs.Operate.Calling.{call_effect}
-use Rattle.image_acts.specs.Operate.Printing.{print_effect, printed, open_items, text_of}
+use Rattle.image_acts.specs.Operate.Printing.{print_effect, printed, renewed, with_values_behind, with_literal_behind, open_portions, text_of}
 use Rattle.image_acts.specs.Operate.Asking.{ask_effect}
 use Rattle.image_acts.specs.Meaning.{operate, missed, settled, effect_of}
 use Rattle.program_walks.specs.Dues.{ended, owing, due_after, MayCome}
@@ -275,13 +275,16 @@ along c g =
     let e = record c { values = vs; arrays = xs } in
     along_one (length c.callers) (pairs_in x.elements) (natural dim) (λ b. unless overflow (fits_kind kinds.I4 (g b)) (giving (g b) e)) (λ b. search fine))))
 
-prints : (n : ℕ) (xs : List Item) (ps : List Printing) (c : Core) → length c.callers ≡ n
-    → Fine n (elim ps [ [] ↦ stuck | q ∷ qs ↦ unless room (nat_le (open_items c.printing + length xs) most_items) (goes_to (record c { printing = record q { items = reverse xs ++ q.items } ∷ qs })) ])
-prints n xs [] c k = no_operand n
-prints n xs (q ∷ qs) c k = search fine
+prints : (n : ℕ) (f : List Portion → List Portion) (ps : List Printing) (c : Core) → length c.callers ≡ n
+    → Fine n (elim ps [ [] ↦ stuck | q ∷ qs ↦ unless room (nat_le (open_portions (record q { portions = f q.portions } ∷ qs)) most_portions) (goes_to (record c { printing = record q { portions = f q.portions } ∷ qs })) ])
+prints n f [] c k = no_operand n
+prints n f (q ∷ qs) c k = search fine
+
+renewed_fine : (n : ℕ) (f : List Portion → List Portion) (c : Core) → length c.callers ≡ n → Fine n (renewed f c)
+renewed_fine n f c k = prints n f c.printing c k
 
 printed_fine : (n : ℕ) (xs : List Item) (c : Core) → length c.callers ≡ n → Fine n (printed xs c)
-printed_fine n xs c k = prints n xs c.printing c k
+printed_fine n xs c k = renewed_fine n (with_values_behind xs) c k
 
 -- the team variable of FORM TEAM
 abbrev with_own_team : a.Scope → ℕ → Option Team → Core → Core
@@ -426,7 +429,7 @@ fine_print (a.begin_format text) c = search fine
 fine_print a.print_number c = search (fine, printed_fine)
 fine_print a.print_truth c = search (fine, printed_fine)
 fine_print (a.print_array k) c = search (fine, printed_fine)
-fine_print (a.print_literal text) c = search (fine, printed_fine)
+fine_print (a.print_literal number text) c = renewed_fine (length c.callers) (with_literal_behind number text) c refl
 
 -- ---- asks
 said : (n : ℕ) (a : Ask) (f : Reply → Core) → MayCome (owing None) a → ((r : Reply) → due_after a r ≡ owing None) → ((r : Reply) → length (f r).callers ≡ n) → Fine n (asking a f)

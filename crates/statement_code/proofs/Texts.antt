@@ -27,8 +27,8 @@ line_named i (counted k) ts ls n h = refl
 line_named i (kept is) ts ls n h = ap (λ t. kept (is ++ i t ∷ [])) (text_at ts n ∙ ap (λ us. slice_index_or us n []) h)
 
 pub literal_written : (e : Environment) (d : Drafted) (l n : ℕ) → HasTexts e d →
-    with_line (on l (does_act (print (a.print_literal (text_in d.tables.texts n))))) d ≡ with_line (on l (does_act (print (a.print_literal (literal_text e n))))) d
-literal_written e d l n h = ap (λ (b : Body). record d { body = b }) (line_named (λ t. on l (does_act (print (a.print_literal t)))) d.body d.tables.texts e.program.literals n h)
+    with_line (on l (does_act (print (a.print_literal n (text_in d.tables.texts n))))) d ≡ with_line (on l (does_act (print (a.print_literal n (literal_text e n))))) d
+literal_written e d l n h = ap (λ (b : Body). record d { body = b }) (line_named (λ t. on l (does_act (print (a.print_literal n t)))) d.body d.tables.texts e.program.literals n h)
 
 pub format_written : (e : Environment) (d : Drafted) (l n : ℕ) → HasTexts e d →
     with_line (on l (does_act (print (a.begin_format (text_in d.tables.texts n))))) d ≡ with_line (on l (does_act (print (a.begin_format (literal_text e n))))) d

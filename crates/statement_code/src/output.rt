@@ -46,7 +46,7 @@ fn push_printed(
 #[tactic(auto, using(crate::proofs::Texts::literal_written))]
 fn push_literal(draft: &mut Draft, env: &Env<'_>, literal: u32, line: u32) -> Result<(), NoMemory>
     requires texts { HasTexts (environment env.now) draft.old }
-    ensures { OnOk result (draft.new ≡ written line (doing (act.print (act.print_literal (literal_text (environment env.now) literal)) ∷ [])) draft.old) }
+    ensures { OnOk result (draft.new ≡ written line (doing (act.print (act.print_literal literal (literal_text (environment env.now) literal)) ∷ [])) draft.old) }
 {
     draft.push(Step::PrintLiteral(literal), line)
 }

@@ -1,6 +1,6 @@
 -- Each act but an arrival, a departure, an inquiry of a team's images and what CHANGE TEAM, END TEAM and FORM TEAM do themselves names no team, and leaves the teams of a core as they are.
 use Rattle.std.proofs.Common.{◌≡◌, ℕ, zero, suc, Bool, true, false, cond, List, [], ◌∷◌, refl}
-use Rattle.std.specs.Prelude.{ℤ, pos, ◌+◌, ◌-◌, ◌++◌, ◌&&◌, ◌||◌, ◌==◌, not, int_le, min, nat_le, length, reverse, take, drop, slice_get, is_some, Option, None, Some}
+use Rattle.std.specs.Prelude.{ℤ, pos, ◌+◌, ◌-◌, ◌&&◌, ◌||◌, ◌==◌, not, int_le, min, nat_le, length, take, drop, slice_get, is_some, Option, None, Some}
 use Rattle.std.specs.List.{list_all}
 use Rattle.std.specs.Ordering.{int_eq}
 use Rattle.caf_base.specs.declared.value.Kind.TheVariants as kinds
@@ -16,11 +16,11 @@ use Rattle.caf_events.specs.declared.ask.Ask.TheVariants as asks
 use Rattle.caf_events.specs.declared.reply.Reply.{Reply}
 use Rattle.walk_theory.specs.Language.{goes_to, faults, asking, ends_with, stuck}
 use Rattle.walk_theory.specs.Terms.{Found, found, at_fault}
-use Rattle.image_acts.specs.Statuses.{most_cells, most_iterations, most_access_cells, most_items}
+use Rattle.image_acts.specs.Statuses.{most_cells, most_iterations, most_access_cells, most_portions}
 use Rattle.image_acts.specs.Faults.{room, shape_fault, not_allocated, no_team, zero_step, cobounds_fault, not_established, cells_fault, bounds_fault, overflow}
 use Rattle.image_acts.specs.Acts as a
 use Rattle.image_acts.specs.Acts.{stack, team, ask}
-use Rattle.image_acts.specs.Core.{Core, Array, Local, Own, Team, Frame, Item, Printing, with_values, pushed, with_array}
+use Rattle.image_acts.specs.Core.{Core, Array, Local, Own, Team, Frame, Item, Portion, Printing, with_values, pushed, with_array}
 use Rattle.image_acts.specs.Places.{Place, place_in, place_size, extents_of, digits, numbers_of_form, triplets, subscripts_in, place_within, no_place, place_numbers, cells_of}
 use Rattle.image_acts.specs.Frames.{pairs_in, array_in, with_array_in, with_cell, with_frame, with_last}
 use Rattle.image_acts.specs.Owning.{own_in, with_own}
@@ -34,7 +34,7 @@ use Rattle.image_acts.specs.Operate.Allocating.{allocation_effect, bounds_size, 
 use Rattle.image_acts.specs.Operate.Selecting.{selector_effect, teamed}
 use Rattle.image_acts.specs.Operate.Teaming.{team_effect}
 use Rattle.image_acts.specs.Operate.Calling.{call_effect}
-use Rattle.image_acts.specs.Operate.Printing.{print_effect, printed, open_items, text_of}
+use Rattle.image_acts.specs.Operate.Printing.{print_effect, printed, renewed, with_values_behind, with_literal_behind, open_portions, text_of}
 use Rattle.image_acts.specs.Operate.Asking.{ask_effect}
 use Rattle.caf_events.specs.declared.reply.FormedTeam.{FormedTeam}
 use Rattle.told_walks.specs.Asked.{Told, Names}
@@ -275,13 +275,16 @@ along c g =
     let e = record c { values = vs; arrays = xs } in
     along_one (known_of c) (pairs_in x.elements) (natural dim) (λ b. unless overflow (fits_kind kinds.I4 (g b)) (giving (g b) e)) (λ b. search fine))))
 
-prints : (n : Known) (xs : List Item) (ps : List Printing) (c : Core) → known_of c ≡ n
-    → Fine n (elim ps [ [] ↦ stuck | q ∷ qs ↦ unless room (nat_le (open_items c.printing + length xs) most_items) (goes_to (record c { printing = record q { items = reverse xs ++ q.items } ∷ qs })) ])
-prints n xs [] c k = no_operand n
-prints n xs (q ∷ qs) c k = search fine
+prints : (n : Known) (f : List Portion → List Portion) (ps : List Printing) (c : Core) → known_of c ≡ n
+    → Fine n (elim ps [ [] ↦ stuck | q ∷ qs ↦ unless room (nat_le (open_portions (record q { portions = f q.portions } ∷ qs)) most_portions) (goes_to (record c { printing = record q { portions = f q.portions } ∷ qs })) ])
+prints n f [] c k = no_operand n
+prints n f (q ∷ qs) c k = search fine
+
+renewed_fine : (n : Known) (f : List Portion → List Portion) (c : Core) → known_of c ≡ n → Fine n (renewed f c)
+renewed_fine n f c k = prints n f c.printing c k
 
 printed_fine : (n : Known) (xs : List Item) (c : Core) → known_of c ≡ n → Fine n (printed xs c)
-printed_fine n xs c k = prints n xs c.printing c k
+printed_fine n xs c k = renewed_fine n (with_values_behind xs) c k
 
 pub fine_stack : (x : a.StackAct) (c : Core) → Fine (known_of c) (stack_effect x c)
 fine_stack (a.drop n) c = search fine
@@ -416,7 +419,7 @@ fine_print (a.begin_format text) c = search fine
 fine_print a.print_number c = search (fine, printed_fine)
 fine_print a.print_truth c = search (fine, printed_fine)
 fine_print (a.print_array k) c = search (fine, printed_fine)
-fine_print (a.print_literal text) c = search (fine, printed_fine)
+fine_print (a.print_literal number text) c = renewed_fine (known_of c) (with_literal_behind number text) c refl
 
 -- ---- asks
 said : (n : Known) (a : Ask) (f : Reply → Core) → ((k : Told) → Names k a) → ((r : Reply) → known_of (f r) ≡ n) → Fine n (asking a f)

@@ -1,5 +1,5 @@
 -- Sections, formats, loops and procedures: what the walks of small programs ask, worked out by hand.
-use Rattle.std.proofs.Common.{◌≡◌, refl, ℕ, pos, true, List, [], ◌∷◌, ◌++◌, codes}
+use Rattle.std.proofs.Common.{◌≡◌, refl, ℕ, pos, negsuc, true, List, [], ◌∷◌, ◌++◌, codes}
 use Rattle.std.specs.Fmt.{digits}
 use Rattle.caf_base.specs.declared.value.Kind.TheVariants as kinds
 use Rattle.caf_base.specs.declared.value.Value.TheVariants as values
@@ -10,8 +10,10 @@ use Rattle.caf_events.specs.declared.round.Arriving.TheVariants as arrivals
 use Rattle.caf_events.specs.declared.round.GatherOp.TheVariants as gathers
 use Rattle.checked_tree.specs.declared.data.Object.TheVariants as objects
 use Rattle.checked_tree.specs.declared.data.Initial.TheVariants as initials
+use Rattle.checked_tree.specs.declared.data.Codimensions.TheVariants as codimensions
 use Rattle.checked_tree.specs.declared.data.Variable.{Variable}
 use Rattle.checked_tree.specs.declared.action.Combination.TheVariants as combinations
+use Rattle.checked_tree.specs.declared.expr.WrittenOrder.TheVariants as orders
 use Rattle.checked_tree.specs.Expressions as t
 use Rattle.checked_tree.specs.Statements as s
 use Rattle.tree_meaning.proofs.SmallTrees.{int, log, var, scalar, array, co1, coscalar, own, num, v, target, one_sub, el, element_of, add, sub, times, eq, me, count, at_image, one, set, put, print, sync, if_then, block, program}
@@ -34,6 +36,19 @@ again = refl
 
 wrong_format : said (record (program [] [] 0 ((1, s.print (s.written 0 []) (s.value (t.typed (t.logical true) log 0) ∷ [])) ∷ []) 2) { literals = codes "(i0)" ∷ [] }) 100 1 1 [] ≡ (faults faulty.Format, 1) ∷ []
 wrong_format = refl
+
+-- an array without elements whose other extents come to more than 2 ** 63: `integer :: a(1:0, -2147483647:2147483647, -2147483647:2147483647)`, `a(:, 1, 1) = 1`,
+-- `print *, size(a(:, 1, 1))`; a subscript out of bounds is one there too
+empty_row : ℕ → t.Designator
+empty_row n =
+    t.part (objects.Local (own 0)) (t.more_subscripts (t.triplet t.missing t.missing t.missing) (t.more_subscripts (t.element (num (pos 1))) (t.more_subscripts (t.element (num (pos n))) t.no_subscripts))) t.no_selector
+
+no_elements : said
+    (program (var int ((pos 1, pos 0) ∷ (negsuc 2147483646, pos 2147483647) ∷ (negsuc 2147483646, pos 2147483647) ∷ []) codimensions.Absent initials.Unstated ∷ []) [] 0
+    ((2, s.assign (empty_row 1) int 1 (num (pos 1))) ∷ (3, print (s.value (t.typed (t.intrinsic (t.size (t.typed (t.designator (empty_row 1)) int 1) t.missing orders.Same)) int 0) ∷ []))
+    ∷ (4, s.assign (empty_row 2147483648) int 1 (num (pos 1))) ∷ []) 5) 100 1 1 (done ∷ []) ≡ (prints (codes "0"), 3) ∷ (faults faulty.Bounds, 4) ∷ []
+unfolding empty_row digits
+no_elements = refl
 
 -- a section of a failed image: `integer :: x(4)[*] = 9, v(2), s`, `if (this_image() == 2) fail image`, `sync all (stat=s)`, `v = x(1:4:3)[2, stat=s]`, `print *, v, s`, `end`
 nines : Variable

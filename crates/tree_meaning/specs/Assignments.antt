@@ -114,7 +114,7 @@ module _ (e : Environment) where
   printed k (suc r) = doing (print (a.print_array k) ∷ [])
 
   abbrev pub item : s.Item → Parts Act
-  item (s.literal n) = doing (print (a.print_literal (literal_text e n)) ∷ [])
+  item (s.literal n) = doing (print (a.print_literal n (literal_text e n)) ∷ [])
   item (s.value x) = expression e x ▸ printed (kind_in x) (rank_in x)
 
   abbrev pub items : List s.Item → Parts Act
