@@ -68,6 +68,7 @@ def check_limits(checks: Checks) -> None:
             checks.same(f"{command}: a file of 1,048,576 bytes", b"status 0\n", with_status(got))
             got = call([command, "run", "-n", "1", "--order", "0", longer])
             checks.same(f"{command}: a file of 1,048,577 bytes", b"too long\nstatus 13\n", with_status(got))
+    _check_literals(checks)
     for images in (*range(1, 66), 127, 128, 129, 191, 192, 193, 255, 256):
         got = call([checks.program, "run", "-n", str(images), "--order", "0", "examples/empty.f90"])
         checks.same(f"an empty program on {images} images", b"status 0\n", with_status(got))
@@ -75,6 +76,29 @@ def check_limits(checks: Checks) -> None:
         words = ["run", "-n", "4", "--order", "0", "examples/neighbour.f90"]
         got = call([checks.program, *words], stdout=full)
         checks.same("the program, to what takes nothing", b"status 11\n", with_status(got))
+
+
+def _check_literals(checks: Checks) -> None:
+    """No number of literals is too many for a PRINT, nor for those that are begun one in another; what stands between
+    them may print nothing."""
+    alone = _print([b"''"] * 131073) + b"end\n"
+    apart = b"integer :: x(0)\n" + _print([b"''", b"x"] * 131330) + b"end\n"
+    front = b"print *, f(250)\ncontains\nrecursive integer function f(n) result(r)\ninteger, intent(in) :: n\n"
+    front += b"integer :: x(0)\nr = 0\nif (n > 0) then\n"
+    deep = front + _print([b"''", b"x"] * 600 + [b"f(n - 1)"]) + b"end if\nend function\nend\n"
+    inner = b"1:  0\n" * 250 + b"1: 0\n"
+    wanted = (("side by side", alone, b"1: \n"), ("apart", apart, b"1: \n"), ("one in another", deep, inner))
+    with folder() as work:
+        for name, source, told in wanted:
+            path = write(f"{work}/literals.f90", source)
+            got = call([checks.program, "run", "-n", "1", "--order", "0", path])
+            checks.same(f"literals {name}", told + b"status 0\n", with_status(got))
+
+
+def _print(items: List[bytes]) -> bytes:
+    """A list-directed PRINT of these items, on lines of 100."""
+    lines = [b",".join(items[at : at + 100]) for at in range(0, len(items), 100)]
+    return b"print *, &\n" + b", &\n".join(lines) + b"\n"
 
 
 class Shown(NamedTuple):

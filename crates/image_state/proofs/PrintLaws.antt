@@ -191,8 +191,6 @@ module _ (n : ℕ) (old : Piled (Option ℕ) Portion) (size : old.size ≡ 13132
       subst (λ (x : Piled (Option ℕ) Portion). IsPut n old x) (sym e) (record {
         printings = λ texts. literal_joined texts n p old.piles h;
         within = omega arith;
-        most = refl;
-        size = refl;
       })
 
   pub put_apart : (new : Piled (Option ℕ) Portion) → with_next (last_of old.piles) n ≡ None → 0 < length old.piles → items_in old.piles < 131329
@@ -202,8 +200,6 @@ module _ (n : ℕ) (old : Piled (Option ℕ) Portion) (size : old.size ≡ 13132
       subst (λ (x : Piled (Option ℕ) Portion). IsPut n old x) (sym e) (record {
         printings = λ texts. literal_apart texts n old.piles h;
         within = omega arith;
-        most = refl;
-        size = refl;
       })
 
   pub not_put : (new : Piled (Option ℕ) Portion) → with_next (last_of old.piles) n ≡ None → 0 < length old.piles → 131329 ≤ items_in old.piles → new ≡ old → HasNoRoom n old new
@@ -215,6 +211,30 @@ module _ (n : ℕ) (old : Piled (Option ℕ) Portion) (size : old.size ≡ 13132
         let i = items_open texts (heaped (Literals n 0) old.piles) in
         omega arith;
   }
+
+-- what a literal comes to in a core
+module _ (k now : Kept) (n : ℕ) (texts : List (List ℕ)) (old new : Piled (Option ℕ) Portion) (e : k ≡ now) (p : k.core.printing ≡ printings_in texts old.piles) (t : texts ≡ texts_of k) where
+  with_it : printings_in texts new.piles ≡ with_literal n (text_at texts n) (printings_in texts old.piles) → printings_in texts new.piles ≡ with_literal n (text_at (texts_of now) n) now.core.printing
+  with_it h =
+      h
+      ∙ ap (λ (us : List (List ℕ)). with_literal n (text_at us n) (printings_in texts old.piles)) t
+      ∙ ap (with_literal n (text_at (texts_of k) n)) (sym p)
+      ∙ ap (λ (j : Kept). with_literal n (text_at (texts_of j) n) j.core.printing) e
+
+  told : (ps qs : List Printing) (most : ℕ) → ps ≡ qs → most ≡ k.rooms.texts → record k { core = with_texts k.core ps; rooms = record k.rooms { texts = most } } ≡ with_core now (with_texts now.core qs)
+  told ps qs most g h = ap (λ (xs : List Printing). record k { core = with_texts k.core xs; rooms = record k.rooms { texts = most } }) g
+      ∙ ap (λ (m : ℕ). record k { core = with_texts k.core qs; rooms = record k.rooms { texts = m } }) h
+      ∙ ap (λ (j : Kept). with_core j (with_texts j.core qs)) e
+
+  pub literal_put : IsPut n old new → new.most ≡ k.rooms.texts
+      → (record k { core = with_texts k.core (printings_in texts new.piles); rooms = record k.rooms { texts = new.most } } ≡ with_core now (with_texts now.core (with_literal n (text_at (texts_of now) n) now.core.printing)))
+      × (open_portions (with_literal n (text_at (texts_of now) n) now.core.printing) ≤ 131329)
+  literal_put h m =
+      let w = with_it (h.printings texts) in
+      let o = ap open_portions w in
+      let i = items_open texts new.piles in
+      let j = h.within in
+      (told (printings_in texts new.piles) (with_literal n (text_at (texts_of now) n) now.core.printing) new.most w m, omega arith)
 
 module _ (m : Kept) (f : List core.Portion → List core.Portion) (d : Core) where
   abbrev renewed_on : List Printing → Acted
@@ -275,23 +295,23 @@ module _ (m : Kept) where
     abbrev counted : Core
     counted = record (with_values m.core vs) { used = m.core.used + 1 }
 
-    abbrev behind_all : List core.Portion → List core.Portion
-    behind_all xs = x ∷ xs
+    abbrev one_behind : List core.Portion → List core.Portion
+    one_behind xs = x ∷ xs
 
     pub value_full : 65536 ≤ m.core.used → Acts m (value_printed x vs m.core) m (actings.Fault 11)
     value_full h = rw (lt-leb (m.core.used + 1) 65536 (omega arith)) (refl, refl)
 
-    within : (e : Kept) (w : Acting) → m.core.used < 65536 → Acts m (renewed behind_all counted) e w → Acts m (value_printed x vs m.core) e w
-    within e w h g = subst (λ b. Acts m (unless room b (renewed behind_all counted)) e w) (sym (le-leb (m.core.used + 1) 65536 (omega arith))) g
+    within : (e : Kept) (w : Acting) → m.core.used < 65536 → Acts m (renewed one_behind counted) e w → Acts m (value_printed x vs m.core) e w
+    within e w h g = subst (λ b. Acts m (unless room b (renewed one_behind counted)) e w) (sym (le-leb (m.core.used + 1) 65536 (omega arith))) g
 
     pub value_lacks : m.core.used < 65536 → length m.core.printing ≡ 0 → Acts m (value_printed x vs m.core) m actings.Stuck
-    value_lacks u h = within m actings.Stuck u (lacks m behind_all counted h)
+    value_lacks u h = within m actings.Stuck u (lacks m one_behind counted h)
 
     pub value_too_much : m.core.used < 65536 → 0 < length m.core.printing → 131329 ≤ open_portions m.core.printing → Acts m (value_printed x vs m.core) m (actings.Fault 11)
-    value_too_much u h l = (let e = portions_with (x ∷ []) m.core.printing h in within m (actings.Fault 11) u (full m behind_all counted h (omega arith)))
+    value_too_much u h l = (let e = portions_with (x ∷ []) m.core.printing h in within m (actings.Fault 11) u (full m one_behind counted h (omega arith)))
 
     pub value_prints : (e : Kept) → m.core.used < 65536 → 0 < length m.core.printing → open_portions m.core.printing < 131329 → e ≡ with_core m (with_texts counted (with_portion x m.core.printing)) → Acts m (value_printed x vs m.core) e actings.Done
-    value_prints e u h l g = (let k = portions_with (x ∷ []) m.core.printing h in within e actings.Done u (renews m behind_all counted e h (omega arith) g))
+    value_prints e u h l g = (let k = portions_with (x ∷ []) m.core.printing h in within e actings.Done u (renews m one_behind counted e h (omega arith) g))
 
   pub number_printed : (v : ℤ) (vs : List ℤ) (e : Kept) (w : Acting) → m.core.values ≡ v ∷ vs → Acts m (value_printed (core.value (core.integer v)) vs m.core) e w → Acts m (print_effect a.print_number m.core) e w
   number_printed v vs e w h g = one_taken m e w v vs (λ v d. using 1 d (printed (core.integer v ∷ []))) h g

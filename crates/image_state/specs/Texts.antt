@@ -68,8 +68,6 @@ with_next (Some (Literals first more)) n = cond (nat_eq n ((first + more) + 1)) 
 pub record IsPut (n : ℕ) (old new : Piled (Option ℕ) kept.Portion) : Type 0 where
   pub printings : (texts : List (List ℕ)) → printings_in texts new.piles ≡ with_literal n (text_at texts n) (printings_in texts old.piles)
   pub within : items_in new.piles ≤ 131329
-  pub most : new.most ≡ old.most
-  pub size : new.size ≡ old.size
 
 pub record HasNoRoom (n : ℕ) (old new : Piled (Option ℕ) kept.Portion) : Type 0 where
   pub same : new ≡ old

@@ -289,6 +289,8 @@ fn one_more(first: u32, more: u32, text: u32) -> Option<Portion>
 fn put_literal(prints: &mut Piles<Option<u32>, Portion>, text: u32) -> bool
     requires some { 0 < length prints.old.piles }
     requires size { prints.old.size ≡ 131329 }
+    ensures most { prints.new.most ≡ prints.old.most }
+    ensures size { prints.new.size ≡ prints.old.size }
     ensures put { IsTrue result → IsPut text prints.old prints.new }
     ensures full { IsFalse result → HasNoRoom text prints.old prints.new }
 {

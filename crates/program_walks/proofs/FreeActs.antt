@@ -1,7 +1,7 @@
 -- Each act but an arrival or a departure may come where nothing is owed, and leaves nothing owed. Each but the beginning and the end of a frame leaves the number
 -- of callers as it is.
 use Rattle.std.proofs.Common.{◌≡◌, ℕ, zero, suc, Bool, true, false, cond, List, [], ◌∷◌, refl, sym, subst, ap}
-use Rattle.std.specs.Prelude.{ℤ, pos, ◌+◌, ◌-◌, ◌++◌, ◌&&◌, ◌||◌, ◌==◌, not, int_le, min, nat_le, length, nat_lt, reverse, take, drop, slice_get, is_some, Option, None, Some}
+use Rattle.std.specs.Prelude.{ℤ, pos, ◌+◌, ◌-◌, ◌&&◌, ◌||◌, ◌==◌, not, int_le, min, nat_le, length, nat_lt, take, drop, slice_get, is_some, Option, None, Some}
 use Rattle.std.specs.List.{list_all}
 use Rattle.std.specs.Ordering.{int_eq}
 use Rattle.caf_base.specs.declared.value.Kind.TheVariants as kinds

@@ -1,6 +1,6 @@
 -- Each act but an arrival, a departure, an inquiry of a team's images and what CHANGE TEAM, END TEAM and FORM TEAM do themselves names no team, and leaves the teams of a core as they are.
 use Rattle.std.proofs.Common.{◌≡◌, ℕ, zero, suc, Bool, true, false, cond, List, [], ◌∷◌, refl}
-use Rattle.std.specs.Prelude.{ℤ, pos, ◌+◌, ◌-◌, ◌++◌, ◌&&◌, ◌||◌, ◌==◌, not, int_le, min, nat_le, length, reverse, take, drop, slice_get, is_some, Option, None, Some}
+use Rattle.std.specs.Prelude.{ℤ, pos, ◌+◌, ◌-◌, ◌&&◌, ◌||◌, ◌==◌, not, int_le, min, nat_le, length, take, drop, slice_get, is_some, Option, None, Some}
 use Rattle.std.specs.List.{list_all}
 use Rattle.std.specs.Ordering.{int_eq}
 use Rattle.caf_base.specs.declared.value.Kind.TheVariants as kinds
