@@ -1,0 +1,7 @@
+pub mod References
+pub mod Renamed
+pub mod Visible
+pub mod UnitRules
+pub mod Flat
+pub mod Acceptance
+pub mod Laws
