@@ -1,8 +1,7 @@
-use Rattle.std.proofs.Common.{sym, subst, arith}
+use Rattle.std.proofs.Common.{sym, subst}
 use Rattle.caf_words.specs.Words.{words_in}
 use Rattle.caf_run.specs.Dues.{IsDue}
 use Rattle.caf_run.specs.Reading.{HasBytesIfTold}
-use Rattle.caf_run.specs.Tasks.{IsTraceIfTold}
 use Rattle.caf_run.proofs.Tasks.{trace_place, traced_input, traced_named}
 use Rattle.caf_run.proofs.TraceDue.{due_later, fault_named, long_named, trace_given}
 use Rattle.caf_run.proofs.WhatIsDue.{if_ok_map}
