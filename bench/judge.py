@@ -2,11 +2,11 @@
 """What it takes to judge a kept trace of 67,108,864 bytes, the longest that is taken: bench/judge.py [TRIES]
 
 The traces are those of runs of four images that assign, or that meet in SYNC ALL, in as many steps as there is room
-for, filled up with lines that are passed over; steps as short as they can be; and line feeds alone. Reading is the time
-of a call whose last line is no step's, so that no step is judged (status 15); it should take 3 seconds and 1 GB at
-most. Judging is the time that a call with a core run takes beyond that, a million steps a second at least. The best of
-TRIES (3) counts. The program is crates/caf/out/caf, or the one that CAF_PROGRAM names; the status is 0 where all is in
-time.
+for, filled up with lines that are passed over; steps as short as they can be; and line feeds alone. Reading is the
+time of a call whose last line is no step's, so that no step is judged (status 15); it should take 3 seconds and 1 GB
+at most. Judging is the time that a call with a core run takes beyond that, a million steps a second at least. The
+best of TRIES (3) counts, of processor time, since such a call has one thread. The program is crates/caf/out/caf, or
+the one that CAF_PROGRAM names; the status is 0 where all is in time.
 """
 
 import os
@@ -14,7 +14,6 @@ import re
 import subprocess
 import sys
 import tempfile
-import time
 from typing import List, NamedTuple
 
 HOME = os.path.dirname(os.path.dirname(os.path.realpath(__file__)))
@@ -32,7 +31,7 @@ _STEP = re.compile(rb"^[0-9]+ ", re.MULTILINE)
 
 
 class Call(NamedTuple):
-    """What a call took, how it ended, and what it wrote."""
+    """The processor time and the memory that a call took, how it ended, and what it wrote."""
 
     seconds: float
     bytes: int
@@ -42,13 +41,12 @@ class Call(NamedTuple):
 
 def call(*words: str) -> Call:
     """Calls the program."""
-    begun = time.monotonic()
     process = subprocess.Popen([PROGRAM, *words], stdin=subprocess.DEVNULL, stdout=subprocess.PIPE)
     assert process.stdout is not None
     text = process.stdout.read()
     _, status, used = os.wait4(process.pid, 0)
     process.returncode = os.WEXITSTATUS(status)
-    return Call(time.monotonic() - begun, used.ru_maxrss << 10, process.returncode, text)
+    return Call(used.ru_utime + used.ru_stime, used.ru_maxrss << 10, process.returncode, text)
 
 
 def best(tries: int, *words: str) -> Call:

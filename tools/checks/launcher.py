@@ -46,6 +46,7 @@ def check_launcher(checks: Checks) -> None:
     _check_without_a_program(checks)
     _check_standard_input(checks)
     _check_other_sources(checks)
+    _check_traces_by_pipes(checks)
     _check_standard_output(checks)
     _check_long_text(checks)
     _check_much_text(checks)
@@ -121,6 +122,31 @@ def _check_other_sources(checks: Checks) -> None:
         writer.wait()
     got = call(["sh", "-c", f"exec {LAUNCHER} check /dev/stdin <&-"])
     checks.same("a closed standard input", b"read fault\nstatus 10\n", with_status(got))
+
+
+def _check_traces_by_pipes(checks: Checks) -> None:
+    """A kept trace, its source, and both, from standard input or a pipe; and a trace that is too long."""
+    trace, source = "examples/deadlock.trace", "examples/deadlock.f90"
+    judged, replayed = b"core run\nstatus 0\n", b"stuck image 1 line 9 lock\nstuck image 2 line 12 lock\nstatus 6\n"
+    for name in ("-", "/dev/stdin"):
+        got = call([LAUNCHER, "judge", "-n", "2", name, source], given=read(f"{HOME}/{trace}"))
+        checks.same(f"a trace by {name}", judged, with_status(got))
+        got = call([LAUNCHER, "replay", "-n", "2", trace, name], given=read(f"{HOME}/{source}"))
+        checks.same(f"the source of a trace by {name}", replayed, with_status(got))
+        wanted = b"held by image 2 since line 11"
+        checks.holds(f"what is said of a replay by {name}", wanted in got.said)
+    with folder() as work:
+        for name in ("trace", "source"):
+            os.mkfifo(f"{work}/{name}")
+        writer = started(["sh", "-c", f"cat {trace} >{work}/trace; cat {source} >{work}/source"])
+        got = call([LAUNCHER, "replay", "-n", "2", f"{work}/trace", f"{work}/source"])
+        checks.same("a trace and its source by two pipes", replayed, with_status(got))
+        writer.wait()
+    got = call([LAUNCHER, "judge", "-n", "2", "-", source], given=b"\n" * 67108865)
+    checks.same("a trace that is too long", b"too long\nstatus 13\n", with_status(got))
+    checks.same("what is said of it", b"caf: <stdin> has more than 67,108,864 bytes\n", got.said)
+    got = call([LAUNCHER, "judge", "-", "-"], given=b"")
+    checks.same("a trace and its source by one standard input", b"usage: word 3\nstatus 2\n", with_status(got))
 
 
 def _check_standard_output(checks: Checks) -> None:

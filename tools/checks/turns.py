@@ -14,6 +14,11 @@ from checks.comparing import HOME, Checks, Done, call, folder, read, with_status
 _ORDERED = ["run", "-n", "4", "--order", "0", "a.f90"]
 _ON_WORKERS = ["run", "-n", "4", "-w", "2", "a.f90"]
 _MADE = ["run", "-n", "2", "--order", "0", "--fail", "2@{}", "--made", "1", "4"]
+# A front of the neighbour's trace, which is judged, and replayed to the end of a run.
+_TRACE = b"1 1 2 m1 write x:0 1 > ok\n"
+_JUDGED = ["judge", "-n", "4", "t", "a.f90"]
+_REPLAYED = ["replay", "-n", "4", "t", "a.f90"]
+_CORE_RUN = b"core run\n"
 # What the neighbour's program answers; what is answered where memory is wanting, and where a file can't be read.
 _READ = b"1: 4\n"
 _NOTHING = Done(b"", b"", 12)
@@ -34,6 +39,8 @@ def check_turns(checks: Checks) -> None:
             refusing = compiled(work)
             check_memory(checks, work, refusing)
             _check_input(checks, work, refusing, len(neighbour))
+            write(f"{work}/t", _TRACE)
+            _check_kept(checks, work, refusing, len(_TRACE) + len(neighbour))
             _check_output(checks, work, refusing)
             _check_threads(checks, work, refusing)
 
@@ -134,11 +141,29 @@ def check_memory(checks: Checks, work: str, refusing: str) -> None:
     """Each allocation is refused once, in an ordered run and on two workers: the answer is the run's, or nothing is
     written and the status is 12."""
     for words in (_ORDERED, _ON_WORKERS):
-        turns = 0
-        for turns, got in _turns(checks.program, words, work, refusing, "REFUSE_MEMORY"):
-            is_right = got in (Done(_READ, b"", 0), _NOTHING)
-            checks.holds(f"{' '.join(words)}: without allocation {turns}: {got}", is_right)
-        checks.holds(f"{' '.join(words)}: {turns} allocations were refused", turns > 100)
+        _check_allocations(checks, words, _READ, work, refusing)
+
+
+def _check_allocations(checks: Checks, words: List[str], text: bytes, work: str, refusing: str) -> None:
+    """Each allocation of a call that writes this text is refused once."""
+    turns = 0
+    for turns, got in _turns(checks.program, words, work, refusing, "REFUSE_MEMORY"):
+        is_right = got in (Done(text, b"", 0), _NOTHING)
+        checks.holds(f"{' '.join(words)}: without allocation {turns}: {got}", is_right)
+    checks.holds(f"{' '.join(words)}: {turns} allocations were refused", turns > 100)
+
+
+def _check_kept(checks: Checks, work: str, refusing: str, size: int) -> None:
+    """Of a kept trace that is judged or replayed each allocation is refused, and each call that reads it or its source:
+    both are opened, read byte by byte and once for their ends."""
+    for words, text in ((_JUDGED, _CORE_RUN), (_REPLAYED, _READ)):
+        _check_allocations(checks, words, text, work, refusing)
+        calls = size + 4
+        for turn in range(1, calls + 2):
+            got, was_refused = _with_refused(checks.program, words, work, refusing, "REFUSE_INPUT", turn)
+            wanted = _READ_FAULT if turn <= calls else text + b"status 0\n"
+            checks.same(f"{words[0]}: the files' call {turn} fails", wanted, with_status(got))
+            checks.holds(f"{words[0]}: the files' call {turn} is made: {was_refused}", was_refused == (turn <= calls))
 
 
 def _check_input(checks: Checks, work: str, refusing: str, size: int) -> None:

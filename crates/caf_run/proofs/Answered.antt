@@ -1,5 +1,5 @@
 -- What is answered of the bytes of a trace, by a checked program.
-use Rattle.std.proofs.Common.{◌≡◌, ℕ, ◌⊎◌, List, inl, inr, sym, ap, ◌∙◌, subst}
+use Rattle.std.proofs.Common.{◌≡◌, ℕ, List, inl, inr, sym, ap, ◌∙◌, subst}
 use Rattle.std.specs.Prelude.{Option, None, Some}
 use Rattle.checked_tree.specs.Statements as typed
 use Rattle.fortran_tree.specs.Units.{Program}

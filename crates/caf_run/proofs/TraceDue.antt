@@ -1,12 +1,12 @@
 -- What is due where the words judge or replay a trace.
-use Rattle.std.proofs.Common.{◌≡◌, ℕ, ◌≤◌, ◌<◌, length, List, ◌⊎◌, inl, inr, refl, sym, ap, ◌∙◌, subst, arith}
+use Rattle.std.proofs.Common.{◌≡◌, ℕ, ◌≤◌, ◌<◌, length, List, ◌⊎◌, inl, inr, sym, subst, arith}
 use Rattle.std.specs.Prelude.{Option, None, Some, ◌-◌, codes, slice_get}
 use Rattle.checked_tree.specs.Statements as typed
-use Rattle.caf_base.specs.Outside.{Files, Rose, HaveNot, MayNotBegin}
+use Rattle.caf_base.specs.Outside.{Files, Rose, MayNotBegin}
 use Rattle.caf_report.specs.declared.report.Report.{Report}
 use Rattle.caf_words.specs.Usages.{Word}
 use Rattle.caf_words.specs.Words.{Origin, IsTraced}
-use Rattle.caf_words.specs.Words.Origin.{from_file, from_made}
+use Rattle.caf_words.specs.Words.Origin.{from_file}
 use Rattle.caf_words.specs.Words.Operands.{of_trace}
 use Rattle.caf_words.specs.declared.command.FailAt.{FailAt}
 use Rattle.caf_words.specs.declared.command.Goal.{Goal}
@@ -16,11 +16,11 @@ use Rattle.caf_words.specs.declared.command.Verb.TheVariants as verbs
 use Rattle.caf_words.proofs.Meanings.{not_command_and_make}
 use Rattle.caf_run.specs.declared.task.Task.{Task}
 use Rattle.caf_run.specs.declared.task.Task.TheVariants.{Check, Run, Traced}
-use Rattle.caf_run.specs.Reading.{HasBytesIfTold, HasBytes, IsSource, IsLonger, IsLongTold}
+use Rattle.caf_run.specs.Reading.{HasBytesIfTold, HasBytes, IsLonger, IsLongTold}
 use Rattle.caf_run.specs.Tasks.{Asks, AsksTraced, NamesTrace, IsTrace, IsTraceIfTold}
 use Rattle.caf_run.specs.Dues.{IsProgramOf, Settle, IsDue, TracedAs, ReportClause, RunClause, TraceClause}
-use Rattle.caf_run.proofs.Settled.{not_good, same_bytes, whole_has, longer_has, fault_settles, many_settle}
-use Rattle.caf_run.proofs.Tasks.{NamesTraced, names_traced, trace_word, one_task, one_trace, no_trace_named}
+use Rattle.caf_run.proofs.Settled.{not_good, same_bytes, longer_has, fault_settles, many_settle}
+use Rattle.caf_run.proofs.Tasks.{names_traced, trace_word, one_task, one_trace, no_trace_named}
 
 -- where the source isn't good, nothing is answered of a trace
 pub no_trace_answered : (task : Task) (K : typed.Program → Type 0) (traced : List ℕ) (status : ℕ) (text : List ℕ) (report : Option Report) → (status ≡ 2) ⊎ (status ≡ 3) ⊎ (status ≡ 10) ⊎ (status ≡ 13)

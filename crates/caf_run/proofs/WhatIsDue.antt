@@ -3,7 +3,7 @@ use Rattle.std.proofs.Common.{◌≡◌, ℕ, ◌≤◌, length, List, ◌⊎◌
 use Rattle.std.specs.Prelude.{Option, None, Some, Result, Ok, Err, IfOk, codes}
 use Rattle.caf_base.specs.declared.place.Pos.{Pos}
 use Rattle.checked_tree.specs.Statements as typed
-use Rattle.caf_base.specs.Outside.{Files, Rose, HaveNot, MayNotBegin}
+use Rattle.caf_base.specs.Outside.{Files, Rose, MayNotBegin}
 use Rattle.caf_report.specs.declared.report.Report.{Report}
 use Rattle.fortran_tree.specs.Units.{Program}
 use Rattle.source_reader.specs.Sources.{IsRead}
@@ -11,22 +11,19 @@ use Rattle.source_reader.specs.Refusals.{IsRefused, number, place}
 use Rattle.source_reader.specs.declared.fault.ReadFault.{ReadFault}
 use Rattle.source_reader.proofs.OneAnswer.{read_once, read_not_refused}
 use Rattle.caf_words.specs.Usages.{Word}
-use Rattle.caf_words.specs.Words.{Origin, IsMake, IsTraced, IsValid, MakesSome, UsageIs}
+use Rattle.caf_words.specs.Words.{Origin, IsMake, IsValid, UsageIs}
 use Rattle.caf_words.specs.Words.Origin.{from_file, from_made}
 use Rattle.caf_words.specs.Words.Operands.{of_source, of_trace}
-use Rattle.caf_words.specs.declared.command.FailAt.{FailAt}
-use Rattle.caf_words.specs.declared.command.Goal.{Goal}
 use Rattle.caf_words.specs.declared.command.Goal.TheVariants.{Judge, Replay}
-use Rattle.caf_words.specs.declared.command.Options.{Options}
 use Rattle.caf_words.specs.declared.command.Verb.TheVariants as verbs
 use Rattle.caf_words.proofs.Meanings.{one_make}
 use Rattle.work_maker.specs.MadeSource.{made_source}
 use Rattle.caf_words.proofs.Usages.{usage_invalid}
 use Rattle.caf_run.specs.declared.task.Task.{Task}
 use Rattle.caf_run.specs.declared.task.Task.TheVariants.{Check, Run, Traced}
-use Rattle.caf_run.specs.Reading.{HasBytesIfTold, HasBytes, IsSourceIfTold, IsSource, IsLonger, IsLongTold, IsLongSource, HasNothingLeft}
+use Rattle.caf_run.specs.Reading.{IsSourceIfTold, IsSource, IsLongSource, HasNothingLeft}
 use Rattle.caf_run.specs.Tasks.{Asks, NamesTrace, IsTrace, IsTraceIfTold}
-use Rattle.caf_run.specs.Dues.{usage_text, IsDoneStatus, IsBad, IsProgramOf, Settle, IsDue, IsTold, RanAs, TracedAs, TreeDue, BytesDue, SourceDue, ReportClause, RunClause, TraceClause, CausesClause, ExactClause}
+use Rattle.caf_run.specs.Dues.{usage_text, IsDoneStatus, IsBad, IsProgramOf, Settle, IsDue, IsTold, RanAs, TracedAs, TreeDue, BytesDue, SourceDue, ReportClause, RunClause}
 use Rattle.caf_run.specs.Sources.{BreaksFirst, StandsFor, IsRefusedAs, IsRefusal, refusal_text}
 use Rattle.caf_run.proofs.Settled.{not_good, not_done, good_done, fault_settles, whole_has, whole_settles, long_settles, source_has, long_has}
 use Rattle.caf_run.proofs.Tasks.{Same, asks_valid, asks_no_make, one_task}

@@ -236,14 +236,6 @@ module _ (k now : Kept) (n : ℕ) (texts : List (List ℕ)) (old new : Piled (Op
       let j = h.within in
       (told (printings_in texts new.piles) (with_literal n (text_at (texts_of now) n) now.core.printing) new.most w m, omega arith)
 
-  pub literal_refused : HasNoRoom n old new → new.most ≡ k.rooms.texts
-      → (record k { core = with_texts k.core (printings_in texts new.piles); rooms = record k.rooms { texts = new.most } } ≡ now) × (131329 < open_portions (with_literal n (text_at (texts_of now) n) now.core.printing))
-  literal_refused h m =
-      let same = ap (λ (x : Piled (Option ℕ) Portion). printings_in texts x.piles) h.same in
-      let c = ap open_portions (ap (λ (us : List (List ℕ)). with_literal n (text_at us n) (printings_in texts old.piles)) t ∙ ap (with_literal n (text_at (texts_of k) n)) (sym p) ∙ ap (λ (j : Kept). with_literal n (text_at (texts_of j) n) j.core.printing) e) in
-      let l = h.crowded texts in
-      (told (printings_in texts new.piles) k.core.printing new.most (same ∙ sym p) m ∙ ap (λ (x : List Printing). with_core now (with_texts now.core x)) (ap (λ (j : Kept). j.core.printing) e), omega arith)
-
 module _ (m : Kept) (f : List core.Portion → List core.Portion) (d : Core) where
   abbrev renewed_on : List Printing → Acted
   renewed_on ps = elim ps [ [] ↦ stuck | p ∷ qs ↦ unless room (nat_le (open_portions (record p { portions = f p.portions } ∷ qs)) most_portions) (goes_to (record d { printing = record p { portions = f p.portions } ∷ qs })) ]
@@ -303,23 +295,23 @@ module _ (m : Kept) where
     abbrev counted : Core
     counted = record (with_values m.core vs) { used = m.core.used + 1 }
 
-    abbrev behind_all : List core.Portion → List core.Portion
-    behind_all xs = x ∷ xs
+    abbrev one_behind : List core.Portion → List core.Portion
+    one_behind xs = x ∷ xs
 
     pub value_full : 65536 ≤ m.core.used → Acts m (value_printed x vs m.core) m (actings.Fault 11)
     value_full h = rw (lt-leb (m.core.used + 1) 65536 (omega arith)) (refl, refl)
 
-    within : (e : Kept) (w : Acting) → m.core.used < 65536 → Acts m (renewed behind_all counted) e w → Acts m (value_printed x vs m.core) e w
-    within e w h g = subst (λ b. Acts m (unless room b (renewed behind_all counted)) e w) (sym (le-leb (m.core.used + 1) 65536 (omega arith))) g
+    within : (e : Kept) (w : Acting) → m.core.used < 65536 → Acts m (renewed one_behind counted) e w → Acts m (value_printed x vs m.core) e w
+    within e w h g = subst (λ b. Acts m (unless room b (renewed one_behind counted)) e w) (sym (le-leb (m.core.used + 1) 65536 (omega arith))) g
 
     pub value_lacks : m.core.used < 65536 → length m.core.printing ≡ 0 → Acts m (value_printed x vs m.core) m actings.Stuck
-    value_lacks u h = within m actings.Stuck u (lacks m behind_all counted h)
+    value_lacks u h = within m actings.Stuck u (lacks m one_behind counted h)
 
     pub value_too_much : m.core.used < 65536 → 0 < length m.core.printing → 131329 ≤ open_portions m.core.printing → Acts m (value_printed x vs m.core) m (actings.Fault 11)
-    value_too_much u h l = (let e = portions_with (x ∷ []) m.core.printing h in within m (actings.Fault 11) u (full m behind_all counted h (omega arith)))
+    value_too_much u h l = (let e = portions_with (x ∷ []) m.core.printing h in within m (actings.Fault 11) u (full m one_behind counted h (omega arith)))
 
     pub value_prints : (e : Kept) → m.core.used < 65536 → 0 < length m.core.printing → open_portions m.core.printing < 131329 → e ≡ with_core m (with_texts counted (with_portion x m.core.printing)) → Acts m (value_printed x vs m.core) e actings.Done
-    value_prints e u h l g = (let k = portions_with (x ∷ []) m.core.printing h in within e actings.Done u (renews m behind_all counted e h (omega arith) g))
+    value_prints e u h l g = (let k = portions_with (x ∷ []) m.core.printing h in within e actings.Done u (renews m one_behind counted e h (omega arith) g))
 
   pub number_printed : (v : ℤ) (vs : List ℤ) (e : Kept) (w : Acting) → m.core.values ≡ v ∷ vs → Acts m (value_printed (core.value (core.integer v)) vs m.core) e w → Acts m (print_effect a.print_number m.core) e w
   number_printed v vs e w h g = one_taken m e w v vs (λ v d. using 1 d (printed (core.integer v ∷ []))) h g

@@ -2,7 +2,6 @@ use Rattle.std.proofs.Common.{◌≡◌, ℕ, List, [], inl, inr, refl, sym, sub
 use Rattle.std.specs.Prelude.{Option, None, Some}
 use Rattle.caf_base.specs.Outside.{Files}
 use Rattle.caf_report.specs.declared.report.Report.{Report}
-use Rattle.caf_report.specs.Ends.{status_of}
 use Rattle.caf_words.specs.Usages.{Word}
 use Rattle.caf_words.specs.Words.{Origin, Operands, words_in, IsCommand, IsRun, IsTraced, MayShow}
 use Rattle.caf_words.specs.Words.Origin.{from_file, from_made}
