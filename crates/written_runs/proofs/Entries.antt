@@ -30,7 +30,7 @@ use Rattle.trace_text.specs.Forms.{Second, number_among, number_in_reply, given_
 use Rattle.trace_forms.specs.Ranges.{HasText}
 use Rattle.trace_forms.specs.Shown.{HasNumber, TeamHasNumber, HaveTexts}
 use Rattle.trace_forms.proofs.Answering.{has_form}
-use Rattle.written_runs.specs.Ranges.{IsInRange}
+use Rattle.written_runs.specs.Ranges.{IsInRange, IsThreefold}
 use Rattle.written_runs.proofs.Fitting.{ask_shown}
 
 -- ---- team numbers: a reply that named a team gave it one
@@ -91,7 +91,7 @@ told_from : (before g g' : List (Said Ask Reply)) (e : Said Ask Reply) → AllTo
 told_from before [] g' e h = subst (λ z. IsTold z e.ask) (sym (append-nil before)) h.0
 told_from before (x ∷ g) g' e h = subst (λ z. IsTold z e.ask) (append_assoc before (x ∷ []) g) (told_from (before ++ x ∷ []) g g' e h.1)
 
-said_split : (before after : List Entry) (x : Entry) → said_by (image_of x) (before ++ x ∷ after) ≡ said_by (image_of x) before ++ said x.event ∷ said_by (image_of x) after
+pub said_split : (before after : List Entry) (x : Entry) → said_by (image_of x) (before ++ x ∷ after) ≡ said_by (image_of x) before ++ said x.event ∷ said_by (image_of x) after
 said_split before after x =
     let i = image_of x in
     ap (map (λ (y : Entry). said y.event)) (of_inside image_of before after x)
@@ -109,23 +109,24 @@ module _ (names : List (List ℕ)) (s : List Declared) (n : ℕ) (many : length 
         let i = image_of x in
         replies_answer s n i (before ++ x ∷ after) l (said_by i before) (said_by i after) (said x.event) (said_split before after x) is_told
 
-    entry_shown : IsInRange names x → HasText names x
-    entry_shown r = record {
+    entry_shown : IsInRange names x → IsThreefold x.event.ask → HasText names x
+    entry_shown r short = record {
       stamp = r.stamp;
       image = r.image;
       line = r.line;
-      ask = ask_shown names s many x.event.ask x.image.0 (λ o. of_memory o before) (λ o e. (memory_turn s n before after x l o e).ready) r.ask;
+      ask = ask_shown names s many x.event.ask x.image.0 (λ o. of_memory o before) (λ o e. (memory_turn s n before after x l o e).ready) r.ask short;
       reply = r.reply;
       form = has_form s n (said_by (image_of x) before) x.event.ask x.event.reply is_answered;
     }
 
   pub entries_shown : (before es : List Entry) → IsLawfulTrace s n (before ++ es)
-      → ((i : ℕ) → IsOneOf n i → AllTold [] (said_by i (before ++ es))) → Each (IsInRange names) es → HaveTexts Second names before es
-  entries_shown before [] l told r = tt
-  entries_shown before (x ∷ es) l told r =
+      → ((i : ℕ) → IsOneOf n i → AllTold [] (said_by i (before ++ es))) → Each (IsInRange names) es
+      → Each (λ (e : Entry). IsThreefold e.event.ask) es → HaveTexts Second names before es
+  entries_shown before [] l told r short = tt
+  entries_shown before (x ∷ es) l told r short =
       let i = image_of x in
       let here = told i (each_at (λ (y : Entry). IsOneOf n (image_of y)) before es x l.images) in
       let next = append_assoc before (x ∷ []) es in
-      (entry_shown before es x l here r.0, told_number i before x.event.ask (is_told before es x l here),
+      (entry_shown before es x l here r.0 short.0, told_number i before x.event.ask (is_told before es x l here),
       entries_shown (before ++ x ∷ []) es (subst (IsLawfulTrace s n) (sym next) l)
-      (λ j one. subst (λ z. AllTold [] (said_by j z)) (sym next) (told j one)) r.1)
+      (λ j one. subst (λ z. AllTold [] (said_by j z)) (sym next) (told j one)) r.1 short.1)
