@@ -1,8 +1,7 @@
 -- What code asks, act by act: no section of more than three dimensions is read or written.
-use Rattle.std.proofs.Common.{◌≡◌, ◌∙◌, ℕ, zero, suc, ◌+◌, Bool, true, false, cond, List, [], ◌∷◌, ◌++◌, length, map, refl, ap, sym, subst}
+use Rattle.std.proofs.Common.{◌≡◌, ℕ, zero, suc, ◌+◌, Bool, true, false, cond, List, [], ◌∷◌, length, refl, subst}
 use Rattle.std.specs.Prelude.{nat_lt, Option, Some, None, slice_get}
 use Rattle.caf_events.specs.declared.ask.Ask.{Ask}
-use Rattle.caf_events.specs.declared.ask.Ask.TheVariants as asking
 use Rattle.caf_events.specs.declared.reply.Reply.{Reply}
 use Rattle.trace_theory.specs.Entries.{Each}
 use Rattle.trace_theory.specs.Machines.{Move, goes, asks, over, goes_on, go, Said, Walk}
@@ -13,7 +12,7 @@ use Rattle.image_acts.specs.Acts.{Act}
 use Rattle.image_acts.specs.Core.{Core}
 use Rattle.image_acts.specs.Taking.{Acted}
 use Rattle.image_acts.specs.Meaning.{effect_of, image_language}
-use Rattle.checked_run.specs.Doing.{DoesAct, Does, DoesAll}
+use Rattle.checked_run.specs.Doing.{Does, DoesAll}
 use Rattle.written_runs.specs.Ranges.{IsThreefold}
 use Rattle.run_texts.proofs.Effects.{IsTame, act_tame}
 

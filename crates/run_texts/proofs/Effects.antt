@@ -1,5 +1,5 @@
 -- What acts ask: a span that is read or written has the dimensions that its act says.
-use Rattle.std.proofs.Common.{◌≡◌, ◌∙◌, ℕ, zero, suc, ◌≤◌, ◌*◌, Bool, true, false, cond, List, [], ◌∷◌, map, refl, ap, sym, subst, arith}
+use Rattle.std.proofs.Common.{◌≡◌, ℕ, zero, suc, ◌≤◌, ◌*◌, Bool, true, false, cond, List, [], ◌∷◌, map, refl, ap, sym, subst, arith}
 use Rattle.std.proofs.lemmas.List.{length-map}
 use Rattle.std.specs.Prelude.{nat_lt, replicate, ℤ, pos, ◌+◌, ◌-◌, ◌++◌, ◌&&◌, ◌||◌, ◌==◌, not, int_le, min, nat_le, length, reverse, take, drop, slice_get, is_some, Option, None, Some}
 use Rattle.std.specs.List.{list_all, filter}
@@ -7,11 +7,6 @@ use Rattle.std.specs.Ordering.{int_eq}
 use Rattle.caf_base.specs.declared.value.Kind.TheVariants as kinds
 use Rattle.caf_base.specs.Arithmetic.{fits_kind, value_of, truth, is_true, natural, iterations}
 use Rattle.coarray_types.specs.Places.{size_of, extent_of}
-use Rattle.caf_base.specs.declared.place.ImageNo.{ImageNo}
-use Rattle.caf_base.specs.declared.place.TeamNo.{TeamNo}
-use Rattle.caf_base.specs.declared.span.Span.{Span}
-use Rattle.caf_base.specs.declared.value.AtomicOp.{AtomicOp}
-use Rattle.caf_base.specs.declared.value.Value.{Value}
 use Rattle.caf_events.specs.declared.ask.Ask.{Ask}
 use Rattle.caf_events.specs.declared.ask.Ask.TheVariants as asks
 use Rattle.caf_events.specs.declared.reply.Reply.{Reply}
@@ -23,7 +18,7 @@ use Rattle.image_acts.specs.Acts as a
 use Rattle.image_acts.specs.Acts.{Act, constant, stack, variable, operator, bounded, allocation, selector, team, call, print, ask, leave, take as take_part}
 use Rattle.image_acts.specs.Core.{Core, Array, Local, Own, Team, Frame, Item, Printing, with_values, pushed, with_array}
 use Rattle.image_acts.specs.Places.{Place, place_in, dims_in, place_size, extents_of, digits, numbers_of_form, triplets, subscripts_in, place_within, no_place, place_numbers, cells_of}
-use Rattle.image_acts.specs.Frames.{pairs_in, array_in, with_array_in, with_cell, with_frame, with_last}
+use Rattle.image_acts.specs.Frames.{pairs_in, array_in, with_array_in, with_cell}
 use Rattle.image_acts.specs.Owning.{own_in, with_own}
 use Rattle.image_acts.specs.Teams.{behind_first, members, index_of, is_established, member_at, cosubscripts_behind, index_in}
 use Rattle.image_acts.specs.Taking.{Acted, giving, put_down, given, found_in, unless, taken, taking_one, taking_two, taking, seeing, taking_array, seeing_array, using}

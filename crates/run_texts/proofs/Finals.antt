@@ -1,5 +1,5 @@
 -- The final values of a report are of variables that have names.
-use Rattle.std.proofs.Common.{◌≡◌, ℕ, zero, suc, List, [], ◌∷◌, ◌++◌, ◌⊎◌, inl, inr, map, sym, subst}
+use Rattle.std.proofs.Common.{ℕ, zero, suc, List, [], ◌∷◌, ◌++◌, inl, inr, map, sym, subst}
 use Rattle.std.specs.Prelude.{Option, None, Some}
 use Rattle.caf_base.specs.declared.value.Value.{Value}
 use Rattle.caf_events.specs.declared.event.Entry.{Entry}
@@ -12,7 +12,7 @@ use Rattle.image_acts.specs.Core.{Core}
 use Rattle.object_rules.specs.Cells.{Declared, MadeMemory}
 use Rattle.caf_report.specs.declared.report.Final.{Final}
 use Rattle.final_values.specs.declared.listing.Listed.{Listed}
-use Rattle.final_values.specs.Finals.{held, final_with, final_of, image_finals}
+use Rattle.final_values.specs.Finals.{held, final_with, image_finals}
 use Rattle.final_values.specs.Listings.{listed_by, listed_from, listed_of}
 use Rattle.program_run.specs.Finals.{AreOwnFinals, AreFinalsFrom, AreProgramFinals}
 use Rattle.trace_forms.specs.Names.{IsName}

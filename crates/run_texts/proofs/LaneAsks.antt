@@ -5,7 +5,7 @@ use Rattle.caf_events.specs.declared.ask.Ask.TheVariants as asks
 use Rattle.caf_events.specs.declared.reply.Reply.{Reply}
 use Rattle.caf_events.specs.declared.event.Entry.{Entry}
 use Rattle.trace_theory.specs.Entries.{Each}
-use Rattle.trace_theory.specs.Machines.{Said, Walk}
+use Rattle.trace_theory.specs.Machines.{Move, Said, Walk}
 use Rattle.trace_theory.proofs.Snocs.{each_at}
 use Rattle.walk_theory.specs.Code.{State, Line, at_place, code_step}
 use Rattle.walk_theory.specs.Made.{program_code}
@@ -53,7 +53,7 @@ failing_few line [] (e ∷ es) n h = absurd h
 failing_few line (a ∷ rest) (e ∷ es) n h = (subst IsThreefold (sym h.0) n.0, failing_few line rest es n.1 h.2)
 
 module _ (code : List (Line acts.Act)) (limit : ℕ) (all : DoesAll code) where
-  abbrev step : State Core → _
+  abbrev step : State Core → Move (State Core) Ask Reply
   step = code_step image_language code limit
 
   rest_few : (l : OnLane (State Core)) (es : List (Said Ask Reply)) → ((es ≡ []) ⊎ (Fails step l es ⊎ IsLimited step l es)) → AllFew es
@@ -81,9 +81,10 @@ module _ (p : Program) (does : DoesAll (lines_of p)) (limit : ℕ) (coarrays : L
   entries_from before (x ∷ es) e l =
       let i = image_of x in
       let there = each_at (λ (y : Entry). IsOneOf n (image_of y)) before es x (subst (Each (λ (y : Entry). IsOneOf n (image_of y))) (sym e) l.images) in
-      let all = subst AllFew (ap (said_by i) (sym e) ∙ said_split before es x) (image_few i there) in
-      (each_at (λ (y : Said Ask Reply). IsThreefold y.ask) (said_by i before) (said_by i es) (said x.event) all,
-      entries_from (before ++ x ∷ []) es (append_assoc before (x ∷ []) es ∙ e) l)
+      let all = subst AllFew (ap (said_by i) (sym e) ∙ said_split before es x) (image_few i there) in (
+        each_at (λ (y : Said Ask Reply). IsThreefold y.ask) (said_by i before) (said_by i es) (said x.event) all,
+        entries_from (before ++ x ∷ []) es (append_assoc before (x ∷ []) es ∙ e) l,
+      )
 
   pub entries_few : IsLawfulTrace coarrays n t → Each (λ (e : Entry). IsThreefold e.event.ask) t
   entries_few l = entries_from [] t refl l

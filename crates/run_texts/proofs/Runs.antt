@@ -1,7 +1,6 @@
 -- The text of the report of a run of an accepted program, with its trace, is written for that trace.
-use Rattle.std.proofs.Common.{◌≡◌, ◌∙◌, ℕ, ◌≤◌, true, List, [], length, map, ap, sym, subst}
+use Rattle.std.proofs.Common.{◌≡◌, ◌∙◌, ℕ, ◌≤◌, true, List, [], length, map, sym, subst}
 use Rattle.std.proofs.lemmas.List.{length-map}
-use Rattle.caf_events.specs.declared.event.Entry.{Entry}
 use Rattle.caf_report.specs.declared.report.Report.{Report}
 use Rattle.caf_report.specs.declared.report.Shown.{Shown}
 use Rattle.caf_report.specs.ReportText.{report_text}
@@ -11,7 +10,7 @@ use Rattle.object_rules.specs.BoardTeams.{teams_after}
 use Rattle.core_runs.specs.CoreRuns.{at_board}
 use Rattle.core_runs.proofs.Lawfuls.{core_run_lawful}
 use Rattle.trace_theory.specs.Entries.{Each}
-use Rattle.program_tables.specs.Tables.{tables_of, coarray_at}
+use Rattle.program_tables.specs.Tables.{coarray_at}
 use Rattle.program_walks.specs.Runs.{program_rules, program_begins}
 use Rattle.program_walks.proofs.Fits.{program_fit}
 use Rattle.told_walks.specs.Asked.{most_team}

@@ -1,5 +1,5 @@
 -- The asks of memories that fit have spans of accesses, and coarrays that are declared.
-use Rattle.std.proofs.Common.{◌≡◌, ◌∙◌, ℕ, zero, suc, ◌<◌, ◌≤◌, ◌^◌, ◌&&◌, Bool, true, false, IsTrue, List, [], ◌∷◌, length, get_or, refl, ap, sym, subst, arith}
+use Rattle.std.proofs.Common.{◌≡◌, ℕ, zero, suc, ◌<◌, ◌≤◌, ◌&&◌, Bool, true, IsTrue, List, [], ◌∷◌, length, get_or, refl, ap, sym, subst, arith}
 use Rattle.std.specs.Prelude.{ℤ, pos, negsuc, ◌≤ℤ◌, ◌<ℤ◌, All, nat_eq, nat_le, Option, Some, None, slice_get}
 use Rattle.std.specs.List.{list_all}
 use Rattle.std.proofs.lemmas.Bool.{and_parts, leb-true, ltb-true, eqb-true}
@@ -13,7 +13,7 @@ use Rattle.caf_events.specs.declared.ask.Ask.{Ask}
 use Rattle.caf_events.specs.declared.ask.Ask.TheVariants as asks
 use Rattle.caf_events.specs.declared.event.Entry.{Entry}
 use Rattle.caf_events.specs.Asks.{place_of}
-use Rattle.object_rules.specs.Cells.{Content, Declared, MadeMemory}
+use Rattle.object_rules.specs.Cells.{Content, Declared}
 use Rattle.object_rules.specs.MemoryRules.{memory_ready, is_one_cell, holds, is_allocatable}
 use Rattle.object_rules.specs.SpanTests.{is_span, is_cell_offset}
 use Rattle.trace_forms.specs.Ranges.{IsHalf, HasName, SpanHasText, AskHasText}
