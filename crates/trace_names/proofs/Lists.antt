@@ -1,6 +1,6 @@
 -- Lists of names: that each is one, and that they differ.
 use Rattle.std.proofs.Common.{◌≡◌, ◌∙◌, ℕ, zero, suc, ◌+◌, List, [], ◌∷◌, ◌++◌, refl, sym, ap, subst}
-use Rattle.std.specs.Prelude.{Option, Some, None, slice_get}
+use Rattle.std.specs.Prelude.{Some, None, slice_get}
 use Rattle.trace_theory.specs.Entries.{Each}
 
 pub some_same : {A : Type 0} (x y : A) → Some x ≡ Some y → x ≡ y

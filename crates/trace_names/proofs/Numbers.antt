@@ -1,9 +1,8 @@
 -- The numbers of the coarrays among the variables rise.
-use Rattle.std.proofs.Common.{◌≡◌, ◌∙◌, ℕ, zero, suc, ◌+◌, ◌<◌, ◌≤◌, Bool, true, false, cond, List, [], ◌∷◌, length, refl, ap, sym, subst, arith}
-use Rattle.std.specs.Prelude.{nat_eq, Option, Some, None, slice_get}
+use Rattle.std.proofs.Common.{◌≡◌, ℕ, zero, suc, ◌+◌, ◌<◌, ◌≤◌, Bool, true, false, cond, List, [], ◌∷◌, length, refl, ap, subst, arith}
+use Rattle.std.specs.Prelude.{nat_eq, Some, slice_get}
 use Rattle.rule_definitions.specs.Names.{Symbol}
 use Rattle.rule_definitions.specs.Units.{coarray_numbers}
-use Rattle.trace_theory.specs.Entries.{Each}
 use Rattle.trace_names.proofs.Lists.{some_same, none_some}
 
 -- each is greater than those before it, from this one on and below that one

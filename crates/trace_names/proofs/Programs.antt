@@ -9,19 +9,18 @@ use Rattle.fortran_tree.specs.Units as u
 use Rattle.checked_tree.specs.Statements as ts
 use Rattle.checked_tree.specs.declared.data.Constant.{Constant}
 use Rattle.checked_tree.specs.declared.data.Variable.{Variable}
-use Rattle.rule_definitions.specs.declared.broken.Broken.{Broken}
 use Rattle.rule_definitions.specs.Acceptance.{Accepts}
 use Rattle.rule_definitions.specs.Judgements.{is_nothing, Judgement, both, all_made}
 use Rattle.rule_definitions.specs.Names.{Scope, Symbol, Interface, variables_of}
-use Rattle.rule_definitions.specs.Declarations.{Declared, limit_breaks}
+use Rattle.rule_definitions.specs.Declarations.{limit_breaks}
 use Rattle.rule_definitions.specs.Statements.{Counted, counted_statements, behind, judged_statements, end_breaks}
-use Rattle.rule_definitions.specs.Units.{uses_breaks, twice_breaks, Opened, opened_procedures, opened_breaks, constants_behind, interface_of, dimensions_of, type_known, variable_of, unit_judged, completed, position_of, procedures_judged, counted_all, coarray_numbers, procedures_of, main_unit, headings_of, first_scope, name_of, program_form, program_with, program_opened, program_declared, main_declared, interfaces_of, program_judged}
+use Rattle.rule_definitions.specs.Units.{uses_breaks, twice_breaks, Opened, opened_procedures, opened_breaks, constants_behind, interface_of, dimensions_of, type_known, variable_of, unit_judged, completed, position_of, procedures_judged, counted_all, coarray_numbers, procedures_of, main_unit, headings_of, first_scope, name_of, program_form, program_with, program_opened, main_declared, interfaces_of}
 use Rattle.trace_theory.specs.Entries.{Each}
 use Rattle.trace_forms.specs.Names.{IsName, AreNames}
 use Rattle.trace_names.specs.Entities as e
 use Rattle.trace_names.specs.Entities.{DeclareNames, variable_names}
 use Rattle.trace_names.proofs.Lists.{some_same, none_some, each_at, differ_at}
-use Rattle.trace_names.proofs.Scopes.{symbol_name, names_among, AreOwn, none_own, declarations_own}
+use Rattle.trace_names.proofs.Scopes.{symbol_name, none_own, declarations_own}
 use Rattle.trace_names.proofs.Numbers.{Rise, numbers_rise, rise_within, rise_differ}
 
 -- ---- judgements that have a meaning
@@ -39,7 +38,7 @@ of_both f (Some x) (Some y) z e = (x, y, refl, refl, some_same (f x y) z e)
 variable_name : (x : Symbol) (v : Variable) → (variable_of x).meaning ≡ Some v → v.name ≡ x.name
 variable_name x v h =
     let w = of_both (λ y ds. record { name = x.name; of_type = y; dimensions = ds; codimensions = x.coshape; is_allocatable = x.is_allocatable; initial = x.initial })
-        (type_known x.of_type).meaning (dimensions_of x).meaning v h in
+    (type_known x.of_type).meaning (dimensions_of x).meaning v h in
     sym (ap (λ k. k.name) w.4)
 
 variables_named : (xs : List Symbol) (vs : List Variable) → (all_made (map variable_of xs)).meaning ≡ Some vs
@@ -80,7 +79,7 @@ opened_main p s c h =
     let is = map interface_of os in
     let cs = constants_behind s os in
     let bs = uses_breaks p.uses ++ (twice_breaks (map name_of s.own) (headings_of p)
-        ++ (opened_breaks os ++ (limit_breaks (variables_of s.own) ++ end_breaks p.name p.end.name))) in
+    ++ (opened_breaks os ++ (limit_breaks (variables_of s.own) ++ end_breaks p.name p.end.name))) in
     with_main p s os is cs c (there (is_nothing bs) (program_with p s os is cs).meaning c h)
 
 pub accepted_main : (p : u.Program) (c : ts.Program) → DeclareNames p.body.declarations → Accepts p c

@@ -1,6 +1,6 @@
 -- The entities of a source that is read have the names that its words spell.
-use Rattle.std.proofs.Common.{◌≡◌, ◌∙◌, ℕ, ◌+◌, ◌-◌, Bool, true, false, cond, List, [], ◌∷◌, ◌++◌, length, take, drop, map}
-use Rattle.std.proofs.Common.{refl, ap, sym, subst, arith}
+use Rattle.std.proofs.Common.{◌≡◌, ℕ, ◌+◌, ◌-◌, Bool, true, false, cond, List, [], ◌∷◌, length, take, drop, map}
+use Rattle.std.proofs.Common.{refl, sym, subst, arith}
 use Rattle.std.specs.Prelude.{nat_lt, ◌&&◌}
 use Rattle.std.specs.Char.{to_ascii_lowercase}
 use Rattle.std.specs.List.{list_all}
@@ -9,7 +9,6 @@ use Rattle.std.proofs.lemmas.Bool.{and_parts, and_from}
 use Rattle.std.proofs.lemmas.Bool.Decides.{nat_tests}
 use Rattle.caf_base.specs.declared.place.Pos.{Pos}
 use Rattle.reader_theory.specs.Words.{Mark, bare}
-use Rattle.reader_theory.specs.Levels.{mark}
 use Rattle.fortran_lines.specs.declared.stmt.Stmt.{Stmt}
 use Rattle.fortran_tokens.specs.declared.cut.Piece.{Piece}
 use Rattle.fortran_tokens.specs.declared.token.Sign.TheVariants.{Colon, Comma}
@@ -148,15 +147,17 @@ entity_named e limit level s =
 followed_named : (es : List Entity) (limit level : ℕ) → Spells (followed g.entity es) limit level → AreNamed es
 followed_named [] limit level s = tt
 followed_named (e ∷ es) limit level s =
-    let r = rest (sign Comma) (g.entity e ▸ followed g.entity es) limit level s in
-    (entity_named e limit level (front (g.entity e) (followed g.entity es) limit level r),
-    followed_named es limit level (rest (g.entity e) (followed g.entity es) limit level r))
+    let r = rest (sign Comma) (g.entity e ▸ followed g.entity es) limit level s in (
+      entity_named e limit level (front (g.entity e) (followed g.entity es) limit level r),
+      followed_named es limit level (rest (g.entity e) (followed g.entity es) limit level r),
+    )
 
 listed_named : (es : List Entity) (limit level : ℕ) → Spells (listed g.entity es) limit level → AreNamed es
 listed_named [] limit level s = tt
-listed_named (e ∷ es) limit level s =
-    (entity_named e limit level (front (g.entity e) (followed g.entity es) limit level s),
-    followed_named es limit level (rest (g.entity e) (followed g.entity es) limit level s))
+listed_named (e ∷ es) limit level s = (
+  entity_named e limit level (front (g.entity e) (followed g.entity es) limit level s),
+  followed_named es limit level (rest (g.entity e) (followed g.entity es) limit level s),
+)
 
 declaration_named : (d : Declaration) (limit level : ℕ) → Spells (g.declaration d) limit level → AreNamed d.entities
 declaration_named d limit level s =
@@ -170,9 +171,10 @@ declaration_named d limit level s =
 
 declarations_named : (ds : List Declaration) (limit level : ℕ) → Spells (repeated g.declaration ds) limit level → DeclareNames ds
 declarations_named [] limit level s = tt
-declarations_named (d ∷ ds) limit level s =
-    (declaration_named d limit level (front (g.declaration d) (repeated g.declaration ds) limit level s),
-    declarations_named ds limit level (rest (g.declaration d) (repeated g.declaration ds) limit level s))
+declarations_named (d ∷ ds) limit level s = (
+  declaration_named d limit level (front (g.declaration d) (repeated g.declaration ds) limit level s),
+  declarations_named ds limit level (rest (g.declaration d) (repeated g.declaration ds) limit level s),
+)
 
 program_named : (x : Program) (limit level : ℕ) → Spells (p.program x) limit level → DeclareNames x.body.declarations
 program_named x limit level s =

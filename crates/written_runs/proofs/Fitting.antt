@@ -1,5 +1,5 @@
 -- The asks of memories that fit have spans of accesses, and coarrays that are declared.
-use Rattle.std.proofs.Common.{◌≡◌, ◌∙◌, ℕ, zero, suc, ◌<◌, ◌≤◌, ◌^◌, ◌&&◌, Bool, true, false, IsTrue, List, [], ◌∷◌, length, get_or, refl, ap, sym, subst, arith}
+use Rattle.std.proofs.Common.{◌≡◌, ℕ, zero, suc, ◌<◌, ◌≤◌, ◌&&◌, Bool, true, IsTrue, List, [], ◌∷◌, length, get_or, refl, ap, sym, subst, arith}
 use Rattle.std.specs.Prelude.{ℤ, pos, negsuc, ◌≤ℤ◌, ◌<ℤ◌, All, nat_eq, nat_le, Option, Some, None, slice_get}
 use Rattle.std.specs.List.{list_all}
 use Rattle.std.proofs.lemmas.Bool.{and_parts, leb-true, ltb-true, eqb-true}
@@ -13,11 +13,11 @@ use Rattle.caf_events.specs.declared.ask.Ask.{Ask}
 use Rattle.caf_events.specs.declared.ask.Ask.TheVariants as asks
 use Rattle.caf_events.specs.declared.event.Entry.{Entry}
 use Rattle.caf_events.specs.Asks.{place_of}
-use Rattle.object_rules.specs.Cells.{Content, Declared, MadeMemory}
+use Rattle.object_rules.specs.Cells.{Content, Declared}
 use Rattle.object_rules.specs.MemoryRules.{memory_ready, is_one_cell, holds, is_allocatable}
 use Rattle.object_rules.specs.SpanTests.{is_span, is_cell_offset}
 use Rattle.trace_forms.specs.Ranges.{IsHalf, HasName, SpanHasText, AskHasText}
-use Rattle.written_runs.specs.Ranges.{SpanInRange, AskInRange}
+use Rattle.written_runs.specs.Ranges.{SpanInRange, AskInRange, IsThreefold}
 
 -- ---- spans
 all_from : {X : Type 0} (p : X → Bool) (P : X → Type 0) → ((x : X) → p x ≡ true → P x) → (xs : List X) → list_all p xs ≡ true → All P xs
@@ -78,41 +78,43 @@ module _ (names : List (List ℕ)) (s : List Declared) (many : length names ≡ 
       by_option None k e = absurd (cc)
       by_option (Some d) k e = named c d k h
 
-  span_shown : (span : Span) → SpanInRange span → (test : Content → Bool) → holds test (slice_get s span.coarray) ≡ true → IsSpan span → SpanHasText names span
-  span_shown span r test e is = record { named = held test span.coarray r.coarray e; start = r.start; short = r.short; dims = r.dims; is_span = is }
+  span_shown : (span : Span) → SpanInRange span → (test : Content → Bool) → holds test (slice_get s span.coarray) ≡ true → length span.dims ≤ 3 → IsSpan span
+      → SpanHasText names span
+  span_shown span r test e short is = record { named = held test span.coarray r.coarray e; start = r.start; short = short; dims = r.dims; is_span = is }
 
   cell_shown : (span : Span) → SpanInRange span → (test : Content → Bool) → (is_one_cell span && holds test (slice_get s span.coarray)) ≡ true → SpanHasText names span
   cell_shown span r test e =
       let p = and_parts (is_one_cell span) (holds test (slice_get s span.coarray)) e in
-      span_shown span r test p.1 (cell_is span p.0)
+      let none = no_dims span.dims (and_parts _ _ p.0).0 in
+      span_shown span r test p.1 (let size : length span.dims ≡ 0 = ap length none in omega arith) (cell_is span p.0)
 
   -- an ask, where it is ready if it is one of a memory
   pub ask_shown : (a : Ask) (i : ℕ) (h : ℕ → List Entry)
       → ((o : ImageNo) → place_of a ≡ places.Memory o → IsTrue (memory_ready (record { owner = o; coarrays = s }) (h o.0) i a))
-      → AskInRange names a → AskHasText names a
-  ask_shown (asks.Read owner span) i h ready r =
+      → AskInRange names a → IsThreefold a → AskHasText names a
+  ask_shown (asks.Read owner span) i h ready r short =
       let p = and_parts _ _ (and_parts _ _ (ready owner refl)).0 in
-      (r.0, span_shown span r.1 _ p.1 (span_is span (and_parts _ _ p.0).1))
-  ask_shown (asks.Write owner span vs) i h ready r =
+      (r.0, span_shown span r.1 _ p.1 short (span_is span (and_parts _ _ p.0).1))
+  ask_shown (asks.Write owner span vs) i h ready r short =
       let p = and_parts _ _ (and_parts _ _ (ready owner refl)).0 in
-      (r.0, span_shown span r.1 _ p.1 (span_is span (and_parts _ _ (and_parts _ _ p.0).0).1), r.2)
-  ask_shown (asks.Create owner coarray cells) i h ready r =
+      (r.0, span_shown span r.1 _ p.1 short (span_is span (and_parts _ _ (and_parts _ _ p.0).0).1), r.2)
+  ask_shown (asks.Create owner coarray cells) i h ready r short =
       let p = and_parts _ _ (and_parts _ _ (ready owner refl)).0 in
       (r.0, allocated coarray r.1 (and_parts _ _ (and_parts _ _ p.0).0).1, r.2)
-  ask_shown (asks.Delete owner coarray) i h ready r =
+  ask_shown (asks.Delete owner coarray) i h ready r short =
       let p = and_parts _ _ (and_parts _ _ (ready owner refl)).0 in
       (r.0, allocated coarray r.1 (and_parts _ _ p.0).1)
-  ask_shown (asks.Atomic owner op span x y) i h ready r =
+  ask_shown (asks.Atomic owner op span x y) i h ready r short =
       (r.0, cell_shown span r.1 _ (and_parts _ _ (and_parts _ _ (ready owner refl)).0).1, r.2, r.3)
-  ask_shown (asks.Lock owner span) i h ready r = (r.0, cell_shown span r.1 _ (and_parts _ _ (and_parts _ _ (ready owner refl)).0).1)
-  ask_shown (asks.TryLock owner span) i h ready r = (r.0, cell_shown span r.1 _ (and_parts _ _ (and_parts _ _ (ready owner refl)).0).1)
-  ask_shown (asks.Unlock owner span) i h ready r = (r.0, cell_shown span r.1 _ (and_parts _ _ (and_parts _ _ (ready owner refl)).0).1)
-  ask_shown (asks.Post owner span) i h ready r = (r.0, cell_shown span r.1 _ (and_parts _ _ (and_parts _ _ (ready owner refl)).0).1)
-  ask_shown (asks.Wait owner span threshold) i h ready r =
+  ask_shown (asks.Lock owner span) i h ready r short = (r.0, cell_shown span r.1 _ (and_parts _ _ (and_parts _ _ (ready owner refl)).0).1)
+  ask_shown (asks.TryLock owner span) i h ready r short = (r.0, cell_shown span r.1 _ (and_parts _ _ (and_parts _ _ (ready owner refl)).0).1)
+  ask_shown (asks.Unlock owner span) i h ready r short = (r.0, cell_shown span r.1 _ (and_parts _ _ (and_parts _ _ (ready owner refl)).0).1)
+  ask_shown (asks.Post owner span) i h ready r short = (r.0, cell_shown span r.1 _ (and_parts _ _ (and_parts _ _ (ready owner refl)).0).1)
+  ask_shown (asks.Wait owner span threshold) i h ready r short =
       let p = and_parts _ _ (and_parts _ _ (and_parts _ _ (and_parts _ _ (ready owner refl)).0).0).0 in
       (r.0, cell_shown span r.1 _ p.1, r.2)
-  ask_shown (asks.Query owner span) i h ready r =
+  ask_shown (asks.Query owner span) i h ready r short =
       let p = and_parts _ _ (and_parts _ _ (and_parts _ _ (ready owner refl)).0).0 in
       (r.0, cell_shown span r.1 _ p.1)
-  ask_shown (asks.Free owner span) i h ready r = (r.0, cell_shown span r.1 _ (and_parts _ _ (and_parts _ _ (ready owner refl)).0).1)
-  ask_shown a i h ready r = r
+  ask_shown (asks.Free owner span) i h ready r short = (r.0, cell_shown span r.1 _ (and_parts _ _ (and_parts _ _ (ready owner refl)).0).1)
+  ask_shown a i h ready r short = r

@@ -1,11 +1,9 @@
 -- Texts that are lines, all of a trace or none: their lines are these.
 use Rattle.std.proofs.Common.{◌≡◌, ◌∙◌, ℕ, zero, suc, ◌+◌, ◌<◌, ◌≤◌, Bool, true, false, not, ◌&&◌, ◌||◌, ◌==◌, cond, List, [], ◌∷◌, ◌++◌, length, inl, inr}
-use Rattle.std.proofs.Common.{flat_map, refl, ap, sym, subst, arith, append_assoc}
-use Rattle.std.specs.Prelude.{nat_le}
-use Rattle.std.specs.List.{list_all, list_any, concat, filter, range_with_len}
+use Rattle.std.proofs.Common.{flat_map, refl, ap, sym, arith, append_assoc}
+use Rattle.std.specs.List.{list_all, list_any, concat, range_with_len}
 use Rattle.std.proofs.lemmas.Bool.{and_parts, and_from, cases_order}
 use Rattle.std.proofs.lemmas.Bool.Decides.{nat_tests}
-use Rattle.std.proofs.lemmas.List.Elements.{filter-append}
 use Rattle.std.proofs.lemmas.List.Folds.{concat-append}
 use Rattle.trace_theory.specs.Entries.{Each}
 use Rattle.trace_forms.specs.Names.{is_digit_byte}

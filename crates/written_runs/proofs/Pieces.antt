@@ -1,7 +1,6 @@
 -- The parts of the line of an entry have no line feed, where the names of the coarrays have none.
-use Rattle.std.proofs.Common.{◌≡◌, ◌∙◌, ℕ, zero, suc, Bool, true, false, not, ◌==◌, cond, ℤ, pos, negsuc, List, [], ◌∷◌, ◌++◌}
+use Rattle.std.proofs.Common.{◌≡◌, ℕ, zero, suc, Bool, true, false, not, ◌==◌, cond, ℤ, pos, List, [], ◌∷◌, ◌++◌}
 use Rattle.std.proofs.Common.{flat_map, refl, ap, sym, codes}
-use Rattle.std.specs.List.{list_all}
 use Rattle.std.specs.Ordering.{int_eq}
 use Rattle.std.specs.Prelude.{Option, None, Some, slice_get}
 use Rattle.std.proofs.lemmas.Bool.{and_from}
@@ -29,9 +28,8 @@ use Rattle.caf_events.specs.declared.round.Arriving.{Arriving}
 use Rattle.caf_events.specs.declared.round.Arriving.TheVariants as arrivings
 use Rattle.caf_events.specs.declared.round.GatherOp.{GatherOp}
 use Rattle.caf_events.specs.declared.round.GatherOp.TheVariants as gathers
-use Rattle.caf_events.specs.Asks.{place_of}
 use Rattle.trace_theory.specs.Entries.{Each}
-use Rattle.trace_text.specs.Forms.{Form, First, Second, team_number_text, numbered_team, number_behind, asked_team}
+use Rattle.trace_text.specs.Forms.{Form, First, Second, team_number_text, number_behind, asked_team}
 use Rattle.trace_text.specs.TraceText.{joined, spaced, number_text, value_text, values_text, image_text, name_in, name_text, dimension_text, span_text}
 use Rattle.trace_text.specs.TraceText.{atomic_word, gather_word, kind_word, bounds_text, shape_text, cobound_text, allotted_text, spaced_name, arriving_text}
 use Rattle.trace_text.specs.TraceText.{escaped, operands_text, ask_text, team_text, teams_text, indices_text, taken_values, reply_text, place_word}

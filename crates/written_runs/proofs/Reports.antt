@@ -1,8 +1,8 @@
 -- The text of a report with its trace is written for that trace.
-use Rattle.std.proofs.Common.{◌≡◌, ◌∙◌, ℕ, zero, suc, ◌+◌, ◌<◌, ◌≤◌, ◌^◌, Bool, true, false, not, ◌==◌, cond, ℤ, pos, List, [], ◌∷◌, ◌++◌, length, take}
-use Rattle.std.proofs.Common.{flat_map, refl, ap, sym, subst, arith, append_assoc, codes, decimal}
+use Rattle.std.proofs.Common.{◌≡◌, ◌∙◌, ℕ, zero, suc, ◌+◌, ◌≤◌, true, false, not, ◌==◌, cond, List, [], ◌∷◌, ◌++◌, length, take}
+use Rattle.std.proofs.Common.{flat_map, refl, ap, sym, subst, arith, append_assoc, codes}
 use Rattle.std.specs.Prelude.{Option, None, Some, slice_get, count_by, bytes_eq, ◌||◌, ◌&&◌}
-use Rattle.std.specs.List.{list_all, list_any, concat, filter, range_with_len, slice_split}
+use Rattle.std.specs.List.{list_all, concat, filter, slice_split}
 use Rattle.std.proofs.lemmas.Slice.Eq.{bytes_eq-Decides}
 use Rattle.std.proofs.lemmas.Bool.{and_parts, and_from}
 use Rattle.std.proofs.lemmas.Bool.Decides.{nat_tests}
@@ -22,12 +22,12 @@ use Rattle.caf_report.specs.declared.report.Report.{Report}
 use Rattle.caf_report.specs.declared.report.Shown.{Shown}
 use Rattle.caf_report.specs.declared.report.Waiting.{Waiting}
 use Rattle.caf_report.specs.Ends.{status_of}
-use Rattle.caf_report.specs.ReportText.{printed_line, printed_text, printed_by, printed_at, is_of, printed_from, place_text, against_text, ending_line, event_line, stuck_line, numbered_text, step_text, cell_text, race_line, end_text, final_text, final_line, counts_text, summary_text, summary_line, trace_head, shown_trace, middle_text, report_text}
+use Rattle.caf_report.specs.ReportText.{printed_line, printed_text, printed_by, printed_at, is_of, printed_from, place_text, against_text, ending_line, event_line, stuck_line, numbered_text, step_text, cell_text, race_line, end_text, final_text, final_line, summary_text, summary_line, trace_head, report_text}
 use Rattle.trace_theory.specs.Entries.{Each}
 use Rattle.trace_text.specs.Forms.{Form, First, Second, asked_team, lines_behind, trace_lines}
 use Rattle.trace_text.specs.TraceText.{spaced, number_text, values_text, image_text, name_text, ask_text, reply_text, place_word, entry_line}
 use Rattle.trace_text.specs.Words.{fault_word, ask_word}
-use Rattle.trace_forms.specs.Names.{is_digit_byte, is_name_byte, IsName, AreNames}
+use Rattle.trace_forms.specs.Names.{is_name_byte, IsName}
 use Rattle.trace_forms.specs.Ranges.{HasText}
 use Rattle.trace_forms.specs.Shown.{HaveTexts}
 use Rattle.trace_forms.specs.Files.{lines_of, is_trace_line, traced_lines, images_line, says_images, says_second, is_second, form_of, LinesWritten, Written}
@@ -45,7 +45,7 @@ line_printed image line h =
     let front = number ++ codes ": " in
     let body = front ++ line in
     let shape : body ++ 10 ∷ [] ≡ number ++ 58 ∷ 32 ∷ (line ++ 10 ∷ []) =
-        append_assoc front line (10 ∷ []) ∙ append_assoc number (codes ": ") (line ++ 10 ∷ []) in
+    append_assoc front line (10 ∷ []) ∙ append_assoc number (codes ": ") (line ++ 10 ∷ []) in
     let is = ap is_trace_line shape ∙ not_traced number 58 (32 ∷ (line ++ 10 ∷ [])) (decimal_late image) refl refl in
     lined_one false body (clean_both front line (clean_both number (codes ": ") (clean_number image) refl) h) is
 
@@ -233,7 +233,7 @@ written_lines names t front back head h f m b k s =
     let second : is_second ls ≡ true = second_behind front rest f (ap (λ c. c || (not (is_trace_line head) && is_second (lines ++ back))) s) in
     let form : Second ≡ form_of ls = sym (ap (λ c. cond c Second First) second) in
     let behind : traced_lines (lines ++ back) ≡ lines =
-        filter-append is_trace_line lines back ∙ (λ i. all_traced lines m i ++ none_traced back b i) ∙ no_more lines in
+    filter-append is_trace_line lines back ∙ (λ i. all_traced lines m i ++ none_traced back b i) ∙ no_more lines in
     let headed : traced_lines rest ≡ lines = ap (λ c. cond c (head ∷ traced_lines (lines ++ back)) (traced_lines (lines ++ back))) k.is ∙ behind in
     let all : traced_lines ls ≡ lines = filter-append is_trace_line front rest ∙ ap (λ z. z ++ traced_lines rest) (none_traced front f) ∙ headed in
     record {
@@ -281,7 +281,7 @@ file_lines : (front back head : List ℕ) (lines : List (List ℕ)) (f : Lined f
     → Each (IsLineOf true) lines → lines_of (front ++ (head ++ (concat lines ++ back))) ≡ f.lines ++ head ∷ (lines ++ b.lines)
 file_lines front back head lines f b k m =
     let last : lines_of back ≡ b.lines =
-        ap lines_of (b.whole ∙ sym (append_none (concat b.lines))) ∙ lines_behind_all false b.lines [] b.each ∙ none_more b.lines in
+    ap lines_of (b.whole ∙ sym (append_none (concat b.lines))) ∙ lines_behind_all false b.lines [] b.each ∙ none_more b.lines in
     let inner : lines_of (concat lines ++ back) ≡ lines ++ b.lines = lines_behind_all true lines back m ∙ ap (λ z. lines ++ z) last in
     let rest = head ++ (concat lines ++ back) in
     ap (λ z. lines_of (z ++ rest)) f.whole ∙ lines_behind_all false f.lines rest f.each
@@ -308,8 +308,8 @@ written_report shown r h =
     let b = lined_both false end summary (line_end r.names clean es r.end) (lined_cond false shown.summary (summary_line r) (summary_lined r.images (length es) (status_of r.end))) in
     let m = entries_traced r.names clean Second [] es h.texts in
     let whole : report_text shown r ≡ front ++ (head ++ (concat lines ++ back)) =
-        ap (λ c. ((front ++ cond c traced []) ++ end) ++ summary) h.trace ∙ append_assoc (front ++ traced) end summary
-        ∙ append_assoc front traced back ∙ ap (λ z. front ++ z) (append_assoc head (concat lines) back) in
+    ap (λ c. ((front ++ cond c traced []) ++ end) ++ summary) h.trace ∙ append_assoc (front ++ traced) end summary
+    ∙ append_assoc front traced back ∙ ap (λ z. front ++ z) (append_assoc head (concat lines) back) in
     let ls = ap lines_of whole ∙ file_lines front back head lines f b (head_line r.images) m in
     subst (λ z. LinesWritten z r.names es) (sym ls)
     (written_lines r.names es f.lines b.lines head h.texts f.each m b.each (head_line r.images) (head_second r.images h.some h.most))

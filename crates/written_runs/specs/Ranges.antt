@@ -8,11 +8,10 @@ use Rattle.caf_events.specs.declared.event.Entry.{Entry}
 use Rattle.trace_theory.specs.Entries.{Each}
 use Rattle.trace_forms.specs.Ranges.{IsHalf, IsLong, IsValueInRange, IsDimension, AskHasText, ReplyHasText}
 
--- a span, with three dimensions at most (ISO/IEC 1539-1:2018, 8.5.8 has fifteen; the profile has three)
+-- a span
 pub record SpanInRange (s : Span) : Type 0 where
   pub coarray : IsHalf s.coarray
   pub start : IsHalf s.start
-  pub short : length s.dims ≤ 3
   pub dims : Each IsDimension s.dims
 
 -- an ask; ALLOCATE and DEALLOCATE (9.7.1, 9.7.3) name coarrays that have names
@@ -31,6 +30,12 @@ AskInRange names (asks.Wait owner span threshold) = IsHalf owner.0 × SpanInRang
 AskInRange names (asks.Query owner span) = IsHalf owner.0 × SpanInRange span
 AskInRange names (asks.Free owner span) = IsHalf owner.0 × SpanInRange span
 AskInRange names ask = AskHasText names ask
+
+-- a section (ISO/IEC 1539-1:2018, 9.5.3.3) that is read or written has three dimensions at most
+abbrev pub IsThreefold : Ask → Type 0
+IsThreefold (asks.Read owner span) = length span.dims ≤ 3
+IsThreefold (asks.Write owner span vs) = length span.dims ≤ 3
+IsThreefold ask = Unit {0}
 
 -- an entry
 pub record IsInRange (names : List (List ℕ)) (e : Entry) : Type 0 where
