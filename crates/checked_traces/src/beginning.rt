@@ -25,7 +25,7 @@ pub(crate) struct Begun {
 }
 
 /// What a run of an accepted program begins with, if the machine can run it.
-pub(crate) fn begun(alloc: Global, checked: &Checked) -> Result<Begun, Refusal<Unrunnable>>
+pub(crate) fn begin(alloc: Global, checked: &Checked) -> Result<Begun, Refusal<Unrunnable>>
     requires accepted { (x : units.Program) × Accepts x (program checked.now) }
     ensures begins { IfOk result (BeginsAs (program checked.now)) }
     ensures refused { IfErr result (λ refusal. IfCause refusal (λ u. IsUnrunnable (program checked.now) u.line)) }

@@ -12,7 +12,7 @@ ghost use Rattle.checked_run.specs.Coarrays.{names_of};
 ghost use Rattle.checked_traces.specs.Beginnings.{BeginsAs};
 ghost use Rattle.checked_traces.specs.Traces.{core_run, ComesTo, IsRunAsTold, IsNoRunOf, IsToldAs};
 
-use crate::beginning::{Begun, begun};
+use crate::beginning::{Begun, begin};
 use crate::file::trace_of;
 use crate::no_run::NoRun;
 use caf_base::listing::{Listing, Text};
@@ -81,7 +81,7 @@ fn judge_trace(
     ensures stands { IfOk result (RaceIn trace.now) }
     ensures refused { IfErr result (λ refusal. IfCause refusal (IsNoRunOf (program checked.now) told (fails_at fails.now) trace.now.entries)) }
 {
-    match begun(alloc, checked) {
+    match begin(alloc, checked) {
         Ok(begun) => judge_begun(alloc, begun, told, fails, trace),
         Err(Refusal::Cause(bad)) => Err(Refusal::Cause(NoRun::Unrunnable { line: bad.line })),
         Err(Refusal::NoMemory) => Err(Refusal::NoMemory),

@@ -13,7 +13,7 @@ ghost use Rattle.checked_run.specs.Coarrays.{names_of};
 ghost use Rattle.checked_traces.specs.Beginnings.{BeginsAs};
 ghost use Rattle.checked_traces.specs.Traces.{IsNoRunOf, IsReplayOf, IsReplayOfBytes, IsRunAsTold, IsToldAs};
 
-use crate::beginning::{Begun, begun};
+use crate::beginning::{Begun, begin};
 use crate::file::trace_of;
 use crate::no_run::NoRun;
 use caf_base::listing::{Listing, Text};
@@ -82,7 +82,7 @@ fn replay_trace(
     ensures refused { IfErr result (λ refusal. IfCause refusal (IsNoRunOf (program checked.now) told (fails_at fails.now) trace.now.entries)) }
 {
     let listed = listed_variables(alloc, checked)?;
-    match begun(alloc, checked) {
+    match begin(alloc, checked) {
         Ok(begun) => replay_begun(alloc, begun, told, fails, trace, names, listed.as_slice()),
         Err(Refusal::Cause(bad)) => Err(Refusal::Cause(NoRun::Unrunnable { line: bad.line })),
         Err(Refusal::NoMemory) => Err(Refusal::NoMemory),

@@ -4,7 +4,7 @@ use Rattle.coarray_memory.specs.Memories.{declared_of}
 use Rattle.program_run.specs.Machines.{IsRunnable}
 use Rattle.checked_run.specs.Reports.{IsCodeOf}
 use Rattle.checked_run.proofs.Programs.{coarrays_too}
-use Rattle.checked_traces.proofs.beginning.begun.Goals as goal
+use Rattle.checked_traces.proofs.beginning.begin.Goals as goal
 
 pub returns-clause-begins : goal.returns-clause-begins
 returns-clause-begins c =
