@@ -119,8 +119,9 @@ def _check_changes(checks: Checks, work: str, kept: Kept, draw: random.Random) -
     for _ in range(CHANGES if steps and run.status in _OF_A_RUN else 0):
         number = draw.randrange(len(steps))
         step = steps[number]
-        place = draw.randrange(step.end(1) + 1, step.end() - 1)
-        byte = draw.choice([it for it in b"0123456789amx" if it != run.text[place]])
+        places = range(step.end(1) + 1, step.end() - 1)
+        place = draw.choice([it for it in places if run.text[it] in b"0123456789"] if draw.randrange(4) else places)
+        byte = draw.choice([it for it in b"0123456789" if it != run.text[place]])
         text = b"%s%c%s" % (run.text[:place], byte, run.text[place + 1 :])
         got = _traced(checks, "judge", kept, write(f"{work}/changed", text))
         line = text[:place].count(b"\n") + 1
