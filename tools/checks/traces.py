@@ -2,6 +2,7 @@
 was."""
 
 import glob
+import random
 import re
 from typing import Iterator, List, NamedTuple, Tuple
 
@@ -9,8 +10,9 @@ from checks.comparing import HOME, Checks, Done, call, folder, with_status, writ
 from checks.examples import calls_of
 from checks.views import SHOWN
 
-# How often a call is made on workers: its runs differ.
+# How often a call is made on workers: its runs differ; and how many changes are made to the trace of each ordered one.
 ON_WORKERS = 3
+CHANGES = 8
 # The statuses of a call that made a run.
 _OF_A_RUN = (0, 4, 5, 6, 7, 8, 9)
 _STEP = re.compile(rb"^[0-9]+ ([0-9]+) .*\n", re.MULTILINE)
@@ -30,9 +32,11 @@ class Kept(NamedTuple):
 
 def check_traces(checks: Checks) -> None:
     """The runs of the examples and of the programs in shown/, and one front of each."""
+    draw = random.Random(1539)
     with folder() as work:
         for kept in _kept(checks, work):
             _check_run(checks, work, kept, kept.order)
+            _check_changes(checks, work, kept, draw)
             for _ in range(ON_WORKERS):
                 _check_run(checks, work, kept, ["-w", "4"])
 
@@ -105,6 +109,27 @@ def _check_front(checks: Checks, work: str, kept: Kept, shown: str, text: bytes)
     trace = write(f"{work}/replayed", replay.text)
     got = with_status(_traced(checks, "judge", kept, trace))
     checks.same(f"the trace of a replay of half of run {shown}", _judged(replay), got)
+
+
+def _check_changes(checks: Checks, work: str, kept: Kept, draw: random.Random) -> None:
+    """A byte of a step is changed behind its image. Its image has one next step alone, and this is another one: so the
+    trace stops there being that of a run, or the line is none of a trace. Where it named teams a later line may be."""
+    run = call([checks.program, "run", "--trace", *kept.order, *kept.words])
+    steps = list(_STEP.finditer(run.text))
+    for _ in range(CHANGES if steps and run.status in _OF_A_RUN else 0):
+        number = draw.randrange(len(steps))
+        step = steps[number]
+        places = range(step.end(1) + 1, step.end() - 1)
+        place = draw.choice([it for it in places if run.text[it] in b"0123456789"] if draw.randrange(4) else places)
+        byte = draw.choice([it for it in b"0123456789" if it != run.text[place]])
+        text = b"%s%c%s" % (run.text[:place], byte, run.text[place + 1 :])
+        got = _traced(checks, "judge", kept, write(f"{work}/changed", text))
+        line = text[:place].count(b"\n") + 1
+        bad = re.fullmatch(rb"bad trace at line ([0-9]+)\n", got.text)
+        is_bad = bad is not None and got.status == 15 and int(bad[1]) >= line
+        is_none = got.text == b"not a run at step %d\n" % (number + 1) and got.status == 14
+        shown = text[step.start() : step.end() - 1].decode("latin-1")
+        checks.holds(f"changed in run {' '.join([*kept.order, *kept.words])}: {shown}: {got}", is_bad or is_none)
 
 
 def _begins_with(text: bytes, front: bytes) -> bool:
