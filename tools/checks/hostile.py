@@ -12,6 +12,8 @@ SOURCE = b"integer :: x[*]\nx = this_image()\nsync all\nend\n"
 STEP = b"1 1 2 m1 write x:0 1 > ok\n"
 MOST = 67108864
 DRAWN = 40
+# How long a call may take, in seconds: a machine that has much else to do takes long for the longest files.
+PATIENCE = 600.0
 CORE_RUN = b"core run\nstatus 0\n"
 FIRST_STEP = b"not a run at step 1\nstatus 14\n"
 TOO_LONG = b"too long\nstatus 13\n"
@@ -72,7 +74,7 @@ def check_hostile(checks: Checks) -> None:
                     made.write(piece)
             commands = ["judge"] if number % 3 or it.wanted == CORE_RUN else ["judge", "replay"]
             for command in commands:
-                got = call([checks.program, command, "-n", "2", trace, source])
+                got = call([checks.program, command, "-n", "2", trace, source], timeout=PATIENCE)
                 checks.same(f"{command}: {it.name}", it.wanted, with_status(got))
         _check_many_coarrays(checks, work)
 
@@ -171,7 +173,7 @@ def _check_many_coarrays(checks: Checks, work: str) -> None:
     names = [b"c%d" % number for number in range(20000)]
     source = write(f"{work}/many.f90", b"".join(b"integer :: %s[*]\n" % it for it in names) + b"end\n")
     trace = write(f"{work}/t", b"1 1 2 m1 write c19999:0 1 > ok\n" * 500000)
-    got = call([checks.program, "judge", "-n", "2", trace, source])
+    got = call([checks.program, "judge", "-n", "2", trace, source], timeout=PATIENCE)
     checks.same("500,000 steps at the last of 20,000 coarrays", FIRST_STEP, with_status(got))
     trace = write(f"{work}/t", b"1 1 2 m1 write c20000:0 1 > ok\n")
     got = call([checks.program, "judge", "-n", "2", trace, source])
