@@ -9,9 +9,10 @@ use Rattle.checked_traces.proofs.judging.judge_checked.Goals as goal
 pub returns-in-Ok-clause-run : goal.returns-in-Ok-clause-run
 returns-in-Ok-clause-run c =
     let named = c.as_slice.ensures ∙ c.in_ok-names.ensures in
-    (subst (λ names. Written c.args.bytes.now names c.in-Ok.trace.entries) named c.in-Ok.ensures.written, c.in_ok-race.ensures.run)
+    (subst (λ names. Written c.args.bytes.now names c.in-Ok.trace.entries) named c.in-Ok.ensures.written, c.in_ok-race-in-Ok.ensures.run)
 
 pub returns-in-Err-Cause-clause-refused : goal.returns-in-Err-Cause-clause-refused
 returns-in-Err-Cause-clause-refused c =
     let bad = c.in-Err-Cause.ensures.bad in
-    subst (λ names. IsBadLine (lines_of c.args.bytes.now) names c.in-Err-Cause.bad.line) (c.as_slice.ensures ∙ c.in_ok-names.ensures) (rw c.in-Err-Cause.field-0-is at bad)
+    rw c.in-Err-Cause.field-0-is
+    (subst (λ names. IsBadLine (lines_of c.args.bytes.now) names c.in-Err-Cause.bad.line) (c.as_slice.ensures ∙ c.in_ok-names.ensures) (rw c.in-Err-Cause.field-0-is at bad))
