@@ -13,7 +13,7 @@ use Rattle.image_acts.specs.Core.{Core}
 use Rattle.image_acts.specs.Taking.{Acted}
 use Rattle.image_acts.specs.Meaning.{effect_of, image_language}
 use Rattle.checked_run.specs.Doing.{Does, DoesAll}
-use Rattle.written_runs.specs.Ranges.{IsThreefold}
+use Rattle.lawful_texts.specs.Ranges.{IsThreefold}
 use Rattle.run_texts.proofs.Effects.{IsTame, act_tame}
 
 abbrev Moves : Type 0

@@ -36,7 +36,7 @@ use Rattle.image_acts.specs.Meaning.{missed, settled, operate, effect_of}
 use Rattle.image_acts.specs.Replies.{read_reply, with_status}
 use Rattle.image_acts.specs.Words.{word, short}
 use Rattle.checked_run.specs.Doing.{Asks, DoesAct}
-use Rattle.written_runs.specs.Ranges.{IsThreefold}
+use Rattle.lawful_texts.specs.Ranges.{IsThreefold}
 
 -- what an act comes to asks for no other
 abbrev pub IsTame : Acted → Type 0

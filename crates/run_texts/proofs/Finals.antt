@@ -10,6 +10,8 @@ use Rattle.checked_tree.specs.declared.data.DataType.TheVariants as types
 use Rattle.checked_tree.specs.declared.data.Variable.{Variable}
 use Rattle.image_acts.specs.Core.{Core}
 use Rattle.object_rules.specs.Cells.{Declared, MadeMemory}
+use Rattle.core_runs.specs.CoreRuns.{of_memory}
+use Rattle.core_runs.specs.Lawful.{made_memory}
 use Rattle.caf_report.specs.declared.report.Final.{Final}
 use Rattle.final_values.specs.declared.listing.Listed.{Listed}
 use Rattle.final_values.specs.Finals.{held, final_with, image_finals}
@@ -49,7 +51,7 @@ image_named (l ∷ ls) i c m h n = (with_named i l.name (held c m h l.variable l
 module _ (p : Program) (limit : ℕ) (coarrays : List Declared) (n : ℕ) (fails_at : ℕ → ℕ) (words : ℕ) (ls : List Listed) (t : List Entry) (listed : Each IsListed ls) where
   own_named : (i : ℕ) (own : List Final) → AreOwnFinals p limit coarrays n fails_at words ls t i own → Each IsFinal own
   own_named i own (inl h) = subst (Each IsFinal) (sym h.1) tt
-  own_named i own (inr h) = subst (Each IsFinal) (sym h.1.are) (image_named ls i _ _ _ listed)
+  own_named i own (inr h) = subst (Each IsFinal) (sym h.1.are) (image_named ls i h.1.at.program.core (made_memory coarrays i) (of_memory i t) listed)
 
   finals_from : (i images : ℕ) (fs : List Final) → AreFinalsFrom p limit coarrays n fails_at words ls t i images fs → Each IsFinal fs
   finals_from i zero fs h = subst (Each IsFinal) (sym h) tt

@@ -28,8 +28,8 @@ use Rattle.program_walks.specs.Runs.{program_rules, program_begins}
 use Rattle.program_walks.proofs.CodeRuns.{runs_onward}
 use Rattle.checked_run.specs.Doing.{DoesAll}
 use Rattle.checked_run.specs.Runnable.{lines_of}
-use Rattle.written_runs.specs.Ranges.{IsThreefold}
-use Rattle.written_runs.proofs.Entries.{said_split}
+use Rattle.lawful_texts.specs.Ranges.{IsThreefold}
+use Rattle.lawful_texts.proofs.Entries.{said_split}
 use Rattle.run_texts.proofs.CodeAsks.{walk_few}
 
 abbrev AllFew : List (Said Ask Reply) → Type 0

@@ -27,8 +27,8 @@ use Rattle.trace_forms.specs.Shown.{HaveTexts}
 use Rattle.trace_text.specs.Forms.{Second}
 use Rattle.trace_names.proofs.Coarrays.{read_named, coarrays_named}
 use Rattle.trace_names.proofs.Programs.{variables_differ}
-use Rattle.written_runs.specs.Ranges.{IsInRange}
-use Rattle.written_runs.proofs.Entries.{entries_shown}
+use Rattle.lawful_texts.specs.Ranges.{IsInRange}
+use Rattle.lawful_texts.proofs.Entries.{entries_shown}
 use Rattle.written_runs.proofs.Reports.{written_report}
 use Rattle.run_texts.proofs.Finals.{finals_named}
 use Rattle.run_texts.proofs.LaneAsks.{entries_few}

@@ -16,7 +16,7 @@ ghost use Rattle.checked_run.specs.declared.running.Told.{Told};
 ghost use Rattle.checked_run.specs.Coarrays.{names_of};
 ghost use Rattle.checked_run.specs.Reports.{IsRunOf};
 ghost use Rattle.trace_forms.specs.Files.{Written};
-ghost use Rattle.written_runs.specs.Ranges.{IsInRange};
+ghost use Rattle.lawful_texts.specs.Ranges.{IsInRange};
 
 /// What a run writes with its trace is written for that trace: the text of the report of a run of a program that a source is read and accepted as, on 1 to 256
 /// images, where fewer than 2 to the 32nd teams are made, and where the numbers of its entries are those of the code's types and its arrivals at ALLOCATE and

@@ -2,5 +2,3 @@ pub mod Clean
 pub mod Pieces
 pub mod Lines
 pub mod Reports
-pub mod Fitting
-pub mod Entries

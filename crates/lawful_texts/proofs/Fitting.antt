@@ -17,7 +17,7 @@ use Rattle.object_rules.specs.Cells.{Content, Declared}
 use Rattle.object_rules.specs.MemoryRules.{memory_ready, is_one_cell, holds, is_allocatable}
 use Rattle.object_rules.specs.SpanTests.{is_span, is_cell_offset}
 use Rattle.trace_forms.specs.Ranges.{IsHalf, HasName, SpanHasText, AskHasText}
-use Rattle.written_runs.specs.Ranges.{SpanInRange, AskInRange, IsThreefold}
+use Rattle.lawful_texts.specs.Ranges.{SpanInRange, AskInRange, IsThreefold}
 
 -- ---- spans
 all_from : {X : Type 0} (p : X → Bool) (P : X → Type 0) → ((x : X) → p x ≡ true → P x) → (xs : List X) → list_all p xs ≡ true → All P xs

@@ -27,8 +27,8 @@ use Rattle.trace_text.specs.Forms.{Second, number_among, number_in_reply, given_
 use Rattle.trace_forms.specs.Ranges.{HasText}
 use Rattle.trace_forms.specs.Shown.{HasNumber, TeamHasNumber, HaveTexts}
 use Rattle.trace_forms.proofs.Answering.{has_form}
-use Rattle.written_runs.specs.Ranges.{IsInRange, IsThreefold}
-use Rattle.written_runs.proofs.Fitting.{ask_shown}
+use Rattle.lawful_texts.specs.Ranges.{IsInRange, IsThreefold}
+use Rattle.lawful_texts.proofs.Fitting.{ask_shown}
 
 -- ---- team numbers: a reply that named a team gave it one
 among_some : (t : ℕ) (ts : List FormedTeam) → list_any (λ (x : FormedTeam). nat_eq x.team.0 t) ts ≡ true
