@@ -12,11 +12,11 @@ use Rattle.caf_events.specs.declared.ask.Ask.TheVariants as asks
 use Rattle.caf_events.specs.declared.reply.Reply.{Reply}
 use Rattle.walk_theory.specs.Language.{goes_to, faults, asking, ends_with, stuck}
 use Rattle.walk_theory.specs.Terms.{Found, found, at_fault}
-use Rattle.image_acts.specs.Statuses.{most_cells, most_iterations, most_access_cells, most_items}
+use Rattle.image_acts.specs.Statuses.{most_cells, most_iterations, most_access_cells, most_portions}
 use Rattle.image_acts.specs.Faults.{room, shape_fault, not_allocated, no_team, zero_step, cobounds_fault, not_established, cells_fault, bounds_fault, overflow}
 use Rattle.image_acts.specs.Acts as a
 use Rattle.image_acts.specs.Acts.{Act, constant, stack, variable, operator, bounded, allocation, selector, team, call, print, ask, leave, take as take_part}
-use Rattle.image_acts.specs.Core.{Core, Array, Local, Own, Team, Frame, Item, Printing, with_values, pushed, with_array}
+use Rattle.image_acts.specs.Core.{Core, Array, Local, Own, Team, Frame, Item, Portion, Printing, with_values, pushed, with_array}
 use Rattle.image_acts.specs.Places.{Place, place_in, dims_in, place_size, extents_of, digits, numbers_of_form, triplets, subscripts_in, place_within, no_place, place_numbers, cells_of}
 use Rattle.image_acts.specs.Frames.{pairs_in, array_in, with_array_in, with_cell}
 use Rattle.image_acts.specs.Owning.{own_in, with_own}
@@ -30,7 +30,7 @@ use Rattle.image_acts.specs.Operate.Allocating.{allocation_effect, bounds_size, 
 use Rattle.image_acts.specs.Operate.Selecting.{selector_effect, teamed}
 use Rattle.image_acts.specs.Operate.Teaming.{team_effect}
 use Rattle.image_acts.specs.Operate.Calling.{call_effect}
-use Rattle.image_acts.specs.Operate.Printing.{print_effect, printed, open_items, text_of}
+use Rattle.image_acts.specs.Operate.Printing.{print_effect, printed, renewed, with_values_behind, with_literal_behind, open_portions, text_of}
 use Rattle.image_acts.specs.Operate.Asking.{image, span_of, ask_effect}
 use Rattle.image_acts.specs.Meaning.{missed, settled, operate, effect_of}
 use Rattle.image_acts.specs.Replies.{read_reply, with_status}
@@ -254,13 +254,16 @@ along c g =
     let e = record c { values = vs; arrays = xs } in
     along_one (pairs_in x.elements) (natural dim) (λ b. unless overflow (fits_kind kinds.I4 (g b)) (giving (g b) e)) (λ b. search fine))))
 
-prints : (xs : List Item) (ps : List Printing) (c : Core)
-    → Fine (elim ps [ [] ↦ stuck | q ∷ qs ↦ unless room (nat_le (open_items c.printing + length xs) most_items) (goes_to (record c { printing = record q { items = reverse xs ++ q.items } ∷ qs })) ])
-prints xs [] c = no_operand
-prints xs (q ∷ qs) c = search fine
+prints : (f : List Portion → List Portion) (ps : List Printing) (c : Core)
+    → Fine (elim ps [ [] ↦ stuck | q ∷ qs ↦ unless room (nat_le (open_portions (record q { portions = f q.portions } ∷ qs)) most_portions) (goes_to (record c { printing = record q { portions = f q.portions } ∷ qs })) ])
+prints f [] c = no_operand
+prints f (q ∷ qs) c = search fine
+
+renewed_fine : (f : List Portion → List Portion) (c : Core) → Fine (renewed f c)
+renewed_fine f c = prints f c.printing c
 
 printed_fine : (xs : List Item) (c : Core) → Fine (printed xs c)
-printed_fine xs c = prints xs c.printing c
+printed_fine xs c = renewed_fine (with_values_behind xs) c
 
 pub fine_stack : (x : a.StackAct) (c : Core) → Fine (stack_effect x c)
 fine_stack (a.drop n) c = search fine
@@ -383,7 +386,7 @@ fine_print (a.begin_format text) c = search fine
 fine_print a.print_number c = search (fine, printed_fine)
 fine_print a.print_truth c = search (fine, printed_fine)
 fine_print (a.print_array k) c = search (fine, printed_fine)
-fine_print (a.print_literal text) c = search (fine, printed_fine)
+fine_print (a.print_literal number text) c = renewed_fine (with_literal_behind number text) c
 
 pub fine_team : (x : a.TeamAct) (c : Core) → Fine (team_effect x c)
 fine_team a.child_team c = search fine
