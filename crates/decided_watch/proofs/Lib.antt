@@ -1,0 +1,4 @@
+pub mod Tables
+pub mod Noting
+pub mod Facts
+pub mod Deciding
