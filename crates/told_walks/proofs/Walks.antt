@@ -14,7 +14,7 @@ use Rattle.image_acts.specs.Acts.{Act, ask, end_program}
 use Rattle.image_acts.specs.Core.{Core}
 use Rattle.image_acts.specs.Taking.{Acted, tested}
 use Rattle.image_acts.specs.Meaning.{effect_of, frames, image_language}
-use Rattle.told_walks.specs.Asked.{Told, IsKnown, IsShort, Names, EffectNames, TestNames, PartsName, NamesTold, FormNames, BranchesName, StepsName, AllName, WalksTold, at_first, and_by}
+use Rattle.told_walks.specs.Asked.{Told, IsKnown, IsShort, Names, EffectNames, TestNames, PartsName, NamesTold, FormNames, BranchesName, StepsName, AllName, WalksTold, told_next}
 use Rattle.told_walks.proofs.Parts.{Within, names_then, known_test}
 
 -- ---- what is left to do
@@ -110,7 +110,7 @@ Good k c = TasksName c.tasks k c.core × AreLeft c.tasks
 
 abbrev Follows : Told → Move (Config Act Core) Ask Reply → Type 0
 Follows k (goes c) = Good k c
-Follows k (asks a l f) = Names k a × ((r : Reply) → Answers a r → IsShort r → Good (and_by k r) (f r))
+Follows k (asks a l f) = Names k a × ((r : Reply) → Answers a r → IsShort r → Good (told_next k a r) (f r))
 Follows k over = Unit {0}
 
 counted_follows : (limit l n : ℕ) (k : Told) (onward : Config Act Core) (c : Core) → Good k onward → Follows k (counted image_language limit l n onward (to [] c n))
@@ -185,12 +185,12 @@ module _ (procedures : ℕ → Steps Act) (limit : ℕ) (bodies : (n : ℕ) → 
   walks_name [] k c e g answers short w = tt
   walks_name (x ∷ es) k c e g (a, answers) (b, short) (f, (n, h), w) =
       let s = subst (Follows k) h (come n k c g) in
-      (s.0, walks_name es (and_by k x.reply) (f x.reply) e (s.1 x.reply a b) answers short w)
+      (s.0, walks_name es (told_next k x.ask x.reply) (f x.reply) e (s.1 x.reply a b) answers short w)
 
   clear_walks : (c : Config Act Core) (k : Told) → IsKnown k c.core → Clear c.tasks → (es : List (Said Ask Reply)) (e : Config Act Core) → AllAnswer Answers es
       → Each (λ (x : Said Ask Reply). IsShort x.reply) es → Walk Ls c es e → AllName k es
   clear_walks c k i h es e answers short w = walks_name es k c e (h.0 k c.core i, h.1) answers short w
 
   -- from the start of a program on
-  pub start_walks : (me line : ℕ) (first : Core) → IsKnown (at_first me) first → WalksTold me Ls (start (ask end_program) line first)
-  start_walks me line first i es e answers short w = clear_walks (start (ask end_program) line first) (at_first me) i (λ j d h. (h, λ k b g. tt), tt) es e answers short w
+  pub start_walks : (line : ℕ) (first : Core) (k : Told) → IsKnown k first → WalksTold k Ls (start (ask end_program) line first)
+  start_walks line first k i es e answers short w = clear_walks (start (ask end_program) line first) k i (λ j d h. (h, λ l b g. tt), tt) es e answers short w
