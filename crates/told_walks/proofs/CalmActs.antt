@@ -24,7 +24,7 @@ use Rattle.image_acts.specs.Acts.{stack, team, ask}
 use Rattle.image_acts.specs.Core.{Core, Array, Local, Own, Team, Frame, Item, Portion, Printing, with_values, pushed, with_array}
 use Rattle.image_acts.specs.Places.{Place, place_in, place_size, extents_of, digits, numbers_of_form, triplets, subscripts_in, place_within, no_place, place_numbers, cells_of}
 use Rattle.image_acts.specs.Frames.{pairs_in, array_in, with_array_in, with_cell, with_frame, with_last}
-use Rattle.image_acts.specs.Owning.{own_in, with_own}
+use Rattle.image_acts.specs.Owning.{own_in}
 use Rattle.image_acts.specs.Teams.{behind_first, members, index_of, is_established, member_at, cosubscripts_behind, index_in}
 use Rattle.image_acts.specs.Taking.{Acted, giving, put_down, given, found_in, unless, taken, taking_one, taking_two, taking, seeing, taking_array, seeing_array, using}
 use Rattle.image_acts.specs.Operate.Stack.{stack_effect}

@@ -1,13 +1,12 @@
 -- The walk of a program whose blocks name no team but one that was told names no other.
-use Rattle.std.proofs.Common.{◌≡◌, ℕ, zero, suc, ◌+◌, nat_lt, nat_eq, List, [], ◌∷◌, ◌++◌, Bool, true, false, cond, ◌||◌, ◌⊎◌, inl, inr, length, refl, sym, subst}
-use Rattle.std.specs.Prelude.{Option, None, Some}
+use Rattle.std.proofs.Common.{ℕ, zero, suc, ◌+◌, nat_lt, List, [], ◌∷◌, Bool, true, false, cond, subst}
 use Rattle.trace_theory.specs.Entries.{Each}
 use Rattle.trace_theory.specs.Machines.{Move, goes, asks, over, Said, go, goes_on, Walk}
 use Rattle.trace_theory.specs.Simulations.{AllAnswer}
 use Rattle.caf_events.specs.declared.ask.Ask.{Ask}
 use Rattle.caf_events.specs.declared.reply.Reply.{Reply}
 use Rattle.caf_events.specs.Answers.{Answers}
-use Rattle.walk_theory.specs.Language.{Effect, goes_to, faults, asking, ends_with, stuck, Tested, no_value, holds, fails, acted, counted, by_test}
+use Rattle.walk_theory.specs.Language.{goes_to, faults, asking, ends_with, stuck, Tested, no_value, holds, fails, acted, counted, by_test}
 use Rattle.walk_theory.specs.Syntax.{Parts, end_parts, value, act, enter, either, Form, simple, choose, loop, around, exit, cycle, return, otherwise, branch, Steps, stop, also}
 use Rattle.walk_theory.specs.Walks.{Loop, Task, run, eval, tally, decide, pick, again, iterate, back, after_loop, from_loop, from_back, backs, Config, to, form_tasks, start, step, step_task}
 use Rattle.image_acts.specs.Acts.{Act, ask, end_program}
@@ -15,7 +14,7 @@ use Rattle.image_acts.specs.Core.{Core}
 use Rattle.image_acts.specs.Taking.{Acted, tested}
 use Rattle.image_acts.specs.Meaning.{effect_of, frames, image_language}
 use Rattle.told_walks.specs.Asked.{Told, IsKnown, IsShort, Names, EffectNames, TestNames, PartsName, NamesTold, FormNames, BranchesName, StepsName, AllName, WalksTold, told_next}
-use Rattle.told_walks.proofs.Parts.{Within, names_then, known_test}
+use Rattle.told_walks.proofs.Parts.{names_then, known_test}
 
 -- ---- what is left to do
 abbrev LoopNames : Loop Act → Type 0

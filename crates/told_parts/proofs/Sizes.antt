@@ -1,6 +1,6 @@
 -- The sizes of an image's own coarrays, as it was told, and numbers that stand beneath others.
-use Rattle.std.proofs.Common.{◌≡◌, ℕ, zero, suc, ◌+◌, ◌≤◌, Bool, true, false, ◌&&◌, List, [], ◌∷◌, ◌++◌, map, take, drop, length, slice_get, slice_set, refl, sym, subst, ap, ◌∙◌, min, arith}
-use Rattle.std.specs.Prelude.{ℤ, pos, negsuc, int_le, Option, None, Some, is_some}
+use Rattle.std.proofs.Common.{◌≡◌, ℕ, zero, suc, ◌+◌, ◌≤◌, true, List, [], ◌∷◌, ◌++◌, map, take, drop, length, slice_get, slice_set, refl, sym, subst, ap, ◌∙◌, min, arith}
+use Rattle.std.specs.Prelude.{ℤ, pos, negsuc, int_le, Option, None, Some}
 use Rattle.std.proofs.lemmas.List.{map-set}
 use Rattle.std.proofs.lemmas.Bool.{leb-true}
 use Rattle.caf_events.specs.declared.reply.Reply.{Reply}

@@ -1,14 +1,11 @@
 -- ALLOCATE and DEALLOCATE: what is allocated isn't there and has room, and what is deallocated is there, by the tests directly before.
-use Rattle.std.proofs.Common.{◌≡◌, ℕ, suc, ◌+◌, ◌-◌, ◌≤◌, Bool, true, false, cond, ◌&&◌, ◌||◌, not, List, [], ◌∷◌, ◌++◌, map, take, drop, length, slice_get, slice_set, refl, sym, subst, ap, ◌∙◌, min, nat_le, nat_eq, inl, inr, arith}
+use Rattle.std.proofs.Common.{◌≡◌, ℕ, suc, ◌+◌, ◌-◌, ◌≤◌, Bool, true, false, cond, ◌&&◌, not, List, [], ◌∷◌, take, drop, length, slice_get, slice_set, refl, sym, subst, ap, ◌∙◌, nat_le, nat_eq, arith}
 use Rattle.std.specs.Prelude.{ℤ, pos, int_le, Option, None, Some, is_some}
-use Rattle.std.proofs.lemmas.Bool.{cases_Bool, and_parts, or_parts, eq-eqb}
+use Rattle.std.proofs.lemmas.Bool.{and_parts, or_parts, eq-eqb}
 use Rattle.caf_base.specs.Arithmetic.{truth, is_true, natural}
 use Rattle.caf_events.specs.declared.ask.Ask.TheVariants as asks
-use Rattle.caf_events.specs.declared.reply.Reply.{Reply}
-use Rattle.caf_events.specs.declared.reply.Reply.TheVariants as replies
-use Rattle.caf_base.specs.declared.place.ImageNo.{ImageNo}
 use Rattle.coarray_types.specs.Places.{size_of}
-use Rattle.walk_theory.specs.Language.{goes_to, faults, asking, stuck}
+use Rattle.walk_theory.specs.Language.{goes_to, asking}
 use Rattle.walk_theory.specs.Syntax.{Parts, end_parts}
 use Rattle.checked_tree.specs.declared.data.Object.{Object}
 use Rattle.checked_tree.specs.declared.data.Object.TheVariants as objects
@@ -21,22 +18,19 @@ use Rattle.image_acts.specs.Core.{Core, Own, Local, Frame, with_values, pushed}
 use Rattle.image_acts.specs.Frames.{joined, pairs_in, array_in, with_array_in, with_frame, with_last, zeros_in, arrays_of_frames, cells_in_frames}
 use Rattle.image_acts.specs.Owning.{own_in, with_own}
 use Rattle.image_acts.specs.Teams.{current_team}
-use Rattle.image_acts.specs.Taking.{Acted, given, taken, taking, unless, telling}
-use Rattle.image_acts.specs.Replies.{arrival_reply, leave_reply, round_in}
-use Rattle.image_acts.specs.Words.{word}
+use Rattle.image_acts.specs.Taking.{Acted, given, taken, taking, unless}
 use Rattle.image_acts.specs.Meaning.{settled, effect_of}
 use Rattle.image_acts.specs.Operate.Allocating.{bounds_size, cobounds_size, are_cobounds, are_of_kind_4, planned, sum_of_cells, is_well, own_of, laid, made, noted, freed, own_freed}
 use Rattle.image_acts.specs.Operate.Variables.{if_room}
 use Rattle.image_acts.specs.Operate.Asking.{cells_word}
 use Rattle.tree_meaning.specs.Sequences.{◌▸◌, doing, nothing, pushing, choosing}
 use Rattle.tree_meaning.specs.Allocation as alloc
-use Rattle.tree_meaning.specs.ImageControl as control
-use Rattle.told_walks.specs.Asked.{Told, Names, IsShort, IsKnown, EffectNames, PartsName, and_by, told_next, own_cells, cells_in}
+use Rattle.told_walks.specs.Asked.{Told, IsKnown, EffectNames, PartsName, told_next, cells_in}
 use Rattle.told_walks.proofs.CalmActs.{known_of, Known, framed}
-use Rattle.told_walks.proofs.Acts.{as_known, goes_known, left_known}
-use Rattle.told_walks.proofs.Parts.{Within, Safe, no_parts, one, acts, both}
-use Rattle.told_programs.proofs.Sizes.{size_told, made_known, freed_known, set_other, bounds_beneath, small_sum, natural_most}
-use Rattle.told_programs.proofs.Rounds.{allocate_round, deallocate_then}
+use Rattle.told_walks.proofs.Acts.{as_known}
+use Rattle.told_walks.proofs.Parts.{Within, Safe, no_parts, one, both}
+use Rattle.told_parts.proofs.Sizes.{size_told, made_known, freed_known, set_other, bounds_beneath, small_sum, natural_most}
+use Rattle.told_parts.proofs.Rounds.{allocate_round, deallocate_then}
 
 -- ---- tests
 unless_then : (x : Act) (n : ℕ) (b : Bool) (e : Acted) (After : Told → Core → Type 0) (k : Told) → EffectNames (settled x e) After k → EffectNames (settled x (unless n b e)) After k
@@ -229,9 +223,11 @@ module _ (y depth rank corank : ℕ) (After : Told → Core → Type 0) (k : Tol
       let u = i.in_use in
       let wide : cells_in k.sizes + cells_word (size_of bs) ≤ most_cells = omega arith in
       subst (λ q. EffectNames (settled (ask (a.create y (depth + cobounds_size corank) rank)) (given q (λ v. asking (asks.Create (record { 0 = c.me }) y (cells_word (size_of (pairs_in v.0)))) (λ r. c)))) (PartsName (doing (allocation (a.note_made y depth rank corank) ∷ [])) After) k)
-      (sym (bounds_beneath depth (bounds_size rank) (cobounds_size corank) c.values p there))
-      ((i.me, size_told k c y None i none, wide), λ r x short. note_then (told_next k (asks.Create (record { 0 = c.me }) y (cells_word (size_of bs))) r)
-      (h (told_next k (asks.Create (record { 0 = c.me }) y (cells_word (size_of bs))) r) (made_known k r c y (cells_word (size_of bs)) o short i none w)))
+      (sym (bounds_beneath depth (bounds_size rank) (cobounds_size corank) c.values p there)) (
+        (i.me, size_told k c y None i none, wide),
+        λ r x short. note_then (told_next k (asks.Create (record { 0 = c.me }) y (cells_word (size_of bs))) r)
+            (h (told_next k (asks.Create (record { 0 = c.me }) y (cells_word (size_of bs))) r) (made_known k r c y (cells_word (size_of bs)) o short i none w)),
+      )
 
 -- all objects
 making_then : (xs : List s.Allocation) (n : ℕ) (After : Told → Core → Type 0) → Within IsKnown After → (k : Told) (c : Core) → IsKnown k c → Planned c.values c.coarrays xs n c.coarray_cells → alloc.has_twice (alloc.objects_of xs) ≡ false
@@ -327,10 +323,12 @@ module _ (y : ℕ) (After : Told → Core → Type 0) (k : Told) (c : Core) (i :
       let told = size_told k c y (Some o) i there in
       let low = room_left k.sizes told in
       let u = i.in_use in
-      let left : (c.coarray_cells - size_of o.bounds) + size_of o.bounds ≡ c.coarray_cells = omega arith in
-      ((i.me, size_of o.bounds, told), λ r x short. (
-      let j = told_next k (asks.Delete (record { 0 = c.me }) y) r in
-      subst (λ q. EffectNames (settled (allocation (a.note_freed y)) (own_freed y q c)) After j) (sym there) (h j (freed_known k r c y (c.coarray_cells - size_of o.bounds) o short i there left))))
+      let left : (c.coarray_cells - size_of o.bounds) + size_of o.bounds ≡ c.coarray_cells = omega arith in (
+        (i.me, size_of o.bounds, told),
+        λ r x short. (
+            let j = told_next k (asks.Delete (record { 0 = c.me }) y) r in
+            subst (λ q. EffectNames (settled (allocation (a.note_freed y)) (own_freed y q c)) After j) (sym there) (h j (freed_known k r c y (c.coarray_cells - size_of o.bounds) o short i there left))),
+      )
 
 freeing_then : (xs : List Object) (After : Told → Core → Type 0) → Within IsKnown After → (k : Told) (c : Core) → IsKnown k c → There c.coarrays xs → alloc.has_twice xs ≡ false → PartsName (alloc.freeing xs) After k c
 freeing_then [] After h k c i there once = h k c i
