@@ -7,6 +7,7 @@ use Rattle.caf_events.specs.Walkers.{AsksNext}
 use Rattle.trace_theory.specs.Machines.{WalkTo}
 use Rattle.walk_theory.specs.Walks.{Config}
 use Rattle.checked_tree.specs.Statements as checked
+use Rattle.tree_meaning.specs.Forms.{bodies}
 use Rattle.tree_meaning.specs.Start.{own_coarrays}
 use Rattle.image_acts.specs.Acts.{Act}
 use Rattle.image_acts.specs.Core.{Core}
@@ -17,6 +18,7 @@ use Rattle.core_runs.specs.Beginnings.{IsOneOf}
 use Rattle.core_runs.specs.CoreRuns.{said_by}
 use Rattle.program_walks.specs.Runs.{program_rules, program_begins}
 use Rattle.told_walks.specs.Asked.{own_cells}
+use Rattle.told_parts.specs.Allocating.{BodiesActOn}
 
 -- the image has come to this ask after the trace
 pub record StandsAt (p : checked.Program) (limit : ℕ) (coarrays : List Declared) (n : ℕ) (fails_at : ℕ → ℕ) (words : ℕ) (t : List Entry) (i : ℕ) (ask : Ask) : Type 0 where
@@ -42,11 +44,15 @@ is_told (asks.Wait owner span threshold) = false
 is_told (asks.Query owner span) = false
 is_told ask = true
 
--- an allocation or a deallocation of a coarray that is declared ALLOCATABLE
-abbrev pub is_allocation : List Declared → Ask → Bool
-is_allocation coarrays (asks.Create owner coarray cells) = is_allocatable (slice_get coarrays coarray)
-is_allocation coarrays (asks.Delete owner coarray) = is_allocatable (slice_get coarrays coarray)
-is_allocation coarrays ask = false
+-- an allocation or a deallocation
+abbrev pub is_allocation : Ask → Bool
+is_allocation (asks.Create owner coarray cells) = true
+is_allocation (asks.Delete owner coarray) = true
+is_allocation ask = false
+
+-- the program allocates and deallocates no coarray but those that are declared ALLOCATABLE
+abbrev pub AllocatesAllocatable : List Declared → checked.Program → Type 0
+AllocatesAllocatable coarrays p = BodiesActOn (λ c. is_allocatable (slice_get coarrays c)) (bodies p)
 
 -- how many cells a declared coarray has from the start, where it is there
 abbrev pub first_cells : Declared → Option ℕ
