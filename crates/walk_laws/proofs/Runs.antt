@@ -10,7 +10,7 @@ use Rattle.program_walks.proofs.LaneOrder.{answers_more}
 use Rattle.walk_theory.specs.Walks.{Config}
 use Rattle.image_acts.specs.Acts.{Act}
 use Rattle.image_acts.specs.Core.{Core}
-use Rattle.walk_laws.specs.Fits.{StandsAt}
+use Rattle.walk_laws.specs.Fits.{told_by, StandsAt}
 use Rattle.std.proofs.lemmas.List.{append-nil}
 use Rattle.trace_theory.specs.Simulations.{AllAnswer}
 use Rattle.caf_events.specs.declared.ask.Ask.{Ask}
@@ -31,7 +31,7 @@ use Rattle.object_rules.specs.ImagePairs.{names}
 use Rattle.object_rules.specs.BoardRules.{is_image, fits_board}
 use Rattle.core_runs.specs.Sequences.{Joins, IsDeparture}
 use Rattle.answer_laws.proofs.Joined.{Joined, joined_before}
-use Rattle.walk_laws.proofs.Members.{told_by, name_last, members_told_of}
+use Rattle.walk_laws.proofs.Members.{name_last, members_told_of}
 use Rattle.std.proofs.lemmas.Bool.{and_from, le-leb}
 use Rattle.object_rules.specs.MemoryRules.{has_first_values}
 use Rattle.object_rules.specs.Answering.{AnswersFrom}

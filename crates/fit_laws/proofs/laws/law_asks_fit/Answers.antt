@@ -1,5 +1,5 @@
-use Rattle.walk_laws.proofs.Fitting.{told_fits, allocation_fits}
-use Rattle.walk_laws.proofs.laws.law_asks_fit.Goals as goal
+use Rattle.fit_laws.proofs.Fitting.{told_fits, allocation_fits}
+use Rattle.fit_laws.proofs.laws.law_asks_fit.Goals as goal
 
 pub returns-clause-told : goal.returns-clause-told
 returns-clause-told c p limit coarrays n fails_at words t declared core few i a h told = told_fits p limit coarrays n fails_at words t declared core few i a h told

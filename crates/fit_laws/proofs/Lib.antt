@@ -1,0 +1,5 @@
+pub mod Departures
+pub mod Pairing
+pub mod HeldLocks
+pub mod Allocated
+pub mod Fitting
