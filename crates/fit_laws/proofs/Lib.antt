@@ -3,3 +3,4 @@ pub mod Pairing
 pub mod HeldLocks
 pub mod Allocated
 pub mod Fitting
+pub mod Declaring

@@ -1,6 +1,6 @@
 //! That the next ask of an image fits.
 
-ghost use Rattle.std.specs.Prelude.{◌≡◌, ◌≤◌, ℕ, true, List, length};
+ghost use Rattle.std.specs.Prelude.{◌≡◌, ◌≤◌, ℕ, true, List, length, map};
 ghost use Rattle.std.specs.List.{list_all};
 ghost use Rattle.caf_events.specs.declared.ask.Ask.{Ask};
 ghost use Rattle.caf_events.specs.declared.event.Entry.{Entry};
@@ -11,6 +11,8 @@ ghost use Rattle.object_rules.specs.MemoryRules.{has_first_values};
 ghost use Rattle.core_runs.specs.CoreRuns.{IsCoreRun, at_board};
 ghost use Rattle.core_runs.specs.Waits.{IsWaiting};
 ghost use Rattle.wait_reason.specs.WaitsFor.{is_fit_after};
+ghost use Rattle.image_code.specs.declared.tables.Coarray.{Coarray};
+ghost use Rattle.program_tables.specs.Tables.{tables_of};
 ghost use Rattle.program_walks.specs.Runs.{program_rules, program_begins};
 ghost use Rattle.told_walks.specs.Asked.{most_team};
 ghost use Rattle.walk_laws.specs.Fits.{StandsAt, AreDeclaredBy};
@@ -34,4 +36,10 @@ pub fn law_waits_fit()
     ensures { (p : checked.Program) (limit : ℕ) (coarrays : List Declared) (n : ℕ) (fails_at : ℕ → ℕ) (words : ℕ) (t : List Entry) → list_all has_first_values coarrays ≡ true
         → IsCoreRun (program_rules p limit) (program_begins p coarrays n fails_at words) t → length (teams_after n (at_board t)) ≤ most_team
         → (i line : ℕ) (a : Ask) → IsWaiting (program_rules p limit) (program_begins p coarrays n fails_at words) t i line a → is_told a ≡ true → is_fit_after coarrays n t i a ≡ true }
+{}
+
+/// The memories of a run have from the start the coarrays that the program declares, where they are made of its tables with as many cells, and allocatable or not as there.
+pub fn law_tables_declare()
+    ensures { (made : Coarray → Declared) → ((c : Coarray) → (made c).allocatable ≡ c.is_allocatable) → ((c : Coarray) → (made c).cells ≡ c.cells)
+        → (p : checked.Program) → AreDeclaredBy p (map made (tables_of p).coarrays) }
 {}
