@@ -17,6 +17,8 @@ use Rattle.image_lanes.proofs.CourseLaws.{course_of}
 use Rattle.team_laws.proofs.Lists.{each_append}
 use Rattle.told_parts.specs.Allocating.{IsOfSet, StepsActOn, BodiesActOn, WalksOfSet}
 use Rattle.told_parts.proofs.AllocatingWalks.{start_so}
+use Rattle.told_programs.specs.Allowed.{AllocatesOf}
+use Rattle.told_programs.proofs.ProgramAllocates.{program_allocates}
 
 module _ (f : ℕ → Bool) where
   body_acts : (bs : List (Steps Act)) → BodiesActOn f bs → (k : ℕ) → StepsActOn f (body_of bs k)
@@ -52,8 +54,8 @@ module _ (f : ℕ → Bool) where
         subst (Each (λ (e : Said Ask Reply). IsOfSet f e.ask)) (sym v.all)
         (each_append (λ (e : Said Ask Reply). IsOfSet f e.ask) v.walked v.rest (walks v.walked v.walks.0 v.walks.1) (rest (lane_past (lane_start image fails_at limit first) v.walked v.to) v.rest v.ends))
 
-  pub image_acts : (p : s.Program) → BodiesActOn f (bodies p) → (limit i n fails_at words : ℕ) → WalksOfSet f (lane_step (walk_step p limit)) (lane_start i fails_at words (start_of p i n))
-  image_acts p h limit i n fails_at words = lane_acts (walk_step p limit) (start_of p i n) (program_acts p h limit i n) i fails_at words
+  pub image_acts : (p : s.Program) → AllocatesOf f p → (limit i n fails_at words : ℕ) → WalksOfSet f (lane_step (walk_step p limit)) (lane_start i fails_at words (start_of p i n))
+  image_acts p h limit i n fails_at words = lane_acts (walk_step p limit) (start_of p i n) (program_acts p (program_allocates f p h) limit i n) i fails_at words
 
 pub each_last : (P : Said Ask Reply → Type 0) (xs : List (Said Ask Reply)) (e : Said Ask Reply) → Each P (xs ++ e ∷ []) → P e
 each_last P [] e h = h.0

@@ -3,10 +3,9 @@ use Rattle.std.specs.Prelude.{Bool, true, false, List, slice_get}
 use Rattle.caf_events.specs.declared.ask.Ask.{Ask}
 use Rattle.caf_events.specs.declared.ask.Ask.TheVariants as asks
 use Rattle.checked_tree.specs.Statements as checked
-use Rattle.tree_meaning.specs.Forms.{bodies}
 use Rattle.object_rules.specs.Cells.{Declared}
 use Rattle.object_rules.specs.MemoryRules.{is_allocatable}
-use Rattle.told_parts.specs.Allocating.{BodiesActOn}
+use Rattle.told_programs.specs.Allowed.{AllocatesOf}
 
 -- Whether what an ask names is known to fit from what the image was told, or stands in the ask itself: that of all asks but a collective's arrival, what allocates and
 -- deallocates, and those at a memory that a program's own statements make.
@@ -33,4 +32,4 @@ is_allocation ask = false
 
 -- the program allocates and deallocates no coarray but those that are declared ALLOCATABLE
 abbrev pub AllocatesAllocatable : List Declared → checked.Program → Type 0
-AllocatesAllocatable coarrays p = BodiesActOn (λ c. is_allocatable (slice_get coarrays c)) (bodies p)
+AllocatesAllocatable coarrays p = AllocatesOf (λ c. is_allocatable (slice_get coarrays c)) p
