@@ -32,9 +32,8 @@ KeptBy (allocation (a.note_made k depth rank corank)) c d = Unit {0}
 KeptBy (allocation (a.note_freed k)) c d = Unit {0}
 KeptBy x c d = kept_of d ≡ kept_of c
 
--- an ask of no single cell of a memory
+-- an ask for no lock and for no event
 abbrev pub is_plain : Ask → Bool
-is_plain (asks.Atomic owner op span x y) = false
 is_plain (asks.Lock owner span) = false
 is_plain (asks.TryLock owner span) = false
 is_plain (asks.Unlock owner span) = false
@@ -43,7 +42,7 @@ is_plain (asks.Wait owner span threshold) = false
 is_plain (asks.Query owner span) = false
 is_plain q = true
 
--- asks that an act may make: none, those of no single cell, any
+-- asks that an act may make: none, those for no lock and no event, any
 abbrev pub No : Ask → Type 0
 No = λ q. ⊥
 
@@ -53,9 +52,8 @@ Plain = λ q. is_plain q ≡ true
 abbrev pub Any : Ask → Type 0
 Any = λ q. Unit {0}
 
--- an act of another family asks nothing, and few acts ask for a single cell
+-- an act of another family asks nothing, and few acts ask for a lock or an event
 abbrev pub AsksBy : Act → Ask → Type 0
-AsksBy (ask (a.atomic op j kind)) = Any
 AsksBy (ask (a.lock j)) = Any
 AsksBy (ask (a.try_lock j)) = Any
 AsksBy (ask (a.unlock j)) = Any

@@ -1,0 +1,5 @@
+pub mod Parts
+pub mod Acts
+pub mod Levels
+pub mod Quieting
+pub mod Walks
