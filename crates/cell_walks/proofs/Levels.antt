@@ -10,6 +10,7 @@ use Rattle.image_acts.specs.Meaning.{effect_of}
 use Rattle.image_code.specs.Levels.{of_numbers, tested_of, taken_of, left_of}
 use Rattle.stack_laws.specs.Exact.{Stand}
 use Rattle.stack_laws.proofs.Standing.{stand_apart, stand_of, parted}
+use Rattle.cell_walks.specs.Calls.{calls}
 use Rattle.cell_walks.specs.Fitting.{EffectFits, PartsFit}
 use Rattle.cell_walks.proofs.Parts.{effect_more, parts_more, test_fits}
 use Rattle.cell_walks.proofs.Acts.{IsFree, Holds, act_fits}
@@ -21,14 +22,6 @@ IsQuiet still alone (value p q) = IsQuiet still alone p × IsQuiet still alone q
 IsQuiet still alone (act x q) = IsFree still x × IsQuiet still alone q
 IsQuiet still alone (enter k q) = (alone ≡ false) × IsQuiet still alone q
 IsQuiet still alone (either p q r) = IsQuiet still alone p × IsQuiet still alone q × IsQuiet still alone r
-
--- parts that call a procedure
-abbrev pub calls : Parts Act → Bool
-calls end_parts = false
-calls (value p q) = calls p || calls q
-calls (act x q) = calls q
-calls (enter k q) = true
-calls (either p q r) = calls p || (calls q || calls r)
 
 either_false : (b d : Bool) → (b || d) ≡ false → (b ≡ false) × (d ≡ false)
 either_false true d h = absurd (cc)
