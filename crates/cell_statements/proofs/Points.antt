@@ -1,6 +1,6 @@
 -- What the place and the owner of one cell come to: the cell is within its coarray, and the owner is an image of the run.
 use Rattle.std.proofs.Common.{◌≡◌, ◌∙◌, ℕ, zero, suc, ◌+◌, ◌≤◌, ◌<◌, Bool, true, false, cond, List, [], ◌∷◌, ◌++◌, length, refl, ap, ap₂, sym, subst, arith}
-use Rattle.std.specs.Prelude.{ℤ, pos, ◌==◌, ◌||◌, not, min, drop, nat_eq, nat_lt, nat_le, slice_get, slice_index_or, Option, None, Some}
+use Rattle.std.specs.Prelude.{map, ℤ, pos, ◌==◌, ◌||◌, not, min, drop, nat_eq, nat_lt, nat_le, slice_get, slice_index_or, Option, None, Some}
 use Rattle.std.proofs.lemmas.Bool.{leb-true, lt-ltb, and_from}
 use Rattle.trace_theory.specs.Entries.{Each}
 use Rattle.coarray_types.specs.Places.{size_of}
@@ -26,8 +26,9 @@ use Rattle.image_acts.specs.Taking.{Acted, giving, given, found_in, unless, take
 use Rattle.image_acts.specs.Operate.Asking.{cell_span}
 use Rattle.image_acts.specs.Meaning.{settled, effect_of}
 use Rattle.stack_laws.proofs.Standing.{taken_of}
+use Rattle.told_walks.specs.Asked.{own_cells}
 use Rattle.stack_laws.proofs.Places.{element_inside}
-use Rattle.cell_walks.specs.Fitting.{IsSmall, IsSound, EffectFits}
+use Rattle.cell_walks.specs.Fitting.{Sizes, IsSmall, IsSound, EffectFits}
 
 -- the cell with this offset is one that a coarray can have, and is there where coarray k is allocated here
 abbrev pub IsPoint : Core → ℕ → ℕ → Type 0
@@ -55,6 +56,15 @@ small_in [] k o h e = absurd (cc)
 small_in (None ∷ os) zero o h e = absurd (cc)
 small_in (Some p ∷ os) zero o h e = (let q : p ≡ o = cc in subst (λ (z : Own). size_of z.bounds ≤ most_cells) q h.0)
 small_in (p ∷ os) (suc k) o h e = small_in os k o h.1 e
+
+size_in : (os : List (Option Own)) (k : ℕ) (o : Own) → joined (slice_get os k) ≡ Some o → joined (slice_get (map own_cells os) k) ≡ Some (size_of o.bounds)
+size_in [] k o e = absurd (cc)
+size_in (x ∷ os) zero o e = ap own_cells e
+size_in (x ∷ os) (suc k) o e = size_in os k o e
+
+-- what the image was told of it is its size
+pub told_size : (n me : ℕ) (z : Sizes) (c : Core) (k : ℕ) (o : Own) → IsSound n me z c → own_in c k ≡ Some o → joined (slice_get z k) ≡ Some (size_of o.bounds)
+told_size n me z c k o i e = subst (λ y. joined (slice_get y k) ≡ Some (size_of o.bounds)) i.sizes (size_in c.coarrays k o e)
 
 -- ---- members
 team_images : (n t : ℕ) (ks : List Team) → Each (λ (x : Team). Each (IsOneOf n) x.members) ks → Each (IsOneOf n) (members_of (team_in t ks))
@@ -86,8 +96,8 @@ index_in_team : (o : Own) (ss : List ℤ) (m : ℕ) → index_of o ss m ≤ m
 index_in_team o ss m = index_within (are_within_cobounds o.lowers o.extents ss) (image_order o.lowers o.extents ss + 1) m
 
 module _ (n me : ℕ) (coarrays : List Declared) (steady : Bool) where
-  abbrev Comes : Core → Acted → (Core → Type 0) → Type 0
-  Comes c e After = EffectFits n me coarrays steady c e After
+  abbrev Comes : Sizes → Acted → (Sizes → Core → Type 0) → Type 0
+  Comes z e After = EffectFits n me coarrays steady e After z
 
   -- ---- the place of one cell
   abbrev co_placing : Option Own → List ℕ → List ℤ → Core → Acted
@@ -97,10 +107,10 @@ module _ (n me : ℕ) (coarrays : List Declared) (steady : Bool) where
   point_numbers : (p : Place) (k : ℕ) → p.dims ≡ [] → p.start ≡ pos k → place_numbers p ≡ pos k ∷ []
   point_numbers p k d s = ap₂ (λ x y. x ∷ dims_numbers y) s d
 
-  pub pointed : (k form : ℕ) (c : Core) (xs vs : List ℤ) → length xs ≡ numbers_of_form (digits form) → triplets (digits form) ≡ 0 → IsSound n me c → (After : Core → Type 0)
-      → ((s : ℕ) → IsPoint c k s → After (with_values c (pos s ∷ vs))) → Comes (with_values c (xs ++ vs)) (effect_of (bounded (a.co_section k form)) (with_values c (xs ++ vs))) After
-  pointed k form c xs vs h z i After more =
-      subst (λ o. Comes (with_values c (xs ++ vs)) (settled x (given o (λ p. co_placing (own_in c k) ds p.0 (with_values c p.1)))) After) (sym (taken_of (numbers_of_form ds) xs vs h)) (by_own (own_in c k) refl)
+  pub pointed : (k form : ℕ) (z : Sizes) (c : Core) (xs vs : List ℤ) → length xs ≡ numbers_of_form (digits form) → triplets (digits form) ≡ 0 → IsSound n me z c → (After : Sizes → Core → Type 0)
+      → ((s : ℕ) → IsPoint c k s → After z (with_values c (pos s ∷ vs))) → Comes z (effect_of (bounded (a.co_section k form)) (with_values c (xs ++ vs))) After
+  pointed k form z c xs vs h t i After more =
+      subst (λ o. Comes z (settled x (given o (λ p. co_placing (own_in c k) ds p.0 (with_values c p.1)))) After) (sym (taken_of (numbers_of_form ds) xs vs h)) (by_own (own_in c k) refl)
     where
       x : Act
       x = bounded (a.co_section k form)
@@ -112,21 +122,21 @@ module _ (n me : ℕ) (coarrays : List Declared) (steady : Bool) where
       ys = put_down xs []
 
       by_found : (o : Own) → own_in c k ≡ Some o → (f : Found Place) → place_within o.bounds (subscripts_in ds ys) ≡ f
-          → Comes (with_values c (xs ++ vs)) (settled x (found_in f (λ p. language.goes_to (with_values c (put_down (place_numbers p) vs))))) After
+          → Comes z (settled x (found_in f (λ p. language.goes_to (with_values c (put_down (place_numbers p) vs))))) After
       by_found o e (found p) q =
-          let r = element_inside o.bounds ds ys p q z in
-          subst (λ ns. After (with_values c (put_down ns vs))) (sym (point_numbers p r.1 r.0 r.2))
+          let r = element_inside o.bounds ds ys p q t in
+          subst (λ ns. After z (with_values c (put_down ns vs))) (sym (point_numbers p r.1 r.0 r.2))
           (more r.1 (let l = r.3 in let m = small_in c.coarrays k o i.coarrays e in omega arith, λ o' e'. (let w : o ≡ o' = (let v : Some o ≡ Some o' = sym e ∙ e' in cc) in subst (λ (u : Own). r.1 < size_of u.bounds) w r.3)))
       by_found o e (at_fault j) q = tt
 
-      by_own : (o : Option Own) → own_in c k ≡ o → Comes (with_values c (xs ++ vs)) (settled x (co_placing o ds ys (with_values c vs))) After
+      by_own : (o : Option Own) → own_in c k ≡ o → Comes z (settled x (co_placing o ds ys (with_values c vs))) After
       by_own None e =
-          subst (λ t. After (with_values c (put_down (place_numbers (no_place t)) vs))) (sym z) (more 0 (omega arith, λ o' e'. absurd (let v : None ≡ Some o' = sym e ∙ e' in cc)))
+          subst (λ m. After z (with_values c (put_down (place_numbers (no_place m)) vs))) (sym t) (more 0 (omega arith, λ o' e'. absurd (let v : None ≡ Some o' = sym e ∙ e' in cc)))
       by_own (Some o) e = by_found o e (place_within o.bounds (subscripts_in ds ys)) refl
 
   -- ---- the owner
-  pub own_imaged : (c : Core) (s : ℤ) (us : List ℤ) (After : Core → Type 0) → After (with_values c (pos c.me ∷ s ∷ us)) → Comes (with_values c (s ∷ us)) (effect_of (selector (a.own_image 0)) (with_values c (s ∷ us))) After
-  own_imaged c s us After h = h
+  pub own_imaged : (z : Sizes) (c : Core) (s : ℤ) (us : List ℤ) (After : Sizes → Core → Type 0) → After z (with_values c (pos c.me ∷ s ∷ us)) → Comes z (effect_of (selector (a.own_image 0)) (with_values c (s ∷ us))) After
+  own_imaged z c s us After h = h
 
   abbrev selected : Core → ℕ → Own → Place → ℕ → Acted
   selected c t o p i =
@@ -136,28 +146,25 @@ module _ (n me : ℕ) (coarrays : List Declared) (steady : Bool) where
   owner_in c t None ss p = language.faults not_established
   owner_in c t (Some o) ss p = selected c t o p (index_of o ss (length (members c t)))
 
-  pub imaged : (k corank : ℕ) (c : Core) (t s : ℤ) (ys us : List ℤ) → length ys ≡ corank → IsSound n me c → (After : Core → Type 0) → ((j : ℕ) → IsOneOf n j → After (with_values c (pos j ∷ s ∷ us)))
-      → Comes (with_values c (t ∷ (ys ++ (s ∷ us)))) (effect_of (selector (a.owner k 0 corank)) (with_values c (t ∷ (ys ++ (s ∷ us))))) After
-  imaged k corank c t s ys us h i After more =
-      subst (λ o. Comes start (settled x (given o (λ p. seeing 0 (place_size 0) (with_values c p.1) (λ ns. owner_in (with_values c p.1) (natural t) (own_in c k) p.0 (place_in ns))))) After)
+  pub imaged : (k corank : ℕ) (z : Sizes) (c : Core) (t s : ℤ) (ys us : List ℤ) → length ys ≡ corank → IsSound n me z c → (After : Sizes → Core → Type 0) → ((j : ℕ) → IsOneOf n j → After z (with_values c (pos j ∷ s ∷ us)))
+      → Comes z (effect_of (selector (a.owner k 0 corank)) (with_values c (t ∷ (ys ++ (s ∷ us))))) After
+  imaged k corank z c t s ys us h i After more =
+      subst (λ o. Comes z (settled x (given o (λ p. seeing 0 (place_size 0) (with_values c p.1) (λ ns. owner_in (with_values c p.1) (natural t) (own_in c k) p.0 (place_in ns))))) After)
       (sym (taken_of corank ys (s ∷ us) h)) (by_own (own_in c k))
     where
       x : Act
       x = selector (a.owner k 0 corank)
 
-      start : Core
-      start = with_values c (t ∷ (ys ++ (s ∷ us)))
-
       e : Core
       e = with_values c (s ∷ us)
 
       by_index : (o : Own) (j : ℕ) → j ≤ length (members c (natural t)) → (b d : Bool) → (j == 0) ≡ b
-          → Comes start (settled x (unless cobounds_fault (not b || false) (unless not_established d (language.goes_to (with_values c (pos (member_at (members c (natural t)) j) ∷ s ∷ us)))))) After
-      by_index o j l true d z = tt
-      by_index o j l false true z = more (member_at (members c (natural t)) j) (member_image n (members c (natural t)) j (team_images n (natural t) c.known i.known) z l)
-      by_index o j l false false z = tt
+          → Comes z (settled x (unless cobounds_fault (not b || false) (unless not_established d (language.goes_to (with_values c (pos (member_at (members c (natural t)) j) ∷ s ∷ us)))))) After
+      by_index o j l true d w = tt
+      by_index o j l false true w = more (member_at (members c (natural t)) j) (member_image n (members c (natural t)) j (team_images n (natural t) c.known i.known) w l)
+      by_index o j l false false w = tt
 
-      by_own : (o : Option Own) → Comes start (settled x (owner_in e (natural t) o (put_down ys []) (record { start = s; dims = [] }))) After
+      by_own : (o : Option Own) → Comes z (settled x (owner_in e (natural t) o (put_down ys []) (record { start = s; dims = [] }))) After
       by_own None = tt
       by_own (Some o) =
           let j = index_of o (put_down ys []) (length (members c (natural t))) in
@@ -169,24 +176,22 @@ module _ (n me : ℕ) (coarrays : List Declared) (steady : Bool) where
   drop_front (q ∷ qs) zs = drop_front qs zs
 
   -- the two numbers beneath some are put down once more
-  pub two_copied : (o : ℕ) (c : Core) (qs : List ℤ) (v w : ℤ) (us : List ℤ) → length qs ≡ o → (After : Core → Type 0) → After (with_values c (v ∷ w ∷ (qs ++ (v ∷ w ∷ us))))
-      → Comes (with_values c (qs ++ (v ∷ w ∷ us))) (effect_of (stack (a.copy o 2)) (with_values c (qs ++ (v ∷ w ∷ us)))) After
-  two_copied o c qs v w us h After g =
-      let d = with_values c (qs ++ (v ∷ w ∷ us)) in
+  pub two_copied : (o : ℕ) (z : Sizes) (c : Core) (qs : List ℤ) (v w : ℤ) (us : List ℤ) → length qs ≡ o → (After : Sizes → Core → Type 0) → After z (with_values c (v ∷ w ∷ (qs ++ (v ∷ w ∷ us))))
+      → Comes z (effect_of (stack (a.copy o 2)) (with_values c (qs ++ (v ∷ w ∷ us)))) After
+  two_copied o z c qs v w us h After g =
       let e : drop o (qs ++ (v ∷ w ∷ us)) ≡ v ∷ w ∷ us = subst (λ k. drop k (qs ++ (v ∷ w ∷ us)) ≡ v ∷ w ∷ us) h (drop_front qs (v ∷ w ∷ us)) in
-      subst (λ z. Comes d (settled (stack (a.copy o 2)) (given (taken 2 z []) (λ p. language.goes_to (with_values c (put_down p.0 (qs ++ (v ∷ w ∷ us))))))) After) (sym e) g
+      subst (λ y. Comes z (settled (stack (a.copy o 2)) (given (taken 2 y []) (λ p. language.goes_to (with_values c (put_down p.0 (qs ++ (v ∷ w ∷ us))))))) After) (sym e) g
 
   put_back : (bs ys zs : List ℤ) → put_down (put_down bs ys) zs ≡ put_down ys (bs ++ zs)
   put_back [] ys zs = refl
   put_back (b ∷ bs) ys zs = put_back bs (b ∷ ys) zs
 
   -- those beneath some others come to the top
-  pub brought_up : (o m : ℕ) (c : Core) (ps bs us : List ℤ) → length ps ≡ o → length bs ≡ m → (After : Core → Type 0) → After (with_values c (bs ++ (ps ++ us)))
-      → Comes (with_values c (ps ++ (bs ++ us))) (effect_of (stack (a.bring o m)) (with_values c (ps ++ (bs ++ us)))) After
-  brought_up o m c ps bs us h g After more =
-      let start = with_values c (ps ++ (bs ++ us)) in
+  pub brought_up : (o m : ℕ) (z : Sizes) (c : Core) (ps bs us : List ℤ) → length ps ≡ o → length bs ≡ m → (After : Sizes → Core → Type 0) → After z (with_values c (bs ++ (ps ++ us)))
+      → Comes z (effect_of (stack (a.bring o m)) (with_values c (ps ++ (bs ++ us)))) After
+  brought_up o m z c ps bs us h g After more =
       let x = stack (a.bring o m) in
-      let last : put_down (put_down bs []) (put_down (put_down ps []) us) ≡ bs ++ (ps ++ us) = put_back bs [] (put_down (put_down ps []) us) ∙ ap (λ z. bs ++ z) (put_back ps [] us) in
-      subst (λ z. Comes start (settled x (given z (λ p. given (taken m p.1 []) (λ q. language.goes_to (with_values c (put_down q.0 (put_down p.0 q.1))))))) After) (sym (taken_of o ps (bs ++ us) h))
-      (subst (λ z. Comes start (settled x (given z (λ q. language.goes_to (with_values c (put_down q.0 (put_down (put_down ps []) q.1)))))) After) (sym (taken_of m bs us g))
-      (subst (λ z. After (with_values c z)) (sym last) more))
+      let last : put_down (put_down bs []) (put_down (put_down ps []) us) ≡ bs ++ (ps ++ us) = put_back bs [] (put_down (put_down ps []) us) ∙ ap (λ y. bs ++ y) (put_back ps [] us) in
+      subst (λ y. Comes z (settled x (given y (λ p. given (taken m p.1 []) (λ q. language.goes_to (with_values c (put_down q.0 (put_down p.0 q.1))))))) After) (sym (taken_of o ps (bs ++ us) h))
+      (subst (λ y. Comes z (settled x (given y (λ q. language.goes_to (with_values c (put_down q.0 (put_down (put_down ps []) q.1)))))) After) (sym (taken_of m bs us g))
+      (subst (λ y. After z (with_values c y)) (sym last) more))

@@ -38,10 +38,10 @@ use Rattle.made_code.proofs.Assignments.{settled as status_settled}
 use Rattle.made_code.proofs.ImageControl.{cell_turns}
 use Rattle.stack_laws.proofs.Standing.{stand_of}
 use Rattle.cell_walks.specs.Calls.{calls}
-use Rattle.cell_walks.specs.Fitting.{IsSound, EffectFits, PartsFit, Leave}
+use Rattle.cell_walks.specs.Fitting.{Sizes, IsSound, EffectFits, PartsFit, Leave}
 use Rattle.cell_walks.proofs.Quieting.{Safe, no_parts, one, both}
 use Rattle.cell_statements.specs.Typed.{IsTypedCall, IsSteadyCall, IsOwn}
-use Rattle.cell_statements.proofs.Points.{cell_fits, start_within, two_copied}
+use Rattle.cell_statements.proofs.Points.{cell_fits, told_size, start_within, two_copied}
 use Rattle.cell_statements.proofs.Quiet.{quiet_subscripts, quiet_owner, quiet_place, quiet_result, quiet_dropping, quiet_storing}
 use Rattle.cell_statements.proofs.QuietStatements.{quiet_settling}
 use Rattle.cell_statements.proofs.Cells.{Done, turned, ending, own_celled, celled}
@@ -82,8 +82,8 @@ module _ (n me : ℕ) (coarrays : List Declared) (steady : Bool) (there : IsOneO
   abbrev pieces : List Piece
   pieces = sub.pieces_of e (s.event_query atom count stat)
 
-  abbrev On : Parts Act → (Core → Type 0) → Core → Type 0
-  On p After c = PartsFit n me coarrays steady p After c
+  abbrev On : Parts Act → (Sizes → Core → Type 0) → Sizes → Core → Type 0
+  On p After y c = PartsFit n me coarrays steady p After y c
 
   -- the cell is within its coarray, where it is to be there
   abbrev IsThere : Core → ℕ → Type 0
@@ -111,11 +111,11 @@ module _ (n me : ℕ) (coarrays : List Declared) (steady : Bool) (there : IsOneO
   all_quiet b (d ∷ ds) = both (pieces_quiet b d) (all_quiet b ds)
 
   -- the cell itself
-  one_cell : (sl : t.Selector) → ranks.IsPart e.program.procedures (t.part (objects.Coarray k) ss sl) 0 → (steady ≡ true → IsOwn e (t.part (objects.Coarray k) ss sl)) → (vs : List ℤ) (After : Core → Type 0) (c : Core) → IsSound n me c → c.values ≡ vs
-      → ((d : Core) (o j : ℕ) (ps : List ℤ) → IsSound n me d → j < most_cells → IsThere d j → length ps ≡ view.optional_size (view.stat_of sl) → d.values ≡ pos o ∷ pos j ∷ (ps ++ vs) → After d)
-      → On (control.cell e (t.part (objects.Coarray k) ss sl)) After c
-  one_cell t.no_selector g o' vs After c i v more = own_celled n me coarrays steady there e k ss g.0 g.1 vs After c i v (λ d o j x one' p w. more d o j [] x p.0 (λ y. p.1) refl w)
-  one_cell (t.selector cs which st) g o' vs After c i v more = celled n me coarrays steady e k ss cs which st g vs After c i v (λ d o j ps x one' small l w. more d o j ps x small (λ y. absurd (o' y)) l w)
+  one_cell : (sl : t.Selector) → ranks.IsPart e.program.procedures (t.part (objects.Coarray k) ss sl) 0 → (steady ≡ true → IsOwn e (t.part (objects.Coarray k) ss sl)) → (vs : List ℤ) (After : Sizes → Core → Type 0) (y : Sizes) (c : Core) → IsSound n me y c → c.values ≡ vs
+      → ((u : Sizes) (d : Core) (o j : ℕ) (ps : List ℤ) → IsSound n me u d → j < most_cells → IsThere d j → length ps ≡ view.optional_size (view.stat_of sl) → d.values ≡ pos o ∷ pos j ∷ (ps ++ vs) → After u d)
+      → On (control.cell e (t.part (objects.Coarray k) ss sl)) After y c
+  one_cell t.no_selector g o' vs After y c i v more = own_celled n me coarrays steady there e k ss g.0 g.1 vs After y c i v (λ u d o j x one' p w. more u d o j [] x p.0 (λ q. p.1) refl w)
+  one_cell (t.selector cs which st) g o' vs After y c i v more = celled n me coarrays steady e k ss cs which st g vs After y c i v (λ u d o j ps x one' small l w. more u d o j ps x small (λ q. absurd (o' q)) l w)
 
   -- what stands there behind the arguments
   record IsFound (ds : List ℕ) (vs : List ℤ) (d : Core) : Type 0 where
@@ -131,13 +131,13 @@ module _ (n me : ℕ) (coarrays : List Declared) (steady : Bool) (there : IsOneO
 
   module _ (hs : Turns (numbers 0 (view.optional_size stat)) (view.optional_place e stat)) where
     -- the cell comes first
-    first_found : (ds : List ℕ) → (steady ≡ true → calls (evaluating pieces ds) ≡ false) → (vs : List ℤ) (After : Core → Type 0) (c : Core) → IsSound n me c → c.values ≡ vs
-        → ((d : Core) (o j : ℕ) (ps xs : List ℤ) → IsSound n me d → j < most_cells → IsThere d j → length ps ≡ view.optional_size (view.stat_of sel) → length xs ≡ sizes pieces ds → d.values ≡ xs ++ (pos o ∷ pos j ∷ (ps ++ vs)) → After d)
-        → On (control.cell e atom ▸ evaluating pieces ds) After c
-    first_found ds alone vs After c i v more =
-        one_cell sel h own vs (On (evaluating pieces ds) After) c i v
-        (λ d o j ps x small cell l w. turned n me coarrays steady steady (all_turn hs ds) (all_quiet steady ds) alone (pos o ∷ pos j ∷ (ps ++ vs)) After d x w
-        (λ f xs y same m z. more f o j ps xs y small (λ q u r. cell q u (ap (λ os. joined (slice_get os k)) (sym (same q)) ∙ r)) l m z))
+    first_found : (ds : List ℕ) → (steady ≡ true → calls (evaluating pieces ds) ≡ false) → (vs : List ℤ) (After : Sizes → Core → Type 0) (y : Sizes) (c : Core) → IsSound n me y c → c.values ≡ vs
+        → ((u : Sizes) (d : Core) (o j : ℕ) (ps xs : List ℤ) → IsSound n me u d → j < most_cells → IsThere d j → length ps ≡ view.optional_size (view.stat_of sel) → length xs ≡ sizes pieces ds → d.values ≡ xs ++ (pos o ∷ pos j ∷ (ps ++ vs)) → After u d)
+        → On (control.cell e atom ▸ evaluating pieces ds) After y c
+    first_found ds alone vs After y c i v more =
+        one_cell sel h own vs (On (evaluating pieces ds) After) y c i v
+        (λ u d o j ps x small cell l w. turned n me coarrays steady steady (all_turn hs ds) (all_quiet steady ds) alone (pos o ∷ pos j ∷ (ps ++ vs)) After u d x w
+        (λ u2 f xs x2 same m z. more u2 f o j ps xs x2 small (λ q b r. cell q b (ap (λ os. joined (slice_get os k)) (sym (same q)) ∙ r)) l m z))
 
     found_first : (ds : List ℕ) (vs : List ℤ) (d : Core) (o j : ℕ) (ps xs : List ℤ) → j < most_cells → IsThere d j → length ps ≡ view.optional_size (view.stat_of sel) → length xs ≡ sizes pieces ds → d.values ≡ xs ++ (pos o ∷ pos j ∷ (ps ++ vs))
         → (b : ℕ) → (b == 0) ≡ true → b ≡ 0 → IsFound (b ∷ ds) vs d
@@ -168,27 +168,24 @@ module _ (n me : ℕ) (coarrays : List Declared) (steady : Bool) (there : IsOneO
           values = f.values ∙ (sym (append_assoc whole ys vs) ∙ ap (λ q. q ++ vs) (append_assoc f.above (pos f.owner ∷ pos f.start ∷ f.behind) ys));
         }
 
-    found : (ds : List ℕ) → times 0 ds ≡ 1 → (steady ≡ true → calls (evaluating pieces ds) ≡ false) → (vs : List ℤ) (After : Core → Type 0) (c : Core) → IsSound n me c → c.values ≡ vs
-        → ((d : Core) → IsSound n me d → IsFound ds vs d → After d) → On (evaluating pieces ds) After c
-    found [] once alone vs After c i v more = absurd (let z : 0 ≡ 1 = once in omega arith)
-    found (b ∷ ds) once alone vs After c i v more = elim (eqb_tells b 0) [
+    found : (ds : List ℕ) → times 0 ds ≡ 1 → (steady ≡ true → calls (evaluating pieces ds) ≡ false) → (vs : List ℤ) (After : Sizes → Core → Type 0) (y : Sizes) (c : Core) → IsSound n me y c → c.values ≡ vs
+        → ((u : Sizes) (d : Core) → IsSound n me u d → IsFound ds vs d → After u d) → On (evaluating pieces ds) After y c
+    found [] once alone vs After y c i v more = absurd (let z : 0 ≡ 1 = once in omega arith)
+    found (b ∷ ds) once alone vs After y c i v more = elim (eqb_tells b 0) [
       | inl z ↦
-          subst (λ q. On (piece_of pieces q).parts (On (evaluating pieces ds) After) c) (sym z.1)
-          (first_found ds (λ y. (either_none (calls (piece_of pieces b).parts) (calls (evaluating pieces ds)) (alone y)).1) vs After c i v
-          (λ d o j ps xs x small cell l m w. more d x (found_first ds vs d o j ps xs small cell l m w b z.0 z.1)))
+          subst (λ q. On (piece_of pieces q).parts (On (evaluating pieces ds) After) y c) (sym z.1)
+          (first_found ds (λ q. (either_none (calls (piece_of pieces b).parts) (calls (evaluating pieces ds)) (alone q)).1) vs After y c i v
+          (λ u d o j ps xs x small cell l m w. more u d x (found_first ds vs d o j ps xs small cell l m w b z.0 z.1)))
       | inr z ↦
-          turned n me coarrays steady steady (pieces_turn hs b) (pieces_quiet steady b) (λ y. (either_none (calls (piece_of pieces b).parts) (calls (evaluating pieces ds)) (alone y)).0) vs (On (evaluating pieces ds) After) c i v
-          (λ d ys x same l w. found ds (let y : times 0 (b ∷ ds) ≡ 0 + times 0 ds = ap (λ q. cond q 1 0 + times 0 ds) z.0 in let u : times 0 ds ≡ 1 = omega arith in u)
-          (λ y. (either_none (calls (piece_of pieces b).parts) (calls (evaluating pieces ds)) (alone y)).1) (ys ++ vs) After d x w (λ f g r. more f g (found_later ds vs ys f b z.0 l r)))
+          turned n me coarrays steady steady (pieces_turn hs b) (pieces_quiet steady b) (λ q. (either_none (calls (piece_of pieces b).parts) (calls (evaluating pieces ds)) (alone q)).0) vs (On (evaluating pieces ds) After) y c i v
+          (λ u d ys x same l w. found ds (let m : times 0 (b ∷ ds) ≡ 0 + times 0 ds = ap (λ q. cond q 1 0 + times 0 ds) z.0 in let g : times 0 ds ≡ 1 = omega arith in g)
+          (λ q. (either_none (calls (piece_of pieces b).parts) (calls (evaluating pieces ds)) (alone q)).1) (ys ++ vs) After u d x w (λ u2 f g r. more u2 f g (found_later ds vs ys f b z.0 l r)))
     ]
 
     -- ---- the ask, and what is behind it
     module _ (ds : List ℕ) (at : depth pieces ds 1 + view.result_size count ≤ sizes pieces ds) (below : depth pieces ds 2 + view.optional_size stat ≤ sizes pieces ds) (vs : List ℤ) where
       abbrev rest : Parts Act
       rest = view.storing (depth pieces ds 1 + 1) count ▸ pushing (pos 0) ▸ settling stat (depth pieces ds 2 + 1) [] ▸ dropping (sizes pieces ds)
-
-      abbrev Ends : Core → Type 0
-      Ends c = Done n me coarrays steady vs c
 
       rest_turns : Turns (numbers (1 + sizes pieces ds) 0) rest
       rest_turns =
@@ -198,32 +195,32 @@ module _ (n me : ℕ) (coarrays : List Declared) (steady : Bool) (there : IsOneO
       rest_quiet : Safe false rest
       rest_quiet = both (quiet_storing (depth pieces ds 1 + 1) count) (both (one tt) (both (quiet_settling stat (depth pieces ds 2 + 1) []) (quiet_dropping (sizes pieces ds))))
 
-      asked_here : (c : Core) (j : ℕ) (xs : List ℤ) → IsSound n me c → j < most_cells → (steady ≡ true → (w : Own) × (own_in c k ≡ Some w) × (word (pos j) < size_of w.bounds)) → length xs ≡ sizes pieces ds
-          → EffectFits n me coarrays steady (with_values c (pos j ∷ (xs ++ vs))) (effect_of (ask (a.query k)) (with_values c (pos j ∷ (xs ++ vs)))) (On rest (Done n me coarrays steady vs))
-      asked_here c j xs i small cell l = (
-        (i.own, cell_fits coarrays c.me is_event k j small typed, cell),
+      asked_here : (y : Sizes) (c : Core) (j : ℕ) (xs : List ℤ) → IsSound n me y c → j < most_cells → (steady ≡ true → (w : Own) × (own_in c k ≡ Some w) × (word (pos j) < size_of w.bounds)) → length xs ≡ sizes pieces ds
+          → EffectFits n me coarrays steady (effect_of (ask (a.query k)) (with_values c (pos j ∷ (xs ++ vs)))) (On rest (Done n me coarrays steady vs)) y
+      asked_here y c j xs i small cell l = (
+        (i.own, cell_fits coarrays c.me is_event k j small typed, λ q. (let w = cell q in (size_of w.0.bounds, told_size n me y c k w.0 i w.1, w.2))),
         λ r x.
-            ending n me coarrays steady rest_turns rest_quiet vs (count_reply (with_values c (xs ++ vs)) r) i (stand_of (1 + sizes pieces ds) (count_in r ∷ xs) vs (let m : length (count_in r ∷ xs) ≡ suc (length xs) = refl in omega arith)),
+            ending n me coarrays steady rest_turns rest_quiet vs y (count_reply (with_values c (xs ++ vs)) r) i (stand_of (1 + sizes pieces ds) (count_in r ∷ xs) vs (let m : length (count_in r ∷ xs) ≡ suc (length xs) = refl in omega arith)),
       )
 
-      fetched : (c : Core) → IsSound n me c → (f : IsFound ds vs c) → (w : Own) → own_in c k ≡ Some w → On (fetching pieces ds 0 0 2 ▸ dropping 1 ▸ doing (ask (a.query k) ∷ []) ▸ rest) (Done n me coarrays steady vs) c
-      fetched c i f w q =
+      fetched : (y : Sizes) (c : Core) → IsSound n me y c → (f : IsFound ds vs c) → (w : Own) → own_in c k ≡ Some w → On (fetching pieces ds 0 0 2 ▸ dropping 1 ▸ doing (ask (a.query k) ∷ []) ▸ rest) (Done n me coarrays steady vs) y c
+      fetched y c i f w q =
           let xs = f.above ++ (pos f.owner ∷ pos f.start ∷ f.behind) in
           let beneath = f.behind ++ vs in
           let m = depth pieces ds 0 + 0 in
           let v : c.values ≡ f.above ++ (pos f.owner ∷ pos f.start ∷ beneath) = f.values ∙ append_assoc f.above (pos f.owner ∷ pos f.start ∷ f.behind) vs in
-          subst (λ z. EffectFits n me coarrays steady (with_values c z) (effect_of (stack (a.copy m 2)) (with_values c z)) (On (dropping 1 ▸ doing (ask (a.query k) ∷ []) ▸ rest) (Done n me coarrays steady vs))) (sym v)
-          (two_copied n me coarrays steady m c f.above (pos f.owner) (pos f.start) beneath (f.deep ∙ omega arith) (On (dropping 1 ▸ doing (ask (a.query k) ∷ []) ▸ rest) (Done n me coarrays steady vs))
-          (subst (λ z. EffectFits n me coarrays steady (with_values c (pos f.start ∷ z)) (effect_of (ask (a.query k)) (with_values c (pos f.start ∷ z))) (On rest (Done n me coarrays steady vs))) (append_assoc f.above (pos f.owner ∷ pos f.start ∷ f.behind) vs)
-          (asked_here c f.start xs i f.small (λ y. (w, q, start_within f.start (size_of w.bounds) (f.cell y w q))) f.many)))
+          subst (λ z. EffectFits n me coarrays steady (effect_of (stack (a.copy m 2)) (with_values c z)) (On (dropping 1 ▸ doing (ask (a.query k) ∷ []) ▸ rest) (Done n me coarrays steady vs)) y) (sym v)
+          (two_copied n me coarrays steady m y c f.above (pos f.owner) (pos f.start) beneath (f.deep ∙ omega arith) (On (dropping 1 ▸ doing (ask (a.query k) ∷ []) ▸ rest) (Done n me coarrays steady vs))
+          (subst (λ z. EffectFits n me coarrays steady (effect_of (ask (a.query k)) (with_values c (pos f.start ∷ z))) (On rest (Done n me coarrays steady vs)) y) (append_assoc f.above (pos f.owner ∷ pos f.start ∷ f.behind) vs)
+          (asked_here y c f.start xs i f.small (λ u. (w, q, start_within f.start (size_of w.bounds) (f.cell u w q))) f.many)))
 
-      needed : (c : Core) → IsSound n me c → IsFound ds vs c → On (doing (bounded (a.needs_own k) ∷ []) ▸ fetching pieces ds 0 0 2 ▸ dropping 1 ▸ doing (ask (a.query k) ∷ []) ▸ rest) (Done n me coarrays steady vs) c
-      needed c i f = by_own (own_in c k) refl
+      needed : (y : Sizes) (c : Core) → IsSound n me y c → IsFound ds vs c → On (doing (bounded (a.needs_own k) ∷ []) ▸ fetching pieces ds 0 0 2 ▸ dropping 1 ▸ doing (ask (a.query k) ∷ []) ▸ rest) (Done n me coarrays steady vs) y c
+      needed y c i f = by_own (own_in c k) refl
         where
           by_own : (x : Option Own) → own_in c k ≡ x
-              → EffectFits n me coarrays steady c (settled (bounded (a.needs_own k)) (owned x (λ w. language.goes_to c))) (On (fetching pieces ds 0 0 2 ▸ dropping 1 ▸ doing (ask (a.query k) ∷ []) ▸ rest) (Done n me coarrays steady vs))
+              → EffectFits n me coarrays steady (settled (bounded (a.needs_own k)) (owned x (λ w. language.goes_to c))) (On (fetching pieces ds 0 0 2 ▸ dropping 1 ▸ doing (ask (a.query k) ∷ []) ▸ rest) (Done n me coarrays steady vs)) y
           by_own None q = tt
-          by_own (Some w) q = fetched c i f w q
+          by_own (Some w) q = fetched y c i f w q
 
   stat_placed : (ds : List ℕ) (x : t.OptionalResult) → ranks.IsStat e.program.procedures ds x 2 → Turns (numbers 0 (view.optional_size x)) (view.optional_place e x)
   stat_placed ds t.no_result g = idle
@@ -234,9 +231,9 @@ module _ (n me : ℕ) (coarrays : List Declared) (steady : Bool) (there : IsOneO
   stat_below ds (t.result r) ps z g = (let x = within ps ds 2 g.1 in omega arith)
 
   pub call_fits : (ds : List ℕ) → times 0 ds ≡ 1 → times 1 ds ≡ 1 → ranks.IsStat e.program.procedures ds stat 2 → (steady ≡ true → calls (evaluating pieces ds) ≡ false) → Leave n me coarrays steady 0 (sub.query e pieces ds atom count stat)
-  call_fits ds zeroth first g alone vs c i v =
+  call_fits ds zeroth first g alone vs y c i v =
       let hs = stat_placed ds stat g in
-      found hs ds zeroth alone vs _ c i v (λ d j f. needed hs ds (within pieces ds 1 first) (stat_below ds stat pieces refl g) vs d j f)
+      found hs ds zeroth alone vs _ y c i v (λ u d j f. needed hs ds (within pieces ds 1 first) (stat_below ds stat pieces refl g) vs u d j f)
 
 module _ (n me : ℕ) (coarrays : List Declared) (steady : Bool) (there : IsOneOf n me) (e : Environment) where
   pub query_fits : (d : t.Designator) (count : t.ResultVariable) (stat : t.OptionalResult) (ds : List ℕ) → ranks.IsSubroutine e.program.procedures (s.event_query d count stat) ds → IsTypedCall coarrays (s.event_query d count stat)

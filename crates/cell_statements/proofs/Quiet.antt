@@ -91,7 +91,7 @@ module _ {b : Bool} where
       let depth = view.out_sizes (p ∷ ps) + (n + (view.passed_sizes ps + view.value_size p.rank)) in
       (both (either_way p.goes_back (view.going_back p depth) end_parts (quiet_going_back p depth) no_parts) (quiet_back ps n))
 
-  quiet_bounds_acts : (bs : List (ℤ × ℤ)) (x : Act) → IsFree b x → Safe b (doing (view.bounds_acts bs ++ x ∷ []))
+  quiet_bounds_acts : (bs : List (ℤ × ℤ)) (x : Act) → IsFree x → Safe b (doing (view.bounds_acts bs ++ x ∷ []))
   quiet_bounds_acts [] x h = acts h no_parts
   quiet_bounds_acts (y ∷ bs) x h = acts tt (acts tt (quiet_bounds_acts bs x h))
 

@@ -1,5 +1,5 @@
 -- Each statement but LOCK, UNLOCK, EVENT POST, EVENT WAIT and a call of EVENT_QUERY asks for no lock and for no event.
-use Rattle.std.proofs.Common.{ℕ, zero, suc, ◌+◌, Bool, true, false, cond, List, [], ◌∷◌, ◌++◌, length, refl}
+use Rattle.std.proofs.Common.{ℕ, zero, suc, ◌+◌, Bool, true, false, cond, List, [], ◌∷◌, ◌++◌, length}
 use Rattle.std.specs.Prelude.{ℤ, pos, ◌==◌}
 use Rattle.caf_base.specs.declared.value.Kind.{Kind}
 use Rattle.caf_base.specs.declared.value.Kind.TheVariants as kinds
@@ -33,7 +33,7 @@ use Rattle.tree_meaning.specs.Subroutines as sub
 use Rattle.tree_meaning.specs.Allocation as alloc
 use Rattle.tree_meaning.specs.Forms.{in_range, in_more_ranges, in_ranges, do_start}
 use Rattle.cell_walks.proofs.Acts.{IsFree}
-use Rattle.cell_walks.proofs.Quieting.{Safe, no_parts, one, acts, both, fork, either_way}
+use Rattle.cell_walks.proofs.Quieting.{making, freeing, Safe, no_parts, one, acts, both, fork, either_way}
 use Rattle.cell_statements.proofs.Quiet.{quiet_dropping, quiet_copying, quiet_bringing, quiet_storing, quiet_status, quiet_own, quiet_reading, quiet_expression, quiet_subscripts, quiet_result, quiet_place, quiet_owner}
 
 pub free_again : (p : Parts Act) → Safe false p → Safe false (released p)
@@ -49,7 +49,7 @@ collects op k = acts tt (one tt)
 pairs : Safe false (doing (a.ask a.pair ∷ a.ask a.unpair ∷ []))
 pairs = acts tt (one tt)
 
-quiet_numbers : (ns : List ℕ) (x : Act) → IsFree false x → Safe false (doing (alloc.numbers ns ++ x ∷ []))
+quiet_numbers : (ns : List ℕ) (x : Act) → IsFree x → Safe false (doing (alloc.numbers ns ++ x ∷ []))
 quiet_numbers [] x f = one f
 quiet_numbers (n ∷ ns) x f = acts tt (quiet_numbers ns x f)
 
@@ -206,7 +206,7 @@ module _ (e : Environment) where
   quiet_deleting [] c = no_parts
   quiet_deleting (n ∷ ns) c =
       both (either_way (control.is_allocatable_in e e.program.main.variables n) (control.deleting_one e c) end_parts (both (one tt) (fork
-      (acts tt (one refl)) no_parts no_parts)) no_parts) (quiet_deleting ns (suc c))
+      (freeing c) no_parts no_parts)) no_parts) (quiet_deleting ns (suc c))
 
   pub end_team_quiet : (stat : t.OptionalResult) → Safe false (control.end_team e stat)
   end_team_quiet stat =
@@ -362,7 +362,7 @@ module _ (e : Environment) where
 
   quiet_making_one : (x : s.Allocation) (n : ℕ) → Safe false (alloc.making_one x n)
   quiet_making_one (s.allocate_local v type bs) n = one tt
-  quiet_making_one (s.allocate_coarray c bs cs l) n = acts tt (one refl)
+  quiet_making_one (s.allocate_coarray c bs cs l) n = making c n (length bs) (length cs + 1)
 
   quiet_making : (xs : List s.Allocation) (n : ℕ) → Safe false (alloc.making xs n)
   quiet_making [] n = no_parts
@@ -390,7 +390,7 @@ module _ (e : Environment) where
 
   quiet_freeing_one : (x : Object) → Safe false (alloc.freeing_one x)
   quiet_freeing_one (objects.Local v) = one tt
-  quiet_freeing_one (objects.Coarray c) = acts tt (one refl)
+  quiet_freeing_one (objects.Coarray c) = freeing c
   quiet_freeing_one (objects.Constant n) = no_parts
 
   quiet_freeing : (xs : List Object) → Safe false (alloc.freeing xs)
@@ -430,5 +430,5 @@ module _ (e : Environment) where
   quiet_ranges x [] = one tt
   quiet_ranges x (r ∷ rs) = quiet_range_then x r (in_more_ranges x rs) (quiet_more_ranges x rs)
 
-  pub stop_quiet : (code : t.OptionalExpression) (x : a.AskAct) → IsFree false (a.ask x) → Safe false (control.or_number e code (pushing (pos 0)) ▸ doing (a.ask x ∷ []))
+  pub stop_quiet : (code : t.OptionalExpression) (x : a.AskAct) → IsFree (a.ask x) → Safe false (control.or_number e code (pushing (pos 0)) ▸ doing (a.ask x ∷ []))
   stop_quiet code x h = both (quiet_or code (pushing (pos 0)) (one tt)) (acts h no_parts)

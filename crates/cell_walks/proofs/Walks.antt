@@ -1,8 +1,8 @@
 -- In the walk of a program whose blocks fit each ask for a cell fits.
-use Rattle.std.proofs.Common.{◌≡◌, ℕ, zero, suc, ◌+◌, nat_lt, Bool, true, false, cond, List, [], ◌∷◌, refl, sym, subst}
+use Rattle.std.proofs.Common.{◌≡◌, ℕ, zero, suc, ◌+◌, nat_lt, Bool, true, false, cond, List, [], ◌∷◌, refl, subst}
 use Rattle.std.specs.Prelude.{ℤ}
 use Rattle.trace_theory.specs.Entries.{Each}
-use Rattle.trace_theory.specs.Machines.{Move, goes, asks, over, Said, go, goes_on, Walk, WalkTo}
+use Rattle.trace_theory.specs.Machines.{Move, goes, asks, over, Said, go, goes_on, Walk}
 use Rattle.caf_events.specs.declared.ask.Ask.{Ask}
 use Rattle.caf_events.specs.declared.reply.Reply.{Reply}
 use Rattle.walk_theory.specs.Language as language
@@ -15,15 +15,16 @@ use Rattle.image_acts.specs.Core.{Core, with_values}
 use Rattle.image_acts.specs.Taking.{Acted, tested}
 use Rattle.image_acts.specs.Meaning.{effect_of, frames, image_language}
 use Rattle.stack_laws.specs.Exact.{Stand}
-use Rattle.cell_walks.specs.Fitting.{TellsImages, IsSound, FitsCell, EffectFits, TestFits, PartsFit, Leave, FormFits, BranchesFit, StepsFit, NextFits}
+use Rattle.told_walks.specs.Asked.{sizes_by}
+use Rattle.cell_walks.specs.Fitting.{Sizes, TellsImages, IsSound, FitsCell, EffectFits, TestFits, PartsFit, Leave, FormFits, BranchesFit, StepsFit, AllFit}
 use Rattle.cell_walks.proofs.Parts.{test_fits, leave_then}
 
 module _ (n me : ℕ) (coarrays : List Declared) (steady : Bool) where
-  abbrev Sound : Core → Type 0
-  Sound c = IsSound n me c
+  abbrev Sound : Sizes → Core → Type 0
+  Sound z c = IsSound n me z c
 
-  abbrev Fit : Parts Act → (Core → Type 0) → Core → Type 0
-  Fit p After c = PartsFit n me coarrays steady p After c
+  abbrev Fit : Parts Act → (Sizes → Core → Type 0) → Sizes → Core → Type 0
+  Fit p After z c = PartsFit n me coarrays steady p After z c
 
   abbrev Left : ℕ → Parts Act → Type 0
   Left m p = Leave n me coarrays steady m p
@@ -42,23 +43,23 @@ module _ (n me : ℕ) (coarrays : List Declared) (steady : Bool) where
   callers (vs ∷ bs) = bs
 
   -- tasks whose asks fit from this core on, where these numbers are those of the bodies; a truth value may stand on those of the first
-  abbrev TasksFit : List (List ℤ) → List (Task Act) → Core → Type 0
-  TasksFit bs [] c = Unit {0}
-  TasksFit bs (run stop ∷ ts) c = TasksFit bs ts c
-  TasksFit bs (run (also l f rest) ∷ ts) c =
-      Sound c × (c.values ≡ base bs) × FormFits n me coarrays steady f × StepsFit n me coarrays steady rest × ((d : Core) → Sound d → d.values ≡ base bs → TasksFit bs ts d)
-  TasksFit bs (eval l p ∷ ts) c = Fit p (TasksFit bs ts) c
-  TasksFit bs (tally l ∷ ts) c = TasksFit bs ts c
-  TasksFit bs (decide b ∷ ts) c = Sound c × (c.values ≡ base bs) × BranchesFit n me coarrays steady b × ((d : Core) → Sound d → d.values ≡ base bs → TasksFit bs ts d)
-  TasksFit bs (pick l a b ∷ ts) c =
-      Sound c × Stand 1 (base bs) c.values × StepsFit n me coarrays steady a × BranchesFit n me coarrays steady b × ((d : Core) → Sound d → d.values ≡ base bs → TasksFit bs ts d)
-  TasksFit bs (again m ∷ ts) c = Sound c × (c.values ≡ base bs) × LoopFits m × ((d : Core) → Sound d → d.values ≡ base bs → TasksFit bs ts d)
-  TasksFit bs (iterate m ∷ ts) c = Sound c × Stand 1 (base bs) c.values × LoopFits m × ((d : Core) → Sound d → d.values ≡ base bs → TasksFit bs ts d)
-  TasksFit bs (back ∷ ts) c = TasksFit (callers bs) ts c
+  abbrev TasksFit : List (List ℤ) → List (Task Act) → Sizes → Core → Type 0
+  TasksFit bs [] z c = Unit {0}
+  TasksFit bs (run stop ∷ ts) z c = TasksFit bs ts z c
+  TasksFit bs (run (also l f rest) ∷ ts) z c =
+      Sound z c × (c.values ≡ base bs) × FormFits n me coarrays steady f × StepsFit n me coarrays steady rest × ((y : Sizes) (d : Core) → Sound y d → d.values ≡ base bs → TasksFit bs ts y d)
+  TasksFit bs (eval l p ∷ ts) z c = Fit p (TasksFit bs ts) z c
+  TasksFit bs (tally l ∷ ts) z c = TasksFit bs ts z c
+  TasksFit bs (decide b ∷ ts) z c = Sound z c × (c.values ≡ base bs) × BranchesFit n me coarrays steady b × ((y : Sizes) (d : Core) → Sound y d → d.values ≡ base bs → TasksFit bs ts y d)
+  TasksFit bs (pick l a b ∷ ts) z c =
+      Sound z c × Stand 1 (base bs) c.values × StepsFit n me coarrays steady a × BranchesFit n me coarrays steady b × ((y : Sizes) (d : Core) → Sound y d → d.values ≡ base bs → TasksFit bs ts y d)
+  TasksFit bs (again m ∷ ts) z c = Sound z c × (c.values ≡ base bs) × LoopFits m × ((y : Sizes) (d : Core) → Sound y d → d.values ≡ base bs → TasksFit bs ts y d)
+  TasksFit bs (iterate m ∷ ts) z c = Sound z c × Stand 1 (base bs) c.values × LoopFits m × ((y : Sizes) (d : Core) → Sound y d → d.values ≡ base bs → TasksFit bs ts y d)
+  TasksFit bs (back ∷ ts) z c = TasksFit (callers bs) ts z c
 
   -- wherever the invariant holds over the numbers of the body
   abbrev Always : List (List ℤ) → List (Task Act) → Type 0
-  Always bs ts = (d : Core) → Sound d → d.values ≡ base bs → TasksFit bs ts d
+  Always bs ts = (y : Sizes) (d : Core) → Sound y d → d.values ≡ base bs → TasksFit bs ts y d
 
   -- from each end of an iteration or of a procedure's body on, to which EXIT, CYCLE or RETURN can lead
   abbrev AreLeft : List (List ℤ) → List (Task Act) → Type 0
@@ -70,13 +71,13 @@ module _ (n me : ℕ) (coarrays : List Declared) (steady : Bool) where
   AreLeft bs (pick l a b ∷ ts) = AreLeft bs ts
   AreLeft bs (again m ∷ ts) = LoopFits m × Always bs ts × AreLeft bs ts
   AreLeft bs (iterate m ∷ ts) = AreLeft bs ts
-  AreLeft bs (back ∷ ts) = ((d : Core) → Sound d → d.values ≡ base bs → TasksFit (callers bs) ts d) × AreLeft (callers bs) ts
+  AreLeft bs (back ∷ ts) = ((y : Sizes) (d : Core) → Sound y d → d.values ≡ base bs → TasksFit (callers bs) ts y d) × AreLeft (callers bs) ts
 
   abbrev Clear : List (List ℤ) → List (Task Act) → Type 0
   Clear bs ts = Always bs ts × AreLeft bs ts
 
   exit_clear : (k : ℕ) (bs : List (List ℤ)) (ts : List (Task Act)) → AreLeft bs ts → Clear bs (after_loop k ts)
-  exit_clear k bs [] h = (λ d i e. tt, tt)
+  exit_clear k bs [] h = (λ y d i e. tt, tt)
   exit_clear k bs (run ss ∷ ts) h = exit_clear k bs ts h
   exit_clear k bs (eval l p ∷ ts) h = exit_clear k bs ts h
   exit_clear k bs (tally l ∷ ts) h = exit_clear k bs ts h
@@ -88,19 +89,19 @@ module _ (n me : ℕ) (coarrays : List Declared) (steady : Bool) where
   exit_clear k bs (back ∷ ts) h = (h.0, h)
 
   cycle_clear : (k : ℕ) (bs : List (List ℤ)) (ts : List (Task Act)) → AreLeft bs ts → Clear bs (from_loop k ts)
-  cycle_clear k bs [] h = (λ d i e. tt, tt)
+  cycle_clear k bs [] h = (λ y d i e. tt, tt)
   cycle_clear k bs (run ss ∷ ts) h = cycle_clear k bs ts h
   cycle_clear k bs (eval l p ∷ ts) h = cycle_clear k bs ts h
   cycle_clear k bs (tally l ∷ ts) h = cycle_clear k bs ts h
   cycle_clear k bs (decide b ∷ ts) h = cycle_clear k bs ts h
   cycle_clear k bs (pick l a b ∷ ts) h = cycle_clear k bs ts h
-  cycle_clear zero bs (again m ∷ ts) h = (λ d i e. (i, e, h.0, h.1), h)
+  cycle_clear zero bs (again m ∷ ts) h = (λ y d i e. (i, e, h.0, h.1), h)
   cycle_clear (suc k) bs (again m ∷ ts) h = cycle_clear k bs ts h.2
   cycle_clear k bs (iterate m ∷ ts) h = cycle_clear k bs ts h
   cycle_clear k bs (back ∷ ts) h = (h.0, h)
 
   return_clear : (bs : List (List ℤ)) (ts : List (Task Act)) → AreLeft bs ts → Clear bs (from_back ts)
-  return_clear bs [] h = (λ d i e. tt, tt)
+  return_clear bs [] h = (λ y d i e. tt, tt)
   return_clear bs (run ss ∷ ts) h = return_clear bs ts h
   return_clear bs (eval l p ∷ ts) h = return_clear bs ts h
   return_clear bs (tally l ∷ ts) h = return_clear bs ts h
@@ -111,19 +112,19 @@ module _ (n me : ℕ) (coarrays : List Declared) (steady : Bool) where
   return_clear bs (back ∷ ts) h = (h.0, h)
 
   run_clear : (ss : Steps Act) (bs : List (List ℤ)) (ts : List (Task Act)) → StepsFit n me coarrays steady ss → Always bs ts → Always bs (run ss ∷ ts)
-  run_clear stop bs ts h more d i e = more d i e
-  run_clear (also l f rest) bs ts h more d i e = (i, e, h.0, h.1, more)
+  run_clear stop bs ts h more y d i e = more y d i e
+  run_clear (also l f rest) bs ts h more y d i e = (i, e, h.0, h.1, more)
 
-  left_then : (m : ℕ) (p : Parts Act) → Left m p → (bs : List (List ℤ)) (ts : List (Task Act)) → ((d : Core) → Sound d → Stand m (base bs) d.values → TasksFit bs ts d)
-      → (c : Core) → Sound c → c.values ≡ base bs → Fit p (TasksFit bs ts) c
-  left_then m p h bs ts more c i e = leave_then n me coarrays steady m p h (base bs) (TasksFit bs ts) more c i e
+  left_then : (m : ℕ) (p : Parts Act) → Left m p → (bs : List (List ℤ)) (ts : List (Task Act)) → ((y : Sizes) (d : Core) → Sound y d → Stand m (base bs) d.values → TasksFit bs ts y d)
+      → (z : Sizes) (c : Core) → Sound z c → c.values ≡ base bs → Fit p (TasksFit bs ts) z c
+  left_then m p h bs ts more z c i e = leave_then n me coarrays steady m p h (base bs) (TasksFit bs ts) more z c i e
 
   form_clear : (l : ℕ) (f : Form Act) (bs : List (List ℤ)) (ts : List (Task Act)) → FormFits n me coarrays steady f → Clear bs ts → Clear bs (form_tasks l f ts)
   form_clear l (simple p) bs ts h more = (left_then 0 p h bs ts more.0, more.1)
-  form_clear l (choose p b) bs ts h more = (left_then 0 p h.0 bs (decide b ∷ ts) (λ d i e. (i, e, h.1, more.0)), more.1)
+  form_clear l (choose p b) bs ts h more = (left_then 0 p h.0 bs (decide b ∷ ts) (λ y d i e. (i, e, h.1, more.0)), more.1)
   form_clear l (loop s k t b) bs ts h more =
       let m : Loop Act = record { line = l; next = k; test = t; body = b } in (
-        leave_then n me coarrays steady 0 s h.0 (base bs) (Fit t (TasksFit bs (iterate m ∷ ts))) (left_then 1 t h.2 bs (iterate m ∷ ts) (λ d i e. (i, e, (h.1, h.2, h.3), more.0))),
+        leave_then n me coarrays steady 0 s h.0 (base bs) (Fit t (TasksFit bs (iterate m ∷ ts))) (left_then 1 t h.2 bs (iterate m ∷ ts) (λ y d i e. (i, e, (h.1, h.2, h.3), more.0))),
         more.1,
       )
   form_clear l (around p b m q) bs ts h more =
@@ -133,114 +134,92 @@ module _ (n me : ℕ) (coarrays : List Declared) (steady : Bool) where
   form_clear l return bs ts h more = return_clear bs ts more.1
 
   -- ---- one step
-  abbrev Good : Config Act Core → Type 0
-  Good c = (bs : List (List ℤ)) × TasksFit bs c.tasks c.core × AreLeft bs c.tasks
+  abbrev Good : Sizes → Config Act Core → Type 0
+  Good z c = (bs : List (List ℤ)) × TasksFit bs c.tasks z c.core × AreLeft bs c.tasks
 
-  -- from this core
-  abbrev Follows : Core → Move (Config Act Core) Ask Reply → Type 0
-  Follows x (goes c) = Good c
-  Follows x (asks a l f) = FitsCell n me coarrays steady x a × ((r : Reply) → TellsImages n r → Good (f r))
-  Follows x over = Unit {0}
+  abbrev Follows : Sizes → Move (Config Act Core) Ask Reply → Type 0
+  Follows z (goes c) = Good z c
+  Follows z (asks a l f) = FitsCell n me coarrays steady z a × ((r : Reply) → TellsImages n r → Good (sizes_by z a) (f r))
+  Follows z over = Unit {0}
 
-  at_end : (c : Core) (k : ℕ) → Good (to [] c k)
-  at_end c k = ([], tt, tt)
-
-  counted_follows : (limit l k : ℕ) (onward : Config Act Core) (c : Core) → Good onward → Follows c (counted image_language limit l k onward (to [] c k))
-  counted_follows limit l k onward c h = by_count (nat_lt k limit)
+  counted_follows : (limit l k : ℕ) (z : Sizes) (onward : Config Act Core) (c : Core) → Good z onward → Follows z (counted image_language limit l k onward (to [] c k))
+  counted_follows limit l k z onward c h = by_count (nat_lt k limit)
     where
-      by_count : (b : Bool) → Follows c (cond b (goes onward) (asks (image_language.too_many (k + 1)) l (λ r. to [] c k)))
+      by_count : (b : Bool) → Follows z (cond b (goes onward) (asks (image_language.too_many (k + 1)) l (λ r. to [] c k)))
       by_count true = h
-      by_count false = (tt, λ r x. at_end c k)
+      by_count false = (tt, λ r x. ([], tt, tt))
 
-  act_follows : (l k : ℕ) (bs : List (List ℤ)) (ts : List (Task Act)) (q : Parts Act) (c : Core) (e : Acted) → EffectFits n me coarrays steady c e (Fit q (TasksFit bs ts)) → AreLeft bs ts
-      → Follows c (acted image_language l (λ x. to (eval l q ∷ ts) x k) (λ x. to [] x k) c e)
-  act_follows l k bs ts q c (language.goes_to x) h left = (bs, h, left)
-  act_follows l k bs ts q c (language.faults m) h left = (tt, λ r x. ([], tt, tt))
-  act_follows l k bs ts q c (language.asking a f) h left = (h.0, λ r x. (bs, h.1 r x, left))
-  act_follows l k bs ts q c (language.ends_with a) h left = (h, λ r x. ([], tt, tt))
-  act_follows l k bs ts q c language.stuck h left = tt
+  act_follows : (l k : ℕ) (z : Sizes) (bs : List (List ℤ)) (ts : List (Task Act)) (q : Parts Act) (c : Core) (e : Acted) → EffectFits n me coarrays steady e (Fit q (TasksFit bs ts)) z → AreLeft bs ts
+      → Follows z (acted image_language l (λ x. to (eval l q ∷ ts) x k) (λ x. to [] x k) c e)
+  act_follows l k z bs ts q c (language.goes_to x) h left = (bs, h, left)
+  act_follows l k z bs ts q c (language.faults m) h left = (tt, λ r x. ([], tt, tt))
+  act_follows l k z bs ts q c (language.asking a f) h left = (h.0, λ r x. (bs, h.1 r x, left))
+  act_follows l k z bs ts q c (language.ends_with a) h left = (h, λ r x. ([], tt, tt))
+  act_follows l k z bs ts q c language.stuck h left = tt
 
-  test_follows : (x : Core) (t : Tested Core) (k : ℕ) (bs : List (List ℤ)) (ts us : List (Task Act)) → TestFits n me coarrays steady t (TasksFit bs ts) (TasksFit bs us) → AreLeft bs ts → AreLeft bs us
-      → Follows x (by_test t (λ c. to ts c k) (λ c. to us c k))
-  test_follows x no_value k bs ts us h lt lu = tt
-  test_follows x (holds c) k bs ts us h lt lu = (bs, h, lt)
-  test_follows x (fails c) k bs ts us h lt lu = (bs, h, lu)
+  test_follows : (t : Tested Core) (k : ℕ) (z : Sizes) (bs : List (List ℤ)) (ts us : List (Task Act)) → TestFits n me coarrays steady t (TasksFit bs ts z) (TasksFit bs us z) → AreLeft bs ts → AreLeft bs us
+      → Follows z (by_test t (λ c. to ts c k) (λ c. to us c k))
+  test_follows no_value k z bs ts us h lt lu = tt
+  test_follows (holds c) k z bs ts us h lt lu = (bs, h, lt)
+  test_follows (fails c) k z bs ts us h lt lu = (bs, h, lu)
 
-  entered : (b : Bool) (x : Core) (c : Config Act Core) → Good c → Follows x (cond b over (goes c))
-  entered true x c h = tt
-  entered false x c h = h
+  entered : (b : Bool) (z : Sizes) (c : Config Act Core) → Good z c → Follows z (cond b over (goes c))
+  entered true z c h = tt
+  entered false z c h = h
 
   module _ (procedures : ℕ → Steps Act) (limit : ℕ) (bodies : (k : ℕ) → StepsFit n me coarrays steady (procedures k)) where
-    task_follows : (t : Task Act) (ts : List (Task Act)) (c : Core) (k : ℕ) (bs : List (List ℤ)) → TasksFit bs (t ∷ ts) c → AreLeft bs (t ∷ ts) → Follows c (step_task image_language procedures limit t ts c k)
-    task_follows (run stop) ts c k bs h left = (bs, h, left)
-    task_follows (run (also l f rest)) ts c k bs (i, e, hf, hr, h) left =
-        counted_follows limit l k (to (form_tasks l f (run rest ∷ ts)) c (k + 1)) c (let x = form_clear l f bs (run rest ∷ ts) hf (run_clear rest bs ts hr h, left) in (bs, x.0 c i e, x.1))
-    task_follows (eval l end_parts) ts c k bs h left = (bs, h, left)
-    task_follows (eval l (value p q)) ts c k bs h left = (bs, h, left)
-    task_follows (eval l (act a q)) ts c k bs h left = act_follows l k bs ts q c (effect_of a c) h left
-    task_follows (eval l (enter m q)) ts c k bs h left =
-        entered (nat_lt (frames c) (backs ts)) c (to (run (procedures m) ∷ back ∷ eval l q ∷ ts) c k)
-        (c.values ∷ bs, run_clear (procedures m) (c.values ∷ bs) (back ∷ eval l q ∷ ts) (bodies m) h.1 c h.0 refl, (h.1, left))
-    task_follows (eval l (either a b q)) ts c k bs h left = test_follows c (tested c) k bs (eval l a ∷ run stop ∷ eval l q ∷ ts) (eval l b ∷ eval l q ∷ ts) h left left
-    task_follows (tally l) ts c k bs h left = counted_follows limit l k (to ts c (k + 1)) c (bs, h, left)
-    task_follows (decide (otherwise b)) ts c k bs (i, e, hb, h) left = (bs, run_clear b bs ts hb h c i e, left)
-    task_follows (decide (branch l p a rest)) ts c k bs (i, e, hb, h) left = (bs, left_then 1 p hb.0 bs (pick l a rest ∷ ts) (λ d j s. (j, s, hb.1, hb.2, h)) c i e, left)
-    task_follows (pick l a rest) ts c k bs (i, s, ha, hb, h) left =
-        test_follows c (tested c) k bs (run a ∷ ts) (decide rest ∷ ts)
-        (test_fits n me coarrays steady 0 (base bs) c (TasksFit bs (run a ∷ ts)) (TasksFit bs (decide rest ∷ ts)) s (λ ws e. run_clear a bs ts ha h (with_values c ws) i e) (λ ws e. (i, e, hb, h))) left left
-    task_follows (again m) ts c k bs (i, e, hm, h) left =
-        (bs, leave_then n me coarrays steady 0 m.next hm.0 (base bs) (Fit m.test (TasksFit bs (iterate m ∷ ts))) (left_then 1 m.test hm.1 bs (iterate m ∷ ts) (λ d j s. (j, s, hm, h))) c i e, left.2)
-    task_follows (iterate m) ts c k bs (i, s, hm, h) left =
-        test_follows c (tested c) k bs (tally m.line ∷ run m.body ∷ again m ∷ ts) ts
-        (test_fits n me coarrays steady 0 (base bs) c (TasksFit bs (tally m.line ∷ run m.body ∷ again m ∷ ts)) (TasksFit bs ts) s
-        (λ ws e. run_clear m.body bs (again m ∷ ts) hm.2 (λ d j x. (j, x, hm, h)) (with_values c ws) i e) (λ ws e. h (with_values c ws) i e)) (hm, h, left) left
-    task_follows back ts c k bs h left = (callers bs, h, left.1)
+    task_follows : (t : Task Act) (ts : List (Task Act)) (z : Sizes) (c : Core) (k : ℕ) (bs : List (List ℤ)) → TasksFit bs (t ∷ ts) z c → AreLeft bs (t ∷ ts) → Follows z (step_task image_language procedures limit t ts c k)
+    task_follows (run stop) ts z c k bs h left = (bs, h, left)
+    task_follows (run (also l f rest)) ts z c k bs (i, e, hf, hr, h) left =
+        counted_follows limit l k z (to (form_tasks l f (run rest ∷ ts)) c (k + 1)) c (let x = form_clear l f bs (run rest ∷ ts) hf (run_clear rest bs ts hr h, left) in (bs, x.0 z c i e, x.1))
+    task_follows (eval l end_parts) ts z c k bs h left = (bs, h, left)
+    task_follows (eval l (value p q)) ts z c k bs h left = (bs, h, left)
+    task_follows (eval l (act a q)) ts z c k bs h left = act_follows l k z bs ts q c (effect_of a c) h left
+    task_follows (eval l (enter m q)) ts z c k bs h left =
+        entered (nat_lt (frames c) (backs ts)) z (to (run (procedures m) ∷ back ∷ eval l q ∷ ts) c k)
+        (c.values ∷ bs, run_clear (procedures m) (c.values ∷ bs) (back ∷ eval l q ∷ ts) (bodies m) h.1 z c h.0 refl, (h.1, left))
+    task_follows (eval l (either a b q)) ts z c k bs h left = test_follows (tested c) k z bs (eval l a ∷ run stop ∷ eval l q ∷ ts) (eval l b ∷ eval l q ∷ ts) h left left
+    task_follows (tally l) ts z c k bs h left = counted_follows limit l k z (to ts c (k + 1)) c (bs, h, left)
+    task_follows (decide (otherwise b)) ts z c k bs (i, e, hb, h) left = (bs, run_clear b bs ts hb h z c i e, left)
+    task_follows (decide (branch l p a rest)) ts z c k bs (i, e, hb, h) left = (bs, left_then 1 p hb.0 bs (pick l a rest ∷ ts) (λ y d j s. (j, s, hb.1, hb.2, h)) z c i e, left)
+    task_follows (pick l a rest) ts z c k bs (i, s, ha, hb, h) left =
+        test_follows (tested c) k z bs (run a ∷ ts) (decide rest ∷ ts)
+        (test_fits n me coarrays steady 0 (base bs) c (TasksFit bs (run a ∷ ts) z) (TasksFit bs (decide rest ∷ ts) z) s (λ ws e. run_clear a bs ts ha h z (with_values c ws) i e) (λ ws e. (i, e, hb, h))) left left
+    task_follows (again m) ts z c k bs (i, e, hm, h) left =
+        (bs, leave_then n me coarrays steady 0 m.next hm.0 (base bs) (Fit m.test (TasksFit bs (iterate m ∷ ts))) (left_then 1 m.test hm.1 bs (iterate m ∷ ts) (λ y d j s. (j, s, hm, h))) z c i e, left.2)
+    task_follows (iterate m) ts z c k bs (i, s, hm, h) left =
+        test_follows (tested c) k z bs (tally m.line ∷ run m.body ∷ again m ∷ ts) ts
+        (test_fits n me coarrays steady 0 (base bs) c (TasksFit bs (tally m.line ∷ run m.body ∷ again m ∷ ts) z) (TasksFit bs ts z) s
+        (λ ws e. run_clear m.body bs (again m ∷ ts) hm.2 (λ y d j x. (j, x, hm, h)) z (with_values c ws) i e) (λ ws e. h z (with_values c ws) i e)) (hm, h, left) left
+    task_follows back ts z c k bs h left = (callers bs, h, left.1)
 
-    step_follows : (c : Config Act Core) → Good c → Follows c.core (step image_language procedures limit c)
-    step_follows c h = by_tasks c.tasks c.core c.count h
+    step_follows : (z : Sizes) (c : Config Act Core) → Good z c → Follows z (step image_language procedures limit c)
+    step_follows z c h = by_tasks c.tasks c.core c.count h
       where
-        by_tasks : (ts : List (Task Act)) (x : Core) (k : ℕ) → Good (to ts x k) → Follows x (step image_language procedures limit (to ts x k))
+        by_tasks : (ts : List (Task Act)) (x : Core) (k : ℕ) → Good z (to ts x k) → Follows z (step image_language procedures limit (to ts x k))
         by_tasks [] x k g = tt
-        by_tasks (t ∷ ts) x k (bs, h, left) = task_follows t ts x k bs h left
+        by_tasks (t ∷ ts) x k (bs, h, left) = task_follows t ts z x k bs h left
 
     -- ---- a walk
     abbrev Ls : Config Act Core → Move (Config Act Core) Ask Reply
     Ls = step image_language procedures limit
 
-    -- whichever core a move comes from
-    abbrev Onward : Move (Config Act Core) Ask Reply → Type 0
-    Onward (goes c) = Good c
-    Onward (asks a l f) = (r : Reply) → TellsImages n r → Good (f r)
-    Onward over = Unit {0}
+    come_on : (k : ℕ) (z : Sizes) (v : Move (Config Act Core) Ask Reply) → Follows z v → ((c : Config Act Core) → Good z c → Follows z (go Ls k c)) → Follows z (goes_on v (go Ls k))
+    come_on k z (goes c) w more = more c w
+    come_on k z (asks a l f) w more = w
+    come_on k z over w more = w
 
-    onward : (x : Core) (v : Move (Config Act Core) Ask Reply) → Follows x v → Onward v
-    onward x (goes c) h = h
-    onward x (asks a l f) h = h.1
-    onward x over h = h
+    come : (k : ℕ) (z : Sizes) (c : Config Act Core) → Good z c → Follows z (go Ls k c)
+    come zero z c g = g
+    come (suc k) z c g = come_on k z (Ls c) (step_follows z c g) (come k z)
 
-    come_on : (k : ℕ) (v : Move (Config Act Core) Ask Reply) → Onward v → ((c : Config Act Core) → Good c → Onward (go Ls k c)) → Onward (goes_on v (go Ls k))
-    come_on k (goes c) w more = more c w
-    come_on k (asks a l f) w more = w
-    come_on k over w more = w
+    all_fit : (es : List (Said Ask Reply)) (z : Sizes) (c e : Config Act Core) → Good z c → Each (λ (x : Said Ask Reply). TellsImages n x.reply) es → Walk Ls c es e → AllFit n me coarrays steady z es
+    all_fit [] z c e g tells w = tt
+    all_fit (x ∷ es) z c e g (b, tells) (f, (k, h), w) =
+        let s = subst (Follows z) h (come k z c g) in
+        (s.0, all_fit es (sizes_by z x.ask) (f x.reply) e (s.1 x.reply b) tells w)
 
-    come : (k : ℕ) (c : Config Act Core) → Good c → Onward (go Ls k c)
-    come zero c g = g
-    come (suc k) c g = come_on k (Ls c) (onward c.core (Ls c) (step_follows c g)) (come k)
-
-    walk_good : (es : List (Said Ask Reply)) (c e : Config Act Core) → Good c → Each (λ (x : Said Ask Reply). TellsImages n x.reply) es → Walk Ls c es e → Good e
-    walk_good [] c e g tells w = subst Good (sym w) g
-    walk_good (x ∷ es) c e g (b, tells) (f, (k, h), w) = walk_good es (f x.reply) e (subst Onward h (come k c g) x.reply b) tells w
-
-    walk_to_good : (es : List (Said Ask Reply)) (c e : Config Act Core) → Good c → Each (λ (x : Said Ask Reply). TellsImages n x.reply) es → WalkTo Ls c es e → Good e
-    walk_to_good es c e g tells (m, w, k, h) = subst Onward h (come k m (walk_good es c m g tells w))
-
-    next : (x : Core) (v : Move (Config Act Core) Ask Reply) → Follows x v → NextFits n me coarrays steady x v
-    next x (goes c) h = tt
-    next x (asks a l f) h = h.0
-    next x over h = tt
-
-    -- from the start of a program on, the next ask fits wherever the walk has come to
-    pub walks_fit : (line : ℕ) (first : Core) → Sound first → first.values ≡ [] → (es : List (Said Ask Reply)) (c : Config Act Core) → Each (λ (x : Said Ask Reply). TellsImages n x.reply) es
-        → WalkTo Ls (start (ask end_program) line first) es c → NextFits n me coarrays steady c.core (Ls c)
-    walks_fit line first i e es c tells w =
-        next c.core (Ls c) (step_follows c (walk_to_good es (start (ask end_program) line first) c ([] ∷ [], (i, λ d j s. tt), tt) tells w))
+    -- from the start of a program on
+    pub walks_fit : (line : ℕ) (z : Sizes) (first : Core) → Sound z first → first.values ≡ [] → (es : List (Said Ask Reply)) (c : Config Act Core) → Each (λ (x : Said Ask Reply). TellsImages n x.reply) es
+        → Walk Ls (start (ask end_program) line first) es c → AllFit n me coarrays steady z es
+    walks_fit line z first i e es c tells w = all_fit es z (start (ask end_program) line first) c ([] ∷ [], (i, λ y d j s. tt), tt) tells w

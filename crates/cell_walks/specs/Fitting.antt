@@ -1,7 +1,7 @@
 -- Which asks for one cell of a memory fit (ISO/IEC 1539-1:2018, 9.6, 11.6.7, 11.6.8, 11.6.10, 16.10.2), along the walk of a program.
-use Rattle.std.specs.Prelude.{ℕ, ◌≡◌, ◌≤◌, ◌<◌, ℤ, Bool, true, List, Option, Some, None}
+use Rattle.std.specs.Prelude.{ℕ, ◌≡◌, ◌≤◌, ◌<◌, ℤ, Bool, true, map, slice_get, List, [], ◌∷◌, Option, Some, None}
 use Rattle.trace_theory.specs.Entries.{Each}
-use Rattle.trace_theory.specs.Machines.{Move, asks}
+use Rattle.trace_theory.specs.Machines.{Said}
 use Rattle.coarray_types.specs.Places.{size_of}
 use Rattle.caf_base.specs.declared.span.Span.{Span}
 use Rattle.caf_events.specs.declared.ask.Ask.{Ask}
@@ -18,11 +18,12 @@ use Rattle.core_runs.specs.Beginnings.{IsOneOf}
 use Rattle.core_runs.specs.Lawful.{made_memory}
 use Rattle.image_acts.specs.Acts.{Act}
 use Rattle.image_acts.specs.Core.{Core, Own, Team}
-use Rattle.image_acts.specs.Owning.{own_in}
+use Rattle.image_acts.specs.Frames.{joined}
 use Rattle.image_acts.specs.Statuses.{most_cells}
 use Rattle.image_acts.specs.Taking.{Acted, tested}
 use Rattle.image_acts.specs.Meaning.{effect_of}
 use Rattle.stack_laws.specs.Exact.{Stand}
+use Rattle.told_walks.specs.Asked.{own_cells, sizes_by}
 
 -- the reply tells of no team with a member that isn't an image of the run
 abbrev pub TellsImages : ℕ → Reply → Type 0
@@ -34,39 +35,45 @@ abbrev pub IsSmall : Option Own → Type 0
 IsSmall None = Unit {0}
 IsSmall (Some o) = size_of o.bounds ≤ most_cells
 
--- The invariant of a walk of image `me` of n: each team that it knows has members of the run alone, and no coarray has more cells than an image has.
-pub record Sounds (n me m : ℕ) (ts : List Team) (fs : List FormedTeam) (os : List (Option Own)) : Type 0 where
+-- how many cells each of an image's own coarrays has, by what it allocated and deallocated, none where it isn't there
+abbrev pub Sizes : Type 0
+Sizes = List (Option ℕ)
+
+-- The invariant of a walk of image `me` of n: each team that it knows has members of the run alone, and its own coarrays have these sizes, none more cells than an image has.
+pub record Sounds (n me : ℕ) (z : Sizes) (m : ℕ) (ts : List Team) (fs : List FormedTeam) (os : List (Option Own)) : Type 0 where
   pub own : m ≡ me
   pub known : Each (λ (x : Team). Each (IsOneOf n) x.members) ts
   pub formed : Each (λ (x : FormedTeam). Each (λ i. IsOneOf n i.0) x.members) fs
   pub coarrays : Each IsSmall os
+  pub sizes : map own_cells os ≡ z
 
-abbrev pub IsSound : ℕ → ℕ → Core → Type 0
-IsSound n me c = Sounds n me c.me c.known c.formed c.coarrays
+abbrev pub IsSound : ℕ → ℕ → Sizes → Core → Type 0
+IsSound n me z c = Sounds n me z c.me c.known c.formed c.coarrays
 
 -- the span's cell is one of this image's coarray as it is allocated
-abbrev pub HasCell : Core → Span → Type 0
-HasCell c span = (o : Own) × (own_in c span.coarray ≡ Some o) × (span.start < size_of o.bounds)
+abbrev pub HasCell : Sizes → Span → Type 0
+HasCell z span = (m : ℕ) × (joined (slice_get z span.coarray) ≡ Some m) × (span.start < m)
 
--- The ask of image `me` at this core fits, as far as it is one for a lock or an event. EVENT WAIT and EVENT_QUERY name a cell that is there where `steady` is true.
-abbrev pub FitsCell : (n me : ℕ) → List Declared → Bool → Core → Ask → Type 0
-FitsCell n me coarrays steady c (asking.Lock owner span) = IsOneOf n owner.0 × (is_cell_of (made_memory coarrays owner.0) is_lock span ≡ true)
-FitsCell n me coarrays steady c (asking.TryLock owner span) = IsOneOf n owner.0 × (is_cell_of (made_memory coarrays owner.0) is_lock span ≡ true)
-FitsCell n me coarrays steady c (asking.Unlock owner span) = IsOneOf n owner.0 × (is_cell_of (made_memory coarrays owner.0) is_lock span ≡ true)
-FitsCell n me coarrays steady c (asking.Post owner span) = IsOneOf n owner.0 × (is_cell_of (made_memory coarrays owner.0) is_event span ≡ true)
-FitsCell n me coarrays steady c (asking.Wait owner span threshold) =
-    (owner.0 ≡ me) × (is_cell_of (made_memory coarrays owner.0) is_event span ≡ true) × (1 ≤ threshold) × (steady ≡ true → HasCell c span)
-FitsCell n me coarrays steady c (asking.Query owner span) = (owner.0 ≡ me) × (is_cell_of (made_memory coarrays owner.0) is_event span ≡ true) × (steady ≡ true → HasCell c span)
-FitsCell n me coarrays steady c ask = Unit {0}
+-- The ask of image `me`, whose own coarrays have these sizes, fits, as far as it is one for a lock or an event. EVENT WAIT and EVENT_QUERY name a cell that is there where
+-- `steady` is true.
+abbrev pub FitsCell : (n me : ℕ) → List Declared → Bool → Sizes → Ask → Type 0
+FitsCell n me coarrays steady z (asking.Lock owner span) = IsOneOf n owner.0 × (is_cell_of (made_memory coarrays owner.0) is_lock span ≡ true)
+FitsCell n me coarrays steady z (asking.TryLock owner span) = IsOneOf n owner.0 × (is_cell_of (made_memory coarrays owner.0) is_lock span ≡ true)
+FitsCell n me coarrays steady z (asking.Unlock owner span) = IsOneOf n owner.0 × (is_cell_of (made_memory coarrays owner.0) is_lock span ≡ true)
+FitsCell n me coarrays steady z (asking.Post owner span) = IsOneOf n owner.0 × (is_cell_of (made_memory coarrays owner.0) is_event span ≡ true)
+FitsCell n me coarrays steady z (asking.Wait owner span threshold) =
+    (owner.0 ≡ me) × (is_cell_of (made_memory coarrays owner.0) is_event span ≡ true) × (1 ≤ threshold) × (steady ≡ true → HasCell z span)
+FitsCell n me coarrays steady z (asking.Query owner span) = (owner.0 ≡ me) × (is_cell_of (made_memory coarrays owner.0) is_event span ≡ true) × (steady ≡ true → HasCell z span)
+FitsCell n me coarrays steady z ask = Unit {0}
 
 module _ (n me : ℕ) (coarrays : List Declared) (steady : Bool) where
   -- what an act comes to asks for no cell that doesn't fit, and `After` holds behind it, whatever the reply is
-  abbrev pub EffectFits : Core → Acted → (Core → Type 0) → Type 0
-  EffectFits c (language.goes_to d) After = After d
-  EffectFits c (language.faults k) After = Unit {0}
-  EffectFits c (language.asking a f) After = FitsCell n me coarrays steady c a × ((r : Reply) → TellsImages n r → After (f r))
-  EffectFits c (language.ends_with a) After = FitsCell n me coarrays steady c a
-  EffectFits c language.stuck After = Unit {0}
+  abbrev pub EffectFits : Acted → (Sizes → Core → Type 0) → Sizes → Type 0
+  EffectFits (language.goes_to d) After z = After z d
+  EffectFits (language.faults k) After z = Unit {0}
+  EffectFits (language.asking a f) After z = FitsCell n me coarrays steady z a × ((r : Reply) → TellsImages n r → After (sizes_by z a) (f r))
+  EffectFits (language.ends_with a) After z = FitsCell n me coarrays steady z a
+  EffectFits language.stuck After z = Unit {0}
 
   abbrev pub TestFits : Tested Core → (so other : Core → Type 0) → Type 0
   TestFits no_value so other = Unit {0}
@@ -74,16 +81,16 @@ module _ (n me : ℕ) (coarrays : List Declared) (steady : Bool) where
   TestFits (fails c) so other = other c
 
   -- the same of parts: a procedure begins where the invariant holds, and leaves the numbers of the stack as they were
-  abbrev pub PartsFit : Parts Act → (Core → Type 0) → Core → Type 0
-  PartsFit end_parts After c = After c
-  PartsFit (value p q) After c = PartsFit p (PartsFit q After) c
-  PartsFit (act a q) After c = EffectFits c (effect_of a c) (PartsFit q After)
-  PartsFit (enter k q) After c = IsSound n me c × ((d : Core) → IsSound n me d → d.values ≡ c.values → PartsFit q After d)
-  PartsFit (either a b q) After c = TestFits (tested c) (PartsFit a (PartsFit q After)) (PartsFit b (PartsFit q After))
+  abbrev pub PartsFit : Parts Act → (Sizes → Core → Type 0) → Sizes → Core → Type 0
+  PartsFit end_parts After z c = After z c
+  PartsFit (value p q) After z c = PartsFit p (PartsFit q After) z c
+  PartsFit (act a q) After z c = EffectFits (effect_of a c) (PartsFit q After) z
+  PartsFit (enter k q) After z c = IsSound n me z c × ((y : Sizes) (d : Core) → IsSound n me y d → d.values ≡ c.values → PartsFit q After y d)
+  PartsFit (either a b q) After z c = TestFits (tested c) (PartsFit a (PartsFit q After) z) (PartsFit b (PartsFit q After) z)
 
   -- parts that leave so many numbers on those that stand there
   abbrev pub Leave : ℕ → Parts Act → Type 0
-  Leave m p = (vs : List ℤ) (c : Core) → IsSound n me c → c.values ≡ vs → PartsFit p (λ d. IsSound n me d × Stand m vs d.values) c
+  Leave m p = (vs : List ℤ) (z : Sizes) (c : Core) → IsSound n me z c → c.values ≡ vs → PartsFit p (λ y d. IsSound n me y d × Stand m vs d.values) z c
 
   -- ---- blocks: a statement leaves none, a test its truth value
   abbrev mutual
@@ -104,7 +111,7 @@ module _ (n me : ℕ) (coarrays : List Declared) (steady : Bool) where
     StepsFit stop = Unit {0}
     StepsFit (also l f rest) = FormFits f × StepsFit rest
 
-  -- the next ask of a move from this core, if there is one, fits
-  abbrev pub NextFits : {C : Type 0} → Core → Move C Ask Reply → Type 0
-  NextFits c (asks a l k) = FitsCell n me coarrays steady c a
-  NextFits c move = Unit {0}
+  -- each ask of a walk fits, where the image's own coarrays had these sizes before all
+  abbrev pub AllFit : Sizes → List (Said Ask Reply) → Type 0
+  AllFit z [] = Unit {0}
+  AllFit z (e ∷ es) = FitsCell n me coarrays steady z e.ask × AllFit (sizes_by z e.ask) es

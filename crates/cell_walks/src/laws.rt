@@ -2,7 +2,7 @@
 
 ghost use Rattle.std.specs.Prelude.{◌≡◌, ℕ, Bool, List, []};
 ghost use Rattle.trace_theory.specs.Entries.{Each};
-ghost use Rattle.trace_theory.specs.Machines.{Said, WalkTo};
+ghost use Rattle.trace_theory.specs.Machines.{Said, Walk};
 ghost use Rattle.caf_events.specs.declared.ask.Ask.{Ask};
 ghost use Rattle.caf_events.specs.declared.reply.Reply.{Reply};
 ghost use Rattle.walk_theory.specs.Syntax.{Steps};
@@ -11,11 +11,11 @@ ghost use Rattle.object_rules.specs.Cells.{Declared};
 ghost use Rattle.image_acts.specs.Acts.{Act, ask, end_program};
 ghost use Rattle.image_acts.specs.Core.{Core};
 ghost use Rattle.image_acts.specs.Meaning.{image_language};
-ghost use Rattle.cell_walks.specs.Fitting.{IsSound, TellsImages, StepsFit, NextFits};
+ghost use Rattle.cell_walks.specs.Fitting.{Sizes, IsSound, TellsImages, StepsFit, AllFit};
 
-/// Where the blocks of a program fit, the next ask of its walk fits, wherever the walk has come to by replies that tell of images of the run alone.
+/// Where the blocks of a program fit, each ask of its walks fits, whatever the replies are that tell of images of the run alone.
 pub fn law_walks_fit()
     ensures { (n me : ℕ) (coarrays : List Declared) (steady : Bool) (procedures : ℕ → Steps Act) (limit : ℕ) → ((k : ℕ) → StepsFit n me coarrays steady (procedures k))
-        → (line : ℕ) (first : Core) → IsSound n me first → first.values ≡ [] → (es : List (Said Ask Reply)) (c : Config Act Core) → Each (λ (x : Said Ask Reply). TellsImages n x.reply) es
-        → WalkTo (step image_language procedures limit) (start (ask end_program) line first) es c → NextFits n me coarrays steady c.core (step image_language procedures limit c) }
+        → (line : ℕ) (sizes : Sizes) (first : Core) → IsSound n me sizes first → first.values ≡ [] → (es : List (Said Ask Reply)) (c : Config Act Core)
+        → Each (λ (x : Said Ask Reply). TellsImages n x.reply) es → Walk (step image_language procedures limit) (start (ask end_program) line first) es c → AllFit n me coarrays steady sizes es }
 {}

@@ -75,7 +75,7 @@ create : (j depth rank : ℕ) (c : Core) (xs vs : List ℤ) → length xs ≡ de
 create j depth rank c xs vs h =
     let d = with_values c (xs ++ vs) in
     let m = depth + bounds_size rank in
-    sees Plain (kept_of c) m vs depth (bounds_size rank) d (λ us. asking (asks.Create (record { 0 = c.me }) j (cells_word (size_of (pairs_in us)))) (λ r. d)) (λ us e. said (kept_of c) m vs _ (λ r. d) refl (λ r. stand_of m xs vs h) (λ r. refl))
+    sees Any (kept_of c) m vs depth (bounds_size rank) d (λ us. asking (asks.Create (record { 0 = c.me }) j (cells_word (size_of (pairs_in us)))) (λ r. d)) (λ us e. said_any (kept_of c) m vs _ (λ r. d) (λ r. stand_of m xs vs h) (λ r. refl))
 
 of_four : (Q : Ask → Type 0) (c : Core) (f : Core → Acted) (m : ℕ) (xs vs : List ℤ) → length xs ≡ 4 → ((y x o s : ℤ) → Fine Q (kept_of c) m vs (f (with_values c (y ∷ x ∷ o ∷ s ∷ vs)))) → Fine Q (kept_of c) m vs (f (with_values c (xs ++ vs)))
 of_four Q c f m (y ∷ x ∷ o ∷ s ∷ []) vs h g = g y x o s
@@ -122,7 +122,7 @@ exact_ask (a.read j rank) f c xs vs h = read j rank c xs vs h
 exact_ask (a.write j rank kind) f c xs vs h = write j rank kind c xs vs h
 exact_ask (a.write_array j rank kind) f c xs vs h = write_array j rank kind c xs vs h
 exact_ask (a.create j depth rank) f c xs vs h = create j depth rank c xs vs h
-exact_ask (a.delete j) f c xs vs h = of_none Plain (kept_of c) 0 vs c (ask_effect (a.delete j)) xs vs h (search fine_asks)
+exact_ask (a.delete j) f c xs vs h = of_none Any (kept_of c) 0 vs c (ask_effect (a.delete j)) xs vs h (search fine_asks)
 exact_ask (a.atomic op j kind) f c xs vs h = of_four Plain c (ask_effect (a.atomic op j kind)) 2 xs vs h (λ y x o s. search fine_asks)
 exact_ask (a.lock j) f c xs vs h = of_two Any (kept_of c) 1 vs c (ask_effect (a.lock j)) xs vs h (λ o s. search fine_asks)
 exact_ask (a.try_lock j) f c xs vs h = of_two Any (kept_of c) 2 vs c (ask_effect (a.try_lock j)) xs vs h (λ o s. search fine_asks)

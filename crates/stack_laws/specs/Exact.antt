@@ -32,8 +32,10 @@ KeptBy (allocation (a.note_made k depth rank corank)) c d = Unit {0}
 KeptBy (allocation (a.note_freed k)) c d = Unit {0}
 KeptBy x c d = kept_of d ≡ kept_of c
 
--- an ask for no lock and for no event
+-- an ask for no lock and for no event, that allocates nothing and deallocates nothing
 abbrev pub is_plain : Ask → Bool
+is_plain (asks.Create owner coarray cells) = false
+is_plain (asks.Delete owner coarray) = false
 is_plain (asks.Lock owner span) = false
 is_plain (asks.TryLock owner span) = false
 is_plain (asks.Unlock owner span) = false
@@ -42,7 +44,7 @@ is_plain (asks.Wait owner span threshold) = false
 is_plain (asks.Query owner span) = false
 is_plain q = true
 
--- asks that an act may make: none, those for no lock and no event, any
+-- asks that an act may make: none, plain ones, any
 abbrev pub No : Ask → Type 0
 No = λ q. ⊥
 
@@ -52,8 +54,10 @@ Plain = λ q. is_plain q ≡ true
 abbrev pub Any : Ask → Type 0
 Any = λ q. Unit {0}
 
--- an act of another family asks nothing, and few acts ask for a lock or an event
+-- an act of another family asks nothing, and few acts make an ask that isn't plain
 abbrev pub AsksBy : Act → Ask → Type 0
+AsksBy (ask (a.create j depth rank)) = Any
+AsksBy (ask (a.delete j)) = Any
 AsksBy (ask (a.lock j)) = Any
 AsksBy (ask (a.try_lock j)) = Any
 AsksBy (ask (a.unlock j)) = Any
