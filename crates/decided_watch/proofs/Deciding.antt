@@ -15,7 +15,7 @@ use Rattle.order_axioms.specs.Touching.{touches}
 use Rattle.order_axioms.specs.FirstRaces.{HasNoRace}
 use Rattle.every_order.specs.Decided.{is_free, OnePoster, EventsStay, IsDecided}
 use Rattle.decided_watch.specs.declared.watch.Reason.TheVariants as reasons
-use Rattle.decided_watch.specs.Undecided.{posted_by, last_poster, posts_in, makes_one, is_posted, is_made, is_other, reason_by, reason_of, IsUndecided}
+use Rattle.decided_watch.specs.Undecided.{posted_by, last_poster, posts_in, makes_one, is_posted, is_made, is_other, reason_by, reason_of, IsFirstUndecided}
 use Rattle.decided_watch.proofs.Tables.{same_cell_tells}
 use Rattle.decided_watch.proofs.Facts.{Facts, facts_none, facts_next, false_true, reason_parts}
 
@@ -26,7 +26,7 @@ facts_behind t g (e ∷ r) s none facts =
     facts_behind t (g ++ e ∷ []) r (s ∙ sym (append_assoc g (e ∷ []) r)) none
     (facts_next g e (reason_parts g e (none (record { before = g; event = e; rest = r; split = s }))).1 facts)
 
-facts_of : (t : List Entry) → IsUndecided t None → Facts t
+facts_of : (t : List Entry) → IsFirstUndecided t None → Facts t
 facts_of t none = facts_behind t [] t refl none facts_none
 
 free_from : (t g r : List Entry) → t ≡ g ++ r → ((x : Stands t) → reason_of x.before x.event ≡ None) → Each (λ x. is_free x.event.ask x.event.reply ≡ true) r
@@ -66,7 +66,7 @@ module _ (t : List Entry) (facts : Facts t) where
   events_stay : EventsStay t
   events_stay x y c is = (λ h. facts.apart c.owner c.coarray (posted_of x c is) (created_of y c.owner c.coarray h), λ h. facts.apart c.owner c.coarray (posted_of x c is) (deleted_of y c.owner c.coarray h))
 
-pub decided : (n : ℕ) (t : List Entry) → HasNoRace (edges n) touches t → IsUndecided t None → IsDecided n t
+pub decided : (n : ℕ) (t : List Entry) → HasNoRace (edges n) touches t → IsFirstUndecided t None → IsDecided n t
 decided n t race none = let facts = facts_of t none in record {
   no_race = race;
   free = free_from t [] t refl none;

@@ -56,6 +56,6 @@ abbrev pub NoneBefore : List Entry → ℕ → Type 0
 NoneBefore t p = (x : Stands t) → place x < p → reason_of x.before x.event ≡ None
 
 -- no entry of the trace has a reason, or this is the first one
-abbrev pub IsUndecided : List Entry → Option Undecided → Type 0
-IsUndecided t None = (x : Stands t) → reason_of x.before x.event ≡ None
-IsUndecided t (Some u) = (x : Stands t) × (place x ≡ u.at) × (reason_of x.before x.event ≡ Some u.reason) × NoneBefore t u.at
+abbrev pub IsFirstUndecided : List Entry → Option Undecided → Type 0
+IsFirstUndecided t None = (x : Stands t) → reason_of x.before x.event ≡ None
+IsFirstUndecided t (Some u) = (x : Stands t) × (place x ≡ u.at) × (reason_of x.before x.event ≡ Some u.reason) × NoneBefore t u.at

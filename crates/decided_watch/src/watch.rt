@@ -3,7 +3,7 @@
 ghost use Rattle.std.specs.Prelude.{◌≡◌, ℕ, [], ◌∷◌, ◌++◌, IfOk};
 ghost use Rattle.order_axioms.specs.Views.{act_of};
 ghost use Rattle.race_watch.specs.ActParts.{as_act};
-ghost use Rattle.decided_watch.specs.Undecided.{is_other, reason_by, reason_of, IsUndecided};
+ghost use Rattle.decided_watch.specs.Undecided.{is_other, reason_by, reason_of, IsFirstUndecided};
 ghost use Rattle.decided_watch.specs.EventTables.{Tells};
 
 use crate::events::EventTable;
@@ -126,7 +126,7 @@ fn follow_entry(
 /// The first entry of a trace that keeps it from being decided, and why; None where there is none, and the trace is
 /// decided if it has no race (`law_decided`).
 pub fn first_undecided(alloc: Global, trace: &[Entry]) -> Result<Option<Undecided>, NoMemory>
-    ensures { IfOk result (λ o. IsUndecided trace.now o) }
+    ensures { IfOk result (λ o. IsFirstUndecided trace.now o) }
 {
     let mut table = EventTable::new(alloc);
     for at in 0..trace.len() {
