@@ -1,0 +1,6 @@
+pub mod Held
+pub mod Actions
+pub mod Statements
+pub mod Declared
+pub mod Names
+pub mod Programs
