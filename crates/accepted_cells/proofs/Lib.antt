@@ -4,3 +4,4 @@ pub mod Statements
 pub mod Declared
 pub mod Names
 pub mod Programs
+pub mod OwnCells

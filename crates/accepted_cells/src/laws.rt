@@ -1,6 +1,7 @@
 //! Laws of the locks and events of accepted programs. Each is the contract of a function that does nothing.
 
-ghost use Rattle.std.specs.Prelude.{◌≡◌, List, [], Some};
+ghost use Rattle.std.specs.Prelude.{◌≡◌, true, List, [], Some, map};
+ghost use Rattle.trace_theory.specs.Entries.{Each};
 ghost use Rattle.fortran_tree.specs.Statements as actions;
 ghost use Rattle.fortran_tree.specs.Units as units;
 ghost use Rattle.checked_tree.specs.Statements.{Program, Statements};
@@ -8,8 +9,13 @@ ghost use Rattle.rule_definitions.specs.Statements.{Position, judged_statements}
 ghost use Rattle.rule_definitions.specs.Units.{program_judged};
 ghost use Rattle.object_rules.specs.Cells.{Declared};
 ghost use Rattle.cell_statements.specs.Typed.{AreTyped, IsTypedProgram};
+ghost use Rattle.coarray_tables.specs.Fits.{are_fit};
+ghost use Rattle.program_tables.specs.Tables.{tables_of};
+ghost use Rattle.tree_meaning.specs.Start.{own_coarrays};
+ghost use Rattle.told_walks.specs.Asked.{own_cells};
+ghost use Rattle.cell_walks.specs.Fitting.{IsSmall};
 ghost use Rattle.accepted_cells.specs.Scopes.{AreHeld};
-ghost use Rattle.accepted_cells.specs.Contents.{HoldWhatIsDeclared};
+ghost use Rattle.accepted_cells.specs.Contents.{HoldWhatIsDeclared, table_cells};
 
 /// Where nothing breaks in a block, each statement on a lock or an event in the block that it stands for names a declared one: in a scope whose locks and events are declared.
 pub fn law_block_is_typed()
@@ -21,4 +27,10 @@ pub fn law_block_is_typed()
 /// what the program declares.
 pub fn law_accepted_is_typed()
     ensures { (p : units.Program) (c : Program) → (program_judged p).breaks ≡ [] → (program_judged p).meaning ≡ Some c → (coarrays : List Declared) → HoldWhatIsDeclared c coarrays → IsTypedProgram coarrays c }
+{}
+
+/// The coarrays with which an image begins have as many cells as the tables of the program say, and each is small where they fit an image.
+pub fn law_own_cells_are_few()
+    ensures cells { (p : Program) → map table_cells (tables_of p).coarrays ≡ map own_cells (own_coarrays p) }
+    ensures few { (p : Program) → are_fit 0 (tables_of p).coarrays ≡ true → Each IsSmall (own_coarrays p) }
 {}
