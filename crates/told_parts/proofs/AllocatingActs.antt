@@ -1,14 +1,10 @@
 -- An act allocates and deallocates no coarray but the one that it names.
-use Rattle.std.proofs.Common.{◌≡◌, ℕ, suc, ◌+◌, ◌-◌, Bool, true, false, cond, ◌&&◌, ◌||◌, List, [], ◌∷◌, length, nat_le, nat_lt, refl, arith}
-use Rattle.std.specs.Prelude.{ℤ, pos, take, drop, Option, None, Some}
-use Rattle.caf_base.specs.declared.place.ImageNo.{ImageNo}
-use Rattle.caf_base.specs.Arithmetic.{natural}
+use Rattle.std.proofs.Common.{ℕ, suc, ◌-◌, Bool, true, false, List, [], ◌∷◌, arith}
+use Rattle.std.specs.Prelude.{ℤ, drop, Option, None, Some}
 use Rattle.caf_events.specs.declared.ask.Ask.{Ask}
 use Rattle.caf_events.specs.declared.ask.Ask.TheVariants as asks
 use Rattle.caf_events.specs.declared.reply.Reply.{Reply}
 use Rattle.walk_theory.specs.Language.{goes_to, faults, asking, ends_with, stuck}
-use Rattle.image_acts.specs.Statuses.{most_frames, most_cells}
-use Rattle.image_acts.specs.Faults.{room, depth_fault}
 use Rattle.image_acts.specs.Acts as a
 use Rattle.image_acts.specs.Acts.{Act, constant, stack, variable, operator, bounded, allocation, selector, team, call, print, ask}
 use Rattle.image_acts.specs.Core.{Core, Array, Frame, Own, with_values}

@@ -1,5 +1,5 @@
 -- The walk of a program whose acts allocate and deallocate coarrays of a set alone does so too.
-use Rattle.std.proofs.Common.{◌≡◌, ℕ, zero, suc, ◌+◌, nat_lt, List, [], ◌∷◌, Bool, true, false, cond, subst}
+use Rattle.std.proofs.Common.{ℕ, zero, suc, ◌+◌, nat_lt, List, [], ◌∷◌, Bool, true, false, cond, subst}
 use Rattle.trace_theory.specs.Entries.{Each}
 use Rattle.trace_theory.specs.Machines.{Move, goes, asks, over, Said, go, goes_on, Walk}
 use Rattle.caf_events.specs.declared.ask.Ask.{Ask}
@@ -68,9 +68,9 @@ module _ (f : ℕ → Bool) where
 
   formed : (l : ℕ) (x : Form Act) (ts : List (Task Act)) → FormActsOn f x → Tasks ts → Tasks (form_tasks l x ts)
   formed l (simple p) ts h more = (h, more)
-  formed l (choose p bs) ts h more = (h.0, h.1, more)
-  formed l (loop s n t b) ts h more = (h.0, h.2, (h.1, h.2, h.3), more)
-  formed l (around p b m q) ts h more = (h.0, h.1, tt, h.2, more)
+  formed l (choose p bs) ts h more = (h.0, (h.1, more))
+  formed l (loop s n t b) ts h more = (h.0, (tt, (h.2, ((h.1, h.2, h.3), more))))
+  formed l (around p b m q) ts h more = (h.0, (h.1, (tt, (h.2, more))))
   formed l (exit n) ts h more = left_loop n ts more
   formed l (cycle n) ts h more = next_loop n ts more
   formed l return ts h more = returned ts more
@@ -109,16 +109,16 @@ module _ (f : ℕ → Bool) where
     task_so (run stop) ts c n h more = more
     task_so (run (also l x rest)) ts c n h more = counted_so limit l n (to (form_tasks l x (run rest ∷ ts)) c (n + 1)) c (formed l x (run rest ∷ ts) h.0 (h.1, more))
     task_so (eval l end_parts) ts c n h more = more
-    task_so (eval l (value p q)) ts c n h more = (h.0, h.1, more)
+    task_so (eval l (value p q)) ts c n h more = (h.0, (h.1, more))
     task_so (eval l (act x q)) ts c n h more = acted_so l n ts q c (effect_of x c) (okay_act f x c h.0) h.1 more
-    task_so (eval l (enter m q)) ts c n h more = entered_so (nat_lt (frames c) (backs ts)) (to (run (procedures m) ∷ back ∷ eval l q ∷ ts) c n) (bodies m, tt, h, more)
-    task_so (eval l (either p q r)) ts c n h more = tested_so (tested c) n (eval l p ∷ run stop ∷ eval l r ∷ ts) (eval l q ∷ eval l r ∷ ts) (h.0, tt, h.2, more) (h.1, h.2, more)
+    task_so (eval l (enter m q)) ts c n h more = entered_so (nat_lt (frames c) (backs ts)) (to (run (procedures m) ∷ back ∷ eval l q ∷ ts) c n) (bodies m, (tt, (h, more)))
+    task_so (eval l (either p q r)) ts c n h more = tested_so (tested c) n (eval l p ∷ run stop ∷ eval l r ∷ ts) (eval l q ∷ eval l r ∷ ts) (h.0, (tt, (h.2, more))) (h.1, (h.2, more))
     task_so (tally l) ts c n h more = counted_so limit l n (to ts c (n + 1)) c more
     task_so (decide (otherwise b)) ts c n h more = (h, more)
-    task_so (decide (branch l p x rest)) ts c n h more = (h.0, (h.1, h.2), more)
+    task_so (decide (branch l p x rest)) ts c n h more = (h.0, ((h.1, h.2), more))
     task_so (pick l x rest) ts c n h more = tested_so (tested c) n (run x ∷ ts) (decide rest ∷ ts) (h.0, more) (h.1, more)
-    task_so (again m) ts c n h more = (h.0, h.1, h, more)
-    task_so (iterate m) ts c n h more = tested_so (tested c) n (tally m.line ∷ run m.body ∷ again m ∷ ts) ts (tt, h.2, h, more) more
+    task_so (again m) ts c n h more = (h.0, (h.1, (h, more)))
+    task_so (iterate m) ts c n h more = tested_so (tested c) n (tally m.line ∷ run m.body ∷ again m ∷ ts) ts (tt, (h.2, (h, more))) more
     task_so back ts c n h more = more
 
     abbrev Ls : Config Act Core → Move (Config Act Core) Ask Reply
@@ -148,4 +148,4 @@ module _ (f : ℕ → Bool) where
         (s.0, walks_so es (k x.reply) e (s.1 x.reply) w)
 
     pub start_so : (line : ℕ) (first : Core) → WalksOfSet f Ls (start (ask end_program) line first)
-    start_so line first es e w = walks_so es (start (ask end_program) line first) e ((tt, tt), tt) w
+    start_so line first es e w = walks_so es (start (ask end_program) line first) e (tt, (tt, ((tt, tt), tt))) w

@@ -12,7 +12,7 @@ use Rattle.tree_meaning.specs.Start.{first_core, start_of, walk_step, images_fro
 use Rattle.told_walks.specs.Asked.{IsIn, IsKnown, WalksTold, at_first, most_team, own_cells, cells_in}
 use Rattle.told_walks.proofs.Walks.{start_walks}
 use Rattle.told_programs.specs.First.{told_first}
-use Rattle.told_programs.proofs.Statements.{body_names, bodies_safe}
+use Rattle.told_programs.proofs.ToldNames.{program_bodies}
 
 first_short : (me n : ℕ) (sizes : List (Option ℕ)) (t : ℕ) → IsIn (at_first me n sizes) t → t ≤ most_team
 first_short me n sizes t h = elim (eqb_tells t 1) [ inl y ↦ subst (λ z. z ≤ most_team) (sym y.1) (omega arith) | inr f ↦ absurd (let g : false ≡ true = rw f.0 at h in cc) ]
@@ -46,4 +46,4 @@ start_known p me n = record {
 }
 
 pub program_names : (p : s.Program) → (limit me n : ℕ) → WalksTold (told_first p me n) (walk_step p limit) (start_of p me n)
-program_names p limit me n = start_walks (body_of (bodies p)) limit (body_names (bodies p) (bodies_safe p)) p.end_line (first_core p me n) (told_first p me n) (start_known p me n)
+program_names p limit me n = start_walks (body_of (bodies p)) limit (program_bodies p) p.end_line (first_core p me n) (told_first p me n) (start_known p me n)

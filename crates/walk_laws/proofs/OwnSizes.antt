@@ -4,7 +4,7 @@ use Rattle.std.specs.Prelude.{Option, Some, None}
 use Rattle.std.specs.List.{range_with_len}
 use Rattle.std.proofs.lemmas.Bool.{and_parts, eqb-true}
 use Rattle.std.proofs.lemmas.Bool.Decides.{eqb_tells}
-use Rattle.std.proofs.lemmas.List.{length-set}
+use Rattle.std.proofs.lemmas.List.{length-set, length-map}
 use Rattle.caf_events.specs.declared.ask.Ask.{Ask}
 use Rattle.caf_events.specs.declared.ask.Ask.TheVariants as asks
 use Rattle.caf_events.specs.declared.reply.Reply.{Reply}
@@ -21,9 +21,10 @@ use Rattle.core_runs.specs.Lawful.{IsLawfulTrace, made_memory}
 use Rattle.team_laws.proofs.Lists.{each_split}
 use Rattle.answer_laws.proofs.Served.{memory_turn}
 use Rattle.told_walks.specs.Asked.{Told, told_next, sizes_by, cells_in}
+use Rattle.checked_tree.specs.Statements as checked
+use Rattle.told_programs.specs.First.{told_first}
 use Rattle.told_parts.proofs.Sizes.{set_other}
-use Rattle.walk_laws.specs.Fits.{first_cells}
-use Rattle.walk_laws.proofs.Members.{told_by}
+use Rattle.walk_laws.specs.Fits.{told_by, first_cells, AreDeclaredBy}
 
 -- ---- what the image was told
 set_same : (ss : List (Option ℕ)) (k : ℕ) (w : Option ℕ) → k < length ss → joined (slice_get (slice_set ss k w) k) ≡ w
@@ -144,6 +145,14 @@ module _ (s : List Declared) (n : ℕ) where
   size_there i t k c l e lt =
       told_size (said_by i t) k c lt ∙ ap (λ z. size_said c z (said_by i t)) (ap (λ ss. joined (slice_get ss c)) (sym e) ∙ first_at s c)
       ∙ sizes_agree i c t (first_size (slice_get s c)) (each_owned t l)
+
+  -- where the memories are those of a program
+  module _ (p : checked.Program) (own : AreDeclaredBy p s) where
+    pub sizes_many : length (told_first p 1 n).sizes ≡ length s
+    sizes_many = ap length (sym own) ∙ length-map s first_cells
+
+    pub own_size_there : (t : List Entry) → IsLawfulTrace s n t → (i c : ℕ) → c < length s → joined (slice_get (told_by (told_first p i n) (said_by i t)).sizes c) ≡ size_after (made_memory s i) (of_memory i t) c
+    own_size_there t l i c lt = size_there i t (told_first p i n) c l own (subst (λ z. c < z) (sym sizes_many) lt)
 
 -- ---- all cells
 pub used_all : (m : MadeMemory) (h : List Entry) (ss : List (Option ℕ)) (a : ℕ) → ((j : ℕ) → j < length ss → joined (slice_get ss j) ≡ size_after m h (a + j)) → cells_used m h (range_with_len a (length ss)) ≡ cells_in ss

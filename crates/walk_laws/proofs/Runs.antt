@@ -2,7 +2,7 @@
 use Rattle.std.proofs.Common.{◌≡◌, ℕ, true, List, [], ◌∷◌, ◌++◌, ◌⊎◌, inl, inr, refl, sym, ◌∙◌, subst, length, ◌≤◌, append_assoc, arith}
 use Rattle.std.specs.Prelude.{map, pos, ◌&&◌, nat_le}
 use Rattle.trace_theory.specs.Entries.{Each}
-use Rattle.trace_theory.specs.Machines.{Move, goes, asks, over, Said, WalkTo}
+use Rattle.trace_theory.specs.Machines.{Move, goes, asks, over, Said, Walk, WalkTo}
 use Rattle.trace_theory.proofs.Machines.{walk_to_more}
 use Rattle.caf_events.specs.Walkers.{AsksNext}
 use Rattle.caf_events.specs.declared.reply.Reply.TheVariants as replies
@@ -10,7 +10,7 @@ use Rattle.program_walks.proofs.LaneOrder.{answers_more}
 use Rattle.walk_theory.specs.Walks.{Config}
 use Rattle.image_acts.specs.Acts.{Act}
 use Rattle.image_acts.specs.Core.{Core}
-use Rattle.walk_laws.specs.Fits.{StandsAt}
+use Rattle.walk_laws.specs.Fits.{told_by, StandsAt}
 use Rattle.std.proofs.lemmas.List.{append-nil}
 use Rattle.trace_theory.specs.Simulations.{AllAnswer}
 use Rattle.caf_events.specs.declared.ask.Ask.{Ask}
@@ -31,7 +31,7 @@ use Rattle.object_rules.specs.ImagePairs.{names}
 use Rattle.object_rules.specs.BoardRules.{is_image, fits_board}
 use Rattle.core_runs.specs.Sequences.{Joins, IsDeparture}
 use Rattle.answer_laws.proofs.Joined.{Joined, joined_before}
-use Rattle.walk_laws.proofs.Members.{told_by, name_last, members_told_of}
+use Rattle.walk_laws.proofs.Members.{name_last, members_told_of}
 use Rattle.std.proofs.lemmas.Bool.{and_from, le-leb}
 use Rattle.object_rules.specs.MemoryRules.{has_first_values}
 use Rattle.object_rules.specs.Answering.{AnswersFrom}
@@ -227,9 +227,17 @@ module _ (p : s.Program) (limit : ℕ) (coarrays : List Declared) (n : ℕ) (fai
   pub board_fits : (i : ℕ) → IsOneOf n i → (a : Ask) → fits_board n (at_board t) i a ≡ true → (is_image n i && fits_board n (at_board t) i a) ≡ true
   board_fits i there a h = and_from (is_image n i) (fits_board n (at_board t) i a) (image_there n i there) h
 
-  -- what an image says next fits to what it said: departures follow their arrivals, and the steps of its failure are due
+  -- what an image says next, with some reply, goes on with what it said: departures follow their arrivals, the steps of its failure are due, and its lane walks so
+  pub record Next (i : ℕ) (a : Ask) : Type 0 where
+    pub event : Said Ask Reply
+    pub is : event.ask ≡ a
+    pub joins : Joins (said_by i t ++ event ∷ [])
+    pub fails : FailsFrom i (said_by i t ++ event ∷ []) []
+    pub to : Lane
+    pub walks : Walk steps (lane_start i (fails_at i) words (start_of p i n)) (said_by i t ++ event ∷ []) to
+
   next_follows : (i : ℕ) → IsOneOf n i → (c : Lane) → WalkTo steps (lane_start i (fails_at i) words (start_of p i n)) (said_by i t) c → (a : Ask) (line : ℕ) (k : Reply → Lane) → steps c ≡ asks a line k
-      → (e : Said Ask Reply) × (e.ask ≡ a) × Joins (said_by i t ++ e ∷ []) × FailsFrom i (said_by i t ++ e ∷ []) []
+      → Next i a
   next_follows i there c w a line k at =
       let r = program_rules p limit in
       let b = program_begins p coarrays n fails_at words in
@@ -238,15 +246,22 @@ module _ (p : s.Program) (limit : ℕ) (coarrays : List Declared) (n : ℕ) (fai
       let e : Said Ask Reply = record { ask = a; reply = y.0; line = line } in
       let more = walk_to_more Lane Ask Reply steps (lane_start i (fails_at i) words (start_of p i n)) c (k y.0) (said_by i t) e k w at 0 refl in
       let all = answers_more (said_by i t) e (answered_by r b t fit core i) y.1 in
-      (e, refl, (fit.orderly i there).joins (said_by i t ++ e ∷ []) more.0 all more.1, fit.fails i there (said_by i t ++ e ∷ []) more.0 all more.1)
+      record {
+        event = e;
+        is = refl;
+        joins = (fit.orderly i there).joins (said_by i t ++ e ∷ []) more.0 all more.1;
+        fails = fit.fails i there (said_by i t ++ e ∷ []) more.0 all more.1;
+        to = more.0;
+        walks = more.1;
+      }
 
   follows_next : (i : ℕ) → IsOneOf n i → (c : Lane) → WalkTo steps (lane_start i (fails_at i) words (start_of p i n)) (said_by i t) c → (a : Ask) (m : Move Lane Ask Reply) → steps c ≡ m → AsksNext m a
-      → (e : Said Ask Reply) × (e.ask ≡ a) × Joins (said_by i t ++ e ∷ []) × FailsFrom i (said_by i t ++ e ∷ []) []
+      → Next i a
   follows_next i there c w a (goes d) at next = absurd next
-  follows_next i there c w a (asks b line k) at next = let r = next_follows i there c w b line k at in (r.0, r.1 ∙ sym next, r.2, r.3)
+  follows_next i there c w a (asks b line k) at next = let r = next_follows i there c w b line k at in record { event = r.event; is = r.is ∙ sym next; joins = r.joins; fails = r.fails; to = r.to; walks = r.walks }
   follows_next i there c w a over at next = absurd next
 
-  pub stands_behind : (i : ℕ) (a : Ask) → StandsAt p limit coarrays n fails_at words t i a → (e : Said Ask Reply) × (e.ask ≡ a) × Joins (said_by i t ++ e ∷ []) × FailsFrom i (said_by i t ++ e ∷ []) []
+  pub stands_behind : (i : ℕ) (a : Ask) → StandsAt p limit coarrays n fails_at words t i a → Next i a
   stands_behind i a h = follows_next i h.image h.config h.walks a (steps h.config) refl h.asks
 
   pub run_lawful : IsLawfulTrace coarrays n t
@@ -256,4 +271,4 @@ module _ (p : s.Program) (limit : ℕ) (coarrays : List Declared) (n : ℕ) (fai
       core_run_lawful r.step r.hears coarrays n b.first t declared (program_fit p limit coarrays n fails_at words) core
 
   pub joined_there : (i : ℕ) (a : Ask) → IsDeparture a → StandsAt p limit coarrays n fails_at words t i a → Joined n (at_board t) i (said_by i t) a
-  joined_there i a d h = let j = stands_behind i a h in joined_before coarrays n t run_lawful i a d [] j.0 j.1 j.2
+  joined_there i a d h = let j = stands_behind i a h in joined_before coarrays n t run_lawful i a d [] j.event j.is j.joins

@@ -1,5 +1,5 @@
-use Rattle.walk_laws.proofs.Fitting.{told_fits}
-use Rattle.walk_laws.proofs.laws.law_waits_fit.Goals as goal
+use Rattle.fit_laws.proofs.Fitting.{told_fits}
+use Rattle.fit_laws.proofs.laws.law_waits_fit.Goals as goal
 
 pub returns : goal.returns
 returns c p limit coarrays n fails_at words t declared core few i line a w told =

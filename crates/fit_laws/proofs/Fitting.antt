@@ -1,9 +1,8 @@
 -- The next ask of an image fits, where what it names was told, or is its own.
-use Rattle.std.proofs.Common.{◌≡◌, ℕ, ◌+◌, ◌≤◌, ◌<◌, Bool, true, false, ◌&&◌, not, List, [], ◌∷◌, length, map, slice_get, is_some, inl, inr, refl, sym, ap, ◌∙◌, subst, nat_eq, nat_le, nat_lt, arith}
+use Rattle.std.proofs.Common.{◌≡◌, ℕ, ◌+◌, ◌≤◌, ◌<◌, Bool, true, false, ◌&&◌, not, List, [], ◌∷◌, ◌++◌, length, slice_get, is_some, inl, inr, refl, sym, ap, ◌∙◌, subst, nat_eq, nat_le, nat_lt, arith}
 use Rattle.std.specs.Prelude.{Option, Some, None}
 use Rattle.std.specs.List.{list_all, range_with_len}
 use Rattle.std.proofs.lemmas.Bool.{and_from, eq-eqb, le-leb}
-use Rattle.std.proofs.lemmas.List.{length-map}
 use Rattle.caf_base.specs.declared.place.ImageNo.{ImageNo}
 use Rattle.caf_base.specs.declared.place.TeamNo.{TeamNo}
 use Rattle.caf_base.specs.declared.span.Span.{Span}
@@ -11,7 +10,6 @@ use Rattle.caf_events.specs.declared.ask.Ask.{Ask}
 use Rattle.caf_events.specs.declared.ask.Ask.TheVariants as asking
 use Rattle.caf_events.specs.declared.event.Entry.{Entry}
 use Rattle.checked_tree.specs.Statements as s
-use Rattle.tree_meaning.specs.Start.{own_coarrays}
 use Rattle.image_acts.specs.Frames.{joined}
 use Rattle.image_acts.specs.Teams.{are_indices_of}
 use Rattle.image_acts.specs.Operate.Asking.{named}
@@ -28,14 +26,19 @@ use Rattle.core_runs.specs.Lawful.{made_memory}
 use Rattle.wait_reason.specs.WaitsFor.{is_fit_after}
 use Rattle.answer_laws.proofs.HeardTeams.{heard_teams}
 use Rattle.program_walks.specs.Runs.{program_rules, program_begins}
-use Rattle.told_walks.specs.Asked.{Told, Lists, most_team, own_cells, cells_in}
+use Rattle.told_walks.specs.Asked.{Told, Lists, most_team, cells_in}
 use Rattle.told_programs.specs.First.{told_first}
-use Rattle.walk_laws.specs.Fits.{StandsAt, is_told, is_allocation, first_cells, AreDeclaredBy}
-use Rattle.walk_laws.proofs.Members.{told_by, lists_told_of}
-use Rattle.walk_laws.proofs.Departures.{leave_fits, take_fits, unpair_fits}
-use Rattle.walk_laws.proofs.Pairing.{team_paired, none_paired}
-use Rattle.walk_laws.proofs.OwnSizes.{told_me, told_many, size_there, used_all}
-use Rattle.walk_laws.proofs.HeldLocks.{IsLockPlace, StepOf, next_step}
+use Rattle.walk_laws.specs.Fits.{told_by, StandsAt, AreDeclaredBy}
+use Rattle.fit_laws.specs.Asks.{is_told, is_allocation, AllocatesAllocatable}
+use Rattle.walk_laws.proofs.Members.{lists_told_of}
+use Rattle.fit_laws.proofs.Departures.{leave_fits, take_fits, unpair_fits}
+use Rattle.fit_laws.proofs.Pairing.{team_paired, none_paired}
+use Rattle.walk_laws.proofs.OwnSizes.{told_me, told_many, sizes_many, own_size_there, used_all}
+use Rattle.told_parts.specs.Allocating.{IsOfSet}
+use Rattle.trace_theory.specs.Machines.{Said}
+use Rattle.caf_events.specs.declared.reply.Reply.{Reply}
+use Rattle.fit_laws.proofs.Allocated.{image_acts, each_last}
+use Rattle.fit_laws.proofs.HeldLocks.{IsLockPlace, StepOf, next_step}
 use Rattle.walk_laws.proofs.Runs.{image_there, there_is, board_fits, stands_named, stands_behind, run_lawful, joined_there}
 
 some_size : (x : Option ℕ) (n : ℕ) → x ≡ Some n → is_some x ≡ true
@@ -97,14 +100,14 @@ module _ (p : s.Program) (limit : ℕ) (coarrays : List Declared) (n : ℕ) (fai
   mark_fits : (i : ℕ) (owner : ImageNo) → Stands i (asking.Mark owner) → Fits i (asking.Mark owner)
   mark_fits i owner h =
       let b = stands_behind p limit coarrays n fails_at words t declared core few i (asking.Mark owner) h in
-      let e = subst (StepOf (IsLockPlace coarrays n) i) b.1 (next_step coarrays n t (run_lawful p limit coarrays n fails_at words t declared core few) i b.0 b.3) in
+      let e = subst (StepOf (IsLockPlace coarrays n) i) b.is (next_step coarrays n t (run_lawful p limit coarrays n fails_at words t declared core few) i b.event b.fails) in
       and_from (is_image n owner.0) (nat_eq owner.0 owner.0 && nat_eq i owner.0) (subst (λ j. is_image n j ≡ true) (sym e) (image_there n i h.image))
       (and_from (nat_eq owner.0 owner.0) (nat_eq i owner.0) (eq-eqb owner.0 owner.0 refl) (eq-eqb i owner.0 (sym e)))
 
   free_fits : (i : ℕ) (owner : ImageNo) (span : Span) → Stands i (asking.Free owner span) → Fits i (asking.Free owner span)
   free_fits i owner span h =
       let b = stands_behind p limit coarrays n fails_at words t declared core few i (asking.Free owner span) h in
-      let e = subst (StepOf (IsLockPlace coarrays n) i) b.1 (next_step coarrays n t (run_lawful p limit coarrays n fails_at words t declared core few) i b.0 b.3) in
+      let e = subst (StepOf (IsLockPlace coarrays n) i) b.is (next_step coarrays n t (run_lawful p limit coarrays n fails_at words t declared core few) i b.event b.fails) in
       subst (Fits i) (sym e.2) (released e.0 e.1.0 e.1.1)
     where
       released : (q : LockPlace) → IsOneOf n q.owner → (nat_lt q.offset 65536 && holds is_lock (slice_get coarrays q.coarray)) ≡ true → Fits i (release_of q)
@@ -143,12 +146,10 @@ module _ (p : s.Program) (limit : ℕ) (coarrays : List Declared) (n : ℕ) (fai
   -- ---- allocation and deallocation
   module _ (own : AreDeclaredBy p coarrays) where
     as_many : (i : ℕ) → length (told i).sizes ≡ length coarrays
-    as_many i = told_many (said_by i t) (told_first p i n) ∙ ap length (sym own) ∙ length-map coarrays first_cells
+    as_many i = told_many (said_by i t) (told_first p i n) ∙ sizes_many coarrays n p own
 
     size_so : (i c : ℕ) → c < length coarrays → joined (slice_get (told i).sizes c) ≡ size_after (made_memory coarrays i) (of_memory i t) c
-    size_so i c lt =
-        let m : length (map own_cells (own_coarrays p)) ≡ length coarrays = ap length (sym own) ∙ length-map coarrays first_cells in
-        size_there coarrays n i t (told_first p i n) c (run_lawful p limit coarrays n fails_at words t declared core few) own (subst (λ z. c < z) (sym m) lt)
+    size_so i c lt = own_size_there coarrays n p own t (run_lawful p limit coarrays n fails_at words t declared core few) i c lt
 
     cells_so : (i : ℕ) → all_cells (made_memory coarrays i) (of_memory i t) ≡ cells_in (told i).sizes
     cells_so i =
@@ -182,7 +183,15 @@ module _ (p : s.Program) (limit : ℕ) (coarrays : List Declared) (n : ℕ) (fai
         by : (u v w x : Bool) → u ≡ true → v ≡ true → w ≡ true → x ≡ true → (u && ((v && v) && w && x)) ≡ true
         by u v w x d e f g = rw (d, e, f, g) refl
 
-    pub allocation_fits : (i : ℕ) (a : Ask) → Stands i a → is_allocation coarrays a ≡ true → Fits i a
-    allocation_fits i (asking.Create owner c cells) h e = create_fits i owner c cells h e
-    allocation_fits i (asking.Delete owner c) h e = delete_fits i owner c h e
-    allocation_fits i a h e = absurd (cc)
+    -- the coarray is one that the program allocates
+    of_set : (i : ℕ) (a : Ask) → AllocatesAllocatable coarrays p → Stands i a → IsOfSet (λ c. is_allocatable (slice_get coarrays c)) a
+    of_set i a only h =
+        let f : ℕ → Bool = (λ c. is_allocatable (slice_get coarrays c)) in
+        let b = stands_behind p limit coarrays n fails_at words t declared core few i a h in
+        subst (IsOfSet f) b.is
+        (each_last (λ (e : Said Ask Reply). IsOfSet f e.ask) (said_by i t) b.event (image_acts f p only limit i n (fails_at i) words (said_by i t ++ b.event ∷ []) b.to b.walks))
+
+    pub allocation_fits : AllocatesAllocatable coarrays p → (i : ℕ) (a : Ask) → Stands i a → is_allocation a ≡ true → Fits i a
+    allocation_fits only i (asking.Create owner c cells) h e = create_fits i owner c cells h (of_set i (asking.Create owner c cells) only h)
+    allocation_fits only i (asking.Delete owner c) h e = delete_fits i owner c h (of_set i (asking.Delete owner c) only h)
+    allocation_fits only i a h e = absurd (cc)
