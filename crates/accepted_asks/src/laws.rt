@@ -1,6 +1,6 @@
 //! Laws of what accepted programs ask in a run. Each is the contract of a function that does nothing.
 
-ghost use Rattle.std.specs.Prelude.{◌≡◌, ℕ, true, List, map};
+ghost use Rattle.std.specs.Prelude.{◌≡◌, ℕ, true, List};
 ghost use Rattle.std.specs.List.{list_all};
 ghost use Rattle.fortran_tree.specs.Units as units;
 ghost use Rattle.caf_events.specs.declared.ask.Ask.{Ask};
@@ -8,7 +8,6 @@ ghost use Rattle.caf_events.specs.declared.event.Entry.{Entry};
 ghost use Rattle.checked_tree.specs.Statements as checked;
 ghost use Rattle.rule_definitions.specs.Acceptance.{Accepts};
 ghost use Rattle.coarray_tables.specs.Fits.{are_fit};
-ghost use Rattle.image_code.specs.declared.tables.Coarray.{Coarray};
 ghost use Rattle.program_tables.specs.Tables.{tables_of};
 ghost use Rattle.object_rules.specs.Cells.{Declared};
 ghost use Rattle.object_rules.specs.MemoryRules.{has_first_values};
@@ -16,10 +15,10 @@ ghost use Rattle.core_runs.specs.CoreRuns.{IsCoreRun};
 ghost use Rattle.core_runs.specs.Waits.{IsWaiting};
 ghost use Rattle.program_walks.specs.Runs.{program_rules, program_begins};
 ghost use Rattle.wait_reason.specs.WaitsFor.{is_fit_after};
-ghost use Rattle.walk_laws.specs.Fits.{StandsAt, first_cells, AreDeclaredBy};
+ghost use Rattle.walk_laws.specs.Fits.{StandsAt, AreDeclaredBy};
 ghost use Rattle.fit_laws.specs.Asks.{AllocatesAllocatable};
 ghost use Rattle.cell_statements.specs.Typed.{IsSteadyProgram};
-ghost use Rattle.accepted_cells.specs.Contents.{holding, content, HoldWhatIsDeclared, table_cells};
+ghost use Rattle.accepted_cells.specs.Contents.{HoldWhatIsDeclared};
 ghost use Rattle.memory_fits.specs.CellAsks.{is_of_cell, is_of_own_event};
 ghost use Rattle.next_fits.specs.Known.{IsSound};
 
@@ -44,12 +43,6 @@ pub fn law_accepted_cell_waits_fit()
         → HoldWhatIsDeclared p coarrays → AreDeclaredBy p coarrays → are_fit 0 (tables_of p).coarrays ≡ true → list_all has_first_values coarrays ≡ true
         → IsCoreRun (program_rules p limit) (program_begins p coarrays n fails_at words) t → IsSteadyProgram p
         → (i line : ℕ) (a : Ask) → IsWaiting (program_rules p limit) (program_begins p coarrays n fails_at words) t i line a → is_of_own_event a ≡ true → is_fit_after coarrays n t i a ≡ true }
-{}
-
-/// Coarrays that are made of a program's tables hold what it declares, and have from the start as many cells, where each does so of its own entry.
-pub fn law_tables_are_declared()
-    ensures held { (p : checked.Program) (f : Coarray → Declared) → ((c : Coarray) → content (f c) ≡ holding c) → HoldWhatIsDeclared p (map f (tables_of p).coarrays) }
-    ensures sized { (p : checked.Program) (f : Coarray → Declared) → ((c : Coarray) → first_cells (f c) ≡ table_cells c) → AreDeclaredBy p (map f (tables_of p).coarrays) }
 {}
 
 /// An accepted program is sound, where the memories have what it declares, no procedure is called between the event of an EVENT WAIT or EVENT_QUERY and the ask, and what

@@ -1,9 +1,10 @@
--- The coarrays with which an image of an accepted program begins are small, and have as many cells as its tables say.
+-- The coarrays with which an image begins are small, where the tables of its program fit it; and those that are made of the tables hold what it declares.
 use Rattle.std.proofs.Common.{◌≡◌, ℕ, ◌+◌, true, List, [], ◌∷◌, map, refl, ap₂, arith}
 use Rattle.std.specs.Prelude.{nat_le, slice_get, ◌&&◌, Option, Some, None}
 use Rattle.std.proofs.lemmas.Bool.{leb-true}
 use Rattle.trace_theory.specs.Entries.{Each}
 use Rattle.coarray_types.specs.Places.{size_of}
+use Rattle.checked_tree.specs.Statements.{Program}
 use Rattle.checked_tree.specs.declared.data.Initial.{Initial}
 use Rattle.checked_tree.specs.declared.data.Variable.{Variable}
 use Rattle.accepted_ranks.proofs.Means.{and_left, and_right}
@@ -13,12 +14,12 @@ use Rattle.image_code.specs.declared.tables.CellType.{CellType}
 use Rattle.image_code.specs.declared.tables.Coarray.{Coarray}
 use Rattle.coarray_tables.specs.Start.{first_own, own_size}
 use Rattle.coarray_tables.specs.Fits.{is_fit, are_fit}
-use Rattle.program_tables.specs.Tables.{declared_coarray, coarray_found, coarray_at}
+use Rattle.object_rules.specs.Cells.{Declared}
+use Rattle.program_tables.specs.Tables.{declared_coarray, coarray_found, coarray_at, tables_of}
 use Rattle.tree_meaning.specs.Environment.{declared_bounds}
 use Rattle.tree_meaning.specs.Start.{own_of, own_of_variable, own_in}
-use Rattle.told_walks.specs.Asked.{own_cells}
 use Rattle.cell_walks.specs.Fitting.{IsSmall}
-use Rattle.accepted_cells.specs.Contents.{table_cells}
+use Rattle.accepted_cells.specs.Contents.{holding, content, HoldWhatIsDeclared}
 
 abbrev IsRoomy : ℕ → Coarray → Type 0
 IsRoomy k c = nat_le (k + own_size (first_own c)) most_cells ≡ true
@@ -40,14 +41,10 @@ all_small vs (n ∷ ns) k h =
     let g = and_right (is_fit c) (nat_le m most_cells && are_fit m cs) h in
     (found_small k (slice_get vs n) (and_left (nat_le m most_cells) (are_fit m cs) g), all_small vs ns m (and_right (nat_le m most_cells) (are_fit m cs) g))
 
-made_cells : (t : CellType) (i : Initial) (o : Option Own) → table_cells (declared_coarray t i o) ≡ own_cells o
-made_cells t i None = refl
-made_cells t i (Some o) = refl
+-- ---- coarrays that are made of a program's tables
+each_held : (f : Coarray → Declared) → ((c : Coarray) → content (f c) ≡ holding c) → (cs : List Coarray) → map content (map f cs) ≡ map holding cs
+each_held f e [] = refl
+each_held f e (c ∷ cs) = ap₂ (λ x xs. x ∷ xs) (e c) (each_held f e cs)
 
-found_cells : (x : Option Variable) → table_cells (coarray_found x) ≡ own_cells (own_of_variable x)
-found_cells None = refl
-found_cells (Some v) = made_cells _ v.initial (own_of (declared_bounds v.dimensions) v.codimensions)
-
-pub all_cells : (vs : List Variable) (ns : List ℕ) → map table_cells (map (coarray_at vs) ns) ≡ map own_cells (map (own_in vs) ns)
-all_cells vs [] = refl
-all_cells vs (n ∷ ns) = ap₂ (λ x y. x ∷ y) (found_cells (slice_get vs n)) (all_cells vs ns)
+pub tables_held : (f : Coarray → Declared) → ((c : Coarray) → content (f c) ≡ holding c) → (p : Program) → HoldWhatIsDeclared p (map f (tables_of p).coarrays)
+tables_held f e p = each_held f e (tables_of p).coarrays

@@ -1,5 +1,5 @@
 -- What the coarrays of a checked program hold, and that a memory's coarrays hold this.
-use Rattle.std.specs.Prelude.{◌≡◌, ℕ, List, map, cond, Option, Some, None}
+use Rattle.std.specs.Prelude.{◌≡◌, List, map}
 use Rattle.checked_tree.specs.Statements.{Program}
 use Rattle.image_code.specs.declared.tables.CellType.{CellType}
 use Rattle.image_code.specs.declared.tables.CellType.TheVariants as cells
@@ -21,7 +21,3 @@ content d = d.content
 -- each coarray holds what the program declares
 abbrev pub HoldWhatIsDeclared : Program → List Declared → Type 0
 HoldWhatIsDeclared p coarrays = map content coarrays ≡ map holding (tables_of p).coarrays
-
--- how many cells a coarray has from the start, where it is there
-abbrev pub table_cells : Coarray → Option ℕ
-table_cells c = cond c.is_allocatable None (Some c.cells)

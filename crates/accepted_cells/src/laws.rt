@@ -9,13 +9,13 @@ ghost use Rattle.rule_definitions.specs.Statements.{Position, judged_statements}
 ghost use Rattle.rule_definitions.specs.Units.{program_judged};
 ghost use Rattle.object_rules.specs.Cells.{Declared};
 ghost use Rattle.cell_statements.specs.Typed.{AreTyped, IsTypedProgram};
+ghost use Rattle.image_code.specs.declared.tables.Coarray.{Coarray};
 ghost use Rattle.coarray_tables.specs.Fits.{are_fit};
 ghost use Rattle.program_tables.specs.Tables.{tables_of};
 ghost use Rattle.tree_meaning.specs.Start.{own_coarrays};
-ghost use Rattle.told_walks.specs.Asked.{own_cells};
 ghost use Rattle.cell_walks.specs.Fitting.{IsSmall};
 ghost use Rattle.accepted_cells.specs.Scopes.{AreHeld};
-ghost use Rattle.accepted_cells.specs.Contents.{HoldWhatIsDeclared, table_cells};
+ghost use Rattle.accepted_cells.specs.Contents.{holding, content, HoldWhatIsDeclared};
 
 /// Where nothing breaks in a block, each statement on a lock or an event in the block that it stands for names a declared one: in a scope whose locks and events are declared.
 pub fn law_block_is_typed()
@@ -29,8 +29,12 @@ pub fn law_accepted_is_typed()
     ensures { (p : units.Program) (c : Program) → (program_judged p).breaks ≡ [] → (program_judged p).meaning ≡ Some c → (coarrays : List Declared) → HoldWhatIsDeclared c coarrays → IsTypedProgram coarrays c }
 {}
 
-/// The coarrays with which an image begins have as many cells as the tables of the program say, and each is small where they fit an image.
-pub fn law_own_cells_are_few()
-    ensures cells { (p : Program) → map table_cells (tables_of p).coarrays ≡ map own_cells (own_coarrays p) }
-    ensures few { (p : Program) → are_fit 0 (tables_of p).coarrays ≡ true → Each IsSmall (own_coarrays p) }
+/// The coarrays with which an image begins are small, where the tables of the program fit an image.
+pub fn law_own_coarrays_are_small()
+    ensures { (p : Program) → are_fit 0 (tables_of p).coarrays ≡ true → Each IsSmall (own_coarrays p) }
+{}
+
+/// Coarrays that are made of a program's tables hold what it declares, where each holds what its own entry says.
+pub fn law_tables_hold()
+    ensures { (made : Coarray → Declared) → ((c : Coarray) → content (made c) ≡ holding c) → (p : Program) → HoldWhatIsDeclared p (map made (tables_of p).coarrays) }
 {}
