@@ -21,14 +21,15 @@ use Rattle.direct_meaning.specs.Outcomes.{Outcome, done, and_then, Does, giving,
 use Rattle.direct_meaning.specs.Told.{of_effect, told}
 use Rattle.direct_meaning.specs.Values.{Value, allocated, owned, part_of, coarray_part, from_one, whole_bounds}
 use Rattle.direct_meaning.specs.Expressions.{Passed, Target, scalars, selected, selected_team, optional_target, subscripts, all_of, bounds_of_part}
-use Rattle.direct_laws.specs.Agreeing.{HasRoom}
+use Rattle.direct_agreement.specs.Agreeing.{HasRoom}
 use Rattle.direct_laws.specs.Laws.{HasDimensions}
-use Rattle.direct_laws.proofs.Agreement.{and_then_assoc, Kept, Comes, comes_then}
-use Rattle.direct_laws.proofs.Arrays.{section_acts, there_then, part_comes, same_array, put_subscripts, put_place, put_bounds, BoundsKept}
-use Rattle.direct_laws.proofs.Inquiries.{owned_then}
+use Rattle.direct_agreement.proofs.Agreement.{and_then_assoc, Kept, Comes, comes_then}
+use Rattle.direct_agreement.proofs.Arrays.{section_acts, there_then, part_comes, same_array, put_subscripts, put_place, put_bounds, BoundsKept}
+use Rattle.direct_agreement.proofs.Inquiries.{owned_then}
 use Rattle.direct_laws.proofs.Owners.{TargetOf, none, whole, part, with_target, put_owner, co_part_comes}
-use Rattle.direct_laws.proofs.Scalars.{put_team, Keeps}
-use Rattle.direct_laws.proofs.Sections.{form_in, kept_in}
+use Rattle.direct_agreement.proofs.Scalars.{put_team, Keeps}
+use Rattle.direct_agreement.specs.Stacked.{form_in}
+use Rattle.direct_agreement.proofs.Sections.{kept_in}
 use Rattle.direct_laws.proofs.Subscripts.{AllShaped, put_scalars, Counted, Shaped, few, all_comes, put_target, Targeted, selector_comes, whole_come, section_bounds_come}
 
 -- those of a whole array

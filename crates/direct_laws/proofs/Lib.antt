@@ -1,11 +1,6 @@
-pub mod Sections
-pub mod Agreement
-pub mod Scalars
-pub mod Arrays
-pub mod Inquiries
-pub mod Items
 pub mod Owners
 pub mod Reading
 pub mod Subscripts
 pub mod Bounds
 pub mod Values
+pub mod Refused

@@ -24,9 +24,10 @@ use Rattle.direct_meaning.specs.Told.{of_effect, told}
 use Rattle.direct_meaning.specs.Values.{coarray_part, part_of_own, need_own}
 use Rattle.direct_meaning.specs.Images.{members, is_established, selected_image, this_image}
 use Rattle.direct_meaning.specs.Expressions.{Target, nowhere, variable, element}
-use Rattle.direct_laws.proofs.Agreement.{Comes, act_first}
-use Rattle.direct_laws.proofs.Arrays.{put_subscripts, put_place, part_comes}
-use Rattle.direct_laws.proofs.Sections.{taken_back, put_more, numbers_of, form_in, kept_in, subscripts_back, count_back, kept_back, place_back, place_length, no_place_rank}
+use Rattle.direct_agreement.proofs.Agreement.{Comes, act_first}
+use Rattle.direct_agreement.proofs.Arrays.{put_subscripts, put_place, part_comes}
+use Rattle.direct_agreement.specs.Stacked.{numbers_of, form_in}
+use Rattle.direct_agreement.proofs.Sections.{taken_back, put_more, kept_in, subscripts_back, count_back, kept_back, place_back, place_length, no_place_rank}
 
 -- a test of what comes first
 pub test_then : {X Y : Type 0} (lay : X → State → Core) (P : X → State → Type 0) (b : Bool) (m : Does Y) (f : Y → Does X) (k l : ℕ) (d : Core) (x : Act) (e : Acted) (q : Core → Outcome Core)

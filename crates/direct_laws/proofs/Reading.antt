@@ -32,13 +32,13 @@ use Rattle.direct_meaning.specs.Told.{of_effect, told}
 use Rattle.direct_meaning.specs.Values.{Value, number, value_of_rank, set_elements, read_values}
 use Rattle.direct_meaning.specs.Images.{image}
 use Rattle.direct_meaning.specs.Expressions.{Target, set_target, read_from}
-use Rattle.direct_laws.specs.Agreeing.{put_down, HasRoom}
-use Rattle.direct_laws.proofs.Agreement.{and_then_assoc, Kept, Leaves, Comes, comes_then, apart, act_first}
-use Rattle.direct_laws.proofs.Arrays.{there_then, same_array}
-use Rattle.direct_laws.proofs.Inquiries.{room_or_none, cut_comes}
+use Rattle.direct_agreement.specs.Agreeing.{put_down, HasRoom}
+use Rattle.direct_agreement.proofs.Agreement.{and_then_assoc, Kept, Leaves, Comes, comes_then, apart, act_first}
+use Rattle.direct_agreement.proofs.Arrays.{there_then, same_array}
+use Rattle.direct_agreement.proofs.Inquiries.{room_or_none, cut_comes}
 use Rattle.direct_laws.proofs.Owners.{TargetOf, none, whole, part, with_target, put_owner, rank_size}
-use Rattle.direct_laws.proofs.Scalars.{Keeps}
-use Rattle.direct_laws.proofs.Sections.{taken_back, place_back}
+use Rattle.direct_agreement.proofs.Scalars.{Keeps}
+use Rattle.direct_agreement.proofs.Sections.{taken_back, place_back}
 
 -- a scalar and an element are set, whatever is being evaluated, and no cell more is in use
 host_stored : (gs : List Frame) (x : ℕ) (v : ℤ) (r : Array) (z : State) (c : Core)

@@ -26,13 +26,14 @@ use Rattle.direct_meaning.specs.Told.{of_effect, told}
 use Rattle.direct_meaning.specs.Values.{Value, allocated, part_of, from_one}
 use Rattle.direct_meaning.specs.Images.{selected_image}
 use Rattle.direct_meaning.specs.Expressions.{Passed, Target, element, singles, selected, scalars, selected_team, optional_target, subscripts, all_of}
-use Rattle.direct_laws.specs.Agreeing.{HasRoom}
+use Rattle.direct_agreement.specs.Agreeing.{HasRoom}
 use Rattle.direct_laws.specs.Laws.{HasDimensions, dimensions_in, triplets_in, one_triplet}
-use Rattle.direct_laws.proofs.Agreement.{Kept, Comes, comes_then, comes_as, apart, kept_more, room_beside}
-use Rattle.direct_laws.proofs.Arrays.{section_acts, there_then, part_comes, same_array, put_subscripts, put_place, put_bounds, BoundsKept, bounds_come}
+use Rattle.direct_agreement.proofs.Agreement.{Kept, Comes, comes_then, comes_as, apart, kept_more, room_beside}
+use Rattle.direct_agreement.proofs.Arrays.{section_acts, there_then, part_comes, same_array, put_subscripts, put_place, put_bounds, BoundsKept, bounds_come}
 use Rattle.direct_laws.proofs.Owners.{TargetOf, part, target_numbers, with_target, put_owner, put_over, brought, owner_comes, rank_size}
-use Rattle.direct_laws.proofs.Scalars.{put_team, Keeps}
-use Rattle.direct_laws.proofs.Sections.{taken_back, put_more, place_back, numbers_of_one, numbers_of, part_numbers, present, digit_in, form_in, kept_one, kept_in, whole_numbers, whole_form_in, whole_length, whole_kept}
+use Rattle.direct_agreement.proofs.Scalars.{put_team, Keeps}
+use Rattle.direct_agreement.specs.Stacked.{numbers_of_one, numbers_of, part_numbers, present, digit_in, form_in}
+use Rattle.direct_agreement.proofs.Sections.{taken_back, put_more, place_back, kept_one, kept_in, whole_numbers, whole_form_in, whole_length, whole_kept}
 
 -- a part of a triplet, a subscript, subscripts and scalars, put down over what was there
 abbrev pub put_option : Core → Option ℤ → State → Core

@@ -31,17 +31,17 @@ use Rattle.direct_meaning.specs.Told.{of_effect, told}
 use Rattle.direct_meaning.specs.Values.{Value, number, using, allocated, part_of, local_part, coarray_part, need_own, owned, from_one, default_kind, lower_bound, upper_bound}
 use Rattle.direct_meaning.specs.Images.{this_image, the, own_index, members, current_team, own_team, known_team, numbered_team, sibling, images_of_number, team_of_level, cosubscript, team, indices}
 use Rattle.direct_meaning.specs.Expressions.{Passed, Target, nowhere, element, singles, status_of_image, value, form, bounds, bounds_of_part, designator, intrinsic, scalars, selected, selected_team, optional_target, optional, subscript, subscripts, all_of, elements, team_of, chosen_among, array_of, read_from}
-use Rattle.direct_laws.specs.Agreeing.{put_down, HasRoom}
+use Rattle.direct_agreement.specs.Agreeing.{put_down, HasRoom}
 use Rattle.direct_laws.specs.Laws.{Within, FormWithin, PartWithin, SubscriptsWithin, SubscriptWithin, TeamWithin, ResultWithin, AllWithin, OptionWithin, BoundsWithin, FunctionWithin, HasDimensions, ExpressionLaw}
-use Rattle.direct_laws.proofs.Agreement.{Kept, Leaves, Comes, comes_agrees, comes_then, comes_map, comes_number, comes_array, one_comes, two_comes, alone, kept_more, room_beside, room_behind, elements_more}
-use Rattle.direct_laws.proofs.Arrays.{local_comes, put_subscripts, put_bounds, BoundsKept}
+use Rattle.direct_agreement.proofs.Agreement.{Kept, Leaves, Comes, comes_agrees, comes_then, comes_map, comes_number, comes_array, one_comes, two_comes, alone, kept_more, room_beside, room_behind, elements_more}
+use Rattle.direct_agreement.proofs.Arrays.{local_comes, put_subscripts, put_bounds, BoundsKept}
 use Rattle.direct_laws.proofs.Bounds.{there_bounds, own_bounds, local_part_bounds, own_coarray_bounds, selected_coarray_bounds}
-use Rattle.direct_laws.proofs.Inquiries.{size_comes, extents, lowers, uppers, inquiry_comes, index_comes, beside_team, list_comes, fewer}
-use Rattle.direct_laws.proofs.Items.{put_elements, so_far, ElementsKept, items_end, one_item, several_items}
+use Rattle.direct_agreement.proofs.Inquiries.{size_comes, extents, lowers, uppers, inquiry_comes, index_comes, beside_team, list_comes, fewer}
+use Rattle.direct_agreement.proofs.Items.{put_elements, so_far, ElementsKept, items_end, one_item, several_items}
 use Rattle.direct_laws.proofs.Owners.{none, whole, with_target, put_owner, co_part_comes, own_image_comes, needing_comes, needing_none, some_more}
 use Rattle.direct_laws.proofs.Reading.{behind, read_comes}
-use Rattle.direct_laws.proofs.Scalars.{arithmetic_acts, relation_acts, logic_acts, scalar_comes, written_comes, put_team, Keeps, own_team_comes, fits_comes, there_comes, counted_comes, number_comes, level_comes, status_in_team_comes, cosubscript_comes, with_team_comes, sibling_comes}
-use Rattle.direct_laws.proofs.Sections.{pairs_length}
+use Rattle.direct_agreement.proofs.Scalars.{arithmetic_acts, relation_acts, logic_acts, scalar_comes, written_comes, put_team, Keeps, own_team_comes, fits_comes, there_comes, counted_comes, number_comes, level_comes, status_in_team_comes, cosubscript_comes, with_team_comes, sibling_comes}
+use Rattle.direct_agreement.proofs.Sections.{pairs_length}
 use Rattle.direct_laws.proofs.Subscripts.{put_option, Present, put_one, OneShaped, AllShaped, put_scalars, Counted, Shaped, few, all_comes, put_target, Targeted, element_comes, selector_comes, more_shaped, triplet_shaped, value_bounds_come}
 
 -- room for fewer levels

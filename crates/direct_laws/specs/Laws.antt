@@ -10,7 +10,7 @@ use Rattle.direct_meaning.specs.Outcomes.{Does}
 use Rattle.direct_meaning.specs.Told.{told}
 use Rattle.direct_meaning.specs.Values.{Value}
 use Rattle.direct_meaning.specs.Expressions.{Passed, value}
-use Rattle.direct_laws.specs.Agreeing.{Agrees, put_down, HasSpare}
+use Rattle.direct_agreement.specs.Agreeing.{Agrees, put_down, HasSpare}
 
 -- A designator has at most three subscripts, and as many triplets among them as its rank; one without subscripts has at most three
 -- dimensions.

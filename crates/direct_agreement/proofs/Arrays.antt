@@ -25,10 +25,11 @@ use Rattle.direct_meaning.specs.States.{State, state_of, with_state, array_in}
 use Rattle.direct_meaning.specs.Outcomes.{Outcome, and_then, Does, giving, ◌▹◌, of_some, of_found, or_fault, nothing_said}
 use Rattle.direct_meaning.specs.Told.{of_effect, told}
 use Rattle.direct_meaning.specs.Values.{Value, number, array, using, value_of_rank, part_of, local_part, default_kind}
-use Rattle.direct_laws.specs.Agreeing.{put_down, HasRoom}
-use Rattle.direct_laws.proofs.Agreement.{Kept, Leaves, Comes, apart, act_first}
-use Rattle.direct_laws.proofs.Scalars.{test_comes}
-use Rattle.direct_laws.proofs.Sections.{taken_back, numbers_of, form_in, kept_in, subscripts_back, count_back, place_back, place_length, HasRank, place_rank, empty_rank, pairs_length}
+use Rattle.direct_agreement.specs.Agreeing.{put_down, HasRoom}
+use Rattle.direct_agreement.proofs.Agreement.{Kept, Leaves, Comes, apart, act_first}
+use Rattle.direct_agreement.proofs.Scalars.{test_comes}
+use Rattle.direct_agreement.specs.Stacked.{numbers_of, form_in}
+use Rattle.direct_agreement.proofs.Sections.{taken_back, kept_in, subscripts_back, count_back, place_back, place_length, HasRank, place_rank, empty_rank, pairs_length}
 
 -- Elements that are put down take their evaluation cells: there is room for them where there are cells.
 pub cells_come : (ns : List ℕ) (vs us : List ℤ) (x : Act) (l : ℕ) (z : State) (c : Core) (b d : Bool) → HasRoom 0 c → Kept c.used z → length ns ≤ 3

@@ -26,11 +26,11 @@ use Rattle.direct_meaning.specs.Told.{of_effect, told}
 use Rattle.direct_meaning.specs.Values.{Value, number, array, as_number, as_array, using, default_kind, dimension, owned, lower_bound, upper_bound}
 use Rattle.direct_meaning.specs.Images.{the, members, indices}
 use Rattle.direct_meaning.specs.Expressions.{as_written, array_of}
-use Rattle.direct_laws.specs.Agreeing.{put_down, HasRoom}
-use Rattle.direct_laws.proofs.Agreement.{Kept, Leaves, Comes, comes_then, apart, kept_more}
-use Rattle.direct_laws.proofs.Arrays.{put_bounds, BoundsKept, default_comes}
-use Rattle.direct_laws.proofs.Scalars.{put_team, Keeps, test_comes}
-use Rattle.direct_laws.proofs.Sections.{pairs_back}
+use Rattle.direct_agreement.specs.Agreeing.{put_down, HasRoom}
+use Rattle.direct_agreement.proofs.Agreement.{Kept, Leaves, Comes, comes_then, apart, kept_more}
+use Rattle.direct_agreement.proofs.Arrays.{put_bounds, BoundsKept, default_comes}
+use Rattle.direct_agreement.proofs.Scalars.{put_team, Keeps, test_comes}
+use Rattle.direct_agreement.proofs.Sections.{pairs_back}
 
 -- the size of bounds
 pub size_comes : (bs : List (ℤ × ℤ)) (l : ℕ) (z : State) (c : Core) → Kept c.used z

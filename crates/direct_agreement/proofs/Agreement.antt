@@ -16,7 +16,7 @@ use Rattle.direct_meaning.specs.Outcomes.{Outcome, done, faults, asks, over, uns
 use Rattle.direct_meaning.specs.Told.{of_effect, told}
 use Rattle.direct_meaning.specs.Values.{Value, number, array, as_number, as_array, ◌▹ℤ◌, ◌▹A◌}
 use Rattle.direct_meaning.specs.Expressions.{number_found}
-use Rattle.direct_laws.specs.Agreeing.{Agrees, put_down, HasRoom}
+use Rattle.direct_agreement.specs.Agreeing.{Agrees, put_down, HasRoom}
 
 -- evaluations one after another
 pub and_then_assoc : {X Y Z : Type 0} (o : Outcome X) (f : X → Outcome Y) (g : Y → Outcome Z) → and_then (and_then o f) g ≡ and_then o (λ x. and_then (f x) g)

@@ -9,8 +9,8 @@ use Rattle.direct_meaning.specs.States.{State, with_state}
 use Rattle.direct_meaning.specs.Outcomes.{Outcome, done, and_then, Does, giving, ◌▹◌}
 use Rattle.direct_meaning.specs.Told.{told}
 use Rattle.direct_meaning.specs.Values.{using}
-use Rattle.direct_laws.specs.Agreeing.{HasRoom}
-use Rattle.direct_laws.proofs.Agreement.{Kept, Comes, comes_map, elements_more}
+use Rattle.direct_agreement.specs.Agreeing.{HasRoom}
+use Rattle.direct_agreement.proofs.Agreement.{Kept, Comes, comes_map, elements_more}
 
 -- elements behind those of an array that stands on top
 abbrev pub put_elements : Core → List ℤ → List ℤ → State → Core

@@ -38,8 +38,8 @@ use Rattle.direct_meaning.specs.Told.{of_effect, told}
 use Rattle.direct_meaning.specs.Values.{Value, number, ◌▹ℤ◌, scalar, owned}
 use Rattle.direct_meaning.specs.Images.{the, own_index, members, current_team, own_team, numbered_team, sibling, parent_of, cosubscript, team, status}
 use Rattle.direct_meaning.specs.Expressions.{status_of_image, number_found, scalars_as_written, scalar_as_written}
-use Rattle.direct_laws.specs.Agreeing.{put_down}
-use Rattle.direct_laws.proofs.Agreement.{Kept, Leaves, Comes, comes_then, comes_number, found_comes, two_comes, apart, kept_more}
+use Rattle.direct_agreement.specs.Agreeing.{put_down}
+use Rattle.direct_agreement.proofs.Agreement.{Kept, Leaves, Comes, comes_then, comes_number, found_comes, two_comes, apart, kept_more}
 
 -- the operators
 pub arithmetic_acts : (o : ArithmeticOperator) (k : Kind) (v w : ℤ) (c : Core) → operate (operator (arithmetic_act o k)) (pushed w (pushed v c)) ≡ found_in (arithmetic_value o k v w) (λ z. giving_act z c)

@@ -10,6 +10,7 @@ use Rattle.image_acts.specs.Taking.{taken, put_down as put_numbers}
 use Rattle.image_acts.specs.Places.{Place, Subscript, single, triplet, Dimension, digits, with_digit, numbers_in, numbers_of_form, triplets, subscripts_in, dimension, dimensions, steps_of, start_of, resting, place_of, empty_place, no_dims, place_numbers, dims_numbers, dims_in, place_in, place_size, apart_by}
 use Rattle.tree_meaning.specs.Expressions.{whole_form}
 use Rattle.direct_meaning.specs.Expressions.{whole}
+use Rattle.direct_agreement.specs.Stacked.{part_numbers, numbers_of_one, numbers_of, present, digit_in, form_in}
 
 -- numbers that were put down are taken
 taken_on : (xs vs acc : List ℤ) (n : ℕ) → taken (length xs + n) (put_numbers xs vs) acc ≡ taken n vs (xs ++ acc)
@@ -27,31 +28,7 @@ pub put_more : (xs ys vs : List ℤ) → put_numbers (xs ++ ys) vs ≡ put_numbe
 put_more [] ys vs = refl
 put_more (x ∷ xs) ys vs = put_more xs ys (x ∷ vs)
 
--- what a section subscript puts down, its digit in a form, and whether it is a dimension of the section
-abbrev pub part_numbers : Option ℤ → List ℤ
-part_numbers None = []
-part_numbers (Some v) = v ∷ []
-
-abbrev pub numbers_of_one : Subscript → List ℤ
-numbers_of_one (single v) = v ∷ []
-numbers_of_one (triplet f l s) = part_numbers f ++ (part_numbers l ++ part_numbers s)
-
-abbrev pub numbers_of : List Subscript → List ℤ
-numbers_of [] = []
-numbers_of (x ∷ xs) = numbers_of_one x ++ numbers_of xs
-
-abbrev pub present : ℕ → Option ℤ → ℕ
-present n None = 0
-present n (Some v) = n
-
-abbrev pub digit_in : Subscript → ℕ
-digit_in (single v) = 1
-digit_in (triplet f l s) = 2 + present 1 f + present 2 l + present 4 s
-
-abbrev pub form_in : List Subscript → ℕ
-form_in [] = 0
-form_in (x ∷ xs) = digit_in x + (10 * form_in xs)
-
+-- whether a subscript is a dimension of the section
 abbrev pub is_triplet : Subscript → Bool
 is_triplet (single v) = false
 is_triplet (triplet f l s) = true
