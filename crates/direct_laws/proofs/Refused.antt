@@ -27,12 +27,22 @@ use Rattle.direct_agreement.specs.Agreeing.{Agrees, put_down}
 -- integer :: s = 7, a(4) = [10, 20, 30, 40], x(4)[*]; integer, allocatable :: b(:); on image 3 of 4
 abbrev core : Core
 core = record {
-  values = []; arrays = []; printing = []; used = 0;
+  values = [];
+  arrays = [];
+  printing = [];
+  used = 0;
   frame = record { cells = pos 7 ∷ []; arrays = Some (record { bounds = (pos 1, pos 4) ∷ []; elements = pos 10 ∷ pos 20 ∷ pos 30 ∷ pos 40 ∷ [] }) ∷ None ∷ []; base = 0; need = 5 };
-  callers = []; local_cells = 5; array_room = 100;
-  coarrays = Some (record { bounds = (pos 1, pos 4) ∷ []; lowers = pos 1 ∷ []; extents = []; team = 1 }) ∷ []; coarray_cells = 4;
-  teams = 1 ∷ []; known = record { team = 1; parent = 1; round = 0; number = negsuc 0; members = 1 ∷ 2 ∷ 3 ∷ 4 ∷ [] } ∷ [];
-  round = None; formed = []; me = 3; images = 4;
+  callers = [];
+  local_cells = 5;
+  array_room = 100;
+  coarrays = Some (record { bounds = (pos 1, pos 4) ∷ []; lowers = pos 1 ∷ []; extents = []; team = 1 }) ∷ [];
+  coarray_cells = 4;
+  teams = 1 ∷ [];
+  known = record { team = 1; parent = 1; round = 0; number = negsuc 0; members = 1 ∷ 2 ∷ 3 ∷ 4 ∷ [] } ∷ [];
+  round = None;
+  formed = [];
+  me = 3;
+  images = 4;
 }
 
 -- these acts don't agree with the expression

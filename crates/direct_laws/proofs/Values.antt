@@ -165,7 +165,7 @@ module _ (e : Environment) (calls : ℕ → List Passed → Does Value) where
         selected_value k ss cs which stat rank l c n r h.0 (subscripts_come n ss l c r h.1)
         (λ d q. scalars_come n cs l d q h.2.0) (λ d q. selected_team_comes n which l d q h.2.1) (λ d q. target_comes n stat l d q h.2.2)
 
-    subscripts_come : (n : ℕ) (ss : t.Subscripts) (l : ℕ) (c : Core) → HasRoom n c → SubscriptsWithin n ss → Comes (put_subscripts c) (AllShaped c.used ss) (subscripts e calls ss l (state_of c)) (told (parts.subscripts e ss) l c)
+    pub subscripts_come : (n : ℕ) (ss : t.Subscripts) (l : ℕ) (c : Core) → HasRoom n c → SubscriptsWithin n ss → Comes (put_subscripts c) (AllShaped c.used ss) (subscripts e calls ss l (state_of c)) (told (parts.subscripts e ss) l c)
     subscripts_come n t.no_subscripts l c r h = (refl, (refl, refl, refl, (le_refl c.used, r.0)))
     subscripts_come n (t.more_subscripts s ss) l c r h =
         comes_then (put_one c) (OneShaped c.used s) (put_subscripts c) (AllShaped c.used (t.more_subscripts s ss)) (subscript e calls s l (state_of c)) (told (parts.subscript e s) l c)
@@ -192,7 +192,7 @@ module _ (e : Environment) (calls : ℕ → List Passed → Does Value) where
         alone (put_option c) (Present c.used (t.given x)) (optional e calls (t.given x) l (state_of c)) (told (expression e x) l c)
         (comes_number (put_option c) (Present c.used (t.given x)) c.used (value e calls x) (λ v. giving (Some v)) l (state_of c) c (told (expression e x) l c) (λ d. done d) (value_comes n x l c r h) (λ v z k. (refl, ((λ m. refl), k))))
 
-    scalars_come : (n : ℕ) (es : t.Expressions) (l : ℕ) (c : Core) → HasRoom n c → AllWithin n es → Comes (put_scalars c) (Counted c.used es) (scalars e calls es l (state_of c)) (told (parts.expressions e es) l c)
+    pub scalars_come : (n : ℕ) (es : t.Expressions) (l : ℕ) (c : Core) → HasRoom n c → AllWithin n es → Comes (put_scalars c) (Counted c.used es) (scalars e calls es l (state_of c)) (told (parts.expressions e es) l c)
     scalars_come n t.no_expressions l c r h = (refl, (refl, (le_refl c.used, r.0)))
     scalars_come n (t.more_expressions x es) l c r h =
         comes_number (put_scalars c) (Counted c.used (t.more_expressions x es)) c.used (value e calls x) (λ v. scalars e calls es ▹ (λ vs. giving (v ∷ vs))) l (state_of c) c (told (expression e x) l c) (told (parts.expressions e es) l)
@@ -200,7 +200,7 @@ module _ (e : Environment) (calls : ℕ → List Passed → Does Value) where
         (λ v z k. comes_map (put_scalars (pushed v (with_state z c))) (Counted z.used es) (put_scalars c) (Counted c.used (t.more_expressions x es)) (λ vs. v ∷ vs) (scalars e calls es l z) (told (parts.expressions e es) l (pushed v (with_state z c)))
         (scalars_come n es l (pushed v (with_state z c)) (room_beside n c z r k) h.1) (λ vs y j. (refl, (ap suc j.0, kept_more c.used z y k j.1))))
 
-    selected_team_comes : (n : ℕ) (which : t.SelectedTeam) (l : ℕ) (c : Core) → HasRoom n c → TeamWithin n which → Comes (put_team c) (Keeps c.used) (selected_team e calls which l (state_of c)) (told (parts.selected_team e which) l c)
+    pub selected_team_comes : (n : ℕ) (which : t.SelectedTeam) (l : ℕ) (c : Core) → HasRoom n c → TeamWithin n which → Comes (put_team c) (Keeps c.used) (selected_team e calls which l (state_of c)) (told (parts.selected_team e which) l c)
     selected_team_comes n t.current l c r h = (refl, (le_refl c.used, r.0))
     selected_team_comes n (t.team x) l c r h =
         comes_number (put_team c) (Keeps c.used) c.used (value e calls x) own_team l (state_of c) c (told (expression e x) l c) (told (doing (selector a.team_value ∷ [])) l) (value_comes n x l c r h) (λ v z k. own_team_comes c.used v l z c k)
@@ -208,7 +208,7 @@ module _ (e : Environment) (calls : ℕ → List Passed → Does Value) where
         comes_number (put_team c) (Keeps c.used) c.used (value e calls x) (λ v. numbered_team v ▹ (λ k. giving k.team)) l (state_of c) c (told (expression e x) l c) (told (doing (selector a.sibling_team ∷ [])) l) (value_comes n x l c r h)
         (λ v z k. sibling_comes (v ∷ c.values) (selector a.sibling_team) (sibling (team_in (current_team z) z.known) v z.known) l z c c.used k)
 
-    target_comes : (n : ℕ) (stat : t.OptionalResult) (l : ℕ) (c : Core) → HasRoom n c → ResultWithin n stat → Comes (put_target c) (Targeted c.used stat) (optional_target e calls stat l (state_of c)) (told (parts.optional_place e stat) l c)
+    pub target_comes : (n : ℕ) (stat : t.OptionalResult) (l : ℕ) (c : Core) → HasRoom n c → ResultWithin n stat → Comes (put_target c) (Targeted c.used stat) (optional_target e calls stat l (state_of c)) (told (parts.optional_place e stat) l c)
     target_comes n t.no_result l c r h = (refl, (none, (le_refl c.used, r.0)))
     target_comes n (t.result (t.result_variable v t.no_expressions k)) l c r h = (refl, (whole v k, (le_refl c.used, r.0)))
     target_comes n (t.result (t.result_variable v (t.more_expressions x es) k)) l c r h =
