@@ -119,7 +119,7 @@ put_selector c p vs i z = pushed (pos i) (with_values (with_state z c) (put_numb
 abbrev selector_numbers : Place → List ℤ → ℕ → List ℤ
 selector_numbers p vs i = place_numbers p ++ (vs ++ (pos i ∷ []))
 
-selector_put : (p : Place) (vs us : List ℤ) (i : ℕ) → put_numbers (selector_numbers p vs i) us ≡ pos i ∷ put_numbers vs (put_numbers (place_numbers p) us)
+pub selector_put : (p : Place) (vs us : List ℤ) (i : ℕ) → put_numbers (selector_numbers p vs i) us ≡ pos i ∷ put_numbers vs (put_numbers (place_numbers p) us)
 selector_put p vs us i = put_more (place_numbers p) (vs ++ (pos i ∷ [])) us ∙ put_more vs (pos i ∷ []) (put_numbers (place_numbers p) us)
 
 selector_size : (rank : ℕ) (p : Place) (vs : List ℤ) (i : ℕ) → length p.dims ≡ rank → length (selector_numbers p vs i) ≡ place_size rank + (length vs + 1)
@@ -136,7 +136,7 @@ some_more n false e h = refl
 bring_by : (n l : ℕ) (d : Core) (b : Bool) → (n == 0) ≡ b → b ≡ false → told (bringing 1 n) l d ≡ told (doing (stack (a.bring 1 n) ∷ [])) l d
 bring_by n l d b e f = rw (e ∙ f) refl
 
-bring_one : (n : ℕ) (xs us : List ℤ) (v : ℤ) (l : ℕ) (d : Core) → length xs ≡ n → 0 < n → told (bringing 1 n) l (with_values d (v ∷ put_numbers xs us)) ≡ done (with_values d (put_numbers xs (v ∷ us)))
+pub bring_one : (n : ℕ) (xs us : List ℤ) (v : ℤ) (l : ℕ) (d : Core) → length xs ≡ n → 0 < n → told (bringing 1 n) l (with_values d (v ∷ put_numbers xs us)) ≡ done (with_values d (put_numbers xs (v ∷ us)))
 bring_one n xs us v l d e h =
     bring_by n l (with_values d (v ∷ put_numbers xs us)) (n == 0) refl (some_more n (n == 0) refl h)
     ∙ subst (λ m. told (doing (stack (a.bring 1 m) ∷ [])) l (with_values d (v ∷ put_numbers xs us)) ≡ done (with_values d (put_numbers xs (v ∷ us)))) e

@@ -3,7 +3,7 @@
 ghost use Rattle.direct_laws.specs.Laws.{ExpressionLaw};
 
 /// The acts of a covered expression come to what the definition says, at every line, for each reply and from each core
-/// with room for one array element more: the same asks in the same states, the same fault, or its value put down over
+/// with room for array values: the same asks in the same states, the same fault, or its value put down over
 /// what was there, with the variables that the evaluation leaves. Nothing is claimed of a reply that doesn't answer its
 /// ask, nor of a tree that broke a rule (`unsaid`).
 pub fn law_expression_has_its_value()

@@ -17,7 +17,7 @@ use Rattle.image_acts.specs.Meaning.{operate, settled, effect_of}
 use Rattle.tree_meaning.specs.Environment.{Environment, scope_of, kind_of}
 use Rattle.tree_meaning.specs.Sequences.{◌▸◌, doing, choosing}
 use Rattle.tree_meaning.specs.Expressions as parts
-use Rattle.tree_meaning.specs.Expressions.{form_of, expression}
+use Rattle.tree_meaning.specs.Expressions.{form_of, is_scalar, expression}
 use Rattle.tree_meaning.specs.Assignments as acts
 use Rattle.tree_meaning.specs.Assignments.{narrows, kind_in, rank_in, fitting, fitting_section, sectioning, agreeing, putting}
 use Rattle.direct_meaning.specs.States.{State, state_of, with_state, array_in}
@@ -38,12 +38,9 @@ use Rattle.direct_laws.proofs.Owners.{rank_size, some_more}
 use Rattle.direct_laws.proofs.Subscripts.{Shaped, all_comes}
 use Rattle.direct_laws.proofs.Values.{value_comes, subscripts_come}
 use Rattle.direct_statements.specs.Laws.{put_nothing, IsAssigned, AssignmentLaw}
-use Rattle.direct_statements.proofs.Conversions.{over_number, over_array, number_fits, array_fits}
+use Rattle.direct_statements.proofs.Coarrays.{number_tail, array_tail, coarray_assigned}
+use Rattle.direct_statements.proofs.Conversions.{over, over_number, over_array, number_fits, array_fits}
 use Rattle.direct_statements.proofs.Defining.{scalar_stored, number_defines, array_defines}
-
--- numbers over a value
-abbrev over : Core → List ℤ → State → Core
-over d ns z = with_values (with_state z d) (put_numbers ns d.values)
 
 -- a value that is put down as d over c, of rank 0 or more: its conversion, and its definition of a part
 abbrev Fitted : Core → Core → ℕ → Value → ℕ → Kind → Kind → Type 0
@@ -198,7 +195,9 @@ module _ (limit : ℕ) (e : Environment) (calls : ℕ → List Passed → Does V
   number_assigned : (d : t.Designator) (k : Kind) (rank : ℕ) (from : Kind) (v : ℤ) (l : ℕ) (z : State) (c : Core) → HasRoom 64 c → Kept c.used z → IsAssigned d rank
       → Comes (put_nothing c) (Keeps c.used) (assigned limit e calls d k rank from (number v) l z) (told (acts.assigned e d k rank from 0) l (pushed v (with_state z c)))
   number_assigned (t.part (objects.Constant i) ss sel) k rank from v l z c r b h = tt
-  number_assigned (t.part (objects.Coarray i) ss sel) k rank from v l z c r b h = elim h [ ]
+  number_assigned (t.part (objects.Coarray i) ss sel) k rank from v l z c r b h =
+      coarray_assigned limit e calls c (pushed v (with_state z c)) c.used i ss sel rank 0 from k (number v) l (λ g t p j m y q f. number_tail c c.used i (is_scalar ss rank) sel rank from k g t v p j m z y q f)
+      (room_beside 64 c z r b) b h.0 h.1 h.2
   number_assigned (t.part (objects.Local u) t.no_subscripts sel) k zero from v l z c r b h =
       number_fits (put_nothing c) (Keeps c.used) from k v [] (set_scalar (scope_of u.home) u.variable v) l z c (told (doing (variable (a.store (scope_of u.home) u.variable) ∷ [])) l)
       (scalar_stored (scope_of u.home) u.variable v l z c c.used b)
@@ -211,7 +210,9 @@ module _ (limit : ℕ) (e : Environment) (calls : ℕ → List Passed → Does V
   array_assigned : (d : t.Designator) (k : Kind) (rank : ℕ) (from : Kind) (x : Array) (m l : ℕ) (z : State) (c : Core) → HasRoom 64 c → Kept (c.used + length x.elements) z → IsAssigned d rank
       → Comes (put_nothing c) (Keeps c.used) (assigned limit e calls d k rank from (array x) l z) (told (acts.assigned e d k rank from (suc m)) l (with_array x (with_state z c)))
   array_assigned (t.part (objects.Constant i) ss sel) k rank from x m l z c r b h = tt
-  array_assigned (t.part (objects.Coarray i) ss sel) k rank from x m l z c r b h = elim h [ ]
+  array_assigned (t.part (objects.Coarray i) ss sel) k rank from x m l z c r b h =
+      coarray_assigned limit e calls c (with_array x (with_state z c)) c.used i ss sel rank (suc m) from k (array x) l (λ g t p j f y q o. array_tail c c.used i (is_scalar ss rank) sel rank from k g t x m p j f z y q o)
+      (room_behind 64 c x z r b) (fewer c.used (length x.elements) z b) h.0 h.1 h.2
   array_assigned (t.part (objects.Local u) t.no_subscripts sel) k zero from x m l z c r b h = tt
   array_assigned (t.part (objects.Local u) t.no_subscripts sel) k (suc j) from x m l z c r b h =
       subst (λ i. Comes (put_nothing c) (Keeps c.used) (part_of_local (scope_of u.home) u.variable t.no_subscripts k (suc j) from (array x) l z)

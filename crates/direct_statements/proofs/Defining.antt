@@ -41,7 +41,7 @@ rows_length : (n : ℕ) (s : ℤ) (os : List ℤ) → length (rows_of n s os) �
 rows_length n s [] = grind arith
 rows_length n s (o ∷ os) = length-append (row_of n s o) (rows_of n s os) ∙ ap (λ k. k + length (rows_of n s os)) (row_length n s o) ∙ ap (λ k. n + k) (rows_length n s os) ∙ times_more n (length os)
 
-offsets_length : (start : ℤ) (ds : List (ℕ × ℤ)) → length (offsets_from start ds) ≡ product (map (λ d. d.0) ds)
+pub offsets_length : (start : ℤ) (ds : List (ℕ × ℤ)) → length (offsets_from start ds) ≡ product (map (λ d. d.0) ds)
 offsets_length start [] = refl
 offsets_length start (d ∷ ds) = rows_length d.0 d.1 (offsets_from start ds) ∙ ap (λ k. d.0 * k) (offsets_length start ds)
 
@@ -51,7 +51,7 @@ host_stored : (gs : List Frame) (x : ℕ) (v : ℤ) (z : State) (c : Core)
 host_stored [] x v z c = (refl, refl)
 host_stored (g ∷ gs) x v z c = (refl, refl)
 
-stored : (s : Scope) (x : ℕ) (v : ℤ) (z : State) (c : Core) → (frames.with_cell s x v (with_state z c) ≡ with_state (with_scalar s x v z) c) × (z.used ≡ (with_scalar s x v z).used)
+pub stored : (s : Scope) (x : ℕ) (v : ℤ) (z : State) (c : Core) → (frames.with_cell s x v (with_state z c) ≡ with_state (with_scalar s x v z) c) × (z.used ≡ (with_scalar s x v z).used)
 stored here x v z c = (refl, refl)
 stored host x v z c = host_stored z.callers x v z c
 
@@ -68,10 +68,10 @@ pub scalar_stored : (s : Scope) (x : ℕ) (v : ℤ) (l : ℕ) (z : State) (c : C
 scalar_stored s x v l z c n k = let p = stored s x v z c in (ap (λ d. done d) p.0, subst (λ m. (n ≤ m) × (m ≤ 65536)) p.1 k)
 
 -- elements get other values
-abbrev with_elements : Local → Place → List ℤ → Local
+abbrev pub with_elements : Local → Place → List ℤ → Local
 with_elements w p ws = record w { elements = with_elements_at (offsets p) ws w.elements }
 
-abbrev put_at : Scope → ℕ → Place → List ℤ → Core → Acted
+abbrev pub put_at : Scope → ℕ → Place → List ℤ → Core → Acted
 put_at s x p ws d = allocated_act (frames.array_in s x d) (λ w. elim (elements_there p w) [ None ↦ faulting shape_fault | Some vs ↦ goes_to (frames.with_array_in s x (Some (with_elements w p ws)) d) ])
 
 some_put : (s : Scope) (x : ℕ) (p : Place) (ws : List ℤ) (w : Local) (q : Option (List ℤ)) (X : Act) (l : ℕ) (c d : Core) (n : ℕ) → Kept n (state_of d)
@@ -82,7 +82,7 @@ some_put s x p ws w (Some vs) X l c d n k =
     let t = put_there s x (with_elements w p ws) (state_of d) c in
     (ap (λ o. done o) t.0, subst (λ m. (n ≤ m) × (m ≤ 65536)) t.1 k)
 
-elements_put : (s : Scope) (x : ℕ) (p : Place) (ws : List ℤ) (X : Act) (l : ℕ) (c d : Core) (n : ℕ) → Kept n (state_of d)
+pub elements_put : (s : Scope) (x : ℕ) (p : Place) (ws : List ℤ) (X : Act) (l : ℕ) (c d : Core) (n : ℕ) → Kept n (state_of d)
     → Comes (put_nothing c) (Keeps n) (set_elements s x p ws l (state_of d)) (and_then (of_effect l d (settled X (put_at s x p ws (with_state (state_of d) c)))) (told end_parts l))
 elements_put s x p ws X l c d n k =
     let F : Local → Does (Unit {0}) = λ w. or_fault shape_fault (elements_there p w) ▹ (λ vs. changing (states.with_array s x (with_elements w p ws))) in
@@ -91,7 +91,7 @@ elements_put s x p ws X l c d n k =
     (there_then (put_nothing c) (Keeps n) (array_in s x (state_of d)) F G X (told end_parts l) l d (λ w e. some_put s x p ws w (elements_there p w) X l c d n k))
 
 -- the acts, where a place is on top
-put_acts : (s : Scope) (x rank : ℕ) (p : Place) (v : ℤ) (us : List ℤ) (d : Core) → length p.dims ≡ rank
+pub put_acts : (s : Scope) (x rank : ℕ) (p : Place) (v : ℤ) (us : List ℤ) (d : Core) → length p.dims ≡ rank
     → operate (variable (a.put s x rank)) (with_values d (put_numbers (place_numbers p) (v ∷ us))) ≡ put_at s x p (replicate (length (offsets p)) v) (with_values d us)
 put_acts here x rank p v us d h =
     rw (rank_size rank p h) (rw (taken_back (place_numbers p) (v ∷ us)) (ap (λ q. put_at here x q (replicate (length (offsets q)) v) (with_values d us)) (place_back p)))

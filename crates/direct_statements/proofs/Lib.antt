@@ -1,3 +1,5 @@
 pub mod Conversions
 pub mod Defining
+pub mod Writing
+pub mod Coarrays
 pub mod Assignments

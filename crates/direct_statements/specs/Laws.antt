@@ -13,17 +13,17 @@ use Rattle.direct_meaning.specs.Values.{Value}
 use Rattle.direct_meaning.specs.Expressions.{Passed}
 use Rattle.direct_meaning.specs.Statements.{assignment}
 use Rattle.direct_agreement.specs.Agreeing.{Agrees, HasSpare}
-use Rattle.direct_laws.specs.Laws.{HasDimensions, SubscriptsWithin, IsCovered}
+use Rattle.direct_laws.specs.Laws.{HasDimensions, SubscriptsWithin, SelectorWithin, IsCovered}
 
 -- nothing is left of what was evaluated, but for the state
 abbrev pub put_nothing : Core → Unit {0} → State → Core
 put_nothing c u z = with_state z c
 
--- what is assigned to: a local variable, or a part of one
+-- what is assigned to: a variable, or a part of one
 abbrev pub IsAssigned : t.Designator → ℕ → Type 0
 IsAssigned (t.part (objects.Local v) ss sel) rank = HasDimensions ss rank × SubscriptsWithin 64 ss
 IsAssigned (t.part (objects.Constant k) ss sel) rank = Unit {0}
-IsAssigned (t.part (objects.Coarray k) ss sel) rank = ⊥
+IsAssigned (t.part (objects.Coarray k) ss sel) rank = HasDimensions ss rank × SubscriptsWithin 64 ss × SelectorWithin 64 sel
 
 -- the acts of an assignment do what it means, up to where its evaluation cells are free again
 abbrev pub AssignmentLaw : Type 0
