@@ -25,7 +25,7 @@ use Rattle.direct_meaning.specs.Expressions.{Passed, value}
 use Rattle.direct_agreement.specs.Agreeing.{Agrees, put_down}
 
 -- integer :: s = 7, a(4) = [10, 20, 30, 40], x(4)[*]; integer, allocatable :: b(:); on image 3 of 4
-abbrev core : Core
+abbrev pub core : Core
 core = record {
   values = [];
   arrays = [];
@@ -49,11 +49,11 @@ core = record {
 abbrev Refuses : t.Expression → List Act → Type 0
 Refuses x as' = (e : Environment) (calls : ℕ → List Passed → Does Value) → Agrees (put_down core) (value e calls x 1 (state_of core)) (told (doing as') 1 core) → ⊥
 
-differs : (test : Outcome Core → Bool) {o u : Outcome Core} → o ≡ u → test o ≡ false → test u ≡ true → ⊥
+pub differs : (test : Outcome Core → Bool) {o u : Outcome Core} → o ≡ u → test o ≡ false → test u ≡ true → ⊥
 differs test h i j = true≢false (sym j ∙ ap test (sym h) ∙ i)
 
 -- what is looked at
-abbrev top : ℤ → Outcome Core → Bool
+abbrev pub top : ℤ → Outcome Core → Bool
 top v (done c) = elim c.values [ [] ↦ false | w ∷ ws ↦ int_eq w v ]
 top v o = false
 
@@ -63,32 +63,32 @@ same [] (w ∷ ws) = false
 same (v ∷ vs) [] = false
 same (v ∷ vs) (w ∷ ws) = int_eq v w && same vs ws
 
-abbrev elements : List ℤ → Outcome Core → Bool
+abbrev pub elements : List ℤ → Outcome Core → Bool
 elements vs (done c) = elim c.arrays [ [] ↦ false | w ∷ ws ↦ same w.elements vs ]
 elements vs o = false
 
-abbrev in_use : ℕ → Outcome Core → Bool
+abbrev pub in_use : ℕ → Outcome Core → Bool
 in_use n (done c) = c.used == n
 in_use n o = false
 
-abbrev is_fault : Outcome Core → Bool
+abbrev pub is_fault : Outcome Core → Bool
 is_fault (faults k l z) = true
 is_fault o = false
 
 -- the scalar s where a fault comes
-abbrev at_fault : ℤ → Outcome Core → Bool
+abbrev pub at_fault : ℤ → Outcome Core → Bool
 at_fault v (faults k l z) = elim z.frame.cells [ [] ↦ false | w ∷ ws ↦ int_eq w v ]
 at_fault v o = false
 
-abbrev asks_of : ℕ → Outcome Core → Bool
+abbrev pub asks_of : ℕ → Outcome Core → Bool
 asks_of n (asks (asked.Read i s) l z f) = i.0 == n
 asks_of n o = false
 
-abbrev heard : Reply → Outcome Core → Outcome Core
+abbrev pub heard : Reply → Outcome Core → Outcome Core
 heard r (asks q l z f) = f r
 heard r o = unsaid
 
-abbrev array_a : ℕ → t.Expression
+abbrev pub array_a : ℕ → t.Expression
 array_a n = t.typed (t.designator (t.part (objects.Local (own n)) t.no_subscripts t.no_selector)) int 1
 
 -- LBOUND(a, 1) by the upper bound

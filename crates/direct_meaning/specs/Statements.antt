@@ -224,6 +224,10 @@ module _ (limit : ℕ) (e : Environment) (calls : ℕ → List Passed → Does V
   text_of s.free is = giving (listed is)
   text_of (s.written n ds) is = of_found (formatted (literal_text e n) is)
 
+  -- the text of all items (12.6)
+  abbrev pub output : s.Format → List s.Item → Does (Unit {0})
+  output f xs = items xs ▹ (λ is. text_of f is ▹ (λ text. asking (asks.Print text) ▹ (λ r. giving tt)))
+
   -- the indices of SYNC IMAGES (11.6.4)
   abbrev pub image_set : s.ImageSet → Does (List ℤ)
   image_set s.all_images = the (λ z. counted_from 1 (length (members (current_team z) z)))
@@ -244,7 +248,7 @@ module _ (limit : ℕ) (e : Environment) (calls : ℕ → List Passed → Does V
   abbrev mutual
     pub form : ℕ → s.StatementForm → Executes
     form l (s.assign d type rank x) n = simply (assignment d type rank x) n  -- 10.2.1
-    form l (s.print f xs) n = simply (items xs ▹ (λ is. text_of f is ▹ (λ text. asking (asks.Print text) ▹ (λ r. giving tt)))) n  -- 12.6
+    form l (s.print f xs) n = simply (output f xs) n  -- 12.6
     form l (s.exit k) n = giving (exits k, n)  -- 11.1.12
     form l (s.cycle k) n = giving (cycles k, n)  -- 11.1.7.4.4
     form l s.return n = giving (returns, n)  -- 15.6.2.7

@@ -85,10 +85,10 @@ lifted stat g (part u x es k j) rank p i v l z y c h =
     let V : List ℤ = j ∷ v ∷ c.values in
     let D : Core = with_values C (put_numbers (owner_numbers p i) V) in
     let B : Core → Outcome Core = told (bringing 1 N) l in
-    let K : ℕ → Core → Outcome Core = λ m d. and_then (of_effect l d (effect_of (stack (a.copy m 1)) d)) B in
+    let K : ℕ → Core → Outcome Core = λ m d. and_then (told (doing (stack (a.copy m 1) ∷ [])) l d) B in
     ap (λ vs. K (N + 1) (with_values C vs)) (sym (owner_put p i V))
     ∙ ap (λ m. K (m + 1) D) (sym (owner_size rank p i h))
-    ∙ ap (λ u. and_then (of_effect l D (settled (stack (a.copy (length (owner_numbers p i) + 1) 1)) u)) B) (copy_acts (owner_numbers p i) c.values j v C)
+    ∙ ap (λ u. and_then (and_then (of_effect l D (settled (stack (a.copy (length (owner_numbers p i) + 1) 1)) u)) (told end_parts l)) B) (copy_acts (owner_numbers p i) c.values j v C)
     ∙ bring_one N (owner_numbers p i) V v l C (owner_size rank p i h) (omega arith)
     ∙ ap (λ vs. done (with_values C vs)) (owner_put p i (v ∷ V))
 

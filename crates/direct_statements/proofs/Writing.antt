@@ -26,7 +26,7 @@ use Rattle.tree_meaning.specs.Sequences.{◌▸◌, doing, dropping, copying, br
 use Rattle.tree_meaning.specs.Expressions.{optional_size, storing_status}
 use Rattle.tree_meaning.specs.Assignments.{agreeing, written, writing, dropping_value, lifting, left_over}
 use Rattle.direct_meaning.specs.States.{State, state_of, with_state}
-use Rattle.direct_meaning.specs.Outcomes.{Outcome, done, and_then, Does, giving, ◌▹◌, unless, asking}
+use Rattle.direct_meaning.specs.Outcomes.{Outcome, done, faults, asks, over as ended, unsaid, and_then, Does, giving, ◌▹◌, unless, asking}
 use Rattle.direct_meaning.specs.Told.{of_effect, told}
 use Rattle.direct_meaning.specs.Values.{Value, number, array, set_elements}
 use Rattle.direct_meaning.specs.Images.{image}
@@ -40,6 +40,15 @@ use Rattle.direct_statements.specs.Laws.{put_nothing}
 use Rattle.direct_statements.proofs.Conversions.{over, over_number, over_array}
 use Rattle.direct_statements.proofs.Defining.{stored, put_at, put_acts, elements_put}
 
+-- acts at the end that leave the value as it is
+comes_end : {X : Type 0} (lay lay' : X → State → Core) (P : X → State → Type 0) (m : Outcome (X × State)) (o : Outcome Core) (k : Core → Outcome Core)
+    → Comes lay P m o → ((x : X) (s : State) → P x s → k (lay x s) ≡ done (lay' x s)) → Comes lay' P m (and_then o k)
+comes_end lay lay' P (done p) o k h more = (ap (λ u. and_then u k) h.0 ∙ more p.0 p.1 h.1, h.1)
+comes_end lay lay' P (faults j l z) o k h more = ap (λ u. and_then u k) h
+comes_end lay lay' P (asks q l z g) o k (w, e, h) more = ((λ r. and_then (w r) k), ap (λ u. and_then u k) e, λ r. comes_end lay lay' P (g r) (w r) k (h r) more)
+comes_end lay lay' P (ended z) o k h more = ap (λ u. and_then u k) h
+comes_end lay lay' P unsaid o k h more = tt
+
 -- a place without dimensions
 abbrev point : ℤ → Place
 point i = record { start = i; dims = [] }
@@ -52,9 +61,9 @@ element_set s x i v us m l z c n k e =
     let X : Act = variable (a.put s x 0) in
     let D : Core = with_values (with_state z c) (i ∷ v ∷ i ∷ us) in
     let E : Core = with_values c (i ∷ us) in
-    comes_then (put_nothing E) (Keeps n) (put_nothing c) (Keeps n) (set_elements s x (point i) (v ∷ []) l z) (told (doing (X ∷ [])) l D) (λ q. done q) (told (dropping m) l)
+    comes_end (put_nothing E) (put_nothing c) (Keeps n) (set_elements s x (point i) (v ∷ []) l z) (told (doing (X ∷ [])) l D) (told (dropping m) l)
     (subst (λ u. Comes (put_nothing E) (Keeps n) (set_elements s x (point i) (v ∷ []) l z) (and_then (of_effect l D (settled X u)) (told end_parts l))) (sym (put_acts s x 0 (point i) v (i ∷ us) (with_state z c) refl))
-    (elements_put s x (point i) (v ∷ []) X l E D n k)) (λ u y j. (e y, j))
+    (elements_put s x (point i) (v ∷ []) X l E D n k)) (λ u y j. e y)
 
 -- what stands beneath a scalar that is written: where the variable of STAT= is an element, its place and the scalar once more
 abbrev pub beneath : Core → Target → ℤ → Core
