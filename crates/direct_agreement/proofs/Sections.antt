@@ -1,5 +1,5 @@
 -- Subscripts and places as numbers on a stack and back, and the dimensions that a section keeps.
-use Rattle.std.proofs.Common.{arith, ◌≡◌, refl, ap, sym, subst, ◌∙◌, ℕ, zero, suc, ◌+◌, ◌-◌, ◌*◌, ◌/◌, ◌%◌, ◌≤◌, ◌<◌, ◌==◌, ◌||◌, ◌&&◌, ℤ, pos, ◌+ℤ◌, ◌*ℤ◌, Bool, true, false, cond, List, [], ◌∷◌, ◌++◌, length, map, Option, None, Some, append-nil, length-append, unwrap_or, zero-add}
+use Rattle.std.proofs.Common.{arith, ◌≡◌, refl, ap, sym, subst, ◌∙◌, ℕ, zero, suc, ◌+◌, ◌-◌, ◌*◌, ◌/◌, ◌%◌, ◌≤◌, ◌<◌, ◌==◌, ◌||◌, ◌&&◌, ℤ, pos, ◌+ℤ◌, ◌*ℤ◌, Bool, true, false, cond, List, [], ◌∷◌, ◌++◌, length, map, None, Some, append-nil, length-append, unwrap_or, zero-add}
 use Rattle.std.specs.Ordering.{int_eq}
 use Rattle.caf_base.specs.Arithmetic.{is_within, iterations}
 use Rattle.coarray_types.specs.Places.{extent_of}
@@ -10,7 +10,7 @@ use Rattle.image_acts.specs.Taking.{taken, put_down as put_numbers}
 use Rattle.image_acts.specs.Places.{Place, Subscript, single, triplet, Dimension, digits, with_digit, numbers_in, numbers_of_form, triplets, subscripts_in, dimension, dimensions, steps_of, start_of, resting, place_of, empty_place, no_dims, place_numbers, dims_numbers, dims_in, place_in, place_size, apart_by}
 use Rattle.tree_meaning.specs.Expressions.{whole_form}
 use Rattle.direct_meaning.specs.Expressions.{whole}
-use Rattle.direct_agreement.specs.Stacked.{part_numbers, numbers_of_one, numbers_of, present, digit_in, form_in}
+use Rattle.direct_agreement.specs.Stacked.{numbers_of_one, numbers_of, digit_in, form_in}
 
 -- numbers that were put down are taken
 taken_on : (xs vs acc : List ℤ) (n : ℕ) → taken (length xs + n) (put_numbers xs vs) acc ≡ taken n vs (xs ++ acc)
@@ -51,14 +51,22 @@ pub record ReadsBack (x : Subscript) : Type 0 where
 
 reads_back : (x : Subscript) → ReadsBack x
 reads_back (single v) = record { less = 0; is = refl; small = omega arith; back = λ ds rest. refl; count = refl; kept = λ ds. refl }
-reads_back (triplet None None None) = record { less = 1; is = refl; small = omega arith; back = λ ds rest. refl; count = refl; kept = λ ds. refl }
-reads_back (triplet (Some f) None None) = record { less = 2; is = refl; small = omega arith; back = λ ds rest. refl; count = refl; kept = λ ds. refl }
-reads_back (triplet None (Some l) None) = record { less = 3; is = refl; small = omega arith; back = λ ds rest. refl; count = refl; kept = λ ds. refl }
-reads_back (triplet (Some f) (Some l) None) = record { less = 4; is = refl; small = omega arith; back = λ ds rest. refl; count = refl; kept = λ ds. refl }
-reads_back (triplet None None (Some s)) = record { less = 5; is = refl; small = omega arith; back = λ ds rest. refl; count = refl; kept = λ ds. refl }
-reads_back (triplet (Some f) None (Some s)) = record { less = 6; is = refl; small = omega arith; back = λ ds rest. refl; count = refl; kept = λ ds. refl }
-reads_back (triplet None (Some l) (Some s)) = record { less = 7; is = refl; small = omega arith; back = λ ds rest. refl; count = refl; kept = λ ds. refl }
-reads_back (triplet (Some f) (Some l) (Some s)) = record { less = 8; is = refl; small = omega arith; back = λ ds rest. refl; count = refl; kept = λ ds. refl }
+reads_back (triplet None None None) = record
+    { less = 1; is = refl; small = omega arith; back = λ ds rest. refl; count = refl; kept = λ ds. refl }
+reads_back (triplet (Some f) None None) = record
+    { less = 2; is = refl; small = omega arith; back = λ ds rest. refl; count = refl; kept = λ ds. refl }
+reads_back (triplet None (Some l) None) = record
+    { less = 3; is = refl; small = omega arith; back = λ ds rest. refl; count = refl; kept = λ ds. refl }
+reads_back (triplet (Some f) (Some l) None) = record
+    { less = 4; is = refl; small = omega arith; back = λ ds rest. refl; count = refl; kept = λ ds. refl }
+reads_back (triplet None None (Some s)) = record
+    { less = 5; is = refl; small = omega arith; back = λ ds rest. refl; count = refl; kept = λ ds. refl }
+reads_back (triplet (Some f) None (Some s)) = record
+    { less = 6; is = refl; small = omega arith; back = λ ds rest. refl; count = refl; kept = λ ds. refl }
+reads_back (triplet None (Some l) (Some s)) = record
+    { less = 7; is = refl; small = omega arith; back = λ ds rest. refl; count = refl; kept = λ ds. refl }
+reads_back (triplet (Some f) (Some l) (Some s)) = record
+    { less = 8; is = refl; small = omega arith; back = λ ds rest. refl; count = refl; kept = λ ds. refl }
 
 all_back : (xs : List Subscript) → subscripts_in (map digit_in xs) (numbers_of xs) ≡ xs
 all_back [] = refl
@@ -78,26 +86,33 @@ three m a b d p q r e =
     let i : m % 10 ≡ a = omega arith in
     let j : (m / 10) % 10 ≡ b = omega arith in
     let k : (m / 100) % 10 ≡ d = omega arith in
-    ap (λ x. with_digit x (with_digit ((m / 10) % 10) (with_digit ((m / 100) % 10) []))) i ∙ ap (λ x. with_digit a (with_digit x (with_digit ((m / 100) % 10) []))) j
+    ap (λ x. with_digit x (with_digit ((m / 10) % 10) (with_digit ((m / 100) % 10) []))) i ∙ ap
+    (λ x. with_digit a (with_digit x (with_digit ((m / 100) % 10) []))) j
     ∙ ap (λ x. with_digit a (with_digit b (with_digit x []))) k
 
 pub digits_back : (xs : List Subscript) → length xs ≤ 3 → digits (form_in xs) ≡ map digit_in xs
 digits_back [] h = refl
 digits_back (x ∷ []) h =
     let f = reads_back x in
-    three (form_in (x ∷ [])) (digit_in x) 0 0 (omega (arith, f.is, f.small)) (omega arith) (omega arith) (omega arith) ∙ ap (λ d. with_digit d []) f.is ∙ ap (λ d. d ∷ []) (sym f.is)
+    three (form_in (x ∷ [])) (digit_in x) 0 0 (omega (arith, f.is, f.small)) (omega arith) (omega arith) (omega arith) ∙ ap
+    (λ d. with_digit d []) f.is ∙ ap (λ d. d ∷ []) (sym f.is)
 digits_back (x ∷ y ∷ []) h =
     let f = reads_back x in
     let g = reads_back y in
-    three (form_in (x ∷ y ∷ [])) (digit_in x) (digit_in y) 0 (omega (arith, f.is, f.small)) (omega (arith, g.is, g.small)) (omega arith) (omega arith)
-    ∙ ap (λ d. with_digit d (with_digit (digit_in y) [])) f.is ∙ ap (λ d. suc f.less ∷ with_digit d []) g.is ∙ ap (λ d. suc f.less ∷ d ∷ []) (sym g.is) ∙ ap (λ d. d ∷ digit_in y ∷ []) (sym f.is)
+    three (form_in (x ∷ y ∷ [])) (digit_in x) (digit_in y) 0 (omega (arith, f.is, f.small)) (omega (arith, g.is, g.small)) (omega arith)
+    (omega arith)
+    ∙ ap (λ d. with_digit d (with_digit (digit_in y) [])) f.is ∙ ap (λ d. suc f.less ∷ with_digit d []) g.is ∙ ap (λ d. suc f.less ∷ d ∷ [])
+    (sym g.is) ∙ ap (λ d. d ∷ digit_in y ∷ []) (sym f.is)
 digits_back (x ∷ y ∷ z ∷ []) h =
     let f = reads_back x in
     let g = reads_back y in
     let k = reads_back z in
-    three (form_in (x ∷ y ∷ z ∷ [])) (digit_in x) (digit_in y) (digit_in z) (omega (arith, f.is, f.small)) (omega (arith, g.is, g.small)) (omega (arith, k.is, k.small)) (omega arith)
-    ∙ ap (λ d. with_digit d (with_digit (digit_in y) (with_digit (digit_in z) []))) f.is ∙ ap (λ d. suc f.less ∷ with_digit d (with_digit (digit_in z) [])) g.is
-    ∙ ap (λ d. suc f.less ∷ suc g.less ∷ with_digit d []) k.is ∙ ap (λ d. suc f.less ∷ suc g.less ∷ d ∷ []) (sym k.is) ∙ ap (λ d. suc f.less ∷ d ∷ digit_in z ∷ []) (sym g.is)
+    three (form_in (x ∷ y ∷ z ∷ [])) (digit_in x) (digit_in y) (digit_in z) (omega (arith, f.is, f.small)) (omega (arith, g.is, g.small))
+    (omega (arith, k.is, k.small)) (omega arith)
+    ∙ ap (λ d. with_digit d (with_digit (digit_in y) (with_digit (digit_in z) []))) f.is ∙ ap
+    (λ d. suc f.less ∷ with_digit d (with_digit (digit_in z) [])) g.is
+    ∙ ap (λ d. suc f.less ∷ suc g.less ∷ with_digit d []) k.is ∙ ap (λ d. suc f.less ∷ suc g.less ∷ d ∷ []) (sym k.is) ∙ ap
+    (λ d. suc f.less ∷ d ∷ digit_in z ∷ []) (sym g.is)
     ∙ ap (λ d. d ∷ digit_in y ∷ digit_in z ∷ []) (sym f.is)
 digits_back (x ∷ y ∷ z ∷ w ∷ xs) h = absurd (omega arith)
 
@@ -159,18 +174,23 @@ keeps_where : (test b : Bool) (d : Dimension) → d.is_kept ≡ b → KeepsOne b
 keeps_where true b d h = h
 keeps_where false b d h = tt
 
-keeps_step : (none test : Bool) (d : Dimension) → d.is_kept ≡ true → KeepsOne true (cond none (at_fault zero_step) (cond test (found d) (at_fault bounds_fault)))
+keeps_step : (none test : Bool) (d : Dimension) → d.is_kept ≡ true
+    → KeepsOne true (cond none (at_fault zero_step) (cond test (found d) (at_fault bounds_fault)))
 keeps_step true test d h = tt
 keeps_step false test d h = keeps_where test true d h
 
 keeps_triplet : (b : ℤ × ℤ) (first last stride : ℤ) (n : ℕ) → KeepsOne true (cond (int_eq stride (pos 0)) (at_fault zero_step)
-    (cond ((n == 0) || (is_within b.0 b.1 first && is_within b.0 b.1 (first +ℤ (pos (n - 1) *ℤ stride)))) (found (record { first = first; count = n; stride = apart_by n stride; is_kept = true })) (at_fault bounds_fault)))
+    (cond ((n == 0) || (is_within b.0 b.1 first && is_within b.0 b.1 (first +ℤ (pos (n - 1) *ℤ stride))))
+    (found (record { first = first; count = n; stride = apart_by n stride; is_kept = true })) (at_fault bounds_fault)))
 keeps_triplet b first last stride n =
-    keeps_step (int_eq stride (pos 0)) ((n == 0) || (is_within b.0 b.1 first && is_within b.0 b.1 (first +ℤ (pos (n - 1) *ℤ stride)))) (record { first = first; count = n; stride = apart_by n stride; is_kept = true }) refl
+    keeps_step (int_eq stride (pos 0)) ((n == 0) || (is_within b.0 b.1 first && is_within b.0 b.1 (first +ℤ (pos (n - 1) *ℤ stride))))
+    (record { first = first; count = n; stride = apart_by n stride; is_kept = true }) refl
 
 dimension_keeps : (b : ℤ × ℤ) (x : Subscript) → KeepsOne (is_triplet x) (dimension b x)
-dimension_keeps b (single s) = keeps_where (is_within b.0 b.1 s) false (record { first = s; count = 1; stride = pos 1; is_kept = false }) refl
-dimension_keeps b (triplet f l s) = keeps_triplet b (unwrap_or f b.0) (unwrap_or l b.1) (unwrap_or s (pos 1)) (iterations (unwrap_or f b.0) (unwrap_or l b.1) (unwrap_or s (pos 1)))
+dimension_keeps b (single s) = keeps_where (is_within b.0 b.1 s) false (record { first = s; count = 1; stride = pos 1; is_kept = false })
+    refl
+dimension_keeps b (triplet f l s) = keeps_triplet b (unwrap_or f b.0) (unwrap_or l b.1) (unwrap_or s (pos 1))
+    (iterations (unwrap_or f b.0) (unwrap_or l b.1) (unwrap_or s (pos 1)))
 
 abbrev KeepsAll : List Subscript → List (ℤ × ℤ) → Found (List Dimension) → Type 0
 KeepsAll xs bs (found ds) = ((apart : ℕ) → length (steps_of apart bs ds) ≡ kept_in xs) × (length (resting ds) ≡ kept_in xs)
@@ -180,7 +200,8 @@ one_more : (b : Bool) (d : ℕ × ℤ) (ds : List (ℕ × ℤ)) → length (cond
 one_more true d ds = omega arith
 one_more false d ds = omega arith
 
-join_keeps : (b : ℤ × ℤ) (bs : List (ℤ × ℤ)) (x : Subscript) (xs : List Subscript) (f : Found Dimension) (g : Found (List Dimension)) → KeepsOne (is_triplet x) f → KeepsAll xs bs g
+join_keeps : (b : ℤ × ℤ) (bs : List (ℤ × ℤ)) (x : Subscript) (xs : List Subscript) (f : Found Dimension) (g : Found (List Dimension))
+    → KeepsOne (is_triplet x) f → KeepsAll xs bs g
     → KeepsAll (x ∷ xs) (b ∷ bs) (with_found f (λ d. with_found g (λ ds. found (d ∷ ds))))
 join_keeps b bs x xs (found d) (found ds) h (k, m) = (
   λ apart. one_more d.is_kept (d.count, pos apart *ℤ d.stride) (steps_of (apart * extent_of b) bs ds)
@@ -200,11 +221,13 @@ abbrev pub HasRank : ℕ → Found Place → Type 0
 HasRank n (found p) = length p.dims ≡ n
 HasRank n (at_fault k) = Unit {0}
 
-placed : (bs : List (ℤ × ℤ)) (xs : List Subscript) (f : Found (List Dimension)) → KeepsAll xs bs f → HasRank (kept_in xs) (with_found f (λ ds. found (record { start = start_of 1 bs ds; dims = steps_of 1 bs ds })))
+placed : (bs : List (ℤ × ℤ)) (xs : List Subscript) (f : Found (List Dimension)) → KeepsAll xs bs f
+    → HasRank (kept_in xs) (with_found f (λ ds. found (record { start = start_of 1 bs ds; dims = steps_of 1 bs ds })))
 placed bs xs (found ds) h = h.0 1
 placed bs xs (at_fault k) h = tt
 
-placed_nowhere : (bs : List (ℤ × ℤ)) (xs : List Subscript) (f : Found (List Dimension)) → KeepsAll xs bs f → HasRank (kept_in xs) (with_found f (λ ds. found (record { start = pos 0; dims = resting ds })))
+placed_nowhere : (bs : List (ℤ × ℤ)) (xs : List Subscript) (f : Found (List Dimension)) → KeepsAll xs bs f
+    → HasRank (kept_in xs) (with_found f (λ ds. found (record { start = pos 0; dims = resting ds })))
 placed_nowhere bs xs (found ds) h = h.1
 placed_nowhere bs xs (at_fault k) h = tt
 

@@ -1,5 +1,3 @@
-pub mod Owners
-pub mod Reading
 pub mod Subscripts
 pub mod Bounds
 pub mod Values

@@ -126,4 +126,5 @@ IsCovered x = Within 64 x
 
 -- the law: the acts of an expression come to its value, its fault or its ask, whatever the replies are
 abbrev pub ExpressionLaw : Type 0
-ExpressionLaw = (e : Environment) (calls : ℕ → List Passed → Does Value) (x : t.Expression) (l : ℕ) (c : Core) → HasSpare c → IsCovered x → Agrees (put_down c) (value e calls x l (state_of c)) (told (expression e x) l c)
+ExpressionLaw = (e : Environment) (calls : ℕ → List Passed → Does Value) (x : t.Expression) (l : ℕ) (c : Core) → HasSpare c → IsCovered x
+    → Agrees (put_down c) (value e calls x l (state_of c)) (told (expression e x) l c)

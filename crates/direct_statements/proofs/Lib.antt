@@ -3,5 +3,4 @@ pub mod Defining
 pub mod Writing
 pub mod Coarrays
 pub mod Assignments
-pub mod Printing
 pub mod Refused

@@ -1,11 +1,9 @@
 -- What is claimed of statements.
-use Rattle.std.specs.Prelude.{ℕ, suc, ◌+◌, ◌≤◌, List, [], ◌∷◌}
+use Rattle.std.specs.Prelude.{ℕ, List}
 use Rattle.checked_tree.specs.declared.data.DataType.{DataType}
 use Rattle.checked_tree.specs.declared.data.Object.TheVariants as objects
 use Rattle.checked_tree.specs.Expressions as t
-use Rattle.checked_tree.specs.Statements as s
 use Rattle.image_acts.specs.Core.{Core}
-use Rattle.image_acts.specs.Operate.Printing.{open_portions}
 use Rattle.tree_meaning.specs.Environment.{Environment}
 use Rattle.tree_meaning.specs.Assignments as acts
 use Rattle.direct_meaning.specs.States.{State, state_of, with_state}
@@ -13,7 +11,7 @@ use Rattle.direct_meaning.specs.Outcomes.{Does}
 use Rattle.direct_meaning.specs.Told.{told}
 use Rattle.direct_meaning.specs.Values.{Value}
 use Rattle.direct_meaning.specs.Expressions.{Passed}
-use Rattle.direct_meaning.specs.Statements.{assignment, output}
+use Rattle.direct_meaning.specs.Statements.{assignment}
 use Rattle.direct_agreement.specs.Agreeing.{Agrees, HasSpare}
 use Rattle.direct_laws.specs.Laws.{HasDimensions, SubscriptsWithin, SelectorWithin, IsCovered}
 
@@ -29,26 +27,7 @@ IsAssigned (t.part (objects.Coarray k) ss sel) rank = HasDimensions ss rank × S
 
 -- the acts of an assignment do what it means, up to where its evaluation cells are free again
 abbrev pub AssignmentLaw : Type 0
-AssignmentLaw = (limit : ℕ) (e : Environment) (calls : ℕ → List Passed → Does Value) (d : t.Designator) (type : DataType) (rank : ℕ) (x : t.Expression) (l : ℕ) (c : Core)
-    → HasSpare c → IsCovered x → IsAssigned d rank → Agrees (put_nothing c) (assignment limit e calls d type rank x l (state_of c)) (told (acts.assignment e d type rank x) l c)
-
--- the items of a PRINT, and how many literals are among them
-abbrev pub AreItems : List s.Item → Type 0
-AreItems [] = Unit {0}
-AreItems (s.literal n ∷ xs) = AreItems xs
-AreItems (s.value x ∷ xs) = IsCovered x × AreItems xs
-
-abbrev pub literals_in : List s.Item → ℕ
-literals_in [] = 0
-literals_in (s.literal n ∷ xs) = suc (literals_in xs)
-literals_in (s.value x ∷ xs) = literals_in xs
-
--- The walk bounds the portions of texts that are begun: there is room for one of each literal, beside those of values, which have
--- their evaluation cells.
-abbrev pub HasLines : Core → List s.Item → Type 0
-HasLines c xs = open_portions c.printing + literals_in xs ≤ c.used + 65793
-
--- the acts of a PRINT say the text of its items
-abbrev pub PrintLaw : Type 0
-PrintLaw = (limit : ℕ) (e : Environment) (calls : ℕ → List Passed → Does Value) (f : s.Format) (xs : List s.Item) (l : ℕ) (c : Core)
-    → HasSpare c → AreItems xs → HasLines c xs → Agrees (put_nothing c) (output limit e calls f xs l (state_of c)) (told (acts.output e f xs) l c)
+AssignmentLaw = (limit : ℕ) (e : Environment) (calls : ℕ → List Passed → Does Value) (d : t.Designator) (type : DataType) (rank : ℕ)
+    (x : t.Expression) (l : ℕ) (c : Core)
+    → HasSpare c → IsCovered x → IsAssigned d rank
+    → Agrees (put_nothing c) (assignment limit e calls d type rank x l (state_of c)) (told (acts.assignment e d type rank x) l c)

@@ -38,7 +38,8 @@ use Rattle.direct_agreement.proofs.Agreement.{Kept, Leaves, Comes, comes_agrees,
 use Rattle.direct_agreement.proofs.Inquiries.{fewer}
 use Rattle.direct_agreement.proofs.Scalars.{Keeps}
 use Rattle.direct_laws.proofs.Values.{value_comes}
-use Rattle.direct_statements.specs.Laws.{put_nothing, literals_in, AreItems, HasLines, PrintLaw}
+use Rattle.direct_statements.specs.Laws.{put_nothing}
+use Rattle.direct_output.specs.Laws.{literals_in, AreItems, HasLines, PrintLaw}
 
 -- a text that was begun, over what was there
 abbrev text_over : Core → Option (List ℕ) → List Portion → State → Core
@@ -60,23 +61,31 @@ abbrev Room : Core → List Portion → ℕ → State → Type 0
 Room c ps m z = length ps + (open_portions c.printing + m) ≤ z.used + 65793
 
 -- a text with more portions, where there is room
-renewed_by : {X : Type 0} (lay : X → State → Core) (P : X → State → Type 0) (c : Core) (f : Option (List ℕ)) (ps : List Portion) (b : Bool) (m : Outcome (X × State)) (A : Act) (l : ℕ) (z : State) (d : Core) (q : Core → Outcome Core)
+renewed_by : {X : Type 0} (lay : X → State → Core) (P : X → State → Type 0) (c : Core) (f : Option (List ℕ)) (ps : List Portion) (b : Bool)
+    (m : Outcome (X × State)) (A : Act) (l : ℕ) (z : State) (d : Core) (q : Core → Outcome Core)
     → nat_le (open_portions (record { format = f; portions = ps } ∷ c.printing)) most_portions ≡ b → Room c ps 0 z → z.used ≤ most_cells
     → Comes lay P m (q (text_over c f ps z))
     → Comes lay P m (and_then (of_effect l d (settled A (cond b (goes_to (text_over c f ps z)) (faulting room)))) q)
 renewed_by lay P c f ps true m A l z d q e r u h = h
 renewed_by lay P c f ps false m A l z d q e r u h =
-    let i : most_portions < open_portions (record { format = f; portions = ps } ∷ c.printing) = leb-false (open_portions (record { format = f; portions = ps } ∷ c.printing)) most_portions e in
-    let j : open_portions (record { format = f; portions = ps } ∷ c.printing) ≡ length ps + open_portions c.printing = open_more (record { format = f; portions = ps }) c.printing in
+    let i : most_portions < open_portions (record { format = f; portions = ps } ∷ c.printing) = leb-false
+    (open_portions (record { format = f; portions = ps } ∷ c.printing)) most_portions e in
+    let j : open_portions (record { format = f; portions = ps } ∷ c.printing) ≡ length ps + open_portions c.printing = open_more
+    (record { format = f; portions = ps }) c.printing in
     absurd (omega (arith, i, j, r, u))
 
-renewed_comes : {X : Type 0} (lay : X → State → Core) (P : X → State → Type 0) (c : Core) (f : Option (List ℕ)) (ps : List Portion) (m : Outcome (X × State)) (A : Act) (l : ℕ) (z : State) (d : Core) (q : Core → Outcome Core)
+renewed_comes : {X : Type 0} (lay : X → State → Core) (P : X → State → Type 0) (c : Core) (f : Option (List ℕ)) (ps : List Portion)
+    (m : Outcome (X × State)) (A : Act) (l : ℕ) (z : State) (d : Core) (q : Core → Outcome Core)
     → Room c ps 0 z → z.used ≤ most_cells → Comes lay P m (q (text_over c f ps z))
-    → Comes lay P m (and_then (of_effect l d (settled A (cond (nat_le (open_portions (record { format = f; portions = ps } ∷ c.printing)) most_portions) (goes_to (text_over c f ps z)) (faulting room)))) q)
-renewed_comes lay P c f ps m A l z d q r u h = renewed_by lay P c f ps (nat_le (open_portions (record { format = f; portions = ps } ∷ c.printing)) most_portions) m A l z d q refl r u h
+    → Comes lay P m (and_then (of_effect l d (settled A
+    (cond (nat_le (open_portions (record { format = f; portions = ps } ∷ c.printing)) most_portions) (goes_to (text_over c f ps z))
+    (faulting room)))) q)
+renewed_comes lay P c f ps m A l z d q r u h = renewed_by lay P c f ps
+    (nat_le (open_portions (record { format = f; portions = ps } ∷ c.printing)) most_portions) m A l z d q refl r u h
 
 -- a literal takes a portion at most
-one_by : (b : Bool) (n m : ℕ) (text : List ℕ) (back : List (List ℕ)) (ps : List Portion) → length (cond b (literals n (text ∷ back) ∷ ps) (literals n (text ∷ []) ∷ literals m back ∷ ps)) ≤ suc (length (literals m back ∷ ps))
+one_by : (b : Bool) (n m : ℕ) (text : List ℕ) (back : List (List ℕ)) (ps : List Portion)
+    → length (cond b (literals n (text ∷ back) ∷ ps) (literals n (text ∷ []) ∷ literals m back ∷ ps)) ≤ suc (length (literals m back ∷ ps))
 one_by true n m text back ps = omega arith
 one_by false n m text back ps = omega arith
 
@@ -86,7 +95,8 @@ one_at_most n text (cores.value x ∷ ps) = omega arith
 one_at_most n text (literals m back ∷ ps) = one_by (nat_eq n (m + 1)) n m text back ps
 
 as_many : (xs : List Item) (ps : List Portion) → length (with_values_behind xs ps) ≡ length xs + length ps
-as_many xs ps = length-append (reverse (map cores.value xs)) ps ∙ ap (λ n. n + length ps) (length-reverse (map cores.value xs) ∙ length-map xs cores.value)
+as_many xs ps = length-append (reverse (map cores.value xs)) ps ∙ ap (λ n. n + length ps)
+    (length-reverse (map cores.value xs) ∙ length-map xs cores.value)
 
 -- these portions are the items so far, and those
 abbrev Spreads : List Portion → List Item → List Portion → Type 0
@@ -95,10 +105,12 @@ Spreads ps is qs = spread (reverse qs) ≡ spread (reverse ps) ++ is
 spreads_more : (ps qs ss : List Portion) (is js : List Item) → Spreads ps is qs → Spreads qs js ss → Spreads ps (is ++ js) ss
 spreads_more ps qs ss is js h k = k ∙ ap (λ xs. xs ++ js) h ∙ append_assoc (spread (reverse ps)) is js
 
-module _ (limit : ℕ) (e : Environment) (calls : ℕ → List Passed → Does Value) {X : Type 0} (lay : X → State → Core) (P : X → State → Type 0) (c : Core) (f : Option (List ℕ)) (room64 : HasRoom 64 c) where
+module _ (limit : ℕ) (e : Environment) (calls : ℕ → List Passed → Does Value) {X : Type 0} (lay : X → State → Core) (P : X → State → Type 0)
+    (c : Core) (f : Option (List ℕ)) (room64 : HasRoom 64 c) where
   -- what is made of all items, and what comes behind them
   abbrev Goes : List Portion → (List Item → Does X) → (Core → Outcome Core) → ℕ → Type 0
-  Goes ps F q l = (qs : List Portion) (is : List Item) (y : State) → Spreads ps is qs → Kept c.used y → Comes lay P (F is l y) (q (text_over c f qs y))
+  Goes ps F q l = (qs : List Portion) (is : List Item) (y : State) → Spreads ps is qs → Kept c.used y
+      → Comes lay P (F is l y) (q (text_over c f qs y))
 
   abbrev Says : List s.Item → List Portion → (List Item → Does X) → (Core → Outcome Core) → ℕ → State → Type 0
   Says xs ps F q l z = Comes lay P ((items limit e calls xs ▹ F) l z) (and_then (told (acts.items e xs) l (text_over c f ps z)) q)
@@ -107,18 +119,25 @@ module _ (limit : ℕ) (e : Environment) (calls : ℕ → List Passed → Does V
   after xs i = items limit e calls xs ▹ (λ is. giving (i ++ is))
 
   -- these items, and then the others
-  behind_items : (xs : List s.Item) (i : List Item) (ps qs : List Portion) (F : List Item → Does X) (q : Core → Outcome Core) (l : ℕ) (y : State) → Spreads ps i qs → Goes ps F q l
-      → (Goes qs (λ is. F (i ++ is)) q l → Says xs qs (λ is. F (i ++ is)) q l y) → Comes lay P ((after xs i ▹ F) l y) (and_then (told (acts.items e xs) l (text_over c f qs y)) q)
+  behind_items : (xs : List s.Item) (i : List Item) (ps qs : List Portion) (F : List Item → Does X) (q : Core → Outcome Core) (l : ℕ)
+      (y : State) → Spreads ps i qs → Goes ps F q l
+      → (Goes qs (λ is. F (i ++ is)) q l → Says xs qs (λ is. F (i ++ is)) q l y)
+      → Comes lay P ((after xs i ▹ F) l y) (and_then (told (acts.items e xs) l (text_over c f qs y)) q)
   behind_items xs i ps qs F q l y h goes more =
-      said_apart lay P (items limit e calls xs l y) (λ p. giving (i ++ p.0) l p.1) (λ p. F p.0 l p.1) (and_then (told (acts.items e xs) l (text_over c f qs y)) q)
+      said_apart lay P (items limit e calls xs l y) (λ p. giving (i ++ p.0) l p.1) (λ p. F p.0 l p.1)
+      (and_then (told (acts.items e xs) l (text_over c f qs y)) q)
       (more (λ ss is z k b. goes ss (i ++ is) z (spreads_more ps qs ss i is h k) b))
 
   -- a number takes its cell
-  number_by : (b : Bool) (k : Kind) (v : ℤ) (x : Item) (xs : List s.Item) (A : Act) (ps : List Portion) (F : List Item → Does X) (q : Core → Outcome Core) (l : ℕ) (z y : State) → nat_le (y.used + 1) most_cells ≡ b
+  number_by : (b : Bool) (k : Kind) (v : ℤ) (x : Item) (xs : List s.Item) (A : Act) (ps : List Portion) (F : List Item → Does X)
+      (q : Core → Outcome Core) (l : ℕ) (z y : State) → nat_le (y.used + 1) most_cells ≡ b
       → item_of k v ≡ x → Kept c.used y → Room c ps (literals_in xs) y → Goes ps F q l
-      → ((qs : List Portion) (w : State) → Kept c.used w → Room c qs (literals_in xs) w → Goes qs (λ is. F (x ∷ is)) q l → Says xs qs (λ is. F (x ∷ is)) q l w)
-      → Comes lay P (((items_of k (number v) ▹ after xs) ▹ F) l y) (and_then (of_effect l (pushed v (text_over c f ps y)) (settled A (cond (nat_le (y.used + 1) most_cells)
-      (cond (nat_le (open_portions (record { format = f; portions = with_values_behind (x ∷ []) ps } ∷ c.printing)) most_portions) (goes_to (text_over c f (with_values_behind (x ∷ []) ps) (record y { used = y.used + 1 }))) (faulting room)) (faulting room))))
+      → ((qs : List Portion) (w : State) → Kept c.used w → Room c qs (literals_in xs) w → Goes qs (λ is. F (x ∷ is)) q l
+      → Says xs qs (λ is. F (x ∷ is)) q l w)
+      → Comes lay P (((items_of k (number v) ▹ after xs) ▹ F) l y)
+      (and_then (of_effect l (pushed v (text_over c f ps y)) (settled A (cond (nat_le (y.used + 1) most_cells)
+      (cond (nat_le (open_portions (record { format = f; portions = with_values_behind (x ∷ []) ps } ∷ c.printing)) most_portions)
+      (goes_to (text_over c f (with_values_behind (x ∷ []) ps) (record y { used = y.used + 1 }))) (faulting room)) (faulting room))))
       (λ d. and_then (told (acts.items e xs) l d) q))
   number_by false k v x xs A ps F q l z y t i h r goes more = rw t refl
   number_by true k v x xs A ps F q l z y t i h r goes more =
@@ -127,15 +146,20 @@ module _ (limit : ℕ) (e : Environment) (calls : ℕ → List Passed → Does V
       let m : Room c qs (literals_in xs) w = omega (arith, as_many (x ∷ []) ps, r) in
       let n : Room c qs 0 w = omega (arith, as_many (x ∷ []) ps, r) in
       let g : Kept c.used w = (omega (arith, h.0), leb-true (y.used + 1) most_cells t) in
-      rw (t, i) (renewed_comes lay P c f qs ((after xs (x ∷ []) ▹ F) l w) A l w (pushed v (text_over c f ps y)) (λ d. and_then (told (acts.items e xs) l d) q) n g.1
+      rw (t, i) (renewed_comes lay P c f qs ((after xs (x ∷ []) ▹ F) l w) A l w (pushed v (text_over c f ps y))
+      (λ d. and_then (told (acts.items e xs) l d) q) n g.1
       (behind_items xs (x ∷ []) ps qs F q l w (values_printed (x ∷ []) ps) goes (λ o. more qs w g m o)))
 
   -- an array's elements have theirs
-  array_comes : (k : Kind) (w : Array) (is : List Item) (xs : List s.Item) (A : Act) (ps : List Portion) (F : List Item → Does X) (q : Core → Outcome Core) (l : ℕ) (z y : State) → map (item_of k) w.elements ≡ is → Kept (z.used + length w.elements) y → Kept c.used z
+  array_comes : (k : Kind) (w : Array) (is : List Item) (xs : List s.Item) (A : Act) (ps : List Portion) (F : List Item → Does X)
+      (q : Core → Outcome Core) (l : ℕ) (z y : State) → map (item_of k) w.elements ≡ is → Kept (z.used + length w.elements) y
+      → Kept c.used z
       → Room c ps (literals_in xs) z → Goes ps F q l
-      → ((qs : List Portion) (u : State) → Kept c.used u → Room c qs (literals_in xs) u → Goes qs (λ js. F (is ++ js)) q l → Says xs qs (λ js. F (is ++ js)) q l u)
+      → ((qs : List Portion) (u : State) → Kept c.used u → Room c qs (literals_in xs) u → Goes qs (λ js. F (is ++ js)) q l
+      → Says xs qs (λ js. F (is ++ js)) q l u)
       → Comes lay P (((items_of k (array w) ▹ after xs) ▹ F) l y) (and_then (of_effect l (with_array w (text_over c f ps y)) (settled A
-      (cond (nat_le (open_portions (record { format = f; portions = with_values_behind is ps } ∷ c.printing)) most_portions) (goes_to (text_over c f (with_values_behind is ps) y)) (faulting room))))
+      (cond (nat_le (open_portions (record { format = f; portions = with_values_behind is ps } ∷ c.printing)) most_portions)
+      (goes_to (text_over c f (with_values_behind is ps) y)) (faulting room))))
       (λ d. and_then (told (acts.items e xs) l d) q))
   array_comes k w is xs A ps F q l z y i h g r goes more =
       let qs : List Portion = with_values_behind is ps in
@@ -144,37 +168,55 @@ module _ (limit : ℕ) (e : Environment) (calls : ℕ → List Passed → Does V
       let n : Room c qs 0 y = omega (arith, as_many is ps, j, r, h.0) in
       let b : Kept c.used y = kept_more c.used z y g (fewer z.used (length w.elements) y h) in
       subst (λ js. Comes lay P ((after xs js ▹ F) l y) (and_then (of_effect l (with_array w (text_over c f ps y)) (settled A
-      (cond (nat_le (open_portions (record { format = f; portions = qs } ∷ c.printing)) most_portions) (goes_to (text_over c f qs y)) (faulting room)))) (λ d. and_then (told (acts.items e xs) l d) q))) (sym i)
-      (renewed_comes lay P c f qs ((after xs is ▹ F) l y) A l y (with_array w (text_over c f ps y)) (λ d. and_then (told (acts.items e xs) l d) q) n b.1
+      (cond (nat_le (open_portions (record { format = f; portions = qs } ∷ c.printing)) most_portions) (goes_to (text_over c f qs y))
+      (faulting room)))) (λ d. and_then (told (acts.items e xs) l d) q))) (sym i)
+      (renewed_comes lay P c f qs ((after xs is ▹ F) l y) A l y (with_array w (text_over c f ps y))
+      (λ d. and_then (told (acts.items e xs) l d) q) n b.1
       (behind_items xs is ps qs F q l y (values_printed is ps) goes (λ o. more qs y b m o)))
 
   -- a value of its expression's rank
-  value_printed : (k : Kind) (r : ℕ) (v : Value) (xs : List s.Item) (ps : List Portion) (F : List Item → Does X) (q : Core → Outcome Core) (l : ℕ) (z y : State) → Leaves z.used v y → Kept c.used z → Room c ps (literals_in xs) z → Goes ps F q l
-      → ((is : List Item) (qs : List Portion) (u : State) → Kept c.used u → Room c qs (literals_in xs) u → Goes qs (λ js. F (is ++ js)) q l → Says xs qs (λ js. F (is ++ js)) q l u)
-      → Comes lay P (and_then (of_rank r v l y) (λ p. and_then ((items_of k p.0 ▹ after xs) l p.1) (λ w. F w.0 l w.1))) (and_then (told (acts.printed e k r) l (put_down (text_over c f ps z) v y)) (λ d. and_then (told (acts.items e xs) l d) q))
+  value_printed : (k : Kind) (r : ℕ) (v : Value) (xs : List s.Item) (ps : List Portion) (F : List Item → Does X) (q : Core → Outcome Core)
+      (l : ℕ) (z y : State) → Leaves z.used v y → Kept c.used z → Room c ps (literals_in xs) z → Goes ps F q l
+      → ((is : List Item) (qs : List Portion) (u : State) → Kept c.used u → Room c qs (literals_in xs) u → Goes qs (λ js. F (is ++ js)) q l
+      → Says xs qs (λ js. F (is ++ js)) q l u)
+      → Comes lay P (and_then (of_rank r v l y) (λ p. and_then ((items_of k p.0 ▹ after xs) l p.1) (λ w. F w.0 l w.1)))
+      (and_then (told (acts.printed e k r) l (put_down (text_over c f ps z) v y)) (λ d. and_then (told (acts.items e xs) l d) q))
   value_printed k zero (array w) xs ps F q l z y j h r goes more = tt
   value_printed k (suc m) (number v) xs ps F q l z y j h r goes more = tt
   value_printed kinds.L4 zero (number v) xs ps F q l z y j h r goes more =
-      act_first lay P (((items_of kinds.L4 (number v) ▹ after xs) ▹ F) l y) (print a.print_truth) l (pushed v (text_over c f ps y)) (λ d. and_then (told (acts.items e xs) l d) q)
-      (number_by (nat_le (y.used + 1) most_cells) kinds.L4 v (logical (is_true v)) xs (print a.print_truth) ps F q l z y refl refl (kept_more c.used z y h j) (omega (arith, r, j.0)) goes (λ qs w. more (logical (is_true v) ∷ []) qs w))
+      act_first lay P (((items_of kinds.L4 (number v) ▹ after xs) ▹ F) l y) (print a.print_truth) l (pushed v (text_over c f ps y))
+      (λ d. and_then (told (acts.items e xs) l d) q)
+      (number_by (nat_le (y.used + 1) most_cells) kinds.L4 v (logical (is_true v)) xs (print a.print_truth) ps F q l z y refl refl
+      (kept_more c.used z y h j) (omega (arith, r, j.0)) goes (λ qs w. more (logical (is_true v) ∷ []) qs w))
   value_printed kinds.I4 zero (number v) xs ps F q l z y j h r goes more =
-      act_first lay P (((items_of kinds.I4 (number v) ▹ after xs) ▹ F) l y) (print a.print_number) l (pushed v (text_over c f ps y)) (λ d. and_then (told (acts.items e xs) l d) q)
-      (number_by (nat_le (y.used + 1) most_cells) kinds.I4 v (integer v) xs (print a.print_number) ps F q l z y refl refl (kept_more c.used z y h j) (omega (arith, r, j.0)) goes (λ qs w. more (integer v ∷ []) qs w))
+      act_first lay P (((items_of kinds.I4 (number v) ▹ after xs) ▹ F) l y) (print a.print_number) l (pushed v (text_over c f ps y))
+      (λ d. and_then (told (acts.items e xs) l d) q)
+      (number_by (nat_le (y.used + 1) most_cells) kinds.I4 v (integer v) xs (print a.print_number) ps F q l z y refl refl
+      (kept_more c.used z y h j) (omega (arith, r, j.0)) goes (λ qs w. more (integer v ∷ []) qs w))
   value_printed kinds.I8 zero (number v) xs ps F q l z y j h r goes more =
-      act_first lay P (((items_of kinds.I8 (number v) ▹ after xs) ▹ F) l y) (print a.print_number) l (pushed v (text_over c f ps y)) (λ d. and_then (told (acts.items e xs) l d) q)
-      (number_by (nat_le (y.used + 1) most_cells) kinds.I8 v (integer v) xs (print a.print_number) ps F q l z y refl refl (kept_more c.used z y h j) (omega (arith, r, j.0)) goes (λ qs w. more (integer v ∷ []) qs w))
+      act_first lay P (((items_of kinds.I8 (number v) ▹ after xs) ▹ F) l y) (print a.print_number) l (pushed v (text_over c f ps y))
+      (λ d. and_then (told (acts.items e xs) l d) q)
+      (number_by (nat_le (y.used + 1) most_cells) kinds.I8 v (integer v) xs (print a.print_number) ps F q l z y refl refl
+      (kept_more c.used z y h j) (omega (arith, r, j.0)) goes (λ qs w. more (integer v ∷ []) qs w))
   value_printed kinds.L4 (suc m) (array w) xs ps F q l z y j h r goes more =
-      act_first lay P (((items_of kinds.L4 (array w) ▹ after xs) ▹ F) l y) (print (a.print_array kinds.L4)) l (with_array w (text_over c f ps y)) (λ d. and_then (told (acts.items e xs) l d) q)
-      (array_comes kinds.L4 w (map (acted.item_of kinds.L4) w.elements) xs (print (a.print_array kinds.L4)) ps F q l z y refl j.0 h r goes (λ qs u. more (map (acted.item_of kinds.L4) w.elements) qs u))
+      act_first lay P (((items_of kinds.L4 (array w) ▹ after xs) ▹ F) l y) (print (a.print_array kinds.L4)) l
+      (with_array w (text_over c f ps y)) (λ d. and_then (told (acts.items e xs) l d) q)
+      (array_comes kinds.L4 w (map (acted.item_of kinds.L4) w.elements) xs (print (a.print_array kinds.L4)) ps F q l z y refl j.0 h r goes
+      (λ qs u. more (map (acted.item_of kinds.L4) w.elements) qs u))
   value_printed kinds.I4 (suc m) (array w) xs ps F q l z y j h r goes more =
-      act_first lay P (((items_of kinds.I4 (array w) ▹ after xs) ▹ F) l y) (print (a.print_array kinds.I4)) l (with_array w (text_over c f ps y)) (λ d. and_then (told (acts.items e xs) l d) q)
-      (array_comes kinds.I4 w (map (acted.item_of kinds.I4) w.elements) xs (print (a.print_array kinds.I4)) ps F q l z y refl j.0 h r goes (λ qs u. more (map (acted.item_of kinds.I4) w.elements) qs u))
+      act_first lay P (((items_of kinds.I4 (array w) ▹ after xs) ▹ F) l y) (print (a.print_array kinds.I4)) l
+      (with_array w (text_over c f ps y)) (λ d. and_then (told (acts.items e xs) l d) q)
+      (array_comes kinds.I4 w (map (acted.item_of kinds.I4) w.elements) xs (print (a.print_array kinds.I4)) ps F q l z y refl j.0 h r goes
+      (λ qs u. more (map (acted.item_of kinds.I4) w.elements) qs u))
   value_printed kinds.I8 (suc m) (array w) xs ps F q l z y j h r goes more =
-      act_first lay P (((items_of kinds.I8 (array w) ▹ after xs) ▹ F) l y) (print (a.print_array kinds.I8)) l (with_array w (text_over c f ps y)) (λ d. and_then (told (acts.items e xs) l d) q)
-      (array_comes kinds.I8 w (map (acted.item_of kinds.I8) w.elements) xs (print (a.print_array kinds.I8)) ps F q l z y refl j.0 h r goes (λ qs u. more (map (acted.item_of kinds.I8) w.elements) qs u))
+      act_first lay P (((items_of kinds.I8 (array w) ▹ after xs) ▹ F) l y) (print (a.print_array kinds.I8)) l
+      (with_array w (text_over c f ps y)) (λ d. and_then (told (acts.items e xs) l d) q)
+      (array_comes kinds.I8 w (map (acted.item_of kinds.I8) w.elements) xs (print (a.print_array kinds.I8)) ps F q l z y refl j.0 h r goes
+      (λ qs u. more (map (acted.item_of kinds.I8) w.elements) qs u))
 
   -- all items, one after another
-  items_come : (xs : List s.Item) (ps : List Portion) (F : List Item → Does X) (q : Core → Outcome Core) (l : ℕ) (z : State) → AreItems xs → Kept c.used z → Room c ps (literals_in xs) z → Goes ps F q l → Says xs ps F q l z
+  items_come : (xs : List s.Item) (ps : List Portion) (F : List Item → Does X) (q : Core → Outcome Core) (l : ℕ) (z : State) → AreItems xs
+      → Kept c.used z → Room c ps (literals_in xs) z → Goes ps F q l → Says xs ps F q l z
   items_come [] ps F q l z h k r goes = goes ps [] z (sym (append-nil (spread (reverse ps)))) k
   items_come (s.literal n ∷ xs) ps F q l z h k r goes =
       let x : Item = literal (literal_text e n) in
@@ -188,7 +230,8 @@ module _ (limit : ℕ) (e : Environment) (calls : ℕ → List Passed → Does V
       apart lay P L (told (doing (A ∷ [])) l (text_over c f ps z)) (told (acts.items e xs) l) q
       (act_first lay P L A l (text_over c f ps z) K
       (renewed_comes lay P c f qs L A l z (text_over c f ps z) K u k.1
-      (behind_items xs (x ∷ []) ps qs F q l z (literal_printed n (literal_text e n) ps) goes (λ g. items_come xs qs (λ is. F (x ∷ is)) q l z h k m g))))
+      (behind_items xs (x ∷ []) ps qs F q l z (literal_printed n (literal_text e n) ps) goes
+      (λ g. items_come xs qs (λ is. F (x ∷ is)) q l z h k m g))))
   items_come (s.value x ∷ xs) ps F q l z h k r goes =
       let C : Core = text_over c f ps z in
       let R : Value → Does Value = of_rank (rank_in x) in
@@ -199,11 +242,15 @@ module _ (limit : ℕ) (e : Environment) (calls : ℕ → List Passed → Does V
       let O : Outcome Core = and_then (and_then (and_then (told (expression e x) l C) S) I) q in
       said_apart lay P (ranked limit e calls x l z) (λ p. G p.0 l p.1) (λ p. F p.0 l p.1) O
       (said_apart lay P V (λ p. R p.0 l p.1) (λ p. and_then (G p.0 l p.1) (λ w. F w.0 l w.1)) O
-      (apart lay P (and_then V (λ p. and_then (R p.0 l p.1) (λ w. and_then (G w.0 l w.1) (λ u. F u.0 l u.1)))) (and_then (told (expression e x) l C) S) I q
-      (apart lay P (and_then V (λ p. and_then (R p.0 l p.1) (λ w. and_then (G w.0 l w.1) (λ u. F u.0 l u.1)))) (told (expression e x) l C) S (λ d. and_then (I d) q)
-      (comes_then (put_down C) (Leaves z.used) lay P V (told (expression e x) l C) (λ p. and_then (R p.0 l p.1) (λ w. and_then (G w.0 l w.1) (λ u. F u.0 l u.1))) (λ d. and_then (S d) (λ o. and_then (I o) q))
+      (apart lay P (and_then V (λ p. and_then (R p.0 l p.1) (λ w. and_then (G w.0 l w.1) (λ u. F u.0 l u.1))))
+      (and_then (told (expression e x) l C) S) I q
+      (apart lay P (and_then V (λ p. and_then (R p.0 l p.1) (λ w. and_then (G w.0 l w.1) (λ u. F u.0 l u.1)))) (told (expression e x) l C) S
+      (λ d. and_then (I d) q)
+      (comes_then (put_down C) (Leaves z.used) lay P V (told (expression e x) l C)
+      (λ p. and_then (R p.0 l p.1) (λ w. and_then (G w.0 l w.1) (λ u. F u.0 l u.1))) (λ d. and_then (S d) (λ o. and_then (I o) q))
       (value_comes e calls 64 x l C (room_beside 64 c z room64 k) h.0)
-      (λ v y j. value_printed (kind_in x) (rank_in x) v xs ps F q l z y j k r goes (λ is qs u b m g. items_come xs qs (λ js. F (is ++ js)) q l u h.1 b m g))))))
+      (λ v y j. value_printed (kind_in x) (rank_in x) v xs ps F q l z y j k r goes
+      (λ is qs u b m g. items_come xs qs (λ js. F (is ++ js)) q l u h.1 b m g))))))
 
 -- the text is said, and nothing is left of it
 abbrev format_of : Environment → s.Format → Option (List ℕ)
@@ -215,28 +262,40 @@ abbrev saying : Found (List ℕ) → Does (Unit {0})
 saying t = of_found t ▹ (λ text. asking (asked.Print text) ▹ (λ r. giving tt))
 
 say_comes : (t : Found (List ℕ)) (A : Act) (l : ℕ) (y : State) (c d : Core) (n : ℕ) → state_of d ≡ y → Kept n y
-    → Comes (put_nothing c) (Keeps n) (saying t l (state_of d)) (and_then (of_effect l d (settled A (found_in t (λ text. asking_act (asked.Print text) (λ r. with_state (state_of d) c))))) (told end_parts l))
+    → Comes (put_nothing c) (Keeps n) (saying t l (state_of d))
+    (and_then (of_effect l d (settled A (found_in t (λ text. asking_act (asked.Print text) (λ r. with_state (state_of d) c)))))
+    (told end_parts l))
 say_comes (found text) A l y c d n e k = ((λ r. done (with_state (state_of d) c)), refl, λ r. (refl, subst (λ z. Kept n z) (sym e) k))
 say_comes (at_fault j) A l y c d n e k = refl
 
 module _ (limit : ℕ) (e : Environment) (calls : ℕ → List Passed → Does Value) where
-  text_said : (f : s.Format) (qs : List Portion) (is : List Item) (l : ℕ) (y : State) (c : Core) (n : ℕ) → spread (reverse qs) ≡ is → Kept n y
-      → Comes (put_nothing c) (Keeps n) ((text_of limit e calls f is ▹ (λ text. asking (asked.Print text) ▹ (λ r. giving tt))) l y) (told (doing (ask a.say ∷ [])) l (text_over c (format_of e f) qs y))
+  text_said : (f : s.Format) (qs : List Portion) (is : List Item) (l : ℕ) (y : State) (c : Core) (n : ℕ) → spread (reverse qs) ≡ is
+      → Kept n y
+      → Comes (put_nothing c) (Keeps n) ((text_of limit e calls f is ▹ (λ text. asking (asked.Print text) ▹ (λ r. giving tt))) l y)
+      (told (doing (ask a.say ∷ [])) l (text_over c (format_of e f) qs y))
   text_said s.free qs is l y c n h k =
-      subst (λ js. Comes (put_nothing c) (Keeps n) (saying (found (listed js)) l y) (told (doing (ask a.say ∷ [])) l (text_over c None qs y))) h
+      subst (λ js. Comes (put_nothing c) (Keeps n) (saying (found (listed js)) l y)
+      (told (doing (ask a.say ∷ [])) l (text_over c None qs y))) h
       (say_comes (found (listed (spread (reverse qs)))) (ask a.say) l y c (text_over c None qs y) n refl k)
   text_said (s.written i ds) qs is l y c n h k =
-      subst (λ js. Comes (put_nothing c) (Keeps n) (saying (formatted (literal_text e i) js) l y) (told (doing (ask a.say ∷ [])) l (text_over c (Some (literal_text e i)) qs y))) h
-      (say_comes (formatted (literal_text e i) (spread (reverse qs))) (ask a.say) l y c (text_over c (Some (literal_text e i)) qs y) n refl k)
+      subst (λ js. Comes (put_nothing c) (Keeps n) (saying (formatted (literal_text e i) js) l y)
+      (told (doing (ask a.say ∷ [])) l (text_over c (Some (literal_text e i)) qs y))) h
+      (say_comes (formatted (literal_text e i) (spread (reverse qs))) (ask a.say) l y c (text_over c (Some (literal_text e i)) qs y) n refl
+      k)
 
   output_comes : (f : s.Format) (xs : List s.Item) (l : ℕ) (c : Core) → HasRoom 64 c → AreItems xs → HasLines c xs
-      → Comes (put_nothing c) (Keeps c.used) (output limit e calls f xs l (state_of c)) (and_then (told (acts.items e xs) l (text_over c (format_of e f) [] (state_of c))) (told (doing (ask a.say ∷ [])) l))
+      → Comes (put_nothing c) (Keeps c.used) (output limit e calls f xs l (state_of c))
+      (and_then (told (acts.items e xs) l (text_over c (format_of e f) [] (state_of c))) (told (doing (ask a.say ∷ [])) l))
   output_comes f xs l c r h w =
-      items_come limit e calls (put_nothing c) (Keeps c.used) c (format_of e f) r xs [] (λ is. text_of limit e calls f is ▹ (λ text. asking (asked.Print text) ▹ (λ r. giving tt))) (told (doing (ask a.say ∷ [])) l) l (state_of c) h
+      items_come limit e calls (put_nothing c) (Keeps c.used) c (format_of e f) r xs []
+      (λ is. text_of limit e calls f is ▹ (λ text. asking (asked.Print text) ▹ (λ r. giving tt))) (told (doing (ask a.say ∷ [])) l) l
+      (state_of c) h
       (le_refl c.used, r.0) (omega (arith, w)) (λ qs is y g k. text_said f qs is l y c c.used g k)
 
 pub print_law : PrintLaw
 print_law limit e calls s.free xs l c r h w =
-    comes_agrees (put_nothing c) (Keeps c.used) (output limit e calls s.free xs l (state_of c)) (told (acts.output e s.free xs) l c) (output_comes limit e calls s.free xs l c r h w)
+    comes_agrees (put_nothing c) (Keeps c.used) (output limit e calls s.free xs l (state_of c)) (told (acts.output e s.free xs) l c)
+    (output_comes limit e calls s.free xs l c r h w)
 print_law limit e calls (s.written n ds) xs l c r h w =
-    comes_agrees (put_nothing c) (Keeps c.used) (output limit e calls (s.written n ds) xs l (state_of c)) (told (acts.output e (s.written n ds) xs) l c) (output_comes limit e calls (s.written n ds) xs l c r h w)
+    comes_agrees (put_nothing c) (Keeps c.used) (output limit e calls (s.written n ds) xs l (state_of c))
+    (told (acts.output e (s.written n ds) xs) l c) (output_comes limit e calls (s.written n ds) xs l c r h w)
