@@ -5,10 +5,9 @@ use Rattle.caf_base.specs.declared.value.Kind.{Kind}
 use Rattle.caf_base.specs.declared.value.Kind.TheVariants as kinds
 use Rattle.caf_base.specs.Arithmetic.{is_true}
 use Rattle.caf_events.specs.declared.ask.Ask.TheVariants as asked
-use Rattle.walk_theory.specs.Syntax.{Parts, end_parts}
+use Rattle.walk_theory.specs.Syntax.{end_parts}
 use Rattle.walk_theory.specs.Terms.{Found, found, at_fault}
 use Rattle.walk_theory.specs.Language.{goes_to, faults as faulting, asking as asking_act}
-use Rattle.checked_tree.specs.Expressions as t
 use Rattle.checked_tree.specs.Statements as s
 use Rattle.image_acts.specs.Statuses.{most_cells, most_portions}
 use Rattle.image_acts.specs.Faults.{room}
@@ -20,17 +19,17 @@ use Rattle.image_acts.specs.Core as cores
 use Rattle.image_acts.specs.Taking.{found_in}
 use Rattle.image_acts.specs.Operate.Printing.{spread, with_values_behind, with_literal_behind, open_portions}
 use Rattle.image_acts.specs.Operate.Printing as acted
-use Rattle.image_acts.specs.Meaning.{operate, settled, effect_of}
+use Rattle.image_acts.specs.Meaning.{settled}
 use Rattle.image_acts.proofs.Portions.{literal_printed, values_printed}
 use Rattle.tree_meaning.specs.Environment.{Environment, literal_text}
-use Rattle.tree_meaning.specs.Sequences.{◌▸◌, doing}
+use Rattle.tree_meaning.specs.Sequences.{doing}
 use Rattle.tree_meaning.specs.Expressions.{expression}
 use Rattle.tree_meaning.specs.Assignments as acts
 use Rattle.tree_meaning.specs.Assignments.{kind_in, rank_in}
 use Rattle.direct_meaning.specs.States.{State, state_of, with_state}
 use Rattle.direct_meaning.specs.Outcomes.{Outcome, done, and_then, Does, giving, ◌▹◌, asking, of_found}
 use Rattle.direct_meaning.specs.Told.{of_effect, told}
-use Rattle.direct_meaning.specs.Values.{Value, number, array, using}
+use Rattle.direct_meaning.specs.Values.{Value, number, array}
 use Rattle.direct_meaning.specs.Expressions.{Passed, value}
 use Rattle.direct_meaning.specs.Statements.{item_of, items_of, items, text_of, output, of_rank, ranked}
 use Rattle.direct_agreement.specs.Agreeing.{put_down, HasRoom}
