@@ -216,6 +216,7 @@ written_takes orders.Same p q h = neither (takes p) (takes q) h
 written_takes orders.Reversed p q h = let k = neither (takes q) (takes (p ▸ bringing 1 1)) h in
     ((neither (takes p) (takes (bringing 1 1)) k.1).0, k.0)
 
-pub beside_takes : (o : WrittenOrder) (p q : Parts Act) → takes (parts.beside_as_written o p q) ≡ false → (takes p ≡ false) × (takes q ≡ false)
+pub beside_takes : (o : WrittenOrder) (p q : Parts Act) → takes (parts.beside_as_written o p q) ≡ false
+    → (takes p ≡ false) × (takes q ≡ false)
 beside_takes orders.Same p q h = neither (takes p) (takes q) h
 beside_takes orders.Reversed p q h = let k = neither (takes q) (takes p) h in (k.1, k.0)

@@ -1,4 +1,4 @@
--- Assignments and PRINT as statements: behind them their evaluation cells are free again.
+-- Statements: behind assignments and PRINT their evaluation cells are free again, and STOP, ERROR STOP and FAIL IMAGE end the image.
 use Rattle.std.proofs.Common.{◌≡◌, refl, ap, sym, ◌∙◌, ℕ, zero, suc, ◌+◌, ◌==◌, ◌||◌, ℤ, Bool, true, false, true≢false, cond, List, [], ◌∷◌, ◌++◌, map, replicate, Option, None, Some, pos}
 use Rattle.std.specs.List.{list_all}
 use Rattle.caf_base.specs.declared.value.Kind.{Kind}
@@ -21,10 +21,11 @@ use Rattle.image_acts.specs.Operate.Asking.{span_of}
 use Rattle.image_acts.specs.Operate.Bounds.{same_extents}
 use Rattle.image_acts.specs.Places.{Place, Subscript, extents_of, cells_of, place_size}
 use Rattle.tree_meaning.specs.Environment.{Environment, scope_of, kind_of, literal_text}
-use Rattle.tree_meaning.specs.Sequences.{◌▸◌, doing, takes, dropping}
+use Rattle.tree_meaning.specs.Sequences.{◌▸◌, doing, takes, dropping, pushing, released}
 use Rattle.tree_meaning.specs.Expressions as parts
 use Rattle.tree_meaning.specs.Expressions.{expression, is_scalar, has_selector, form_of, stat_of, optional_size, storing_status, needing_own}
 use Rattle.tree_meaning.specs.Assignments as acts
+use Rattle.tree_meaning.specs.ImageControl as control
 use Rattle.tree_meaning.specs.Assignments.{narrows, kind_in, rank_in, fitting, fitting_section, agreeing, putting, lifting, writing, left_over}
 use Rattle.direct_meaning.specs.States.{State, state_of, with_state, array_in}
 use Rattle.direct_meaning.specs.Outcomes.{Outcome, done, faults, asks, over, unsaid, and_then, Does, giving, ◌▹◌, asking, unless}
@@ -32,14 +33,16 @@ use Rattle.direct_meaning.specs.Told.{told}
 use Rattle.direct_meaning.specs.Values.{Value, number, array, as_number, set_scalar, set_elements, part_of, coarray_part, need_own}
 use Rattle.direct_meaning.specs.Images.{this_image, image}
 use Rattle.direct_meaning.specs.Expressions.{Passed, Target, nowhere, set_target, value, all_of, subscripts, scalars, selected, selected_team, optional_target}
-use Rattle.direct_meaning.specs.Statements.{of_rank, ranked, converted, elements_of, spread, place_of_array, place_there, defined, written, write_part, item_of, items_of, items, text_of, output, assigned, assignment, Control, onward}
-use Rattle.direct_agreement.specs.Agreeing.{Agrees}
-use Rattle.direct_laws.specs.Laws.{IsCovered}
+use Rattle.direct_meaning.specs.Statements.{of_rank, ranked, converted, elements_of, spread, place_of_array, place_there, defined, written, write_part, item_of, items_of, items, text_of, output, assigned, assignment, Control, onward, form, ending, or_number}
+use Rattle.direct_agreement.specs.Agreeing.{Agrees, HasSpare, HasRoom}
+use Rattle.direct_agreement.proofs.Agreement.{Comes, comes_agrees, comes_number, said_apart}
+use Rattle.direct_laws.proofs.Values.{value_comes}
+use Rattle.direct_laws.specs.Laws.{OptionWithin, IsCovered}
 use Rattle.direct_statements.specs.Laws.{put_nothing, IsAssigned}
 use Rattle.direct_statements.proofs.Assignments.{assignment_law}
-use Rattle.direct_output.specs.Laws.{AreItems}
+use Rattle.direct_output.specs.Laws.{AreItems, HasLines}
 use Rattle.direct_output.proofs.Printing.{print_law}
-use Rattle.direct_released.specs.Laws.{put_control, AssignmentStatementLaw, PrintStatementLaw}
+use Rattle.direct_released.specs.Laws.{put_control, IsFree, StatementLaw}
 use Rattle.direct_released.proofs.Quiet.{Leaves, leaves_then, said_leaves, IsQuiet, q_then, q_giving, q_cond, q_unless, q_found, q_asking, q_number, scalar_same, neither}
 use Rattle.direct_released.proofs.QuietSteps.{q_part_of, q_coarray_part, q_need_own, q_this_image, q_set_elements, q_set_target, first_of, last_of}
 use Rattle.direct_released.proofs.QuietTrees.{all_quiet, selected_quiet, selector_of, quiet_value, quiet_subscripts, quiet_scalars, quiet_selected, quiet_target}
@@ -234,14 +237,64 @@ freed_by : (l n : ℕ) (c : Core) (p : Parts Act) (t : Bool) (m : Outcome (Unit 
 freed_by l n c p true m e b h k = free_by_act l n c m (told p l c) h
 freed_by l n c p false m e b h k = free_already n c m (told p l c) b h (k refl)
 
-pub assignment_statement : AssignmentStatementLaw
+assignment_statement : (limit : ℕ) (e : Environment) (calls : ℕ → List Passed → Does Value) (d : t.Designator) (type : DataType) (rank : ℕ)
+    (x : t.Expression) (l n : ℕ) (c : Core) → HasSpare c → IsFree c → IsCovered x → IsAssigned d rank
+    → Agrees (put_control c) (form limit e calls l (s.assign d type rank x) n l (state_of c))
+    (told (released (acts.assignment e d type rank x)) l c)
 assignment_statement limit e calls d type rank x l n c r b h w =
     let P : Parts Act = acts.assignment e d type rank x in
     freed_by l n c P (takes P) (assignment limit e calls d type rank x l (state_of c)) refl b
-    (assignment_law limit e calls d type rank x l c r h w) (λ q. quiet_assignment limit e calls d type rank x h w q l (state_of c))
+    (assignment_law limit e calls d type rank x l c r h w)
+    (λ q. quiet_assignment limit e calls d type rank x h w q l (state_of c))
 
-pub print_statement : PrintStatementLaw
+print_statement : (limit : ℕ) (e : Environment) (calls : ℕ → List Passed → Does Value) (f : s.Format) (xs : List s.Item) (l n : ℕ)
+    (c : Core)
+    → HasSpare c → IsFree c → AreItems xs → HasLines c xs
+    → Agrees (put_control c) (form limit e calls l (s.print f xs) n l (state_of c)) (told (released (acts.output e f xs)) l c)
 print_statement limit e calls f xs l n c r b h w =
     let P : Parts Act = acts.output e f xs in
     freed_by l n c P (takes P) (output limit e calls f xs l (state_of c)) refl b (print_law limit e calls f xs l c r h w)
     (λ q. quiet_output limit e calls f xs h q l (state_of c))
+
+-- the last ask of an image
+abbrev AnyControl : Control × ℕ → State → Type 0
+AnyControl q z = Unit {0}
+
+abbrev ended : Core → Outcome ((Control × ℕ) × State) → Outcome Core → Type 0
+ended c m o = Comes (put_control c) AnyControl m o
+
+module _ (limit : ℕ) (e : Environment) (calls : ℕ → List Passed → Does Value) where
+  code_stops : (x : t.OptionalExpression) (l : ℕ) (c : Core) → HasRoom 64 c → OptionWithin 64 x
+      → ended c ((or_number limit e calls x (pos 0) ▹ (λ v. ending (asked.Stop v))) l (state_of c))
+      (told (control.or_number e x (pushing (pos 0)) ▸ doing (ask a.stop ∷ [])) l c)
+  code_stops t.missing l c r h = ((λ q. over (state_of c)), refl, λ q. refl)
+  code_stops (t.given x) l c r h =
+      said_apart (put_control c) AnyControl (value e calls x l (state_of c)) (λ p. as_number p.0 l p.1) (λ p. ending (asked.Stop p.0) l p.1)
+      (told (expression e x ▸ doing (ask a.stop ∷ [])) l c)
+      (comes_number (put_control c) AnyControl c.used (value e calls x) (λ v. ending (asked.Stop v)) l (state_of c) c
+      (told (expression e x) l c) (told (doing (ask a.stop ∷ [])) l) (value_comes e calls 64 x l c r h)
+      (λ v z k. ((λ q. over z), refl, λ q. refl)))
+
+  code_stops_with_error : (x : t.OptionalExpression) (l : ℕ) (c : Core) → HasRoom 64 c → OptionWithin 64 x
+      → ended c ((or_number limit e calls x (pos 0) ▹ (λ v. ending (asked.ErrorStop v))) l (state_of c))
+      (told (control.or_number e x (pushing (pos 0)) ▸ doing (ask a.error_stop ∷ [])) l c)
+  code_stops_with_error t.missing l c r h = ((λ q. over (state_of c)), refl, λ q. refl)
+  code_stops_with_error (t.given x) l c r h =
+      said_apart (put_control c) AnyControl (value e calls x l (state_of c)) (λ p. as_number p.0 l p.1)
+      (λ p. ending (asked.ErrorStop p.0) l p.1) (told (expression e x ▸ doing (ask a.error_stop ∷ [])) l c)
+      (comes_number (put_control c) AnyControl c.used (value e calls x) (λ v. ending (asked.ErrorStop v)) l (state_of c) c
+      (told (expression e x) l c) (told (doing (ask a.error_stop ∷ [])) l) (value_comes e calls 64 x l c r h)
+      (λ v z k. ((λ q. over z), refl, λ q. refl)))
+
+pub statement_law : StatementLaw
+statement_law limit e calls (s.assign d type rank x) l n c r b h = assignment_statement limit e calls d type rank x l n c r b h.0 h.1
+statement_law limit e calls (s.print f xs) l n c r b h = print_statement limit e calls f xs l n c r b h.0 h.1
+statement_law limit e calls (s.stop code) l n c r b h =
+    comes_agrees (put_control c) AnyControl (form limit e calls l (s.stop code) n l (state_of c))
+    (told (control.or_number e code (pushing (pos 0)) ▸ doing (ask a.stop ∷ [])) l c) (code_stops limit e calls code l c r h)
+statement_law limit e calls (s.error_stop code) l n c r b h =
+    comes_agrees (put_control c) AnyControl (form limit e calls l (s.error_stop code) n l (state_of c))
+    (told (control.or_number e code (pushing (pos 0)) ▸ doing (ask a.error_stop ∷ [])) l c)
+    (code_stops_with_error limit e calls code l c r h)
+statement_law limit e calls s.fail_image l n c r b h = ((λ q. over (state_of c)), refl, λ q. refl)
+statement_law limit e calls f l n c r b h = elim h [ ]

@@ -1,12 +1,11 @@
 -- What is claimed of whole statements.
 use Rattle.std.specs.Prelude.{ℕ, ◌≡◌, List}
-use Rattle.checked_tree.specs.declared.data.DataType.{DataType}
-use Rattle.checked_tree.specs.Expressions as t
+use Rattle.walk_theory.specs.Syntax.{Parts, end_parts, Form, simple}
 use Rattle.checked_tree.specs.Statements as s
+use Rattle.image_acts.specs.Acts.{Act}
 use Rattle.image_acts.specs.Core.{Core}
 use Rattle.tree_meaning.specs.Environment.{Environment}
-use Rattle.tree_meaning.specs.Sequences.{released}
-use Rattle.tree_meaning.specs.Assignments as acts
+use Rattle.tree_meaning.specs.Forms as walk
 use Rattle.direct_meaning.specs.States.{State, state_of, with_state}
 use Rattle.direct_meaning.specs.Outcomes.{Does}
 use Rattle.direct_meaning.specs.Told.{told}
@@ -14,7 +13,7 @@ use Rattle.direct_meaning.specs.Values.{Value}
 use Rattle.direct_meaning.specs.Expressions.{Passed}
 use Rattle.direct_meaning.specs.Statements.{Control, form}
 use Rattle.direct_agreement.specs.Agreeing.{Agrees, HasSpare}
-use Rattle.direct_laws.specs.Laws.{IsCovered}
+use Rattle.direct_laws.specs.Laws.{IsCovered, OptionWithin}
 use Rattle.direct_statements.specs.Laws.{IsAssigned}
 use Rattle.direct_output.specs.Laws.{AreItems, HasLines}
 
@@ -26,17 +25,22 @@ put_control c q z = with_state z c
 abbrev pub IsFree : Core → Type 0
 IsFree c = c.used ≡ c.frame.base
 
--- the parts of an assignment do what the statement does, and free its evaluation cells
-abbrev pub AssignmentStatementLaw : Type 0
-AssignmentStatementLaw = (limit : ℕ) (e : Environment) (calls : ℕ → List Passed → Does Value) (d : t.Designator) (type : DataType)
-    (rank : ℕ) (x : t.Expression) (l n : ℕ) (c : Core)
-    → HasSpare c → IsFree c → IsCovered x → IsAssigned d rank
-    → Agrees (put_control c) (form limit e calls l (s.assign d type rank x) n l (state_of c))
-    (told (released (acts.assignment e d type rank x)) l c)
+-- the parts of a statement that is simple
+abbrev pub parts_in : Form Act → Parts Act
+parts_in (simple p) = p
+parts_in f = end_parts
 
--- so do those of a PRINT
-abbrev pub PrintStatementLaw : Type 0
-PrintStatementLaw = (limit : ℕ) (e : Environment) (calls : ℕ → List Passed → Does Value) (f : s.Format) (xs : List s.Item) (l n : ℕ)
-    (c : Core)
-    → HasSpare c → IsFree c → AreItems xs → HasLines c xs
-    → Agrees (put_control c) (form limit e calls l (s.print f xs) n l (state_of c)) (told (released (acts.output e f xs)) l c)
+-- the statements for which the law is proved: assignments, PRINT, STOP, ERROR STOP and FAIL IMAGE
+abbrev pub IsSimple : s.StatementForm → Core → Type 0
+IsSimple (s.assign d type rank x) c = IsCovered x × IsAssigned d rank
+IsSimple (s.print f xs) c = AreItems xs × HasLines c xs
+IsSimple (s.stop code) c = OptionWithin 64 code
+IsSimple (s.error_stop code) c = OptionWithin 64 code
+IsSimple s.fail_image c = Unit {0}
+IsSimple f c = ⊥
+
+-- the parts of a statement in the walk do what the statement does, and leave no evaluation cell in use
+abbrev pub StatementLaw : Type 0
+StatementLaw = (limit : ℕ) (e : Environment) (calls : ℕ → List Passed → Does Value) (f : s.StatementForm) (l n : ℕ) (c : Core)
+    → HasSpare c → IsFree c → IsSimple f c → Agrees (put_control c) (form limit e calls l f n l (state_of c))
+    (told (parts_in (walk.form e l f)) l c)

@@ -1,14 +1,10 @@
 //! The parts of statements against what the statements do.
 
-ghost use Rattle.direct_released.specs.Laws.{AssignmentStatementLaw, PrintStatementLaw};
+ghost use Rattle.direct_released.specs.Laws.{StatementLaw};
 
-/// The parts of an assignment do what its statement does, from each core with room for array values in which no
-/// evaluation cell is in use but those of the callers, and leave it so.
-pub fn law_assignment_statement()
-    ensures { AssignmentStatementLaw }
-{}
-
-/// So do the parts of a PRINT.
-pub fn law_print_statement()
-    ensures { PrintStatementLaw }
+/// The parts of an assignment, a PRINT, a STOP, an ERROR STOP or a FAIL IMAGE in the walk do what the statement does, at
+/// every line, for each reply and from each core with room for array values in which no evaluation cell is in use but
+/// those of the callers, and leave it so. Nothing is claimed of a tree that broke a rule (`unsaid`).
+pub fn law_statement_does_what_it_means()
+    ensures { StatementLaw }
 {}
