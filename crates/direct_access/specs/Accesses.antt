@@ -18,8 +18,8 @@ use Rattle.direct_agreement.specs.Agreeing.{Agrees, put_down, HasRoom}
 abbrev pub owner_over : Core → Place → ℕ → State → Core
 owner_over c p i z = pushed (pos i) (with_values (with_state z c) (put_numbers (place_numbers p) c.values))
 
--- The acts of a reference make one access to the part, or none where it has no cell, and come to its value, or to the fault that
--- the reply tells.
+-- The acts of a reference make one access to the part, or none where it has no cell, and come to its value, or to the
+-- fault that the reply tells.
 abbrev pub AccessLaw : Type 0
 AccessLaw = (k rank i : ℕ) (p : Place) (l : ℕ) (z : State) (c : Core) → HasRoom 0 c → c.used ≤ z.used → z.used ≤ most_cells
     → length p.dims ≡ rank → rank ≤ 3

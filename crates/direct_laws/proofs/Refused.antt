@@ -1,5 +1,5 @@
--- Wrong acts, one of each family, to which an expression's meaning doesn't agree: operators exchanged, operands from the wrong place,
--- faults that aren't told, effects before their fault. They are worked out on one core.
+-- Wrong acts, one of each family, to which an expression's meaning doesn't agree: operators exchanged, operands from
+-- the wrong place, faults that aren't told, effects before their fault. They are worked out on one core.
 use Rattle.std.proofs.Common.{◌≡◌, ap, sym, refl, ◌∙◌, ℕ, ◌==◌, ℤ, pos, negsuc, Bool, true, false, ◌&&◌, true≢false, List, [], ◌∷◌, None, Some}
 use Rattle.std.specs.Ordering.{int_eq}
 use Rattle.caf_events.specs.declared.ask.Ask.TheVariants as asked

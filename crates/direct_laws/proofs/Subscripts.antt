@@ -1,4 +1,5 @@
--- What stands around expressions in a designator: its subscripts, its image selector, the variable of STAT=, and its bounds.
+-- What stands around expressions in a designator: its subscripts, its image selector, the variable of STAT=, and its
+-- bounds.
 use Rattle.std.proofs.Common.{arith, ◌≡◌, refl, ap, sym, subst, ◌∙◌, ℕ, suc, ◌+◌, ◌*◌, ◌≤◌, ℤ, pos, Bool, true, false, cond, nat_le, List, [], ◌∷◌, ◌++◌, length, Option, le_refl, leb-true}
 use Rattle.std.proofs.lemmas.List.{length-map}
 use Rattle.caf_base.specs.declared.value.Kind.{Kind}

@@ -12,8 +12,8 @@ use Rattle.direct_meaning.specs.Values.{Value}
 use Rattle.direct_meaning.specs.Expressions.{Passed, value}
 use Rattle.direct_agreement.specs.Agreeing.{Agrees, put_down, HasSpare}
 
--- A designator has at most three subscripts, and as many triplets among them as its rank; one without subscripts has at most three
--- dimensions.
+-- A designator has at most three subscripts, and as many triplets among them as its rank; one without subscripts has at
+-- most three dimensions.
 abbrev pub dimensions_in : t.Subscripts → ℕ
 dimensions_in t.no_subscripts = 0
 dimensions_in (t.more_subscripts s ss) = suc (dimensions_in ss)

@@ -26,8 +26,8 @@ literals_in [] = 0
 literals_in (s.literal n ∷ xs) = suc (literals_in xs)
 literals_in (s.value x ∷ xs) = literals_in xs
 
--- The walk bounds the portions of texts that are begun: there is room for one of each literal, beside those of values, which have
--- their evaluation cells.
+-- The walk bounds the portions of texts that are begun: there is room for one of each literal, beside those of values,
+-- which have their evaluation cells.
 abbrev pub HasLines : Core → List s.Item → Type 0
 HasLines c xs = open_portions c.printing + literals_in xs ≤ c.used + 65793
 

@@ -1,4 +1,5 @@
--- Statements: behind assignments and PRINT their evaluation cells are free again, and STOP, ERROR STOP and FAIL IMAGE end the image.
+-- Statements: behind assignments and PRINT their evaluation cells are free again, and STOP, ERROR STOP and FAIL IMAGE
+-- end the image.
 use Rattle.std.proofs.Common.{◌≡◌, refl, ap, sym, ◌∙◌, ℕ, zero, suc, ◌+◌, ◌==◌, ◌||◌, ℤ, Bool, true, false, true≢false, cond, List, [], ◌∷◌, ◌++◌, map, replicate, Option, None, Some, pos}
 use Rattle.std.specs.List.{list_all}
 use Rattle.caf_base.specs.declared.value.Kind.{Kind}

@@ -1,5 +1,5 @@
--- Wrong acts to which the meaning of an assignment doesn't agree: an effect before its fault, faults in the other order, a fault that
--- isn't told, an operand from the wrong place, the wrong image. They are worked out on one core.
+-- Wrong acts to which the meaning of an assignment doesn't agree: an effect before its fault, faults in the other
+-- order, a fault that isn't told, an operand from the wrong place, the wrong image. They are worked out on one core.
 use Rattle.std.proofs.Common.{refl, ℕ, ◌==◌, pos, Bool, false, List, [], ◌∷◌}
 use Rattle.caf_base.specs.declared.value.Kind.TheVariants as kinds
 use Rattle.caf_events.specs.declared.ask.Ask.TheVariants as asked

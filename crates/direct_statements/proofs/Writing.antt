@@ -67,7 +67,8 @@ element_set s x i v us m l z c n k e =
     (and_then (of_effect l D (settled X u)) (told end_parts l))) (sym (put_acts s x 0 (point i) v (i ∷ us) (with_state z c) refl))
     (elements_put s x (point i) (v ∷ []) X l E D n k)) (λ u y j. e y)
 
--- what stands beneath a scalar that is written: where the variable of STAT= is an element, its place and the scalar once more
+-- what stands beneath a scalar that is written: where the variable of STAT= is an element, its place and the scalar
+-- once more
 abbrev pub beneath : Core → Target → ℤ → Core
 beneath c g v = elim (target_numbers g) [ [] ↦ c | i ∷ is ↦ with_values c (i ∷ v ∷ c.values) ]
 
