@@ -1,6 +1,6 @@
 -- Wrong acts, one of each family, to which an expression's meaning doesn't agree: operators exchanged, operands from
 -- the wrong place, faults that aren't told, effects before their fault. They are worked out on one core.
-use Rattle.std.proofs.Common.{◌≡◌, ap, sym, refl, ◌∙◌, ℕ, ◌==◌, ℤ, pos, negsuc, Bool, true, false, ◌&&◌, true≢false, List, [], ◌∷◌, None, Some}
+use Rattle.std.proofs.Common.{arith, ◌≡◌, ap, sym, refl, ◌∙◌, ℕ, ◌==◌, ℤ, pos, negsuc, Bool, true, false, ◌&&◌, true≢false, List, [], ◌∷◌, None, Some}
 use Rattle.std.specs.Ordering.{int_eq}
 use Rattle.caf_events.specs.declared.ask.Ask.TheVariants as asked
 use Rattle.caf_events.specs.declared.reply.Reply.{Reply}
@@ -20,7 +20,7 @@ use Rattle.direct_meaning.specs.Outcomes.{Outcome, done, faults, asks, unsaid, D
 use Rattle.direct_meaning.specs.Told.{told}
 use Rattle.direct_meaning.specs.Values.{Value}
 use Rattle.direct_meaning.specs.Expressions.{Passed, value}
-use Rattle.direct_agreement.specs.Agreeing.{Agrees, put_down}
+use Rattle.direct_agreement.specs.Agreeing.{Agrees, put_down, HasSpare}
 
 -- integer :: s = 7, a(4) = [10, 20, 30, 40], x(4)[*]; integer, allocatable :: b(:); on image 3 of 4
 abbrev pub core : Core
@@ -48,6 +48,10 @@ core = record {
   me = 3;
   images = 4;
 }
+
+-- the law speaks of this core
+has_spare : HasSpare core
+has_spare = (omega arith, omega arith)
 
 -- these acts don't agree with the expression
 abbrev Refuses : t.Expression → List Act → Type 0
