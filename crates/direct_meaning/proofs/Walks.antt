@@ -11,8 +11,9 @@ use Rattle.image_acts.specs.Acts.{Act}
 use Rattle.image_acts.specs.Core.{Core}
 use Rattle.image_acts.specs.Taking.{Acted, tested}
 use Rattle.image_acts.specs.Meaning.{effect_of, image_language}
+use Rattle.tree_meaning.specs.Expressions.{expression}
 use Rattle.direct_meaning.specs.Outcomes.{Outcome, done, faults as faulty, asks as asked, over, unsaid, and_then}
-use Rattle.direct_meaning.specs.Agreeing.{of_effect, of_test, told, Says}
+use Rattle.direct_meaning.specs.Told.{of_effect, of_test, told, Says, WalkLaw}
 
 module _ (procedures : ℕ → Steps Act) (limit : ℕ) where
   abbrev W : Config Act Core → Move (Config Act Core) Ask Reply
@@ -66,3 +67,6 @@ module _ (procedures : ℕ → Steps Act) (limit : ℕ) where
   says (enter k q) l ts n c = tt
   says (either p q r) l ts n c = after (of_test (tested c) (told p l) (told q l)) (told r l) n ts (eval l r ∷ ts) (to (eval l (either p q r) ∷ ts) c n)
       (test_says p q r l n ts c (told p l) (told q l) (tested c) refl (λ d us. says p l us n d) (λ d us. says q l us n d)) (λ d. says r l ts n d)
+
+pub walk_law : WalkLaw
+walk_law procedures limit e x l ts n c = says procedures limit (expression e x) l ts n c

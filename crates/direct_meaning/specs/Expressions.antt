@@ -25,7 +25,7 @@ use Rattle.tree_meaning.specs.Environment.{Environment, scope_of, kind_of, const
 use Rattle.tree_meaning.specs.Values.{arithmetic_value, relation_value, logic_value}
 use Rattle.direct_meaning.specs.States.{array_in, own_in}
 use Rattle.direct_meaning.specs.Outcomes.{Does, giving, fault, nothing_said, ◌▹◌, asking, unless}
-use Rattle.direct_meaning.specs.Values.{Value, number, array, as_number, as_array, ◌▹ℤ◌, ◌▹A◌, using, value_of_rank, scalar, set_scalar, allocated, part_of, local_part, set_elements, coarray_part, owned, need_own, read_part, from_one, default_kind, dimension, lower_bound, upper_bound}
+use Rattle.direct_meaning.specs.Values.{Value, number, array, as_number, as_array, ◌▹ℤ◌, ◌▹A◌, using, value_of_rank, scalar, set_scalar, allocated, part_of, local_part, set_elements, coarray_part, owned, need_own, read_part, from_one, whole_bounds, default_kind, dimension, lower_bound, upper_bound}
 use Rattle.direct_meaning.specs.Images.{current_team, members, own_index, the, own_team, known_team, numbered_team, selected_image, this_image, team_of_level, images_of_number, cosubscript, image, team, indices, status}
 
 -- a variable that is set last: a scalar, or an element of an array by its place
@@ -200,11 +200,11 @@ module _ (e : Environment) (calls : ℕ → List Passed → Does Value) where
     bounds (t.typed f type rank) = form f (kind_of type) rank ▹A (λ a. giving (from_one a.extents))
 
     pub bounds_of_part : t.Designator → ℕ → Does (List (ℤ × ℤ))
-    bounds_of_part (t.part (objects.Local v) t.no_subscripts sel) rank = allocated (scope_of v.home) v.variable ▹ (λ a. giving a.bounds)
+    bounds_of_part (t.part (objects.Local v) t.no_subscripts sel) rank = allocated (scope_of v.home) v.variable ▹ (λ a. whole_bounds a.bounds)
     bounds_of_part (t.part (objects.Local v) ss sel) rank = all_of ss rank ▹ (λ xs. allocated (scope_of v.home) v.variable ▹ (λ a. part_of a.bounds xs ▹ (λ p. giving (from_one (extents_of p)))))
-    bounds_of_part (t.part (objects.Constant n) t.no_subscripts sel) rank = allocated e.main (constant_place e n) ▹ (λ a. giving a.bounds)
+    bounds_of_part (t.part (objects.Constant n) t.no_subscripts sel) rank = allocated e.main (constant_place e n) ▹ (λ a. whole_bounds a.bounds)
     bounds_of_part (t.part (objects.Constant n) ss sel) rank = all_of ss rank ▹ (λ xs. allocated e.main (constant_place e n) ▹ (λ a. part_of a.bounds xs ▹ (λ p. giving (from_one (extents_of p)))))
-    bounds_of_part (t.part (objects.Coarray c) t.no_subscripts sel) rank = owned c ▹ (λ o. giving o.bounds)
+    bounds_of_part (t.part (objects.Coarray c) t.no_subscripts sel) rank = owned c ▹ (λ o. whole_bounds o.bounds)
     bounds_of_part (t.part (objects.Coarray c) ss t.no_selector) rank = all_of ss rank ▹ (λ xs. coarray_part c rank xs ▹ (λ p. owned c ▹ (λ o. giving (from_one (extents_of p)))))
     bounds_of_part (t.part (objects.Coarray c) ss (t.selector cs which stat)) rank =
         all_of ss rank ▹ (λ xs. coarray_part c rank xs ▹ (λ p. selected (scalars cs) (selected_team which) (optional_target stat) c p (λ i g. giving (from_one (extents_of p)))))

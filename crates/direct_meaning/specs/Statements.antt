@@ -13,6 +13,7 @@ use Rattle.caf_events.specs.declared.round.Arriving.{Arriving}
 use Rattle.caf_events.specs.declared.round.Arriving.TheVariants as arrivals
 use Rattle.trace_theory.specs.Machines as machine
 use Rattle.checked_tree.specs.declared.data.Object.TheVariants as objects
+use Rattle.checked_tree.specs.declared.data.DataType.{DataType}
 use Rattle.checked_tree.specs.declared.data.Local.{Local}
 use Rattle.checked_tree.specs.declared.statement.CaseRange.{CaseRange}
 use Rattle.checked_tree.specs.declared.statement.CaseRange.TheVariants as ranges
@@ -31,7 +32,7 @@ use Rattle.image_acts.specs.Operate.Asking.{span_of, named}
 use Rattle.image_acts.specs.Operate.Bounds.{same_extents}
 use Rattle.tree_meaning.specs.Environment.{Environment, scope_of, kind_of, literal_text}
 use Rattle.tree_meaning.specs.Expressions.{has_selector}
-use Rattle.tree_meaning.specs.Assignments.{kind_in, narrows}
+use Rattle.tree_meaning.specs.Assignments.{kind_in, rank_in, narrows}
 use Rattle.tree_meaning.specs.Settling.{is_accepted}
 use Rattle.direct_meaning.specs.States.{array_in}
 use Rattle.direct_meaning.specs.Outcomes.{Outcome, done, faults, over, unsaid, Does, giving, fault, nothing_said, ◌▹◌, asking, unless, of_found, changing}
@@ -66,6 +67,13 @@ round n kind = asking (asks.Arrive (team n) kind) ▹ (λ r. round_of r ▹ (λ 
 abbrev pub number_in : Reply → Does ℤ
 number_in (replies.Number status) = giving status
 number_in reply = nothing_said
+
+-- a value of its expression's rank (nothing is said of another, which no program has)
+abbrev pub of_rank : ℕ → Value → Does Value
+of_rank zero (number v) = giving (number v)
+of_rank zero (array a) = nothing_said
+of_rank (suc r) (number v) = nothing_said
+of_rank (suc r) (array a) = giving (array a)
 
 -- a value of another kind (10.2.1.3)
 abbrev pub elements_of : Value → List ℤ
@@ -192,7 +200,7 @@ module _ (limit : ℕ) (e : Environment) (calls : ℕ → List Passed → Does V
 
   -- the assignment of a value (10.2.1.3): the place and the image of the left side, the conversion, the definition, STAT=
   abbrev pub assigned : t.Designator → Kind → ℕ → Kind → Value → Does (Unit {0})
-  assigned (t.part (objects.Local v) t.no_subscripts sel) k zero from x = converted from k x ▹ (λ u. as_number x ▹ (λ z. set_scalar (scope_of v.home) v.variable z))
+  assigned (t.part (objects.Local v) t.no_subscripts sel) k zero from x = as_number x ▹ (λ z. converted from k x ▹ (λ u. set_scalar (scope_of v.home) v.variable z))
   assigned (t.part (objects.Local v) ss sel) k rank from x =
       all_of e calls ss rank ▹ (λ xs. place_there (scope_of v.home) v.variable xs ▹ (λ p. converted from k x ▹ (λ u. defined (scope_of v.home) v.variable p x)))
   assigned (t.part (objects.Coarray c) ss sel) k rank from x =
@@ -200,14 +208,25 @@ module _ (limit : ℕ) (e : Environment) (calls : ℕ → List Passed → Does V
       spread p x ▹ (λ vs. write_part c i p k vs ▹ (λ status. set_target g status)))))))
   assigned d k rank from x = nothing_said
 
+  abbrev pub ranked : t.Expression → Does Value
+  ranked x = value e calls x ▹ of_rank (rank_in x)
+
+  -- the right side comes first (10.2.1.3)
+  abbrev pub assignment : t.Designator → DataType → ℕ → t.Expression → Does (Unit {0})
+  assignment d type rank x = ranked x ▹ assigned d (kind_of type) rank (kind_in x)
+
   abbrev pub items : List s.Item → Does (List Item)
   items [] = giving []
   items (s.literal n ∷ xs) = items xs ▹ (λ is. giving (literal (literal_text e n) ∷ is))
-  items (s.value x ∷ xs) = value e calls x ▹ (λ v. items_of (kind_in x) v ▹ (λ i. items xs ▹ (λ is. giving (i ++ is))))
+  items (s.value x ∷ xs) = ranked x ▹ (λ v. items_of (kind_in x) v ▹ (λ i. items xs ▹ (λ is. giving (i ++ is))))
 
   abbrev pub text_of : s.Format → List Item → Does (List ℕ)
   text_of s.free is = giving (listed is)
   text_of (s.written n ds) is = of_found (formatted (literal_text e n) is)
+
+  -- the text of all items (12.6)
+  abbrev pub output : s.Format → List s.Item → Does (Unit {0})
+  output f xs = items xs ▹ (λ is. text_of f is ▹ (λ text. asking (asks.Print text) ▹ (λ r. giving tt)))
 
   -- the indices of SYNC IMAGES (11.6.4)
   abbrev pub image_set : s.ImageSet → Does (List ℤ)
@@ -228,8 +247,8 @@ module _ (limit : ℕ) (e : Environment) (calls : ℕ → List Passed → Does V
 
   abbrev mutual
     pub form : ℕ → s.StatementForm → Executes
-    form l (s.assign d type rank x) n = simply (value e calls x ▹ (λ v. assigned d (kind_of type) rank (kind_in x) v)) n  -- 10.2.1
-    form l (s.print f xs) n = simply (items xs ▹ (λ is. text_of f is ▹ (λ text. asking (asks.Print text) ▹ (λ r. giving tt)))) n  -- 12.6
+    form l (s.assign d type rank x) n = simply (assignment d type rank x) n  -- 10.2.1
+    form l (s.print f xs) n = simply (output f xs) n  -- 12.6
     form l (s.exit k) n = giving (exits k, n)  -- 11.1.12
     form l (s.cycle k) n = giving (cycles k, n)  -- 11.1.7.4.4
     form l s.return n = giving (returns, n)  -- 15.6.2.7

@@ -110,6 +110,10 @@ read_part c o p = cond (cells_of p == 0) (giving ([], pos 0)) (asking (asks.Read
 abbrev pub from_one : List ℕ → List (ℤ × ℤ)
 from_one ns = map (λ n. (pos 1, pos n)) ns
 
+-- (Nothing is said of an array of more than three dimensions, which no program has.)
+abbrev pub whole_bounds : List (ℤ × ℤ) → Does (List (ℤ × ℤ))
+whole_bounds bs = cond (nat_le (length bs) 3) (giving bs) nothing_said
+
 abbrev pub default_kind : ℤ → Does Value
 default_kind v = unless overflow (fits_kind kinds.I4 v) (giving (number v))
 

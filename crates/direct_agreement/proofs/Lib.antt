@@ -1,0 +1,6 @@
+pub mod Sections
+pub mod Agreement
+pub mod Scalars
+pub mod Arrays
+pub mod Inquiries
+pub mod Items

@@ -1,0 +1,4 @@
+pub mod Subscripts
+pub mod Bounds
+pub mod Values
+pub mod Refused

@@ -1,5 +1,0 @@
-use Rattle.direct_meaning.proofs.Values.{expression_law}
-use Rattle.direct_meaning.proofs.laws.law_expression_has_its_value.Goals as goal
-
-pub returns : goal.returns
-returns c = expression_law

@@ -1,0 +1,4 @@
+pub mod Quiet
+pub mod QuietSteps
+pub mod QuietTrees
+pub mod Released
