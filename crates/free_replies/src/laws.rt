@@ -1,0 +1,1 @@
+//! Laws of runs that follow a trace without a race.
