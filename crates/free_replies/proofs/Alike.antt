@@ -1,6 +1,5 @@
 -- Entries of a trace and of a run that follows it: they ask and hear the same, so the run is free where the trace is.
-use Rattle.std.proofs.Common.{◌≡◌, ℕ, true, false, ◌||◌, List, [], ◌∷◌, ◌++◌, inl, inr, refl, ap, sym, ◌∙◌, subst}
-use Rattle.std.specs.List.{list_any}
+use Rattle.std.proofs.Common.{◌≡◌, ℕ, true, false, List, [], ◌∷◌, ◌++◌, inl, refl, ap, subst}
 use Rattle.trace_theory.specs.Entries.{Each}
 use Rattle.trace_theory.specs.Machines.{Said}
 use Rattle.trace_theory.proofs.Filters.{each_filter}
@@ -10,7 +9,7 @@ use Rattle.caf_events.specs.declared.ask.Ask.TheVariants as asks
 use Rattle.caf_events.specs.declared.reply.Reply.{Reply}
 use Rattle.caf_events.specs.declared.event.Entry.{Entry}
 use Rattle.object_rules.specs.Cells.{is_mark, is_marked}
-use Rattle.core_runs.specs.Lists.{said, key_of}
+use Rattle.core_runs.specs.Lists.{said}
 use Rattle.core_runs.specs.Failures.{is_failure_step}
 use Rattle.core_runs.specs.CoreRuns.{of_memory}
 use Rattle.order_theory.specs.Order.{Within}

@@ -1,5 +1,5 @@
 -- An access of an image hears in every run that follows the trace what it hears there.
-use Rattle.std.proofs.Common.{◌≡◌, ℕ, Bool, true, false, ◌&&◌, IsTrue, cond, List, [], ◌∷◌, ◌++◌, length, inl, inr, refl, ap, sym, ◌∙◌, subst}
+use Rattle.std.proofs.Common.{◌≡◌, ℕ, Bool, true, false, ◌&&◌, IsTrue, cond, List, [], ◌∷◌, length, refl, ap, sym, ◌∙◌, subst}
 use Rattle.std.specs.Prelude.{pos, nat_eq, Option, slice_get}
 use Rattle.std.proofs.lemmas.Bool.{and_parts}
 use Rattle.trace_theory.specs.Entries.{Each}
@@ -22,13 +22,13 @@ use Rattle.core_runs.specs.CoreRuns.{of_memory}
 use Rattle.core_runs.specs.Lawful.{IsLawfulTrace, made_memory}
 use Rattle.order_theory.specs.Order.{Within}
 use Rattle.order_theory.specs.Races.{Cell, is_access, meets, Stands}
-use Rattle.order_theory.specs.Facts.{AccessesCell, own_list}
+use Rattle.order_theory.specs.Facts.{AccessesCell}
 use Rattle.order_axioms.specs.Views.{view, edges}
 use Rattle.order_axioms.specs.Touching.{touches, accesses, class_of, class_by, cells_of, cells_by, cells_at, has_reached}
 use Rattle.order_axioms.specs.FirstRaces.{HasNoRace}
 use Rattle.order_axioms.proofs.CellValues.{within_cells}
 use Rattle.order_axioms.proofs.Marked.{served_here}
-use Rattle.order_cuts.specs.Cuts.{Follows, IsNext}
+use Rattle.order_cuts.specs.Cuts.{IsNext}
 use Rattle.order_cuts.proofs.SameValues.{Writing, same_value}
 use Rattle.every_order.specs.Decided.{is_free}
 use Rattle.every_order.specs.Likes.{likes}
@@ -99,11 +99,11 @@ module _ (s : List Declared) (n : ℕ) (t : List Entry) (lawful_t : IsLawfulTrac
         let clean_here = unmarked owner.0 y.before free_before in
         let r = read_same m lawful_t.declared here there i owner span is clean_here (unmarked owner.0 g free_g) (free a place e)
         (λ within o w. span_same span (cells_at owner.0 span.coarray (offsets_of span)) refl
-          (sym (ap (cells_by y.before y.event.event.ask) (due a place e)
-            ∙ ap (λ b. cells_by y.before b (memory_reply m here i a)) e
-            ∙ ap (λ b. cond (has_reached (cond b replies.Dead (cond (is_within m here span) (replies.Values (values_after m here span.coarray (offsets_of span))) replies.Absent))) (cells_at owner.0 span.coarray (offsets_of span)) []) clean_here
-            ∙ ap (λ b. cond (has_reached (cond b (replies.Values (values_after m here span.coarray (offsets_of span))) replies.Absent)) (cells_at owner.0 span.coarray (offsets_of span)) []) within))
-          (ap (λ b. is_access (class_by b)) e) o w) in
+        (sym (ap (cells_by y.before y.event.event.ask) (due a place e)
+        ∙ ap (λ b. cells_by y.before b (memory_reply m here i a)) e
+        ∙ ap (λ b. cond (has_reached (cond b replies.Dead (cond (is_within m here span) (replies.Values (values_after m here span.coarray (offsets_of span))) replies.Absent))) (cells_at owner.0 span.coarray (offsets_of span)) []) clean_here
+        ∙ ap (λ b. cond (has_reached (cond b (replies.Values (values_after m here span.coarray (offsets_of span))) replies.Absent)) (cells_at owner.0 span.coarray (offsets_of span)) []) within))
+        (ap (λ b. is_access (class_by b)) e) o w) in
         r ∙ sym (due a place e)
 
     write_again : (span : Span) (vs : List Value) → y.event.event.ask ≡ asks.Write owner span vs → memory_reply m there i (asks.Write owner span vs) ≡ y.event.event.reply
@@ -115,11 +115,11 @@ module _ (s : List Declared) (n : ℕ) (t : List Entry) (lawful_t : IsLawfulTrac
         let clean_here = unmarked owner.0 y.before free_before in
         let r = write_same m lawful_t.declared here there i owner span is clean_here (unmarked owner.0 g free_g) vs (free a place e)
         (λ within o w. span_same span (cells_at owner.0 span.coarray (offsets_of span)) refl
-          (sym (ap (cells_by y.before y.event.event.ask) (due a place e)
-            ∙ ap (λ b. cells_by y.before b (memory_reply m here i a)) e
-            ∙ ap (λ b. cond (has_reached (cond b replies.Dead (cond (is_within m here span) replies.Done replies.Absent))) (cells_at owner.0 span.coarray (offsets_of span)) []) clean_here
-            ∙ ap (λ b. cond (has_reached (cond b replies.Done replies.Absent)) (cells_at owner.0 span.coarray (offsets_of span)) []) within))
-          (ap (λ b. is_access (class_by b)) e) o w) in
+        (sym (ap (cells_by y.before y.event.event.ask) (due a place e)
+        ∙ ap (λ b. cells_by y.before b (memory_reply m here i a)) e
+        ∙ ap (λ b. cond (has_reached (cond b replies.Dead (cond (is_within m here span) replies.Done replies.Absent))) (cells_at owner.0 span.coarray (offsets_of span)) []) clean_here
+        ∙ ap (λ b. cond (has_reached (cond b replies.Done replies.Absent)) (cells_at owner.0 span.coarray (offsets_of span)) []) within))
+        (ap (λ b. is_access (class_by b)) e) o w) in
         r ∙ sym (due a place e)
 
   -- an allocation and a deallocation are done

@@ -11,12 +11,11 @@ use Rattle.caf_events.specs.declared.reply.Reply.{Reply}
 use Rattle.caf_events.specs.declared.event.Entry.{Entry}
 use Rattle.object_rules.specs.Cells.{Declared}
 use Rattle.object_rules.specs.MemoryRules.{value_there}
-use Rattle.core_runs.specs.Lists.{said}
-use Rattle.core_runs.specs.CoreRuns.{of_memory, said_by}
+use Rattle.core_runs.specs.CoreRuns.{of_memory}
 use Rattle.core_runs.specs.Lawful.{IsLawfulTrace, made_memory}
 use Rattle.order_theory.specs.Order.{Segment, Within, done}
-use Rattle.order_theory.specs.Races.{Cell, Class, reads, writes, makes, signals, is_access, defines, meets, Stands}
-use Rattle.order_theory.specs.Acts.{completing, released, spoken, taken, taken_from, taken_turned, takes, others, edge_rules, handed_to, last_set, entries}
+use Rattle.order_theory.specs.Races.{Cell, Class, writes, makes, signals, is_access, defines, meets, Stands}
+use Rattle.order_theory.specs.Acts.{completing, released, spoken, taken, taken_from, taken_turned, takes, others, handed_to, last_set, entries}
 use Rattle.order_theory.specs.Facts.{AccessesCell, Pauses}
 use Rattle.order_theory.proofs.Withins.{within_append, within_left}
 use Rattle.order_axioms.specs.Views.{view, edges, act_of}
@@ -25,12 +24,12 @@ use Rattle.order_axioms.specs.FirstRaces.{HasNoRace}
 use Rattle.order_axioms.proofs.OwnFacts.{accesses_pause}
 use Rattle.order_axioms.proofs.Quiet.{lawful_quiet}
 use Rattle.order_cuts.specs.Cuts.{Follows, IsSame, KeepsSources, NoneSpeaks}
-use Rattle.order_cuts.proofs.OwnParts.{same_marks, same_segment, same_act}
-use Rattle.order_cuts.proofs.SameValues.{Writing, Holds, Runs}
+use Rattle.order_cuts.proofs.OwnParts.{same_marks, same_segment}
+use Rattle.order_cuts.proofs.SameValues.{Writing, Runs}
 use Rattle.every_order.specs.Decided.{is_free}
 use Rattle.every_order.specs.Likes.{likes}
-use Rattle.free_replies.proofs.Alike.{IsFree, each_from, each_stands, each_front, none_speaks, said_same, carried}
-use Rattle.free_replies.proofs.OwnSizes.{IsOwnSizing, SizesOwn, sizes_own, cells_same}
+use Rattle.free_replies.proofs.Alike.{IsFree, each_stands, each_front, none_speaks, said_same, carried}
+use Rattle.free_replies.proofs.OwnSizes.{SizesOwn, sizes_own, cells_same}
 use Rattle.free_replies.proofs.CellsKept.{kept_is}
 use Rattle.free_replies.proofs.Written.{left_by, leaves_told}
 
@@ -78,7 +77,7 @@ none_taken n j b (e ∷ es) f = rw none (none_taken n j (b ++ e ∷ []) es f.1)
 module _ (n : ℕ) (t g : List Entry) (fol : Follows (view n) (likes n) t g) (silent : NoneSpeaks (view n) (likes n) t) (free : Each IsFree t) where
   -- A run keeps the sources of a free trace where it keeps what is released.
   pub keeps_by : ((x : Stands t) (y : Stands g) (a : Segment) → IsSame (view n) (likes n) x y → completing (act_of x.event) ≡ true
-          → Within a (released (view n) x.before x.event.image.0 (act_of x.event)) → Within a (released (view n) y.before y.event.image.0 (act_of y.event)))
+      → Within a (released (view n) x.before x.event.image.0 (act_of x.event)) → Within a (released (view n) y.before y.event.image.0 (act_of y.event)))
       → KeepsSources (view n) (likes n) t g
   keeps_by release x y a same full (inl own) = inl (own ∙ same_segment Entry (Said Ask Reply) (view n) (likes n) t g fol x y same)
   keeps_by release x y a same full (inr w) = elim (within_append Segment a (released (view n) x.before x.event.image.0 (act_of x.event)) (others (view n) x.before x.event) w) [

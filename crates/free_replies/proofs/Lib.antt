@@ -5,3 +5,8 @@ pub mod SameCells
 pub mod CellsKept
 pub mod Followers
 pub mod CellReplies
+pub mod SameRaces
+pub mod FirstLeft
+pub mod Replies
+pub mod Speaking
+pub mod Memories

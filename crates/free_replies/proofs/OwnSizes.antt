@@ -12,8 +12,8 @@ use Rattle.caf_events.specs.declared.reply.Reply.{Reply}
 use Rattle.caf_events.specs.declared.event.Entry.{Entry}
 use Rattle.caf_events.specs.Asks.{place_of, object_of}
 use Rattle.object_rules.specs.Cells.{Declared, MadeMemory, size_turn, size_from, size_after}
-use Rattle.object_rules.specs.MemoryRules.{is_own, is_here, is_allocatable, all_cells, cells_used, or_zero, fits_memory, can_come, cells_there, memory_ready}
-use Rattle.core_runs.specs.Lists.{key_of, said}
+use Rattle.object_rules.specs.MemoryRules.{is_own, is_here, is_allocatable, all_cells, cells_used, or_zero, fits_memory, memory_ready}
+use Rattle.core_runs.specs.Lists.{said}
 use Rattle.core_runs.specs.CoreRuns.{of_image, of_memory, said_by}
 use Rattle.core_runs.specs.Lawful.{IsLawfulTrace, made_memory}
 use Rattle.order_theory.specs.Races.{Stands}

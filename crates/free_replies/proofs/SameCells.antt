@@ -1,21 +1,19 @@
 -- Two histories of a memory with the same values at some cells reply the same to a reference or a definition of these.
-use Rattle.std.proofs.Common.{◌≡◌, ℕ, Bool, true, false, ◌&&◌, cond, List, [], ◌∷◌, inl, inr, refl, ap, sym, ◌∙◌, subst}
+use Rattle.std.proofs.Common.{◌≡◌, ℕ, Bool, true, false, ◌&&◌, cond, List, [], ◌∷◌, inl, inr, refl, ap, sym, ◌∙◌}
 use Rattle.std.specs.Prelude.{ℤ, pos, negsuc, Option, Some, None, slice_get}
 use Rattle.std.specs.List.{list_all}
-use Rattle.std.proofs.lemmas.Bool.{cases_Bool, and_parts, both_ways}
+use Rattle.std.proofs.lemmas.Bool.{and_parts, both_ways}
 use Rattle.caf_base.specs.declared.place.ImageNo.{ImageNo}
 use Rattle.caf_base.specs.declared.span.Span.{Span}
 use Rattle.caf_base.specs.declared.value.Value.{Value}
 use Rattle.caf_base.specs.Spans.{offsets_of}
-use Rattle.caf_events.specs.declared.ask.Ask.{Ask}
 use Rattle.caf_events.specs.declared.ask.Ask.TheVariants as asks
-use Rattle.caf_events.specs.declared.reply.Reply.{Reply}
 use Rattle.caf_events.specs.declared.reply.Reply.TheVariants as replies
 use Rattle.caf_events.specs.declared.event.Entry.{Entry}
 use Rattle.caf_events.specs.Memories.{with_value}
 use Rattle.object_rules.specs.Cells.{Declared, MadeMemory, size_after, is_offset, is_within, is_marked, value_after, values_after}
-use Rattle.object_rules.specs.MemoryRules.{is_values, holds, has_first_values, value_there, touch_reply, memory_reply}
-use Rattle.object_rules.proofs.CellValues.{all_get, HasValue, has_value}
+use Rattle.object_rules.specs.MemoryRules.{is_values, holds, has_first_values, value_there, memory_reply}
+use Rattle.object_rules.proofs.CellValues.{all_get, has_value}
 use Rattle.order_theory.specs.Order.{Within}
 use Rattle.every_order.specs.Decided.{is_free}
 

@@ -1,13 +1,12 @@
 -- What a definition leaves at a cell is told by its ask.
-use Rattle.std.proofs.Common.{◌≡◌, ◌<◌, ℕ, zero, suc, ◌+◌, Bool, true, false, ◌&&◌, not, IsTrue, nat_eq, cond, List, [], ◌∷◌, ◌++◌, length, inl, inr, refl, ap, sym, ◌∙◌, subst, arith}
+use Rattle.std.proofs.Common.{◌≡◌, ◌<◌, ℕ, zero, suc, ◌+◌, Bool, true, false, ◌&&◌, IsTrue, nat_eq, cond, List, [], ◌∷◌, ◌++◌, length, inl, inr, refl, ap, sym, ◌∙◌, subst, arith}
 use Rattle.std.specs.Prelude.{ℤ, pos, nat_lt, map, Option, Some, None, slice_get}
 use Rattle.std.specs.List.{list_all, range_with_len}
 use Rattle.std.specs.Ordering.{int_eq}
-use Rattle.std.proofs.lemmas.Bool.{and_parts, both_ways, eqb-true, eq-eqb, lt-ltb, cases_Bool}
+use Rattle.std.proofs.lemmas.Bool.{and_parts, eqb-true, eq-eqb, lt-ltb}
 use Rattle.std.proofs.lemmas.Bool.Decides.{Decides-int_eq}
 use Rattle.trace_theory.specs.Entries.{Each}
 use Rattle.caf_base.specs.declared.place.ImageNo.{ImageNo}
-use Rattle.caf_base.specs.declared.place.Place.TheVariants as places
 use Rattle.caf_base.specs.declared.span.Span.{Span}
 use Rattle.caf_base.specs.declared.value.Value.{Value}
 use Rattle.caf_base.specs.Spans.{offsets_of}
@@ -19,7 +18,7 @@ use Rattle.caf_events.specs.declared.event.Entry.{Entry}
 use Rattle.caf_events.specs.Asks.{place_of, object_of}
 use Rattle.object_rules.specs.Scans.{or_else}
 use Rattle.object_rules.specs.Cells.{Content, of_kind, locks, events, Declared, MadeMemory, zero_of, size_turn, size_after, written, is_offset, is_within, is_marked, value_beside, value_after, zero_there}
-use Rattle.object_rules.specs.MemoryRules.{is_values, holds, suits_values, is_here, fits_memory, cells_there, value_there, memory_ready, memory_reply}
+use Rattle.object_rules.specs.MemoryRules.{is_values, holds, suits_values, is_here, fits_memory, value_there, memory_ready, memory_reply}
 use Rattle.object_rules.specs.SpanTests.{is_span}
 use Rattle.core_runs.specs.CoreRuns.{of_memory}
 use Rattle.core_runs.specs.Lawful.{IsLawfulTrace, made_memory}
@@ -31,7 +30,7 @@ use Rattle.order_axioms.proofs.CellValues.{cells_within}
 use Rattle.order_axioms.proofs.KeptValues.{after_is}
 use Rattle.order_axioms.proofs.Marked.{of_here, served_here}
 use Rattle.every_order.specs.Decided.{is_free}
-use Rattle.free_replies.proofs.Alike.{IsFree, each_stands, each_front, unmarked}
+use Rattle.free_replies.proofs.Alike.{IsFree, each_stands}
 
 pub all_at : {A : Type 0} (test : A → Bool) (xs : List A) (x : A) → list_all test xs ≡ true → Within x xs → test x ≡ true
 all_at test [] x h w = absurd w
@@ -134,7 +133,7 @@ module _ (s : List Declared) (n : ℕ) (g : List Entry) (lawful : IsLawfulTrace 
       let within = done_within m h i owner span vs (sym r ∙ there.1 ∙ ap (memory_reply m h i) e) in
       let inside : is_offset (size_after m h span.coarray) (pos c.offset) ≡ true = all_at (is_offset (size_after m h span.coarray)) (offsets_of span) (pos c.offset) within at.2 in
       let inside' : is_offset (size_after made here c.coarray) (pos c.offset) ≡ true =
-          subst (λ o. is_offset (size_after (made_memory s o) (of_memory o y.before) c.coarray) (pos c.offset) ≡ true) (sym at.0) (subst (λ k. is_offset (size_after m h k) (pos c.offset) ≡ true) (sym at.1) inside) in
+      subst (λ o. is_offset (size_after (made_memory s o) (of_memory o y.before) c.coarray) (pos c.offset) ≡ true) (sym at.0) (subst (λ k. is_offset (size_after m h k) (pos c.offset) ≡ true) (sym at.1) inside) in
       let values : holds is_values (slice_get s c.coarray) ≡ true = subst (λ k. holds is_values (slice_get s k) ≡ true) (sym at.1) (suits_is vs (slice_get s span.coarray) sized.1) in
       let same = eq-eqb span.coarray c.coarray (sym at.1) in
       let old = value_after made here c.coarray (pos c.offset) in
@@ -185,4 +184,3 @@ module _ (s : List Declared) (n : ℕ) (g : List Entry) (lawful : IsLawfulTrace 
     where
       key : key_of y.event ≡ suc c.owner
       key = owner_is c y.before y.event.event.ask y.event.event.reply (each_stands IsFree g free y) w d
-
