@@ -1,0 +1,3 @@
+pub mod BoardWords
+pub mod FirstTeam
+pub mod SameKinds
