@@ -40,7 +40,7 @@ board_here s n g lawful y place =
     let there = ap at_board y.split ∙ of_here 1 y.before y.rest y.event (ap object_of place) in
     served_at (board_ready n) (board_reply n) [] (at_board y.before) y.event (at_board y.rest) (subst (Served (board_ready n) (board_reply n) []) there lawful.board)
 
-said_append : (i : ℕ) (xs ys : List Entry) → said_by i (xs ++ ys) ≡ said_by i xs ++ said_by i ys
+pub said_append : (i : ℕ) (xs ys : List Entry) → said_by i (xs ++ ys) ≡ said_by i xs ++ said_by i ys
 said_append i xs ys = ap (map (λ (x : Entry). said x.event)) (filter_append (λ x. nat_eq (image_of x) i) xs ys) ∙ map-append (λ (x : Entry). said x.event) (of_image i xs) (of_image i ys)
 
 -- a front of a trace follows it

@@ -1,3 +1,6 @@
 pub mod BoardWords
 pub mod FirstTeam
 pub mod SameKinds
+pub mod Ahead
+pub mod Closing
+pub mod Departing
