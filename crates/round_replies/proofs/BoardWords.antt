@@ -172,7 +172,7 @@ none_failed class j (x ∷ g) f =
     ∙ ap (λ b. b || has_failed j (happened class g)) (fail_at class x.image.0 j x.event.line x.event.ask x.event.reply f.0)
     ∙ none_failed class j g f.1
 
-or_none : (a b : Bool) → b ≡ false → (a || b) ≡ a
+pub or_none : (a b : Bool) → b ≡ false → (a || b) ≡ a
 or_none true b h = refl
 or_none false b h = h
 

@@ -4,3 +4,5 @@ pub mod SameKinds
 pub mod Ahead
 pub mod Closing
 pub mod Departing
+pub mod RoundRuns
+pub mod RoundStops
