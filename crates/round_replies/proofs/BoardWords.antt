@@ -29,7 +29,7 @@ all_ext p q same [] = refl
 all_ext p q same (x ∷ xs) = ap (λ b. b && list_all p xs) (same x) ∙ ap (λ b. q x && b) (all_ext p q same xs)
 
 -- nothing happens there by a step elsewhere
-nothing_elsewhere : (class : Class) (i line : ℕ) (a : Ask) (r : Reply) → nat_eq (object_of (place_of a)) 1 ≡ false → happens class i line a r ≡ None
+pub nothing_elsewhere : (class : Class) (i line : ℕ) (a : Ask) (r : Reply) → nat_eq (object_of (place_of a)) 1 ≡ false → happens class i line a r ≡ None
 nothing_elsewhere control i line (asks.Arrive team arriving) r h = absurd (cc)
 nothing_elsewhere control i line (asks.Stop code) r h = absurd (cc)
 nothing_elsewhere control i line asks.Gone r h = absurd (cc)

@@ -6,3 +6,6 @@ pub mod Closing
 pub mod Departing
 pub mod RoundRuns
 pub mod RoundStops
+pub mod Openings
+pub mod GatheredValues
+pub mod DepartureReplies

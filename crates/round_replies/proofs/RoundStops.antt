@@ -48,7 +48,7 @@ departs_board collective team k = refl
 departs_board images team k = refl
 
 -- a departure waits for the close
-departs_closed : (class : Class) → IsRoundClass class → (n : ℕ) (h : List Entry) (i : ℕ) (team : TeamNo) (k : ℕ) → IsTrue (board_ready n h i (departs class team k))
+pub departs_closed : (class : Class) → IsRoundClass class → (n : ℕ) (h : List Entry) (i : ℕ) (team : TeamNo) (k : ℕ) → IsTrue (board_ready n h i (departs class team k))
     → is_some (closing class team.0 k (members_at (teams_after n h) team.0) h) ≡ true
 departs_closed control round n h i team k ready = (and_parts (is_image n i && fits_board n h i (asks.Leave team k)) (can_come n h i (asks.Leave team k)) ready).1
 departs_closed collective round n h i team k ready = (and_parts (is_image n i && fits_board n h i (asks.Take team k)) (can_come n h i (asks.Take team k)) ready).1
