@@ -42,7 +42,7 @@ use Rattle.free_replies.proofs.Replies.{board_here, OthersSame}
 use Rattle.free_replies.proofs.Speaking.{FirstIsReady, speaks}
 
 -- such a step releases nothing
-none_released : (n : ℕ) (g : List Entry) (i : ℕ) (a : Ask) (r : Reply) → is_of_memories a ≡ true → released (view n) g i (act_by a r) ≡ []
+pub none_released : (n : ℕ) (g : List Entry) (i : ℕ) (a : Ask) (r : Reply) → is_of_memories a ≡ true → released (view n) g i (act_by a r) ≡ []
 none_released n g i (asks.Read owner span) r k = refl
 none_released n g i (asks.Write owner span vs) r k = refl
 none_released n g i (asks.Create owner c cells) r k = refl
@@ -53,7 +53,7 @@ none_released n g i (asks.Stop code) r k = refl
 none_released n g i a r k = absurd (cc)
 
 -- at a memory it is an access
-of_cells : (owner : ImageNo) (a : Ask) → is_of_memories a ≡ true → place_of a ≡ places.Memory owner → is_of_cells a ≡ true
+pub of_cells : (owner : ImageNo) (a : Ask) → is_of_memories a ≡ true → place_of a ≡ places.Memory owner → is_of_cells a ≡ true
 of_cells owner (asks.Print text) k p = absurd (cc)
 of_cells owner asks.Memory k p = absurd (cc)
 of_cells owner (asks.Stop code) k p = absurd (cc)

@@ -133,7 +133,7 @@ used_same : (m : MadeMemory) (g h : List Entry) → ((c : ℕ) → size_after m 
 used_same m g h same [] = refl
 used_same m g h same (c ∷ cs) = let a = ap or_zero (same c) in let b = used_same m g h same cs in omega arith
 
-not_own : (m : MadeMemory) (i : ℕ) (owner : ImageNo) → nat_eq i m.owner.0 ≡ false → is_own m i owner ≡ false
+pub not_own : (m : MadeMemory) (i : ℕ) (owner : ImageNo) → nat_eq i m.owner.0 ≡ false → is_own m i owner ≡ false
 not_own m i owner f = elim (cases_Bool (is_own m i owner)) [
   | inl t ↦ absurd (both_ways (nat_eq i m.owner.0) f (and_parts (is_here m owner) (nat_eq i m.owner.0) t).1)
   | inr n ↦ n

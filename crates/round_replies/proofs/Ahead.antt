@@ -1,10 +1,9 @@
 -- A run that is ahead of another one: each image has said what it said there, or more. What closed there has closed here.
-use Rattle.std.proofs.Common.{◌≡◌, ◌<◌, ◌≤◌, ℕ, ◌+◌, Bool, true, false, nat_le, ◌&&◌, ◌||◌, List, [], ◌∷◌, ◌++◌, length, map, inl, inr, refl, ap, sym, ◌∙◌, subst, arith, append_assoc, length-append}
+use Rattle.std.proofs.Common.{◌≡◌, ◌<◌, ◌≤◌, ℕ, Bool, true, nat_le, ◌||◌, List, [], ◌∷◌, ◌++◌, length, inl, inr, refl, ap, sym, ◌∙◌, arith, append_assoc, length-append}
 use Rattle.std.specs.List.{list_any, list_all}
-use Rattle.std.proofs.lemmas.List.{append-nil, map-append, length-map}
+use Rattle.std.proofs.lemmas.List.{append-nil, length-map}
 use Rattle.std.proofs.lemmas.Bool.{cases_lt, and_parts, and_from, or_cases, or_left, or_right, leb-true, le-leb}
 use Rattle.trace_theory.specs.Machines.{Said}
-use Rattle.trace_theory.proofs.Filters.{filter_append}
 use Rattle.caf_events.specs.declared.ask.Ask.{Ask}
 use Rattle.caf_events.specs.declared.ask.Ask.TheVariants as asks
 use Rattle.caf_events.specs.declared.reply.Reply.{Reply}
@@ -20,7 +19,7 @@ use Rattle.order_theory.specs.Facts.{own_list}
 use Rattle.order_theory.proofs.Splits.{fronts}
 use Rattle.order_axioms.specs.Views.{view}
 use Rattle.order_cuts.specs.Cuts.{Follows}
-use Rattle.order_cuts.proofs.OwnParts.{at_place, marks_at}
+use Rattle.order_cuts.proofs.OwnParts.{at_place}
 use Rattle.every_order.specs.Likes.{likes}
 use Rattle.free_replies.proofs.FirstLeft.{IsIn}
 use Rattle.free_replies.proofs.Replies.{said_append}
@@ -61,7 +60,7 @@ earlier_ahead n t u fol x inside i =
     let a = length-map (own_list (view n) i x.before) (λ (z : Entry). said z.event) in
     let b = length-map (own_list (view n) i u) (λ (z : Entry). said z.event) in
     let f = fronts (Said Ask Reply) (said_by i x.before) (said_by i (x.event ∷ x.rest)) (said_by i u) (fol.left i)
-        (sym (said_append i x.before (x.event ∷ x.rest)) ∙ ap (said_by i) (sym x.split) ∙ fol.splits i) (omega arith) in
+    (sym (said_append i x.before (x.event ∷ x.rest)) ∙ ap (said_by i) (sym x.split) ∙ fol.splits i) (omega arith) in
     (f.0, f.1)
 
 module _ (class : Class) (u w : List Entry) (ahead : IsAhead u w) where

@@ -1,9 +1,9 @@
 -- What happened at the board is told by what each image said: how often it arrived, and whether it stopped.
-use Rattle.std.proofs.Common.{◌≡◌, ℕ, suc, ◌+◌, ◌≤◌, Bool, true, false, nat_eq, nat_le, ◌&&◌, ◌||◌, cond, List, [], ◌∷◌, ◌++◌, map, inl, inr, refl, ap, sym, ◌∙◌, subst, arith}
-use Rattle.std.specs.Prelude.{Option, Some, None, filter_map}
+use Rattle.std.proofs.Common.{◌≡◌, ℕ, ◌+◌, Bool, true, false, nat_eq, nat_le, ◌&&◌, ◌||◌, cond, List, [], ◌∷◌, ◌++◌, map, inl, inr, refl, ap, sym, ◌∙◌, arith}
+use Rattle.std.specs.Prelude.{Option, Some, None}
 use Rattle.std.specs.List.{list_any, list_all, cons_option}
 use Rattle.std.proofs.lemmas.Bool.{cases_Bool, both_ways, eqb-true, eq-eqb}
-use Rattle.trace_theory.specs.Entries.{of, Each}
+use Rattle.trace_theory.specs.Entries.{Each}
 use Rattle.trace_theory.specs.Machines.{Said}
 use Rattle.caf_events.specs.declared.ask.Ask.{Ask}
 use Rattle.caf_events.specs.declared.ask.Ask.TheVariants as asks
@@ -11,11 +11,11 @@ use Rattle.caf_events.specs.declared.reply.Reply.{Reply}
 use Rattle.caf_events.specs.declared.reply.Reply.TheVariants as replies
 use Rattle.caf_events.specs.declared.event.Entry.{Entry}
 use Rattle.caf_events.specs.Asks.{place_of, object_of}
-use Rattle.object_rules.specs.Happenings.{Happening, arrives, pairs, stops, fails, Class, control, collective, images, joining, happens, happened, is_stop, has_stopped, is_failure, has_failed, has_ended}
+use Rattle.object_rules.specs.Happenings.{Happening, Class, control, collective, images, joining, happens, happened, is_stop, has_stopped, is_failure, has_failed, has_ended}
 use Rattle.object_rules.specs.TeamRounds.{arrivals, has_arrived, has_closed}
 use Rattle.object_rules.specs.BoardTeams.{arrives_there}
 use Rattle.team_laws.proofs.Arrivals.{joined_image, cons_arrivals}
-use Rattle.core_runs.specs.Lists.{image_of, key_of, said}
+use Rattle.core_runs.specs.Lists.{key_of, said}
 use Rattle.core_runs.specs.CoreRuns.{of_image, at_board, said_by}
 use Rattle.every_order.specs.Decided.{is_free}
 use Rattle.free_replies.proofs.Alike.{IsFree}
@@ -190,4 +190,4 @@ closed_is class team k ms g f =
     (any_ext (λ m. has_arrived team k m (happened class g)) (λ m. nat_le k (arrivals_said class team m (said_by m g))) (λ m. ap (nat_le k) (own_arrivals class m team g)) ms)
     ∙ ap (λ b. list_any (λ m. nat_le k (arrivals_said class team m (said_by m g))) ms && b)
     (all_ext (λ m. has_arrived team k m (happened class g) || has_ended m (happened class g)) (λ m. nat_le k (arrivals_said class team m (said_by m g)) || stopped_said (said_by m g))
-      (λ m. ap (λ c. nat_le k c || has_ended m (happened class g)) (own_arrivals class m team g) ∙ ap (λ c. nat_le k (arrivals_said class team m (said_by m g)) || c) (own_ends class m g f)) ms)
+    (λ m. ap (λ c. nat_le k c || has_ended m (happened class g)) (own_arrivals class m team g) ∙ ap (λ c. nat_le k (arrivals_said class team m (said_by m g)) || c) (own_ends class m g f)) ms)

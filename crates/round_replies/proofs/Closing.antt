@@ -1,11 +1,10 @@
 -- The close of a round in a trace: a front of the trace by which it has closed, and before which it hadn't.
-use Rattle.std.proofs.Common.{◌≡◌, ◌<◌, ◌≤◌, ℕ, suc, ◌+◌, Bool, true, false, IsTrue, nat_eq, cond, List, [], ◌∷◌, ◌++◌, length, inl, inr, refl, ap, sym, ◌∙◌, subst, arith, append_assoc, length-append}
+use Rattle.std.proofs.Common.{◌≡◌, ◌<◌, ◌≤◌, ℕ, Bool, true, false, nat_eq, cond, List, [], ◌∷◌, ◌++◌, length, inl, inr, refl, ap, sym, ◌∙◌, subst, arith, append_assoc, length-append}
 use Rattle.std.specs.Prelude.{Option, Some, None, is_some}
-use Rattle.std.proofs.lemmas.List.{append-nil}
 use Rattle.std.proofs.lemmas.Bool.{cases_Bool, cases_eq, both_ways}
 use Rattle.trace_theory.proofs.Filters.{filter_append}
 use Rattle.caf_events.specs.declared.event.Entry.{Entry}
-use Rattle.object_rules.specs.Scans.{or_else, front_where, first_front_from, first_front}
+use Rattle.object_rules.specs.Scans.{or_else, first_front_from, first_front}
 use Rattle.object_rules.specs.Happenings.{Class, happened}
 use Rattle.object_rules.specs.TeamRounds.{has_closed}
 use Rattle.object_rules.specs.BoardTeams.{closing}
@@ -84,9 +83,9 @@ module _ (class : Class) (team k : ℕ) (ms : List ℕ) where
         is = e ∙ ap Some (sym s.3);
         closed = ap (has_closed ms team k) (sym (happened_board class s.0) ∙ ap (happened class) s.3) ∙ c.2;
         sooner = λ b r w l. (
-          let whole : at_board g ≡ at_board b ++ at_board (r ++ s.1) = ap at_board (s.2 ∙ ap (λ z. z ++ s.1) w ∙ append_assoc b r s.1) ∙ board_append b (r ++ s.1) in
-          let size = ap length s.3 in
-          ap (has_closed ms team k) (sym (happened_board class b)) ∙ not_sooner (λ x. has_closed ms team k (happened class x)) (at_board g) f e (at_board b) (at_board (r ++ s.1)) whole (omega arith));
+            let whole : at_board g ≡ at_board b ++ at_board (r ++ s.1) = ap at_board (s.2 ∙ ap (λ z. z ++ s.1) w ∙ append_assoc b r s.1) ∙ board_append b (r ++ s.1) in
+            let size = ap length s.3 in
+            ap (has_closed ms team k) (sym (happened_board class b)) ∙ not_sooner (λ x. has_closed ms team k (happened class x)) (at_board g) f e (at_board b) (at_board (r ++ s.1)) whole (omega arith));
       }
 
   pub closed_by : (g : List Entry) → is_some (closing class team k ms (at_board g)) ≡ true → ClosedBy g

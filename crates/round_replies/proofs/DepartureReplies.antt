@@ -1,14 +1,10 @@
 -- What a departure hears is told by what the images say in all.
-use Rattle.std.proofs.Common.{◌≡◌, ◌≤◌, ℕ, suc, Bool, true, false, IsTrue, nat_le, nat_lt, ◌&&◌, ◌||◌, cond, List, [], ◌∷◌, ◌++◌, inl, inr, refl, ap, sym, ◌∙◌, subst, arith}
-use Rattle.std.specs.Prelude.{ℤ, pos, Option, Some, None, is_some, filter_map}
+use Rattle.std.proofs.Common.{◌≡◌, ◌≤◌, ℕ, Bool, true, false, IsTrue, nat_le, nat_lt, ◌&&◌, ◌||◌, cond, List, [], ◌∷◌, inl, inr, ap, sym, ◌∙◌, subst}
+use Rattle.std.specs.Prelude.{pos, Some, is_some, filter_map}
 use Rattle.std.specs.List.{list_any, list_all}
 use Rattle.std.proofs.lemmas.Bool.{cases_Bool, and_parts, leb-true}
-use Rattle.trace_theory.specs.Machines.{Said}
 use Rattle.caf_base.specs.declared.place.TeamNo.{TeamNo}
-use Rattle.caf_base.specs.declared.value.Value.{Value}
-use Rattle.caf_events.specs.declared.ask.Ask.{Ask}
 use Rattle.caf_events.specs.declared.ask.Ask.TheVariants as asks
-use Rattle.caf_events.specs.declared.reply.Reply.{Reply}
 use Rattle.caf_events.specs.declared.reply.Reply.TheVariants as replies
 use Rattle.caf_events.specs.declared.event.Entry.{Entry}
 use Rattle.object_rules.specs.Cells.{Declared}
@@ -19,10 +15,8 @@ use Rattle.object_rules.specs.FormedTeams.{is_bad_form}
 use Rattle.object_rules.specs.BoardTeams.{teams_after, members_at, closing, round_of, form_args, made_teams, is_form_kind, is_form}
 use Rattle.object_rules.specs.BoardRules.{is_image, has_joined, fits_board, can_come, board_ready, board_reply, control_result, collective_result, collected, taken_by, parts_of, leave_reply, take_reply}
 use Rattle.team_laws.proofs.Openings.{closed_opens}
-use Rattle.team_laws.proofs.Rounds.{opening_stays, happened_append}
 use Rattle.core_runs.specs.CoreRuns.{at_board, said_by}
-use Rattle.core_runs.specs.Sequences.{NothingAfterEnd}
-use Rattle.round_replies.proofs.BoardWords.{happened_board, arrivals_said, stopped_said, closed_said, closed_is, or_none}
+use Rattle.round_replies.proofs.BoardWords.{happened_board, arrivals_said, stopped_said, closed_is, or_none}
 use Rattle.round_replies.proofs.FirstTeam.{first_team, one_team, opening_other}
 use Rattle.round_replies.proofs.Ahead.{IsAhead, stopped_whole}
 use Rattle.round_replies.proofs.Closing.{ClosedBy, closed_by}
@@ -55,7 +49,7 @@ module _ (s : List Declared) (n : ℕ) (t g : List Entry) (run_t : IsRoundRun s 
   h = at_board g
 
   -- which members never arrive at the round
-  abbrev Missing : Class → Missed
+  abbrev pub Missing : Class → Missed
   Missing class = record { stopped = list_any (λ m. nat_lt (arrivals_said class team.0 m (said_by m t)) k) ms; failed = false }
 
   module _ (class : Class) (round : IsRoundClass class) (ready : IsTrue (board_ready n h i (departs class team k))) where
@@ -80,7 +74,7 @@ module _ (s : List Declared) (n : ℕ) (t g : List Entry) (run_t : IsRoundRun s 
       let o = opening control tt ready in
       let bad = is_bad_form (form_args (round_of control team.0 k ms f)) in
       let other : is_form_kind o.0.kind ≡ false =
-          sym (ap is_form (sym (ap (opening_of team.0 k) (happened_board control c.front)) ∙ o.1)) ∙ opening_other team.0 k c.front (front_run s n control tt team.0 k (low control tt ready) g run c).forms in
+      sym (ap is_form (sym (ap (opening_of team.0 k) (happened_board control c.front)) ∙ o.1)) ∙ opening_other team.0 k c.front (front_run s n control tt team.0 k (low control tt ready) g run c).forms in
       let told = made_teams team.0 k 1 (first_team n ∷ []) in
       ap (λ z. leave_reply n h team.0 k (closing control team.0 k z h)) (members_are s n g run team.0)
       ∙ ap (leave_reply n h team.0 k) c.is
@@ -103,20 +97,20 @@ module _ (s : List Declared) (n : ℕ) (t g : List Entry) (run_t : IsRoundRun s 
       let come : ℕ → Bool = λ m. nat_le k (arrivals_said collective team.0 m (said_by m c.front)) || stopped_said (said_by m c.front) in
       let all = (and_parts (list_any (λ m. nat_le k (arrivals_said collective team.0 m (said_by m c.front))) ms) (list_all come ms) (sym (closed_is collective team.0 k ms c.front front.free) ∙ c.closed)).1 in
       let parts = parts_told team.0 k ms c.front t come (λ m q. (
-          let a = far m in
-          elim (cases_Bool (stopped_said (said_by m c.front))) [
-            | inl stopped ↦ ap (values_said team.0 m k) (sym (stopped_whole t c.front m (run_t.ends m) far stopped))
-            | inr goes ↦ (
-                let l = leb-true k (arrivals_said collective team.0 m (said_by m c.front)) (sym (or_none (nat_le k (arrivals_said collective team.0 m (said_by m c.front))) (stopped_said (said_by m c.front)) goes) ∙ q) in
-                sym (ap (values_said team.0 m k) a.1 ∙ values_append team.0 m k (said_by m c.front) a.0 (low collective tt ready) l))
-          ])) all in (
+      let a = far m in
+      elim (cases_Bool (stopped_said (said_by m c.front))) [
+        | inl stopped ↦ ap (values_said team.0 m k) (sym (stopped_whole t c.front m (run_t.ends m) far stopped))
+        | inr goes ↦ (
+            let l = leb-true k (arrivals_said collective team.0 m (said_by m c.front)) (sym (or_none (nat_le k (arrivals_said collective team.0 m (said_by m c.front))) (stopped_said (said_by m c.front)) goes) ∙ q) in
+            sym (ap (values_said team.0 m k) a.1 ∙ values_append team.0 m k (said_by m c.front) a.0 (low collective tt ready) l))
+      ])) all in (
         p.0,
         p.1,
         ap (λ z. take_reply n h team.0 k (closing collective team.0 k z h)) (members_are s n g run team.0)
-        ∙ ap (take_reply n h team.0 k) c.is
-        ∙ ap (λ z. collective_result team.0 k z f (opening_of team.0 k (happened collective f))) (members_are s n g run team.0)
-        ∙ ap (collective_result team.0 k ms f) o.1
-        ∙ ap (λ m. taken_by m (collected o.0.kind (parts_of (round_of collective team.0 k ms f)))) (missed collective tt ready)
-        ∙ ap (λ z. taken_by (Missing collective) (collected z (parts_of (round_of collective team.0 k ms f)))) p.2
-        ∙ ap (λ z. taken_by (Missing collective) (collected p.0.kind z)) parts,
+            ∙ ap (take_reply n h team.0 k) c.is
+            ∙ ap (λ z. collective_result team.0 k z f (opening_of team.0 k (happened collective f))) (members_are s n g run team.0)
+            ∙ ap (collective_result team.0 k ms f) o.1
+            ∙ ap (λ m. taken_by m (collected o.0.kind (parts_of (round_of collective team.0 k ms f)))) (missed collective tt ready)
+            ∙ ap (λ z. taken_by (Missing collective) (collected z (parts_of (round_of collective team.0 k ms f)))) p.2
+            ∙ ap (λ z. taken_by (Missing collective) (collected p.0.kind z)) parts,
       )

@@ -1,5 +1,5 @@
 -- Without FORM TEAM the initial team is the only one.
-use Rattle.std.proofs.Common.{◌≡◌, ℕ, suc, Bool, true, false, nat_eq, ◌&&◌, cond, List, [], ◌∷◌, ◌++◌, map, inl, inr, refl, ap, sym, ◌∙◌, subst, append_assoc}
+use Rattle.std.proofs.Common.{◌≡◌, ℕ, Bool, true, false, cond, List, [], ◌∷◌, ◌++◌, refl, ap, ◌∙◌}
 use Rattle.std.specs.Prelude.{negsuc, Option, Some, None}
 use Rattle.std.specs.List.{cons_option, range_with_len}
 use Rattle.trace_theory.specs.Entries.{Each}

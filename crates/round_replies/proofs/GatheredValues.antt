@@ -1,5 +1,5 @@
 -- The values that the arrivals of a collective subroutine bring are told by the images' words.
-use Rattle.std.proofs.Common.{◌≡◌, ℕ, suc, ◌+◌, ◌-◌, ◌≤◌, Bool, true, false, nat_eq, cond, List, [], ◌∷◌, ◌++◌, map, inl, inr, refl, ap, sym, ◌∙◌, subst, arith}
+use Rattle.std.proofs.Common.{◌≡◌, ℕ, ◌+◌, ◌-◌, ◌≤◌, Bool, true, false, nat_eq, cond, List, [], ◌∷◌, ◌++◌, map, inl, inr, refl, ap, sym, ◌∙◌, subst, arith}
 use Rattle.std.specs.Prelude.{Option, Some, None, filter_map}
 use Rattle.std.specs.List.{list_all, cons_option}
 use Rattle.std.proofs.lemmas.Bool.{cases_Bool, and_parts, both_ways, eqb-true, eq-eqb}
@@ -9,7 +9,7 @@ use Rattle.trace_theory.specs.Machines.{Said}
 use Rattle.caf_events.specs.declared.ask.Ask.{Ask}
 use Rattle.caf_events.specs.declared.reply.Reply.{Reply}
 use Rattle.caf_events.specs.declared.event.Entry.{Entry}
-use Rattle.object_rules.specs.Happenings.{Class, collective, happens}
+use Rattle.object_rules.specs.Happenings.{collective, happens}
 use Rattle.object_rules.specs.BoardTeams.{arrives_there, nth_arrival, round_of}
 use Rattle.object_rules.specs.BoardRules.{gathered, parts_of}
 use Rattle.team_laws.proofs.Arrivals.{joined_image}
@@ -35,7 +35,7 @@ given_step e x y false c = refl
 module _ (team j : ℕ) where
   values_first : (k : ℕ) (e : Entry) (g : List Entry) (o : Bool) → values_said team j k (map (λ (y : Entry). said y.event) (cond o (e ∷ g) g))
       ≡ cond o (cond (joins_by collective team j (said e.event)) (cond (nat_eq k 1) (gathered e.event.ask) (values_said team j (k - 1) (map (λ (y : Entry). said y.event) g))) (values_said team j k (map (λ (y : Entry). said y.event) g)))
-        (values_said team j k (map (λ (y : Entry). said y.event) g))
+      (values_said team j k (map (λ (y : Entry). said y.event) g))
   values_first k e g true = refl
   values_first k e g false = refl
 

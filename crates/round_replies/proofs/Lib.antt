@@ -9,3 +9,6 @@ pub mod RoundStops
 pub mod Openings
 pub mod GatheredValues
 pub mod DepartureReplies
+pub mod RoundSources
+pub mod ReadyMore
+pub mod Rounds

@@ -1,5 +1,5 @@
 -- The first arrival of a round is of the round's kind, which is the same in every run: so an arrival clashes in none.
-use Rattle.std.proofs.Common.{◌≡◌, ℕ, suc, ◌+◌, Bool, true, false, nat_eq, ◌&&◌, cond, List, [], ◌∷◌, ◌++◌, inl, inr, refl, ap, sym, ◌∙◌, subst, append_assoc}
+use Rattle.std.proofs.Common.{◌≡◌, ℕ, suc, true, nat_eq, ◌&&◌, cond, List, [], ◌∷◌, ◌++◌, inl, inr, refl, ap, sym, ◌∙◌, append_assoc}
 use Rattle.std.specs.Prelude.{Option, Some, None}
 use Rattle.std.specs.List.{cons_option}
 use Rattle.std.proofs.lemmas.List.{append-nil}
@@ -15,7 +15,7 @@ use Rattle.object_rules.specs.Scans.{or_else}
 use Rattle.object_rules.specs.Happenings.{Happening, arrives, Class, happens, happened}
 use Rattle.object_rules.specs.TeamRounds.{arrivals, Opening, joins_round, opening_of}
 use Rattle.object_rules.specs.BoardTeams.{arrives_there}
-use Rattle.object_rules.specs.BoardRules.{joined_or_clash, arrival_reply, board_reply}
+use Rattle.object_rules.specs.BoardRules.{joined_or_clash, board_reply}
 use Rattle.object_rules.specs.Kinds.{same_kind}
 use Rattle.object_rules.proofs.Growing.{opening_more}
 use Rattle.team_laws.proofs.Arrivals.{joined_image}
@@ -39,7 +39,7 @@ same_arrives t i u j l q k m e = cc
 same_number : (a b : ℕ) → replies.Round a ≡ replies.Round b → a ≡ b
 same_number a b e = cc
 
-same_opening : (o p : Opening) → Some o ≡ Some p → o ≡ p
+pub same_opening : (o p : Opening) → Some o ≡ Some p → o ≡ p
 same_opening o p e = cc
 
 module _ (class : Class) (team k : ℕ) where
@@ -74,10 +74,10 @@ module _ (class : Class) (team k : ℕ) where
           let p = and_parts (nat_eq u team) (nat_eq (suc (arrivals team i hs)) k) t in
           let is_o = same_opening (record { kind = kd; image = i; line = l }) o q in
           let there : arrives_there u i (happens class e.image.0 e.event.line e.event.ask e.event.reply) ≡ true =
-              ap (arrives_there u i) what ∙ and_from (nat_eq u u) (nat_eq i i) (eq-eqb u u refl) (eq-eqb i i refl) in
+          ap (arrives_there u i) what ∙ and_from (nat_eq u u) (nat_eq i i) (eq-eqb u u refl) (eq-eqb i i refl) in
           let image = joined_image class u i e.image.0 e.event.line e.event.ask e.event.reply there in
           let joins : arrives_there team e.image.0 (happens class e.image.0 e.event.line e.event.ask e.event.reply) ≡ true =
-              ap (arrives_there team e.image.0) what ∙ and_from (nat_eq u team) (nat_eq i e.image.0) p.0 (eq-eqb i e.image.0 (sym image)) in
+          ap (arrives_there team e.image.0) what ∙ and_from (nat_eq u team) (nat_eq i e.image.0) p.0 (eq-eqb i e.image.0 (sym image)) in
           let is = is_arrival class team e.image.0 e.event.line e.event.ask e.event.reply joins in
           let kinds = same_arrives team e.image.0 u i e.event.line l is.kind kd (sym is.what ∙ what) in
           record {
@@ -115,14 +115,14 @@ module _ (s : List Declared) (n : ℕ) (class : Class) (team : ℕ) (t g : List 
       let i = z.event.image.0 in
       let more = ahead i in
       let words : said_by i t ≡ said_by i z.before ++ said z.event.event ∷ (said_by i z.rest ++ more.0) =
-          more.1 ∙ ap (λ w. w ++ more.0) (marks_at Entry (Said Ask Reply) (view n) (likes n) g z) ∙ append_assoc (said_by i z.before) (said z.event.event ∷ said_by i z.rest) more.0 in
+      more.1 ∙ ap (λ w. w ++ more.0) (marks_at Entry (Said Ask Reply) (view n) (likes n) g z) ∙ append_assoc (said_by i z.before) (said z.event.event ∷ said_by i z.rest) more.0 in
       let y = heard_at i t (said_by i z.before) (said_by i z.rest ++ more.0) (said z.event.event) words in
       let there : Stands t = record { before = y.earlier; event = y.entry; rest = y.later; split = y.split } in
       let same : happens class y.entry.image.0 y.entry.event.line y.entry.event.ask y.entry.event.reply ≡ happens class i z.event.event.line z.event.event.ask z.event.event.reply =
-          ap (λ j. happens class j y.entry.event.line y.entry.event.ask y.entry.event.reply) y.image ∙ ap (λ (w : Said Ask Reply). happens class i w.line w.ask w.reply) y.is in
+      ap (λ j. happens class j y.entry.event.line y.entry.event.ask y.entry.event.reply) y.image ∙ ap (λ (w : Said Ask Reply). happens class i w.line w.ask w.reply) y.is in
       let joins : arrives_there team y.entry.image.0 (happens class y.entry.image.0 y.entry.event.line y.entry.event.ask y.entry.event.reply) ≡ true =
-          ap (arrives_there team y.entry.image.0) (same ∙ a.arrival.what)
-          ∙ and_from (nat_eq team team) (nat_eq i y.entry.image.0) (eq-eqb team team refl) (eq-eqb i y.entry.image.0 (sym y.image)) in
+      ap (arrives_there team y.entry.image.0) (same ∙ a.arrival.what)
+      ∙ and_from (nat_eq team team) (nat_eq i y.entry.image.0) (eq-eqb team team refl) (eq-eqb i y.entry.image.0 (sym y.image)) in
       let is = is_arrival class team y.entry.image.0 y.entry.event.line y.entry.event.ask y.entry.event.reply joins in
       let kinds = same_arrives team y.entry.image.0 team i y.entry.event.line z.event.event.line is.kind a.arrival.kind (sym is.what ∙ same ∙ a.arrival.what) in
       let number = same_number is.round a.arrival.round (sym is.heard ∙ ap (λ (w : Said Ask Reply). w.reply) y.is ∙ a.arrival.heard) in
@@ -145,7 +145,7 @@ module _ (s : List Declared) (n : ℕ) (class : Class) (team : ℕ) (t g : List 
     arrives_again =
         let i = y.event.image.0 in
         let number : suc (arrivals team i (happened class (at_board g))) ≡ arrival.round =
-            ap suc (ap (arrivals team i) (happened_board class g) ∙ own_arrivals class i team g ∙ ap (arrivals_said class team i) (sym words)) ∙ sym (number_at s n t run_t class team y arrival) in
+        ap suc (ap (arrivals team i) (happened_board class g) ∙ own_arrivals class i team g ∙ ap (arrivals_said class team i) (sym words)) ∙ sym (number_at s n t run_t class team y arrival) in
         arrival.due n (at_board g) i
         ∙ ap (λ q. joined_or_clash arrival.kind q (opening_of team q (happened class (at_board g)))) number
         ∙ ap (λ hs. joined_or_clash arrival.kind arrival.round (opening_of team arrival.round hs)) (happened_board class g)

@@ -1,6 +1,6 @@
 -- Runs without FORM TEAM and without failures: their teams, and what an arrival is there.
-use Rattle.std.proofs.Common.{◌≡◌, ℕ, suc, ◌+◌, Bool, true, false, IsTrue, nat_eq, nat_le, ◌&&◌, cond, List, [], ◌∷◌, ◌++◌, length, inl, inr, refl, ap, sym, ◌∙◌, subst, append_assoc}
-use Rattle.std.specs.Prelude.{Option, Some, None}
+use Rattle.std.proofs.Common.{◌≡◌, ℕ, suc, true, IsTrue, nat_eq, ◌&&◌, List, [], ◌∷◌, ◌++◌, length, refl, ap, sym, ◌∙◌, subst, append_assoc}
+use Rattle.std.specs.Prelude.{Some}
 use Rattle.std.specs.List.{list_all}
 use Rattle.std.proofs.lemmas.Bool.{and_parts, eqb-true}
 use Rattle.trace_theory.specs.Entries.{Each}
@@ -15,13 +15,12 @@ use Rattle.caf_events.specs.declared.round.RoundKind.TheVariants as kinds
 use Rattle.caf_events.specs.declared.event.Entry.{Entry}
 use Rattle.caf_events.specs.Asks.{place_of}
 use Rattle.object_rules.specs.Cells.{Declared}
-use Rattle.object_rules.specs.Happenings.{Happening, arrives, Class, control, collective, images, kind_of, happens, happened}
+use Rattle.object_rules.specs.Happenings.{arrives, Class, control, collective, images, kind_of, happens, happened}
 use Rattle.object_rules.specs.ImagePairs.{names}
 use Rattle.object_rules.specs.TeamRounds.{arrivals, Opening, opening_of}
 use Rattle.object_rules.specs.BoardTeams.{arrives_there, teams_after, members_at}
 use Rattle.object_rules.specs.Folds.{is_of_kind}
 use Rattle.object_rules.specs.BoardRules.{is_image, is_gathered, is_root, fits_board, board_ready, board_reply, arrival_reply}
-use Rattle.core_runs.specs.Lists.{said}
 use Rattle.core_runs.specs.CoreRuns.{at_board, said_by}
 use Rattle.core_runs.specs.Sequences.{NothingAfterEnd}
 use Rattle.core_runs.specs.Lawful.{IsLawfulTrace}
@@ -85,8 +84,8 @@ is_arrival control team i line (asks.Arrive t arriving) (replies.Round k) h =
       what = ap (λ z. Some (arrives z i (kind_of arriving) line)) is;
       due = λ n h j. ap (λ z. arrival_reply control h j z (kind_of arriving)) is;
       fits = λ n h j ready. (
-        let both = (and_parts (is_image n j && fits_board n h j (asks.Arrive t arriving)) true ready).0 in
-        subst (λ z. names j (members_at (teams_after n h) z) ≡ true) is (and_parts (is_image n j) (fits_board n h j (asks.Arrive t arriving)) both).1);
+          let both = (and_parts (is_image n j && fits_board n h j (asks.Arrive t arriving)) true ready).0 in
+          subst (λ z. names j (members_at (teams_after n h) z) ≡ true) is (and_parts (is_image n j) (fits_board n h j (asks.Arrive t arriving)) both).1);
     }
 is_arrival control team i line (asks.Arrive t arriving) r h = absurd (cc)
 is_arrival control team i line a r h = absurd (cc)
@@ -100,13 +99,13 @@ is_arrival collective team i line (asks.Gather t op root kind values) (replies.R
       what = ap (λ z. Some (arrives z i (kinds.Collective op root kind (length values)) line)) is;
       due = λ n h j. ap (λ z. arrival_reply collective h j z (kinds.Collective op root kind (length values))) is;
       fits = λ n h j ready. (
-        let a = asks.Gather t op root kind values in
-        let ms = members_at (teams_after n h) t.0 in
-        let both = (and_parts (is_image n j && fits_board n h j a) true ready).0 in
-        let all = (and_parts (is_image n j) (fits_board n h j a) both).1 in
-        let three = (and_parts (names j ms && is_gathered op kind && is_root op (length ms) root) (list_all (is_of_kind kind) values) all).0 in
-        let two = (and_parts (names j ms && is_gathered op kind) (is_root op (length ms) root) three).0 in
-        subst (λ z. names j (members_at (teams_after n h) z) ≡ true) is (and_parts (names j ms) (is_gathered op kind) two).0);
+          let a = asks.Gather t op root kind values in
+          let ms = members_at (teams_after n h) t.0 in
+          let both = (and_parts (is_image n j && fits_board n h j a) true ready).0 in
+          let all = (and_parts (is_image n j) (fits_board n h j a) both).1 in
+          let three = (and_parts (names j ms && is_gathered op kind && is_root op (length ms) root) (list_all (is_of_kind kind) values) all).0 in
+          let two = (and_parts (names j ms && is_gathered op kind) (is_root op (length ms) root) three).0 in
+          subst (λ z. names j (members_at (teams_after n h) z) ≡ true) is (and_parts (names j ms) (is_gathered op kind) two).0);
     }
 is_arrival collective team i line (asks.Gather t op root kind values) r h = absurd (cc)
 is_arrival collective team i line a r h = absurd (cc)

@@ -1,9 +1,8 @@
 -- Which members had stopped by the close of a round is told by what they said in all: those that never arrived at it.
-use Rattle.std.proofs.Common.{◌≡◌, ◌<◌, ◌≤◌, ℕ, suc, ◌+◌, Bool, true, false, IsTrue, nat_eq, nat_le, nat_lt, ◌&&◌, ◌||◌, cond, List, [], ◌∷◌, ◌++◌, length, map, inl, inr, refl, ap, sym, ◌∙◌, subst, arith, append_assoc, length-append}
-use Rattle.std.specs.Prelude.{Option, Some, None, is_some}
+use Rattle.std.proofs.Common.{◌≡◌, ◌<◌, ◌≤◌, ℕ, suc, ◌+◌, Bool, true, false, IsTrue, nat_le, nat_lt, ◌&&◌, ◌||◌, cond, List, [], ◌∷◌, ◌++◌, length, map, inl, inr, refl, ap, sym, ◌∙◌, subst, arith, append_assoc, length-append}
+use Rattle.std.specs.Prelude.{None, is_some}
 use Rattle.std.specs.List.{list_any, list_all}
-use Rattle.std.proofs.lemmas.List.{append-nil}
-use Rattle.std.proofs.lemmas.Bool.{cases_Bool, cases_lt, and_parts, or_cases, both_ways, lt-ltb, le-ltb, leb-true}
+use Rattle.std.proofs.lemmas.Bool.{cases_Bool, cases_lt, and_parts, both_ways, lt-ltb, le-ltb, leb-true}
 use Rattle.trace_theory.specs.Entries.{Each}
 use Rattle.trace_theory.specs.Machines.{Said}
 use Rattle.trace_theory.proofs.Filters.{each_filter}
@@ -17,24 +16,23 @@ use Rattle.caf_events.specs.declared.event.Entry.{Entry}
 use Rattle.caf_events.specs.Asks.{place_of}
 use Rattle.object_rules.specs.Cells.{Declared}
 use Rattle.object_rules.specs.Happenings.{Class, control, collective, images, happens, happened, has_stopped, has_failed}
-use Rattle.object_rules.specs.TeamRounds.{has_closed, Missed, missed_by}
+use Rattle.object_rules.specs.TeamRounds.{has_closed, missed_by}
 use Rattle.object_rules.specs.BoardTeams.{arrives_there, teams_after, members_at, closing}
-use Rattle.object_rules.specs.BoardRules.{is_image, has_joined, fits_board, can_come, board_ready}
-use Rattle.core_runs.specs.Lists.{image_of, said}
+use Rattle.object_rules.specs.BoardRules.{is_image, fits_board, can_come, board_ready}
+use Rattle.core_runs.specs.Lists.{said}
 use Rattle.core_runs.specs.CoreRuns.{at_board, of_image, said_by}
-use Rattle.core_runs.specs.Lawful.{IsLawfulTrace}
 use Rattle.core_runs.specs.Sequences.{IsDeparture, CutsShort, JoinsBehind, NothingAfterEnd}
 use Rattle.order_theory.specs.Races.{Stands}
 use Rattle.answer_laws.proofs.Splits.{heard_at}
 use Rattle.answer_laws.proofs.Served.{board_split}
 use Rattle.every_order.specs.Decided.{is_free}
 use Rattle.free_replies.proofs.Alike.{IsFree}
-use Rattle.free_replies.proofs.Replies.{board_here, said_append}
+use Rattle.free_replies.proofs.Replies.{board_here}
 use Rattle.round_replies.proofs.BoardWords.{joins_by, arrivals_said, arrivals_append, is_stop_ask, stopped_said, own_stops, none_failed, closed_is, any_ext, or_none, happened_board}
 use Rattle.round_replies.proofs.Ahead.{IsAhead, front_ahead, arrivals_ahead, stops_at, stop_ends, stopped_whole}
 use Rattle.round_replies.proofs.Closing.{ClosedBy, some_closed}
 use Rattle.round_replies.proofs.Departing.{departs, Numbered, NoneCuts, Departed, departed}
-use Rattle.round_replies.proofs.RoundRuns.{IsRoundRun, round_front, nothing_front, team_members, members_are, is_arrival, number_at}
+use Rattle.round_replies.proofs.RoundRuns.{IsRoundRun, round_front, team_members, members_are, is_arrival, number_at}
 
 -- rounds are of image control statements or of collective subroutines
 abbrev pub IsRoundClass : Class → Type 0
@@ -107,15 +105,15 @@ module _ (s : List Declared) (n : ℕ) (class : Class) (round : IsRoundClass cla
     numbered_from b [] c e split = tt
     numbered_from b (w ∷ ws) c e split = (
       λ joins k heard. (
-        let h = heard_at j g b ws w split in
-        let z : Stands g = record { before = h.earlier; event = h.entry; rest = h.later; split = h.split } in
-        let is = is_arrival class team h.entry.image.0 h.entry.event.line h.entry.event.ask h.entry.event.reply
-            (subst (λ i. arrives_there team i (happens class i h.entry.event.line h.entry.event.ask h.entry.event.reply) ≡ true) (sym h.image)
-              (subst (λ v. joins_by class team j v ≡ true) (sym h.is) joins)) in
-        let same : replies.Round is.round ≡ replies.Round k = sym is.heard ∙ ap (λ v. v.reply) h.is ∙ heard in
-        let number : is.round ≡ k = cc in
-        sym number ∙ number_at s n g run class team z is
-        ∙ ap (λ i. suc (arrivals_said class team i (said_by i h.earlier))) h.image ∙ ap (λ v. suc (arrivals_said class team j v)) h.heard ∙ ap suc (sym e)),
+          let h = heard_at j g b ws w split in
+          let z : Stands g = record { before = h.earlier; event = h.entry; rest = h.later; split = h.split } in
+          let is = is_arrival class team h.entry.image.0 h.entry.event.line h.entry.event.ask h.entry.event.reply
+          (subst (λ i. arrives_there team i (happens class i h.entry.event.line h.entry.event.ask h.entry.event.reply) ≡ true) (sym h.image)
+          (subst (λ v. joins_by class team j v ≡ true) (sym h.is) joins)) in
+          let same : replies.Round is.round ≡ replies.Round k = sym is.heard ∙ ap (λ v. v.reply) h.is ∙ heard in
+          let number : is.round ≡ k = cc in
+          sym number ∙ number_at s n g run class team z is
+          ∙ ap (λ i. suc (arrivals_said class team i (said_by i h.earlier))) h.image ∙ ap (λ v. suc (arrivals_said class team j v)) h.heard ∙ ap suc (sym e)),
       numbered_from (b ++ w ∷ []) ws (cond (joins_by class team j w) 1 0 + c) (let a = arrivals_append class team j b (w ∷ []) in omega arith) (split ∙ sym (append_assoc b (w ∷ []) ws)),
     )
 
@@ -132,12 +130,12 @@ module _ (s : List Declared) (n : ℕ) (class : Class) (round : IsRoundClass cla
         let asked : h.entry.event.ask ≡ departs class d.of_team k = ap (λ w. w.ask) h.is ∙ d.asked in
         let place : place_of h.entry.event.ask ≡ places.Board = ap place_of asked ∙ departs_board class d.of_team k in
         let ready : IsTrue (board_ready n (at_board h.earlier) h.entry.image.0 (departs class d.of_team k)) =
-            subst (λ a. IsTrue (board_ready n (at_board h.earlier) h.entry.image.0 a)) asked (board_here s n c.front front_run.lawful z place).0 in
+        subst (λ a. IsTrue (board_ready n (at_board h.earlier) h.entry.image.0 a)) asked (board_here s n c.front front_run.lawful z place).0 in
         let some = departs_closed class round n (at_board h.earlier) h.entry.image.0 d.of_team k ready in
         let early = round_front s n h.earlier (h.entry ∷ h.later) (subst (IsRoundRun s n) h.split front_run) in
         let here : is_some (closing class team k (team_members n team) (at_board h.earlier)) ≡ true =
-            subst (λ ms. is_some (closing class team k ms (at_board h.earlier)) ≡ true) (members_are s n h.earlier early team)
-            (subst (λ t. is_some (closing class t k (members_at (teams_after n (at_board h.earlier)) t) (at_board h.earlier)) ≡ true) d.is_team some) in
+        subst (λ ms. is_some (closing class team k ms (at_board h.earlier)) ≡ true) (members_are s n h.earlier early team)
+        (subst (λ t. is_some (closing class t k (members_at (teams_after n (at_board h.earlier)) t) (at_board h.earlier)) ≡ true) d.is_team some) in
         let size = ap length (ap at_board h.split ∙ board_split h.earlier h.later h.entry place) ∙ length-append (at_board h.earlier) (h.entry ∷ at_board h.later) in
         both_ways (has_closed (team_members n team) team k (happened class h.earlier)) (c.sooner h.earlier (h.entry ∷ h.later) h.split (omega arith))
         (some_closed class team k (team_members n team) h.earlier here)
@@ -153,12 +151,12 @@ module _ (s : List Declared) (n : ℕ) (class : Class) (round : IsRoundClass cla
           let count = ap (arrivals_said class team m) split ∙ arrivals_append class team m at.before (at.word ∷ []) in
           let stop = stop_joins class team m at.word.line at.word.ask at.word.reply at.stops in
           let count' : arrivals_said class team m (said_by m c.front) ≡ arrivals_said class team m at.before + (0 + 0) =
-              subst (λ b. arrivals_said class team m (said_by m c.front) ≡ arrivals_said class team m at.before + (cond b 1 0 + 0)) stop count in
+          subst (λ b. arrivals_said class team m (said_by m c.front) ≡ arrivals_said class team m at.before + (cond b 1 0 + 0)) stop count in
           let numbered = numbered_cut class team m at.before (at.word ∷ []) 0 (subst (Numbered class team m 0) split (numbered_from c.front front_run m [] (said_by m c.front) 0 refl refl)) in
           not_departed m at.before (at.word ∷ []) split
           (departed class team m k at.word (stop_stays at.word.ask at.stops) (stop_uncut at.word.ask at.stops) 0 None at.before
-            (subst (JoinsBehind None) split (front_run.lawful.joins m)) numbered
-            (none_cut class team m at.before (at.word ∷ []) (subst (Each (λ w. is_free w.ask w.reply ≡ true)) split (words_free m c.front front_run.free))) (omega arith) (omega arith)))
+          (subst (JoinsBehind None) split (front_run.lawful.joins m)) numbered
+          (none_cut class team m at.before (at.word ∷ []) (subst (Each (λ w. is_free w.ask w.reply ≡ true)) split (words_free m c.front front_run.free))) (omega arith) (omega arith)))
     ]
 
     -- a run that is ahead of this one
@@ -191,6 +189,6 @@ module _ (s : List Declared) (n : ℕ) (class : Class) (round : IsRoundClass cla
           let closed = sym (closed_is class team k ms c.front front_run.free) ∙ c.closed in
           let all = (and_parts (list_any (λ m. nat_le k (arrivals_said class team m (said_by m c.front))) ms) (list_all (λ m. nat_le k (arrivals_said class team m (said_by m c.front)) || stopped_said (said_by m c.front)) ms) closed).1 in
           let a = any_ext (λ m. has_stopped m hs) (λ m. stopped_said (said_by m c.front)) (λ m. own_stops class m c.front) ms
-              ∙ any_where (λ m. nat_le k (arrivals_said class team m (said_by m c.front)) || stopped_said (said_by m c.front)) (λ m. stopped_said (said_by m c.front)) (λ m. nat_lt (arrivals_said class team m (said_by m t)) k) member_told ms all in
+          ∙ any_where (λ m. nat_le k (arrivals_said class team m (said_by m c.front)) || stopped_said (said_by m c.front)) (λ m. stopped_said (said_by m c.front)) (λ m. nat_lt (arrivals_said class team m (said_by m t)) k) member_told ms all in
           let b = any_ext (λ m. has_failed m hs) (λ m. false) (λ m. none_failed class m c.front front_run.free) ms ∙ any_false ms in
           ap (missed_by ms) (happened_board class c.front) ∙ (λ i. record { stopped = a i; failed = b i })
