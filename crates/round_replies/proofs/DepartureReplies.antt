@@ -16,15 +16,16 @@ use Rattle.object_rules.specs.BoardTeams.{teams_after, members_at, closing, roun
 use Rattle.object_rules.specs.BoardRules.{is_image, has_joined, fits_board, can_come, board_ready, board_reply, control_result, collective_result, collected, taken_by, parts_of, leave_reply, take_reply}
 use Rattle.team_laws.proofs.Openings.{closed_opens}
 use Rattle.core_runs.specs.CoreRuns.{at_board, said_by}
-use Rattle.round_replies.proofs.BoardWords.{happened_board, arrivals_said, stopped_said, closed_is, or_none}
-use Rattle.round_replies.proofs.FirstTeam.{first_team, one_team, opening_other}
-use Rattle.round_replies.proofs.Ahead.{IsAhead, stopped_whole}
-use Rattle.round_replies.proofs.Closing.{ClosedBy, closed_by}
-use Rattle.round_replies.proofs.Departing.{departs}
-use Rattle.round_replies.proofs.RoundRuns.{IsRoundRun, team_members, members_are}
-use Rattle.round_replies.proofs.RoundStops.{IsRoundClass, departs_closed, front_run, ahead_front, missed_told}
+use Rattle.round_words.proofs.BoardWords.{happened_board, stopped_said, closed_is, or_none}
+use Rattle.round_words.proofs.FirstTeam.{one_team, opening_other}
+use Rattle.round_words.proofs.Ahead.{stopped_whole}
+use Rattle.round_words.proofs.Closing.{ClosedBy, closed_by}
+use Rattle.round_words.proofs.Departing.{departs}
+use Rattle.round_words.proofs.RoundRuns.{members_are}
+use Rattle.round_words.proofs.RoundStops.{departs_closed, front_run, ahead_front, missed_told}
 use Rattle.round_replies.proofs.Openings.{opening_kind}
 use Rattle.round_replies.proofs.GatheredValues.{values_said, values_append, parts_told}
+use Rattle.round_words.specs.RoundRuns.{IsAhead, IsRoundClass, IsRoundRun, arrivals_said, first_team, team_members}
 
 -- a round from which an image departs has a number from 1
 joined_low : (class : Class) (n : ℕ) (h : List Entry) (i team k : ℕ) → has_joined class n h i team k ≡ true → 1 ≤ k

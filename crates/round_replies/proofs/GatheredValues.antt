@@ -15,7 +15,8 @@ use Rattle.object_rules.specs.BoardRules.{gathered, parts_of}
 use Rattle.team_laws.proofs.Arrivals.{joined_image}
 use Rattle.core_runs.specs.Lists.{key_of, said}
 use Rattle.core_runs.specs.CoreRuns.{of_image, at_board, said_by}
-use Rattle.round_replies.proofs.BoardWords.{nothing_elsewhere, joins_by, arrivals_said}
+use Rattle.round_words.proofs.BoardWords.{nothing_elsewhere}
+use Rattle.round_words.specs.RoundRuns.{arrivals_said, joins_by}
 
 -- what an image brings to round k of a team, by its words
 abbrev pub values_said : ℕ → ℕ → ℕ → List (Said Ask Reply) → Option (List Value)

@@ -1,14 +1,7 @@
-pub mod BoardWords
-pub mod FirstTeam
-pub mod SameKinds
-pub mod Ahead
-pub mod Closing
-pub mod Departing
-pub mod RoundRuns
-pub mod RoundStops
 pub mod Openings
 pub mod GatheredValues
 pub mod DepartureReplies
 pub mod RoundSources
 pub mod ReadyMore
+pub mod NoTakings
 pub mod Rounds

@@ -28,10 +28,10 @@ use Rattle.order_axioms.specs.Views.{view}
 use Rattle.order_cuts.proofs.OwnParts.{marks_at}
 use Rattle.answer_laws.proofs.Splits.{heard_at}
 use Rattle.every_order.specs.Likes.{likes}
-use Rattle.round_replies.proofs.BoardWords.{happened_board, arrivals_said, own_arrivals}
-use Rattle.round_replies.proofs.Ahead.{IsAhead}
-use Rattle.round_replies.proofs.RoundRuns.{IsRoundRun, IsArrival, is_arrival, number_at, kind_at}
-use Rattle.round_replies.proofs.SameKinds.{kind_self}
+use Rattle.round_words.proofs.BoardWords.{happened_board, own_arrivals}
+use Rattle.round_words.proofs.RoundRuns.{IsArrival, is_arrival, number_at, kind_at}
+use Rattle.round_words.proofs.SameKinds.{kind_self}
+use Rattle.round_words.specs.RoundRuns.{IsAhead, IsRoundRun, arrivals_said}
 
 same_arrives : (t i u j l q : ℕ) (k m : RoundKind) → Some (arrives t i k l) ≡ Some (arrives u j m q) → k ≡ m
 same_arrives t i u j l q k m e = cc

@@ -25,50 +25,32 @@ use Rattle.object_rules.specs.BoardRules.{is_image, is_gathered, is_root, is_ope
 use Rattle.core_runs.specs.CoreRuns.{at_board, of_memory, said_by}
 use Rattle.core_runs.specs.Lawful.{made_memory}
 use Rattle.free_replies.proofs.OwnSizes.{sizes_own, size_same, ready_same, not_own}
-use Rattle.round_replies.specs.Subsets.{is_of_rounds}
-use Rattle.round_replies.proofs.BoardWords.{happened_board, own_arrivals, arrivals_said, closed_is}
-use Rattle.round_replies.proofs.FirstTeam.{one_team}
-use Rattle.round_replies.proofs.Ahead.{IsAhead, closed_ahead}
-use Rattle.round_replies.proofs.Closing.{some_closed, closed_some}
-use Rattle.round_replies.proofs.RoundRuns.{IsRoundRun, team_members, members_are}
+use Rattle.every_order.specs.Decided.{is_free}
+use Rattle.free_replies.proofs.Alike.{IsFree}
+use Rattle.caf_base.specs.declared.span.Span.{Span}
+use Rattle.round_words.proofs.BoardWords.{happened_board, own_arrivals, closed_is}
+use Rattle.round_words.proofs.FirstTeam.{one_team}
+use Rattle.round_words.proofs.Ahead.{closed_ahead}
+use Rattle.round_words.proofs.Closing.{some_closed, closed_some}
+use Rattle.round_words.proofs.RoundRuns.{members_are}
+use Rattle.round_words.specs.RoundRuns.{IsAhead, IsRoundRun, arrivals_said, team_members}
 
-abbrev pub IsOfRound : Entry → Type 0
-IsOfRound x = is_of_rounds x.event.ask ≡ true
+-- free steps enter no construct and get no lock
+open_turn : (c i : ℕ) (a : Ask) (r : Reply) → is_free a r ≡ true → construct_turn c free i a ≡ free
+open_turn c i (asks.Enter d) r h = absurd (cc)
+open_turn c i (asks.Exit d) r h = absurd (cc)
+open_turn c i asks.Gone r h = absurd (cc)
+open_turn c i a r h = refl
 
--- such steps begin no SYNC IMAGES, enter no construct, get no lock and post no event
-abbrev pairs_in : ℕ → Option Happening → Bool
-pairs_in i None = false
-pairs_in i (Some x) = is_pair i x
-
-pair_at : (i j line : ℕ) (a : Ask) (r : Reply) → is_of_rounds a ≡ true → pairs_in j (happens images i line a r) ≡ false
-pair_at i j line (asks.Pair named) r h = absurd (cc)
-pair_at i j line (asks.Stop code) r h = refl
-pair_at i j line asks.Gone r h = refl
-pair_at i j line a r h = refl
-
-pair_first : (i : ℕ) (o : Option Happening) (hs : List Happening) → pairs_in i o ≡ false → pairs_of i (cons_option o hs) ≡ pairs_of i hs
-pair_first i None hs f = refl
-pair_first i (Some x) hs f = rw f (omega arith)
-
-no_pairs : (i : ℕ) (g : List Entry) → Each IsOfRound g → pairs_of i (happened images g) ≡ 0
-no_pairs i [] h = refl
-no_pairs i (e ∷ g) h = pair_first i (happens images e.image.0 e.event.line e.event.ask e.event.reply) (happened images g) (pair_at e.image.0 i e.event.line e.event.ask e.event.reply h.0) ∙ no_pairs i g h.1
-
-open_turn : (c i : ℕ) (a : Ask) → is_of_rounds a ≡ true → construct_turn c free i a ≡ free
-open_turn c i (asks.Enter d) h = absurd (cc)
-open_turn c i (asks.Exit d) h = absurd (cc)
-open_turn c i asks.Gone h = absurd (cc)
-open_turn c i a h = refl
-
-open_from : (c : ℕ) (g : List Entry) → Each IsOfRound g → construct_from c free g ≡ free
+open_from : (c : ℕ) (g : List Entry) → Each IsFree g → construct_from c free g ≡ free
 open_from c [] h = refl
-open_from c (e ∷ g) h = ap (λ z. construct_from c z g) (open_turn c e.image.0 e.event.ask h.0) ∙ open_from c g h.1
+open_from c (e ∷ g) h = ap (λ z. construct_from c z g) (open_turn c e.image.0 e.event.ask e.event.reply h.0) ∙ open_from c g h.1
 
 both_free : (b : Bool) → cond b free free ≡ free
 both_free true = refl
 both_free false = refl
 
-lock_turned : (c o i : ℕ) (a : Ask) (r : Reply) → is_of_rounds a ≡ true → lock_turn c o free i a r ≡ free
+lock_turned : (c o i : ℕ) (a : Ask) (r : Reply) → is_free a r ≡ true → lock_turn c o free i a r ≡ free
 lock_turned c o i (asks.Lock owner span) r h = absurd (cc)
 lock_turned c o i (asks.TryLock owner span) r h = absurd (cc)
 lock_turned c o i (asks.Unlock owner span) r h = absurd (cc)
@@ -77,33 +59,15 @@ lock_turned c o i (asks.Create owner k cells) r h = both_free (nat_eq k c)
 lock_turned c o i (asks.Delete owner k) r h = both_free (nat_eq k c)
 lock_turned c o i a r h = refl
 
-unlocked : (c o : ℕ) (g : List Entry) → Each IsOfRound g → lock_from c o free g ≡ free
+unlocked : (c o : ℕ) (g : List Entry) → Each IsFree g → lock_from c o free g ≡ free
 unlocked c o [] h = refl
 unlocked c o (e ∷ g) h = ap (λ z. lock_from c o z g) (lock_turned c o e.image.0 e.event.ask e.event.reply h.0) ∙ unlocked c o g h.1
-
-both_zero : (b : Bool) (z : ℕ) → cond b z z ≡ z
-both_zero true z = refl
-both_zero false z = refl
-
-event_turned : (c o : ℕ) (a : Ask) (r : Reply) → is_of_rounds a ≡ true → event_turn c o 0 a r ≡ 0
-event_turned c o (asks.Post owner span) r h = absurd (cc)
-event_turned c o (asks.Wait owner span threshold) r h = absurd (cc)
-event_turned c o (asks.Create owner k cells) r h = both_zero (nat_eq k c) 0
-event_turned c o (asks.Delete owner k) r h = both_zero (nat_eq k c) 0
-event_turned c o a r h = refl
-
-unposted : (c o : ℕ) (g : List Entry) → Each IsOfRound g → event_from c o 0 g ≡ 0
-unposted c o [] h = refl
-unposted c o (e ∷ g) h = ap (λ z. event_from c o z g) (event_turned c o e.event.ask e.event.reply h.0) ∙ unposted c o g h.1
 
 or_true : (b c : Bool) → c ≡ true → (b || c) ≡ true
 or_true true c h = refl
 or_true false c h = h
 
-no_wait : (k : ℕ) → nat_le 1 k ≡ true → nat_le k 0 ≡ true → ⊥
-no_wait k low high = let a = leb-true 1 k low in let b = leb-true k 0 high in omega arith
-
-module _ (s : List Declared) (n : ℕ) (w u : List Entry) (run_w : IsRoundRun s n w) (run_u : IsRoundRun s n u) (of_w : Each IsOfRound w) (of_u : Each IsOfRound u) (ahead : IsAhead u w)
+module _ (s : List Declared) (n : ℕ) (w u : List Entry) (run_w : IsRoundRun s n w) (run_u : IsRoundRun s n u) (ahead : IsAhead u w)
     (i : ℕ) (same : said_by i w ≡ said_by i u) where
   abbrev b : List Entry
   b = at_board w
@@ -132,31 +96,27 @@ module _ (s : List Declared) (n : ℕ) (w u : List Entry) (run_w : IsRoundRun s 
       let more = closed_ahead class u w ahead team k ms (sym (closed_is class team k ms w run_w.free) ∙ here) in
       subst (λ z. is_some (closing class team k z d) ≡ true) (sym (members_are s n u run_u team)) (closed_some class team k ms u (closed_is class team k ms u run_u.free ∙ more))
 
-  -- At the board.
-  pub board_more : (a : Ask) → IsTrue (board_ready n b i a) → IsTrue (board_ready n d i a)
-  board_more (asks.Arrive team arriving) h = by_teams (λ ts. is_image n i && names i (members_at ts team.0) && true) h
-  board_more (asks.Gather team op root kind values) h =
+  -- At the board, where the end of SYNC IMAGES can come too.
+  pub board_more : (IsTrue (board_ready n b i asks.Unpair) → IsTrue (board_ready n d i asks.Unpair)) → (a : Ask) → IsTrue (board_ready n b i a) → IsTrue (board_ready n d i a)
+  board_more unpair (asks.Arrive team arriving) h = by_teams (λ ts. is_image n i && names i (members_at ts team.0) && true) h
+  board_more unpair (asks.Gather team op root kind values) h =
       by_teams (λ ts. is_image n i && (names i (members_at ts team.0) && is_gathered op kind && is_root op (length (members_at ts team.0)) root && list_all (is_of_kind kind) values) && true) h
-  board_more (asks.Failed team) h = by_teams (λ ts. is_image n i && names i (members_at ts team.0) && true) h
-  board_more (asks.Stopped team) h = by_teams (λ ts. is_image n i && names i (members_at ts team.0) && true) h
-  board_more (asks.Status team index) h = by_teams (λ ts. is_image n i && (names i (members_at ts team.0) && nat_le 1 index && nat_le index (length (members_at ts team.0))) && true) h
-  board_more (asks.Leave team k) h =
+  board_more unpair (asks.Failed team) h = by_teams (λ ts. is_image n i && names i (members_at ts team.0) && true) h
+  board_more unpair (asks.Stopped team) h = by_teams (λ ts. is_image n i && names i (members_at ts team.0) && true) h
+  board_more unpair (asks.Status team index) h = by_teams (λ ts. is_image n i && (names i (members_at ts team.0) && nat_le 1 index && nat_le index (length (members_at ts team.0))) && true) h
+  board_more unpair (asks.Leave team k) h =
       let p = and_parts (is_image n i && has_joined control n b i team.0 k) (is_some (closing control team.0 k (members_at (teams_after n b) team.0) b)) h in
       and_from (is_image n i && has_joined control n d i team.0 k) (is_some (closing control team.0 k (members_at (teams_after n d) team.0) d))
       (sym (ap (λ z. is_image n i && z) (joined_same control team.0 k)) ∙ p.0) (closes_more control team.0 k p.1)
-  board_more (asks.Take team k) h =
+  board_more unpair (asks.Take team k) h =
       let p = and_parts (is_image n i && has_joined collective n b i team.0 k) (is_some (closing collective team.0 k (members_at (teams_after n b) team.0) b)) h in
       and_from (is_image n i && has_joined collective n d i team.0 k) (is_some (closing collective team.0 k (members_at (teams_after n d) team.0) d))
       (sym (ap (λ z. is_image n i && z) (joined_same collective team.0 k)) ∙ p.0) (closes_more collective team.0 k p.1)
-  board_more asks.Unpair h =
-      let p = and_parts (is_image n i && nat_le 1 (pairs_of i (happened images b))) (can_come n b i asks.Unpair) h in
-      let low = (and_parts (is_image n i) (nat_le 1 (pairs_of i (happened images b))) p.0).1 in
-      let none : nat_le 1 0 ≡ true = subst (λ z. nat_le 1 z ≡ true) (ap (pairs_of i) (happened_board images w) ∙ no_pairs i w of_w) low in
-      absurd (let l = leb-true 1 0 none in omega arith)
-  board_more (asks.Enter construct) h =
+  board_more unpair asks.Unpair h = unpair h
+  board_more unpair (asks.Enter construct) h =
       let p = and_parts (is_image n i && true) (is_open (construct_after construct b)) h in
-      and_from (is_image n i && true) (is_open (construct_after construct d)) p.0 (ap is_open (open_from construct d (each_filter IsOfRound _ u of_u)))
-  board_more a h = h
+      and_from (is_image n i && true) (is_open (construct_after construct d)) p.0 (ap is_open (open_from construct d (each_filter IsFree _ u run_u.free)))
+  board_more unpair a h = h
 
   module _ (owner : ImageNo) where
     abbrev m : MadeMemory
@@ -171,25 +131,21 @@ module _ (s : List Declared) (n : ℕ) (w u : List Entry) (run_w : IsRoundRun s 
     sizes : (c : ℕ) → i ≡ owner.0 → size_after m p c ≡ size_after m q c
     sizes c is = size_same m owner.0 c w u (sizes_own s n w run_w.lawful) (sizes_own s n u run_u.lawful) (subst (λ j. said_by j w ≡ said_by j u) is same)
 
-    -- At a memory.
-    pub memory_more : (a : Ask) → IsTrue (memory_ready m p i a) → IsTrue (memory_ready m q i a)
-    memory_more (asks.Create o c cells) h = sym (ready_same m p q i (asks.Create o c cells) refl sizes) ∙ h
-    memory_more (asks.Delete o c) h = sym (ready_same m p q i (asks.Delete o c) refl sizes) ∙ h
-    memory_more (asks.Lock o span) h =
+    -- At a memory, where EVENT WAIT can come too.
+    pub memory_more : ((o : ImageNo) (span : Span) (threshold : ℕ) → IsTrue (memory_ready m p i (asks.Wait o span threshold)) → IsTrue (memory_ready m q i (asks.Wait o span threshold))) → (a : Ask) → IsTrue (memory_ready m p i a) → IsTrue (memory_ready m q i a)
+    memory_more wait (asks.Create o c cells) h = sym (ready_same m p q i (asks.Create o c cells) refl sizes) ∙ h
+    memory_more wait (asks.Delete o c) h = sym (ready_same m p q i (asks.Delete o c) refl sizes) ∙ h
+    memory_more wait (asks.Lock o span) h =
         let parts = and_parts (is_here m o && is_cell_of m is_lock span) (memories.can_come p (is_within m p span) i (asks.Lock o span)) h in
         and_from (is_here m o && is_cell_of m is_lock span) (memories.can_come q (is_within m q span) i (asks.Lock o span)) parts.0
         (or_true (is_marked q || not (is_within m q span)) (not (is_others (lock_after span.coarray span.start q) i))
-        (ap (λ z. not (is_others z i)) (unlocked span.coarray span.start q (each_filter IsOfRound _ u of_u))))
-    memory_more (asks.Wait o span threshold) h =
-        let fits = is_own m i o && is_cell_of m is_event span && is_within m p span && nat_le 1 threshold in
-        let parts = and_parts fits (nat_le threshold (event_after span.coarray span.start p)) h in
-        let low = (and_parts (is_own m i o && is_cell_of m is_event span && is_within m p span) (nat_le 1 threshold) parts.0).1 in
-        absurd (no_wait threshold low (subst (λ z. nat_le threshold z ≡ true) (unposted span.coarray span.start p (each_filter IsOfRound _ w of_w)) parts.1))
-    memory_more (asks.Query o span) h = elim (cases_Bool (nat_eq i owner.0)) [
+        (ap (λ z. not (is_others z i)) (unlocked span.coarray span.start q (each_filter IsFree _ u run_u.free))))
+    memory_more wait (asks.Wait o span threshold) h = wait o span threshold h
+    memory_more wait (asks.Query o span) h = elim (cases_Bool (nat_eq i owner.0)) [
       | inl t ↦ subst (λ z. (is_own m i o && is_cell_of m is_event span && list_all (is_offset z) (offsets_of span) && true) ≡ true) (sizes span.coarray (eqb-true i owner.0 t)) h
       | inr f ↦ absurd (
           let parts = (and_parts (is_own m i o && is_cell_of m is_event span && is_within m p span) true h).0 in
           let two = (and_parts (is_own m i o && is_cell_of m is_event span) (is_within m p span) parts).0 in
           both_ways (is_own m i o) (not_own m i o f) (and_parts (is_own m i o) (is_cell_of m is_event span) two).0)
     ]
-    memory_more a h = h
+    memory_more wait a h = h

@@ -50,15 +50,17 @@ use Rattle.free_replies.proofs.Replies.{board_here, front_follows, OthersSame}
 use Rattle.free_replies.proofs.Speaking.{FirstIsReady, speaks}
 use Rattle.free_replies.proofs.Memories.{of_cells}
 use Rattle.round_replies.specs.Subsets.{is_of_rounds, IsOfRounds}
-use Rattle.round_replies.proofs.BoardWords.{happened_board, none_failed}
-use Rattle.round_replies.proofs.FirstTeam.{is_no_form, FormsNone, first_team, one_team}
-use Rattle.round_replies.proofs.Ahead.{IsAhead, follows_ahead, earlier_ahead}
-use Rattle.round_replies.proofs.RoundRuns.{IsRoundRun, round_front, nothing_front, team_members, is_arrival}
+use Rattle.round_words.proofs.BoardWords.{happened_board, none_failed}
+use Rattle.round_words.proofs.FirstTeam.{one_team}
+use Rattle.round_words.proofs.Ahead.{follows_ahead, earlier_ahead}
+use Rattle.round_words.proofs.RoundRuns.{round_front, nothing_front, is_arrival}
 use Rattle.round_replies.proofs.Openings.{arrives_again, same_opening}
 use Rattle.round_replies.proofs.DepartureReplies.{Missing, leave_is, take_is}
 use Rattle.round_replies.proofs.GatheredValues.{values_said}
-use Rattle.round_replies.proofs.RoundSources.{keeps_rounds}
-use Rattle.round_replies.proofs.ReadyMore.{IsOfRound, board_more, memory_more}
+use Rattle.round_replies.proofs.RoundSources.{is_taking, keeps_rounds}
+use Rattle.round_replies.proofs.ReadyMore.{board_more, memory_more}
+use Rattle.round_replies.proofs.NoTakings.{IsOfRound, no_unpair, no_wait}
+use Rattle.round_words.specs.RoundRuns.{FormsNone, IsAhead, IsRoundRun, first_team, is_no_form, team_members}
 
 no_form : (a : Ask) → is_of_rounds a ≡ true → is_no_form a ≡ true
 no_form (asks.Arrive team (arrivings.Form number new_index)) h = absurd (cc)
@@ -81,6 +83,11 @@ arrives_collective : (t i line : ℕ) (team : TeamNo) (op : GatherOp) (root : �
     → arrives_there t i (happens collective i line (asks.Gather team op root kind values) r) ≡ true
 arrives_collective t i line team op root kind values (replies.Round k) e h = and_from (nat_eq team.0 t) (nat_eq i i) (eq-eqb team.0 t e) (eq-eqb i i refl)
 arrives_collective t i line team op root kind values r e h = absurd (cc)
+
+takes_none : (a : Ask) → is_of_rounds a ≡ true → is_taking a ≡ false
+takes_none asks.Unpair h = absurd (cc)
+takes_none (asks.Wait owner span threshold) h = absurd (cc)
+takes_none a h = refl
 
 indices_ext : (p q : ℕ → Bool) → ((m : ℕ) → p m ≡ q m) → (k : ℕ) (ms : List ℕ) → indices_from k p ms ≡ indices_from k q ms
 indices_ext p q same k [] = refl
@@ -167,7 +174,7 @@ module _ {C : Type 0} (step : C → Move C Ask Reply) (hears : C → Reply → T
   }
 
   keeps : (g : List Entry) → IsLawfulTrace s n g → Follows (view n) (likes n) t g → KeepsSources (view n) (likes n) t g
-  keeps g law_g fol = keeps_rounds s n t run_t alone.steps g (run_of g law_g fol) fol
+  keeps g law_g fol = keeps_rounds s n t run_t g (run_of g law_g fol) fol (λ x y a same takes w. absurd (both_ways _ (takes_none x.event.event.ask (kind_at x)) takes))
 
   others : OthersSame step hears s n first t declared fit core decided keeps
   others g y law_g fol next = (
@@ -198,11 +205,12 @@ module _ {C : Type 0} (step : C → Move C Ask Reply) (hears : C → Reply → T
           let in_run : IsOneOf n owner.0 = subst (IsThere n) (ap place_of asked ∙ place) (each_stands (λ z. IsThere n (place_of z.event.ask)) (g ++ x ∷ []) law_x.places last) in
           let ready = subst (λ b. IsTrue (memory_ready (made_memory s owner.0) (of_memory owner.0 g) i b)) asked there.0 in
           both_ways _ (unready in_run)
-          (memory_more s n g t (run_of g law_g fol) run_t (of_rounds g fol) alone.steps (follows_ahead n t g fol) i (sym whole) owner a ready)
+          (memory_more s n g t (run_of g law_g fol) run_t (follows_ahead n t g fol) i (sym whole) owner
+              (λ o span threshold r. absurd (no_wait g (of_rounds g fol) i (made_memory s owner.0) owner.0 o span threshold r)) a ready)
       waits law_x law_g {a} asked places.Board place unready =
           let there = board_here s n (g ++ x ∷ []) law_x last (ap place_of asked ∙ place) in
           let ready = subst (λ b. IsTrue (board_ready n (at_board g) i b)) asked there.0 in
-          both_ways _ unready (board_more s n g t (run_of g law_g fol) run_t (of_rounds g fol) alone.steps (follows_ahead n t g fol) i (sym whole) a ready)
+          both_ways _ unready (board_more s n g t (run_of g law_g fol) run_t (follows_ahead n t g fol) i (sym whole) (λ r. absurd (no_unpair g (of_rounds g fol) i n r)) a ready)
       waits law_x law_g {a} asked places.Own place unready = unready
 
   ready : FirstIsReady step hears one s n first t declared fit core decided keeps others stays
@@ -225,10 +233,11 @@ module _ {C : Type 0} (step : C → Move C Ask Reply) (hears : C → Reply → T
           let in_run : IsOneOf n owner.0 = subst (IsThere n) place (each_stands (λ z. IsThere n (place_of z.event.ask)) t law.places x) in
           let there = served_here s n t law x.before x.rest x.event x.split owner place in
           both_ways _ (unready in_run)
-          (memory_more s n x.before u front (run_of u law_u fol) of_front (of_rounds u fol) ahead i (next_words n t u fol x next) owner x.event.event.ask there.0)
+          (memory_more s n x.before u front (run_of u law_u fol) ahead i (next_words n t u fol x next) owner
+              (λ o span threshold r. absurd (no_wait x.before of_front i (made_memory s owner.0) owner.0 o span threshold r)) x.event.event.ask there.0)
       by places.Board place unready =
           both_ways _ unready
-          (board_more s n x.before u front (run_of u law_u fol) of_front (of_rounds u fol) ahead i (next_words n t u fol x next) x.event.event.ask (board_here s n t law x place).0)
+          (board_more s n x.before u front (run_of u law_u fol) ahead i (next_words n t u fol x next) (λ r. absurd (no_unpair x.before of_front i n r)) x.event.event.ask (board_here s n t law x place).0)
       by places.Own place unready = unready
 
   pub rounds_speak : (u : List Entry) → IsCoreRun (full_rules step hears) (full_beginning s n first) u → SpeaksFor (full_rules step hears) (full_beginning s n first) s n t u

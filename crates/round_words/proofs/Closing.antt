@@ -13,7 +13,7 @@ use Rattle.team_laws.proofs.Rounds.{closing_is, closed_now}
 use Rattle.core_runs.specs.Lists.{key_of}
 use Rattle.core_runs.specs.CoreRuns.{at_board}
 use Rattle.order_theory.proofs.Splits.{same_fronts}
-use Rattle.round_replies.proofs.BoardWords.{happened_board}
+use Rattle.round_words.proofs.BoardWords.{happened_board}
 
 module _ {E : Type 0} (test : List E → Bool) where
   is_here : (b : List E) (f : List E) → cond (test b) (Some b) None ≡ Some f → (test b ≡ true) × (b ≡ f)
@@ -72,7 +72,7 @@ module _ (class : Class) (team k : ℕ) (ms : List ℕ) where
     pub closed : has_closed ms team k (happened class front) ≡ true
     pub sooner : (b r : List Entry) → front ≡ b ++ r → length (at_board b) < length (at_board front) → has_closed ms team k (happened class b) ≡ false
 
-  closed_at : (g f : List Entry) → closing class team k ms (at_board g) ≡ Some f → ClosedBy g
+  pub closed_at : (g f : List Entry) → closing class team k ms (at_board g) ≡ Some f → ClosedBy g
   closed_at g f e =
       let c = closing_is class team k ms (at_board g) f e in
       let s = board_front g f c.0 c.1 in

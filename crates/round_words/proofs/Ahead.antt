@@ -23,10 +23,8 @@ use Rattle.order_cuts.proofs.OwnParts.{at_place}
 use Rattle.every_order.specs.Likes.{likes}
 use Rattle.free_replies.proofs.FirstLeft.{IsIn}
 use Rattle.free_replies.proofs.Replies.{said_append}
-use Rattle.round_replies.proofs.BoardWords.{arrivals_said, arrivals_append, is_stop_ask, stopped_said, stopped_append, closed_said}
-
-abbrev pub IsAhead : List Entry → List Entry → Type 0
-IsAhead u w = (i : ℕ) → (more : List (Said Ask Reply)) × (said_by i u ≡ said_by i w ++ more)
+use Rattle.round_words.proofs.BoardWords.{arrivals_append, is_stop_ask, stopped_said, stopped_append, closed_said}
+use Rattle.round_words.specs.RoundRuns.{IsAhead, arrivals_said}
 
 pub follows_ahead : (n : ℕ) (t g : List Entry) → Follows (view n) (likes n) t g → IsAhead t g
 follows_ahead n t g fol i = (fol.left i, fol.splits i)

@@ -1,6 +1,6 @@
 -- Without FORM TEAM the initial team is the only one.
 use Rattle.std.proofs.Common.{◌≡◌, ℕ, Bool, true, false, cond, List, [], ◌∷◌, ◌++◌, refl, ap, ◌∙◌}
-use Rattle.std.specs.Prelude.{negsuc, Option, Some, None}
+use Rattle.std.specs.Prelude.{Option, Some, None}
 use Rattle.std.specs.List.{cons_option, range_with_len}
 use Rattle.trace_theory.specs.Entries.{Each}
 use Rattle.trace_theory.proofs.Filters.{each_filter}
@@ -17,14 +17,7 @@ use Rattle.object_rules.specs.Happenings.{Happening, arrives, control, kind_of, 
 use Rattle.object_rules.specs.TeamRounds.{joins_round, opening_of, Opening}
 use Rattle.object_rules.specs.BoardTeams.{Team, teams_after, teams_from, made_in_rounds, is_form, is_form_kind}
 use Rattle.core_runs.specs.CoreRuns.{at_board}
-
--- no arrival at FORM TEAM
-abbrev pub is_no_form : Ask → Bool
-is_no_form (asks.Arrive team (arrivings.Form number new_index)) = false
-is_no_form a = true
-
-abbrev pub FormsNone : Entry → Type 0
-FormsNone x = is_no_form x.event.ask ≡ true
+use Rattle.round_words.specs.RoundRuns.{FormsNone, first_team, is_no_form}
 
 abbrev IsOther : Happening → Type 0
 IsOther (arrives t i k l) = is_form_kind k ≡ false
@@ -85,10 +78,6 @@ no_teams false ts h = refl
 rounds_make : (team : ℕ) (ms : List ℕ) (f : List Entry) (rs : List ℕ) → Each FormsNone f → made_in_rounds team ms f rs ≡ []
 rounds_make team ms f [] h = refl
 rounds_make team ms f (r ∷ rs) h = ap (λ ts. ts ++ made_in_rounds team ms f rs) (no_teams (is_form (opening_of team r (happened control f))) _ (opening_other team r f h)) ∙ rounds_make team ms f rs h
-
--- the initial team
-abbrev pub first_team : ℕ → Team
-first_team n = record { parent = 0; round = 0; number = negsuc 0; members = range_with_len 1 n }
 
 teams_stay : (n : ℕ) (before es : List Entry) → Each FormsNone before → Each FormsNone es → teams_from (first_team n ∷ []) before es ≡ first_team n ∷ []
 teams_stay n before [] h k = refl

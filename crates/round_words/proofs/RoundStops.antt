@@ -28,17 +28,12 @@ use Rattle.answer_laws.proofs.Served.{board_split}
 use Rattle.every_order.specs.Decided.{is_free}
 use Rattle.free_replies.proofs.Alike.{IsFree}
 use Rattle.free_replies.proofs.Replies.{board_here}
-use Rattle.round_replies.proofs.BoardWords.{joins_by, arrivals_said, arrivals_append, is_stop_ask, stopped_said, own_stops, none_failed, closed_is, any_ext, or_none, happened_board}
-use Rattle.round_replies.proofs.Ahead.{IsAhead, front_ahead, arrivals_ahead, stops_at, stop_ends, stopped_whole}
-use Rattle.round_replies.proofs.Closing.{ClosedBy, some_closed}
-use Rattle.round_replies.proofs.Departing.{departs, Numbered, NoneCuts, Departed, departed}
-use Rattle.round_replies.proofs.RoundRuns.{IsRoundRun, round_front, team_members, members_are, is_arrival, number_at}
-
--- rounds are of image control statements or of collective subroutines
-abbrev pub IsRoundClass : Class → Type 0
-IsRoundClass control = Unit {0}
-IsRoundClass collective = Unit {0}
-IsRoundClass images = ⊥
+use Rattle.round_words.proofs.BoardWords.{arrivals_append, is_stop_ask, stopped_said, own_stops, none_failed, closed_is, any_ext, or_none, happened_board}
+use Rattle.round_words.proofs.Ahead.{front_ahead, arrivals_ahead, stops_at, stop_ends, stopped_whole}
+use Rattle.round_words.proofs.Closing.{ClosedBy, some_closed}
+use Rattle.round_words.proofs.Departing.{departs, Numbered, NoneCuts, Departed, departed}
+use Rattle.round_words.proofs.RoundRuns.{round_front, members_are, is_arrival, number_at}
+use Rattle.round_words.specs.RoundRuns.{IsAhead, IsRoundClass, IsRoundRun, arrivals_said, joins_by, team_members}
 
 departs_board : (class : Class) (team : TeamNo) (k : ℕ) → place_of (departs class team k) ≡ places.Board
 departs_board control team k = refl

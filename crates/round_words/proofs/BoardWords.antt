@@ -19,6 +19,7 @@ use Rattle.core_runs.specs.Lists.{key_of, said}
 use Rattle.core_runs.specs.CoreRuns.{of_image, at_board, said_by}
 use Rattle.every_order.specs.Decided.{is_free}
 use Rattle.free_replies.proofs.Alike.{IsFree}
+use Rattle.round_words.specs.RoundRuns.{arrivals_said, joins_by}
 
 pub any_ext : {A : Type 0} (p q : A → Bool) → ((x : A) → p x ≡ q x) → (xs : List A) → list_any p xs ≡ list_any q xs
 any_ext p q same [] = refl
@@ -49,14 +50,6 @@ happened_board class (e ∷ g) = elim (cases_Bool (nat_eq (key_of e) 1)) [
   | inl t ↦ rw t (ap (cons_option (happens class e.image.0 e.event.line e.event.ask e.event.reply)) (happened_board class g))
   | inr f ↦ rw f (happened_board class g ∙ sym (ap (λ o. cons_option o (happened class g)) (nothing_elsewhere class e.image.0 e.event.line e.event.ask e.event.reply f)))
 ]
-
--- how often an image arrived at a team, by its words
-abbrev pub joins_by : Class → ℕ → ℕ → Said Ask Reply → Bool
-joins_by class team j w = arrives_there team j (happens class j w.line w.ask w.reply)
-
-abbrev pub arrivals_said : Class → ℕ → ℕ → List (Said Ask Reply) → ℕ
-arrivals_said class team j [] = 0
-arrivals_said class team j (w ∷ ws) = cond (joins_by class team j w) 1 0 + arrivals_said class team j ws
 
 -- whether it stopped
 abbrev pub is_stop_ask : Ask → Bool

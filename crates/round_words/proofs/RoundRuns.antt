@@ -3,7 +3,6 @@ use Rattle.std.proofs.Common.{◌≡◌, ℕ, suc, true, IsTrue, nat_eq, ◌&&�
 use Rattle.std.specs.Prelude.{Some}
 use Rattle.std.specs.List.{list_all}
 use Rattle.std.proofs.lemmas.Bool.{and_parts, eqb-true}
-use Rattle.trace_theory.specs.Entries.{Each}
 use Rattle.trace_theory.specs.Machines.{Said}
 use Rattle.caf_base.specs.declared.place.Place.TheVariants as places
 use Rattle.caf_events.specs.declared.ask.Ask.{Ask}
@@ -23,23 +22,16 @@ use Rattle.object_rules.specs.Folds.{is_of_kind}
 use Rattle.object_rules.specs.BoardRules.{is_image, is_gathered, is_root, fits_board, board_ready, board_reply, arrival_reply}
 use Rattle.core_runs.specs.CoreRuns.{at_board, said_by}
 use Rattle.core_runs.specs.Sequences.{NothingAfterEnd}
-use Rattle.core_runs.specs.Lawful.{IsLawfulTrace}
 use Rattle.core_runs.proofs.Fronts.{lawful_trace_front}
 use Rattle.order_theory.specs.Races.{Stands}
 use Rattle.answer_laws.proofs.RoundKinds.{joins_next, in_round}
 use Rattle.answer_laws.proofs.Served.{board_split}
 use Rattle.free_replies.proofs.Alike.{IsFree, each_front}
 use Rattle.free_replies.proofs.Replies.{board_here, said_append}
-use Rattle.round_replies.proofs.BoardWords.{happened_board, arrivals_said, own_arrivals}
-use Rattle.round_replies.proofs.FirstTeam.{FormsNone, first_team, one_team}
-use Rattle.round_replies.proofs.SameKinds.{alike_is}
-
--- a lawful trace without failures and FORM TEAM, in which nothing follows the end of an image
-pub record IsRoundRun (s : List Declared) (n : ℕ) (g : List Entry) : Type 0 where
-  pub lawful : IsLawfulTrace s n g
-  pub free : Each IsFree g
-  pub forms : Each FormsNone g
-  pub ends : (i : ℕ) → NothingAfterEnd (said_by i g)
+use Rattle.round_words.proofs.BoardWords.{happened_board, own_arrivals}
+use Rattle.round_words.proofs.FirstTeam.{one_team}
+use Rattle.round_words.proofs.SameKinds.{alike_is}
+use Rattle.round_words.specs.RoundRuns.{FormsNone, IsRoundRun, arrivals_said, team_members}
 
 empty_front : (xs ys : List (Said Ask Reply)) → xs ++ ys ≡ [] → xs ≡ []
 empty_front [] ys e = refl
@@ -55,10 +47,6 @@ round_front s n xs ys r = record {
   forms = each_front FormsNone xs ys r.forms;
   ends = λ i. nothing_front (said_by i xs) (said_by i ys) (subst NothingAfterEnd (said_append i xs ys) (r.ends i));
 }
-
--- the members of a team of such a run
-abbrev pub team_members : ℕ → ℕ → List ℕ
-team_members n team = members_at (first_team n ∷ []) team
 
 pub members_are : (s : List Declared) (n : ℕ) (g : List Entry) → IsRoundRun s n g → (team : ℕ) → members_at (teams_after n (at_board g)) team ≡ team_members n team
 members_are s n g r team = ap (λ ts. members_at ts team) (one_team n g r.forms)

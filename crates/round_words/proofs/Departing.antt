@@ -11,7 +11,7 @@ use Rattle.trace_theory.specs.Machines.{Said}
 use Rattle.object_rules.specs.Happenings.{Class, control, collective, images, happens}
 use Rattle.object_rules.specs.BoardTeams.{arrives_there}
 use Rattle.core_runs.specs.Sequences.{departure_after, IsDeparture, CutsShort, JoinsBehind}
-use Rattle.round_replies.proofs.BoardWords.{joins_by, arrivals_said}
+use Rattle.round_words.specs.RoundRuns.{arrivals_said, joins_by}
 
 -- the departure from a round of a team
 abbrev pub departs : Class → TeamNo → ℕ → Ask
