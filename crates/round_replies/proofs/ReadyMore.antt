@@ -1,8 +1,8 @@
 -- What can come stays so: an ask that is ready after a run is ready after one that is ahead of it, where its own image has said the same.
-use Rattle.std.proofs.Common.{◌≡◌, ℕ, Bool, true, false, IsTrue, nat_eq, nat_le, ◌&&◌, ◌||◌, not, cond, List, [], ◌∷◌, length, inl, inr, refl, ap, sym, ◌∙◌, subst, arith}
-use Rattle.std.specs.Prelude.{Option, Some, None, is_some}
-use Rattle.std.specs.List.{list_all, cons_option}
-use Rattle.std.proofs.lemmas.Bool.{cases_Bool, and_parts, and_from, both_ways, leb-true, eqb-true}
+use Rattle.std.proofs.Common.{◌≡◌, ℕ, Bool, true, false, IsTrue, nat_eq, nat_le, ◌&&◌, ◌||◌, not, cond, List, [], ◌∷◌, length, inl, inr, refl, ap, sym, ◌∙◌, subst}
+use Rattle.std.specs.Prelude.{is_some}
+use Rattle.std.specs.List.{list_all}
+use Rattle.std.proofs.lemmas.Bool.{cases_Bool, and_parts, and_from, both_ways, eqb-true}
 use Rattle.trace_theory.specs.Entries.{Each}
 use Rattle.trace_theory.proofs.Filters.{each_filter}
 use Rattle.caf_base.specs.declared.place.ImageNo.{ImageNo}
@@ -12,16 +12,16 @@ use Rattle.caf_events.specs.declared.ask.Ask.TheVariants as asks
 use Rattle.caf_events.specs.declared.reply.Reply.{Reply}
 use Rattle.caf_events.specs.declared.event.Entry.{Entry}
 use Rattle.object_rules.specs.Constructs.{free, construct_turn, construct_from, construct_after}
-use Rattle.object_rules.specs.Locks.{lock_turn, lock_from, lock_after, event_turn, event_from, event_after, is_others}
+use Rattle.object_rules.specs.Locks.{lock_turn, lock_from, lock_after, is_others}
 use Rattle.object_rules.specs.Cells.{Declared, MadeMemory, size_after, is_offset, is_within, is_marked}
 use Rattle.object_rules.specs.MemoryRules.{is_lock, is_event, is_cell_of, is_here, is_own, memory_ready}
 use Rattle.object_rules.specs.MemoryRules as memories
-use Rattle.object_rules.specs.Happenings.{Happening, Class, control, collective, images, happens, happened}
-use Rattle.object_rules.specs.ImagePairs.{names, is_pair, pairs_of}
+use Rattle.object_rules.specs.Happenings.{Class, control, collective, happened}
+use Rattle.object_rules.specs.ImagePairs.{names}
 use Rattle.object_rules.specs.TeamRounds.{arrivals}
 use Rattle.object_rules.specs.BoardTeams.{Team, teams_after, members_at, closing}
 use Rattle.object_rules.specs.Folds.{is_of_kind}
-use Rattle.object_rules.specs.BoardRules.{is_image, is_gathered, is_root, is_open, has_joined, can_come, board_ready}
+use Rattle.object_rules.specs.BoardRules.{is_image, is_gathered, is_root, is_open, has_joined, board_ready}
 use Rattle.core_runs.specs.CoreRuns.{at_board, of_memory, said_by}
 use Rattle.core_runs.specs.Lawful.{made_memory}
 use Rattle.free_replies.proofs.OwnSizes.{sizes_own, size_same, ready_same, not_own}

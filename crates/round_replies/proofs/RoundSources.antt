@@ -3,7 +3,6 @@ use Rattle.std.proofs.Common.{◌≡◌, ◌⊎◌, ℕ, suc, Bool, true, IsTrue
 use Rattle.std.specs.Prelude.{is_some}
 use Rattle.std.specs.List.{list_any, list_all}
 use Rattle.std.proofs.lemmas.Bool.{cases_Bool, and_parts, and_from, or_cases, eqb-true, eq-eqb}
-use Rattle.trace_theory.specs.Entries.{Each}
 use Rattle.trace_theory.specs.Machines.{Said}
 use Rattle.caf_base.specs.declared.place.TeamNo.{TeamNo}
 use Rattle.caf_events.specs.declared.ask.Ask.{Ask}
@@ -21,7 +20,7 @@ use Rattle.object_rules.specs.BoardRules.{board_ready}
 use Rattle.core_runs.specs.CoreRuns.{at_board, said_by}
 use Rattle.order_theory.specs.Order.{Segment, Within}
 use Rattle.order_theory.specs.Races.{Cell, Stands}
-use Rattle.order_theory.specs.Acts.{arrives, posts, finishes, leaves, round, completing, released, waiting}
+use Rattle.order_theory.specs.Acts.{arrives, posts, finishes, leaves, round, released, waiting}
 use Rattle.order_axioms.specs.Statuses.{tells_stopped, tells_success}
 use Rattle.order_axioms.specs.Views.{view, act_by, act_of, end_of_pair, first_cell}
 use Rattle.order_axioms.specs.Closes.{joined_by}
@@ -182,10 +181,10 @@ module _ (s : List Declared) (n : ℕ) (t : List Entry) (run_t : IsRoundRun s n 
         let front = round_front s n y.before (y.event ∷ y.rest) (subst (IsRoundRun s n) y.split run) in
         let asked : y.event.event.ask ≡ asks.Leave r.team r.number = sym (ap (λ (q : Said Ask Reply). q.ask) (said_same n t g fol x y same)) ∙ r.asked in
         let ready : IsTrue (board_ready n (at_board y.before) y.event.image.0 (asks.Leave r.team r.number)) =
-            subst (λ b. IsTrue (board_ready n (at_board y.before) y.event.image.0 b)) asked (board_here s n g run.lawful y (ap place_of asked)).0 in
+        subst (λ b. IsTrue (board_ready n (at_board y.before) y.event.image.0 b)) asked (board_here s n g run.lawful y (ap place_of asked)).0 in
         let some : is_some (closing control r.team.0 r.number (team_members n r.team.0) (at_board y.before)) ≡ true =
-            subst (λ ms. is_some (closing control r.team.0 r.number ms (at_board y.before)) ≡ true) (members_are s n y.before front r.team.0)
-            (departs_closed control tt n (at_board y.before) y.event.image.0 r.team r.number ready) in
+        subst (λ ms. is_some (closing control r.team.0 r.number ms (at_board y.before)) ≡ true) (members_are s n y.before front r.team.0)
+        (departs_closed control tt n (at_board y.before) y.event.image.0 r.team r.number ready) in
         let closed = some_closed control r.team.0 r.number (team_members n r.team.0) y.before some in
         let act_y : act_of y.event ≡ leaves r.team.0 r.number true = sym (same_act Entry (Said Ask Reply) (view n) (likes n) t g fol x y same) ∙ r.act in
         let here : Within a (waiting (view n) (round r.team.0 r.number) x.before) = subst (λ q. Within a (released (view n) x.before x.event.image.0 q)) r.act w in

@@ -1,0 +1,3 @@
+pub mod PairWords
+pub mod PairCloses
+pub mod PairSources
