@@ -46,14 +46,20 @@ both_zero : (b : Bool) (z : ℕ) → cond b z z ≡ z
 both_zero true z = refl
 both_zero false z = refl
 
-event_turned : (c o : ℕ) (a : Ask) (r : Reply) → is_of_rounds a ≡ true → event_turn c o 0 a r ≡ 0
+-- neither EVENT POST nor EVENT WAIT
+abbrev pub is_no_event : Ask → Bool
+is_no_event (asks.Post owner span) = false
+is_no_event (asks.Wait owner span threshold) = false
+is_no_event a = true
+
+event_turned : (c o : ℕ) (a : Ask) (r : Reply) → is_no_event a ≡ true → event_turn c o 0 a r ≡ 0
 event_turned c o (asks.Post owner span) r h = absurd (cc)
 event_turned c o (asks.Wait owner span threshold) r h = absurd (cc)
 event_turned c o (asks.Create owner k cells) r h = both_zero (nat_eq k c) 0
 event_turned c o (asks.Delete owner k) r h = both_zero (nat_eq k c) 0
 event_turned c o a r h = refl
 
-unposted : (c o : ℕ) (g : List Entry) → Each IsOfRound g → event_from c o 0 g ≡ 0
+unposted : (c o : ℕ) (g : List Entry) → Each (λ x. is_no_event x.event.ask ≡ true) g → event_from c o 0 g ≡ 0
 unposted c o [] h = refl
 unposted c o (e ∷ g) h = ap (λ z. event_from c o z g) (event_turned c o e.event.ask e.event.reply h.0) ∙ unposted c o g h.1
 
@@ -70,11 +76,12 @@ module _ (w : List Entry) (of_w : Each IsOfRound w) (i : ℕ) where
       let l = leb-true 1 0 none in
       omega arith
 
-  -- and EVENT WAIT can't
+-- where no event is posted EVENT WAIT can't come
+module _ (w : List Entry) (of_w : Each (λ x. is_no_event x.event.ask ≡ true) w) (i : ℕ) where
   pub no_wait : (m : MadeMemory) (owner : ℕ) (o : ImageNo) (span : Span) (threshold : ℕ) → IsTrue (memory_ready m (of_memory owner w) i (asks.Wait o span threshold)) → ⊥
   no_wait m owner o span threshold h =
       let p = of_memory owner w in
       let fits = is_own m i o && is_cell_of m is_event span && is_within m p span && nat_le 1 threshold in
       let parts = and_parts fits (nat_le threshold (event_after span.coarray span.start p)) h in
       let low = (and_parts (is_own m i o && is_cell_of m is_event span && is_within m p span) (nat_le 1 threshold) parts.0).1 in
-      too_low threshold low (subst (λ z. nat_le threshold z ≡ true) (unposted span.coarray span.start p (each_filter IsOfRound _ w of_w)) parts.1)
+      too_low threshold low (subst (λ z. nat_le threshold z ≡ true) (unposted span.coarray span.start p (each_filter (λ x. is_no_event x.event.ask ≡ true) _ w of_w)) parts.1)

@@ -27,7 +27,7 @@ use Rattle.free_replies.proofs.Alike.{each_from, each_stands, carried}
 use Rattle.free_replies.proofs.Memories.{of_cells}
 use Rattle.round_replies.specs.Subsets.{is_of_rounds, IsOfRounds}
 use Rattle.round_replies.proofs.RoundSources.{is_taking}
-use Rattle.round_replies.proofs.NoTakings.{IsOfRound, no_unpair, no_wait}
+use Rattle.round_replies.proofs.NoTakings.{IsOfRound, is_no_event, no_unpair, no_wait}
 use Rattle.round_words.specs.RoundRuns.{FormsNone, IsRoundRun, is_no_form}
 use Rattle.round_replies.proofs.AnyRounds.{TellsTakings, any_speak}
 
@@ -36,13 +36,18 @@ no_form (asks.Arrive team (arrivings.Form number new_index)) h = absurd (cc)
 no_form a h = refl
 
 -- at a memory such a step is an access
-access_there : (owner : ImageNo) (a : Ask) → is_of_rounds a ≡ true → place_of a ≡ places.Memory owner → is_of_cells a ≡ true
+pub access_there : (owner : ImageNo) (a : Ask) → is_of_rounds a ≡ true → place_of a ≡ places.Memory owner → is_of_cells a ≡ true
 access_there owner (asks.Arrive team arriving) h p = absurd (cc)
 access_there owner (asks.Leave team k) h p = absurd (cc)
 access_there owner (asks.Gather team op root kind values) h p = absurd (cc)
 access_there owner (asks.Take team k) h p = absurd (cc)
 access_there owner (asks.Failed team) h p = absurd (cc)
 access_there owner a h p = of_cells owner a h p
+
+no_event : (a : Ask) → is_of_rounds a ≡ true → is_no_event a ≡ true
+no_event (asks.Post owner span) h = absurd (cc)
+no_event (asks.Wait owner span threshold) h = absurd (cc)
+no_event a h = refl
 
 takes_none : (a : Ask) → is_of_rounds a ≡ true → is_taking a ≡ false
 takes_none asks.Unpair h = absurd (cc)
@@ -56,6 +61,9 @@ module _ (s : List Declared) (n : ℕ) (t : List Entry) (run_t : IsRoundRun s n 
   of_rounds : (g : List Entry) → Follows (view n) (likes n) t g → Each IsOfRound g
   of_rounds g fol = carried n t g fol (λ w. is_of_rounds w.ask ≡ true) alone.steps
 
+  no_events : (g : List Entry) → Follows (view n) (likes n) t g → Each (λ x. is_no_event x.event.ask ≡ true) g
+  no_events g fol = carried n t g fol (λ w. is_no_event w.ask ≡ true) (each_from (λ x. is_no_event x.event.ask ≡ true) t (λ x. no_event x.event.event.ask (kind_at x)))
+
   not_unpair : (a : Ask) → is_of_rounds a ≡ true → a ≡ asks.Unpair → ⊥
   not_unpair a h e = let no : is_of_rounds asks.Unpair ≡ true = subst (λ z. is_of_rounds z ≡ true) e h in cc
 
@@ -64,7 +72,7 @@ module _ (s : List Declared) (n : ℕ) (t : List Entry) (run_t : IsRoundRun s n 
     taken = λ g run fol x y a same takes w. absurd (both_ways _ (takes_none x.event.event.ask (kind_at x)) takes);
     unpaired = λ g run fol y words e ready. absurd (not_unpair y.event.event.ask (kind_at y) e);
     unpair_more = λ w u run_w run_u fol_w fol_u ahead i same ready. absurd (no_unpair w (of_rounds w fol_w) i n ready);
-    wait_more = λ w u run_w run_u fol_w fol_u ahead i same owner o span threshold ready. absurd (no_wait w (of_rounds w fol_w) i (made_memory s owner.0) owner.0 o span threshold ready);
+    wait_more = λ w u run_w run_u fol_w fol_u ahead i same owner o span threshold ready. absurd (no_wait w (no_events w fol_w) i (made_memory s owner.0) owner.0 o span threshold ready);
     memory_again = λ g run fol y words owner place not_cells. absurd (both_ways _ not_cells (access_there owner y.event.event.ask (kind_at y) place));
   }
 
