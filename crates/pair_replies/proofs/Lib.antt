@@ -1,3 +1,4 @@
 pub mod PairWords
 pub mod PairCloses
 pub mod PairSources
+pub mod Pairs

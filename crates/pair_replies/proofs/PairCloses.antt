@@ -56,21 +56,24 @@ module _ {E : Type 0} (test : List E → Bool) where
   front_is h f e = front_from [] h f e
 
 -- a front of what happened is what happened in a front
-pub happened_front : (g : List Entry) (f r : List Happening) → happened images g ≡ f ++ r → (a : List Entry) × (b : List Entry) × (g ≡ a ++ b) × (happened images a ≡ f)
+abbrev FrontOf : List Entry → List Happening → Type 0
+FrontOf g f = (a : List Entry) × (b : List Entry) × (g ≡ a ++ b) × (happened images a ≡ f)
+
+front_more : (x : Entry) (g : List Entry) (y : Happening) (f r : List Happening) → ((f' : List Happening) → happened images g ≡ f' ++ r → FrontOf g f') → (o : Option Happening)
+    → happens images x.image.0 x.event.line x.event.ask x.event.reply ≡ o → cons_option o (happened images g) ≡ y ∷ (f ++ r) → FrontOf (x ∷ g) (y ∷ f)
+front_more x g y f r next None w e =
+    let s = next (y ∷ f) e in
+    (x ∷ s.0, s.1, ap (λ z. x ∷ z) s.2, ap (λ o. cons_option o (happened images s.0)) w ∙ s.3)
+front_more x g y f r next (Some z) w e =
+    let heads : z ≡ y = cc in
+    let tails : happened images g ≡ f ++ r = cc in
+    let s = next f tails in
+    (x ∷ s.0, s.1, ap (λ z. x ∷ z) s.2, ap (λ o. cons_option o (happened images s.0)) w ∙ ap (λ hs. z ∷ hs) s.3 ∙ ap (λ h. h ∷ f) heads)
+
+pub happened_front : (g : List Entry) (f r : List Happening) → happened images g ≡ f ++ r → FrontOf g f
 happened_front g [] r e = ([], g, refl, refl)
 happened_front [] (y ∷ f) r e = absurd (cc)
-happened_front (x ∷ g) (y ∷ f) r e = by (happens images x.image.0 x.event.line x.event.ask x.event.reply) refl
-  where
-    by : (o : Option Happening) → happens images x.image.0 x.event.line x.event.ask x.event.reply ≡ o → (a : List Entry) × (b : List Entry) × (x ∷ g ≡ a ++ b) × (happened images a ≡ y ∷ f)
-    by None w =
-        let s = happened_front g (y ∷ f) r (sym (ap (λ o. cons_option o (happened images g)) w) ∙ e) in
-        (x ∷ s.0, s.1, ap (λ z. x ∷ z) s.2, ap (λ o. cons_option o (happened images s.0)) w ∙ s.3)
-    by (Some z) w =
-        let q : z ∷ happened images g ≡ y ∷ (f ++ r) = sym (ap (λ o. cons_option o (happened images g)) w) ∙ e in
-        let heads : z ≡ y = cc in
-        let tails : happened images g ≡ f ++ r = cc in
-        let s = happened_front g f r tails in
-        (x ∷ s.0, s.1, ap (λ z. x ∷ z) s.2, ap (λ o. cons_option o (happened images s.0)) w ∙ ap (λ hs. z ∷ hs) s.3 ∙ ap (λ h. h ∷ f) heads)
+happened_front (x ∷ g) (y ∷ f) r e = front_more x g y f r (λ f' q. happened_front g f' r q) (happens images x.image.0 x.event.line x.event.ask x.event.reply) refl e
 
 module _ (i n : ℕ) where
   abbrev test : List Happening → Bool

@@ -79,59 +79,61 @@ said_segments : (j i d : ℕ) (x : Entry) (g : List Entry) (o : Bool) → segmen
 said_segments j i d x g true = refl
 said_segments j i d x g false = refl
 
-turned_pair : (j i k : ℕ) (a : Act) (seg : Segment) (q : List Segment) → turned (turn (pair j i) k a) seg q ≡ q ++ cond (nat_eq j k) (cond (pairs_with i a) (seg ∷ []) []) []
-turned_pair j i k (pairs js) seg q = by (nat_eq j k) (names i js)
+turned_pair : (j i k : ℕ) (a : Act) (seg : Segment) (q : List Segment) → turned (turn (pair j i) k a) seg q ≡ q ++ cond (nat_eq k j) (cond (pairs_with i a) (seg ∷ []) []) []
+turned_pair j i k (pairs js) seg q = by (nat_eq k j) (names i js)
   where
     by : (x y : Bool) → turned (cond (x && y) adds leaves_all) seg q ≡ q ++ cond x (cond y (seg ∷ []) []) []
     by true true = refl
     by true false = sym (append-nil q)
     by false y = sym (append-nil q)
-turned_pair j i k a seg q = by (nat_eq j k)
+turned_pair j i k a seg q = by (nat_eq k j)
   where
-    by : (x : Bool) → q ≡ q ++ cond x [] []
+    by : (x : Bool) → q ≡ q ++ cond {A = List Segment} x [] []
     by true = sym (append-nil q)
     by false = sym (append-nil q)
 
-module _ (n j i : ℕ) where
-  step_is : (b : List Entry) (e : Entry) (g q : List Entry) (p : List Segment) (o : Bool) → nat_eq e.image.0 j ≡ o
-      → (p ++ cond (nat_eq j e.image.0) (cond (pairs_with i (act_of e)) (segment_of (entries (view n)) b e ∷ []) []) []) ++ segments_said j i (done (entries (view n)) j (b ++ e ∷ [])) (said_by j g)
-      ≡ p ++ cond o (begun_by j i (done (entries (view n)) j b) (act_of e) (segments_said j i (done_by (act_of e) (done (entries (view n)) j b)) (said_by j g))) (segments_said j i (done (entries (view n)) j b) (said_by j g))
-  step_is b e g q p true own =
-      let is = eqb-true e.image.0 j own in
-      let count : done (entries (view n)) j (b ++ e ∷ []) ≡ done_by (act_of e) (done (entries (view n)) j b) =
-          done_append Entry (entries (view n)) j b (e ∷ []) ∙ ap (λ c. done (entries (view n)) j b + (cond (c && completing (act_of e)) 1 0 + 0)) own ∙ (let m = done (entries (view n)) j b in swap m (completing (act_of e))) in
-      let seg : segment_of (entries (view n)) b e ≡ record { image = j; number = done (entries (view n)) j b } = ap (λ k. record { image = k; number = done (entries (view n)) k b }) is in
-      append_assoc p _ _
-      ∙ ap (λ z. p ++ (cond z (cond (pairs_with i (act_of e)) (segment_of (entries (view n)) b e ∷ []) []) [] ++ segments_said j i (done (entries (view n)) j (b ++ e ∷ [])) (said_by j g))) (eq-eqb j e.image.0 (sym is))
-      ∙ ap (λ z. p ++ (cond (pairs_with i (act_of e)) (z ∷ []) [] ++ segments_said j i (done (entries (view n)) j (b ++ e ∷ [])) (said_by j g))) seg
-      ∙ ap (λ z. p ++ (cond (pairs_with i (act_of e)) (record { image = j; number = done (entries (view n)) j b } ∷ []) [] ++ segments_said j i z (said_by j g))) count
-      ∙ ap (λ z. p ++ z) (begins (pairs_with i (act_of e)) (record { image = j; number = done (entries (view n)) j b }) (segments_said j i (done_by (act_of e) (done (entries (view n)) j b)) (said_by j g)))
-    where
-      swap : (m : ℕ) (c : Bool) → m + (cond (true && c) 1 0 + 0) ≡ cond c 1 0 + m
-      swap m true = omega arith
-      swap m false = omega arith
+swap_count : (m : ℕ) (c : Bool) → m + (cond (true && c) 1 0 + 0) ≡ cond c 1 0 + m
+swap_count m true = omega arith
+swap_count m false = omega arith
 
-      begins : (c : Bool) (s : Segment) (q : List Segment) → cond c (s ∷ []) [] ++ q ≡ cond c (s ∷ q) q
-      begins true s q = refl
-      begins false s q = refl
-  step_is b e g q p false own =
-      let other : nat_eq j e.image.0 ≡ false = elim (cases_Bool (nat_eq j e.image.0)) [ inr f ↦ f | inl t ↦ absurd (both_ways (nat_eq e.image.0 j) own (eq-eqb e.image.0 j (sym (eqb-true j e.image.0 t)))) ] in
-      let count : done (entries (view n)) j (b ++ e ∷ []) ≡ done (entries (view n)) j b =
-          done_append Entry (entries (view n)) j b (e ∷ []) ∙ ap (λ c. done (entries (view n)) j b + (cond (c && completing (act_of e)) 1 0 + 0)) own ∙ (let m = done (entries (view n)) j b in none m) in
-      ap (λ z. (p ++ cond z (cond (pairs_with i (act_of e)) (segment_of (entries (view n)) b e ∷ []) []) []) ++ segments_said j i (done (entries (view n)) j (b ++ e ∷ [])) (said_by j g)) other
-      ∙ ap (λ z. z ++ segments_said j i (done (entries (view n)) j (b ++ e ∷ [])) (said_by j g)) (append-nil p)
+no_count : (m : ℕ) → m + (0 + 0) ≡ m
+no_count m = omega arith
+
+begins : (c : Bool) (s : Segment) (q : List Segment) → cond c (s ∷ []) [] ++ q ≡ cond c (s ∷ q) q
+begins true s q = refl
+begins false s q = refl
+
+module _ (n j i : ℕ) where
+  abbrev many : List Entry → ℕ
+  many b = done (entries (view n)) j b
+
+  step_is : (b : List Entry) (e : Entry) (g : List Entry) (p : List Segment) (o : Bool) → nat_eq e.image.0 j ≡ o
+      → (p ++ cond (nat_eq e.image.0 j) (cond (pairs_with i (act_of e)) (segment_of (entries (view n)) b e ∷ []) []) []) ++ segments_said j i (many (b ++ e ∷ [])) (said_by j g)
+      ≡ p ++ cond o (begun_by j i (many b) (act_of e) (segments_said j i (done_by (act_of e) (many b)) (said_by j g))) (segments_said j i (many b) (said_by j g))
+  step_is b e g p true own =
+      let is = eqb-true e.image.0 j own in
+      let count : many (b ++ e ∷ []) ≡ done_by (act_of e) (many b) =
+          done_append Entry (entries (view n)) j b (e ∷ []) ∙ ap (λ c. many b + (cond (c && completing (act_of e)) 1 0 + 0)) own ∙ swap_count (many b) (completing (act_of e)) in
+      let seg : segment_of (entries (view n)) b e ≡ record { image = j; number = many b } = ap (λ k. record { image = k; number = done (entries (view n)) k b }) is in
+      let rest = segments_said j i (many (b ++ e ∷ [])) (said_by j g) in
+      append_assoc p (cond (nat_eq e.image.0 j) (cond (pairs_with i (act_of e)) (segment_of (entries (view n)) b e ∷ []) []) []) rest
+      ∙ ap (λ z. p ++ (cond z (cond (pairs_with i (act_of e)) (segment_of (entries (view n)) b e ∷ []) []) [] ++ rest)) own
+      ∙ ap (λ z. p ++ (cond (pairs_with i (act_of e)) (z ∷ []) [] ++ rest)) seg
+      ∙ ap (λ z. p ++ (cond (pairs_with i (act_of e)) (record { image = j; number = many b } ∷ []) [] ++ segments_said j i z (said_by j g))) count
+      ∙ ap (λ z. p ++ z) (begins (pairs_with i (act_of e)) (record { image = j; number = many b }) (segments_said j i (done_by (act_of e) (many b)) (said_by j g)))
+  step_is b e g p false own =
+      let count : many (b ++ e ∷ []) ≡ many b = done_append Entry (entries (view n)) j b (e ∷ []) ∙ ap (λ c. many b + (cond (c && completing (act_of e)) 1 0 + 0)) own ∙ no_count (many b) in
+      ap (λ z. (p ++ cond z (cond (pairs_with i (act_of e)) (segment_of (entries (view n)) b e ∷ []) []) []) ++ segments_said j i (many (b ++ e ∷ [])) (said_by j g)) own
+      ∙ ap (λ z. z ++ segments_said j i (many (b ++ e ∷ [])) (said_by j g)) (append-nil p)
       ∙ ap (λ z. p ++ segments_said j i z (said_by j g)) count
-    where
-      none : (m : ℕ) → m + (0 + 0) ≡ m
-      none m = omega arith
 
   -- the segments that wait at the pair are those of image j's words
   waits_from : (b es : List Entry) (q : List Segment) → waiting_from (view n) (pair j i) b q es ≡ q ++ segments_said j i (done (entries (view n)) j b) (said_by j es)
   waits_from b [] q = sym (append-nil q)
   waits_from b (e ∷ es) q =
       ap (λ z. waiting_from (view n) (pair j i) (b ++ e ∷ []) z es) (turned_pair j i e.image.0 (act_of e) (segment_of (entries (view n)) b e) q)
-      ∙ waits_from (b ++ e ∷ []) es (q ++ cond (nat_eq j e.image.0) (cond (pairs_with i (act_of e)) (segment_of (entries (view n)) b e ∷ []) []) [])
-      ∙ step_is b e es [] q (nat_eq e.image.0 j) refl
+      ∙ waits_from (b ++ e ∷ []) es (q ++ cond (nat_eq e.image.0 j) (cond (pairs_with i (act_of e)) (segment_of (entries (view n)) b e ∷ []) []) [])
+      ∙ step_is b e es q (nat_eq e.image.0 j) refl
       ∙ ap (λ z. q ++ z) (sym (said_segments j i (done (entries (view n)) j b) e (of_image j es) (nat_eq e.image.0 j)))
 
   pub waits_are : (g : List Entry) → waiting (view n) (pair j i) g ≡ segments_said j i 0 (said_by j g)
@@ -219,6 +221,9 @@ segments_many j i d (w ∷ ws) =
     ∙ ap (λ m. cond (pairs_with i (act_by w.ask w.reply)) 1 0 + m) (segments_many j i (done_by (act_by w.ask w.reply) d) ws)
     ∙ count_step i w.ask w.reply (sets_said ws)
 
+turned_false : (k i : ℕ) → nat_eq k i ≡ false → nat_eq i k ≡ false
+turned_false k i own = elim (cases_Bool (nat_eq i k)) [ inr f ↦ f | inl t ↦ absurd (both_ways (nat_eq k i) own (eq-eqb k i (sym (eqb-true i k t)))) ]
+
 -- the images that an image named last
 last_step : (i k : ℕ) (js : List ℕ) (a : Ask) (r : Reply) (ss : List (List ℕ)) (o : Bool) → nat_eq k i ≡ o → last_set (named_after i js k (act_by a r)) ss ≡ cond o (last_set js (add_set a ss)) (last_set js ss)
 last_step i k js a r ss o own = ap (λ z. last_set z ss) (named_is i k js (act_by a r) ∙ ap (chosen (nat_eq i k) js) (act_sets a r)) ∙ by a o own
@@ -229,8 +234,7 @@ last_step i k js a r ss o own = ap (λ z. last_set z ss) (named_is i k js (act_b
 
     by : (a : Ask) (o : Bool) → nat_eq k i ≡ o → last_set (chosen (nat_eq i k) js (set_of a)) ss ≡ cond o (last_set js (add_set a ss)) (last_set js ss)
     by (asks.Pair named) true own = ap (λ b. last_set (cond b (numbers_of named) js) ss) (eq-eqb i k (sym (eqb-true k i own)))
-    by (asks.Pair named) false own = ap (λ b. last_set (cond b (numbers_of named) js) ss)
-        (elim (cases_Bool (nat_eq i k)) [ inr f ↦ f | inl t ↦ absurd (both_ways (nat_eq k i) own (eq-eqb k i (sym (eqb-true i k t)))) ])
+    by (asks.Pair named) false own = ap (λ b. last_set (cond b (numbers_of named) js) ss) (turned_false k i own)
     by a o own = same o (last_set js ss)
 
 pub last_are : (n i : ℕ) (js : List ℕ) (g : List Entry) → last_named_from (view n) i js g ≡ last_set js (sets_said (said_by i g))
@@ -329,7 +333,7 @@ module _ (s : List Declared) (n : ℕ) (t : List Entry) (run_t : IsRoundRun s n 
     one_same : (j : ℕ) (a : Segment) → Within j (last_set [] sets) → Within a (take 1 (drop (count_in j sets - 1) (begun j x.before))) → Within a (take 1 (drop (count_in j sets - 1) (begun j f)))
     one_same j a named w =
         let c = unpair_paired n f i ready in
-        let low : 1 ≤ count_in j sets = elim (last_counts j [] sets named) [ inl no ↦ absurd no | inr l ↦ l ] in
+        let low : 1 ≤ count_in j sets = elim (last_counts j [] sets named) [ inl none ↦ absurd none | inr l ↦ l ] in
         let p = at_nth a (count_in j sets - 1) (begun j x.before) w in
         let rx = grown j x.before ahead_x in
         let rf = grown j f ahead_f in

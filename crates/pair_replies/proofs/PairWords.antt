@@ -33,16 +33,13 @@ last_set js (s ∷ ss) = last_set s ss
 
 pairs_are : (i : ℕ) (hs : List Happening) → pairs_of i hs ≡ length (sets_of i hs)
 pairs_are i [] = refl
-pairs_are i (pairs k set ∷ hs) = elim (cases_Bool (nat_eq k i)) [ inl t ↦ rw t (ap suc (pairs_are i hs)) | inr f ↦ rw f (pairs_are i hs) ]
-pairs_are i (x ∷ hs) = pairs_are i hs
+pairs_are i (pairs k set ∷ hs) = let e = pairs_are i hs in elim (cases_Bool (nat_eq k i)) [ inl t ↦ rw t (omega arith) | inr f ↦ rw f (omega arith) ]
+pairs_are i (x ∷ hs) = let e = pairs_are i hs in omega arith
 
 namings_are : (i j : ℕ) (hs : List Happening) → naming i j hs ≡ count_in j (sets_of i hs)
 namings_are i j [] = refl
-namings_are i j (pairs k set ∷ hs) = elim (cases_Bool (nat_eq k i)) [
-  | inl t ↦ rw t (ap (λ m. cond (names j set) 1 0 + m) (namings_are i j hs))
-  | inr f ↦ rw f (namings_are i j hs)
-]
-namings_are i j (x ∷ hs) = namings_are i j hs
+namings_are i j (pairs k set ∷ hs) = let e = namings_are i j hs in elim (cases_Bool (nat_eq k i)) [ inl t ↦ rw t (omega arith) | inr f ↦ rw f (omega arith) ]
+namings_are i j (x ∷ hs) = let e = namings_are i j hs in omega arith
 
 last_is : (i : ℕ) (js : List ℕ) (hs : List Happening) → last_named_from i js hs ≡ last_set js (sets_of i hs)
 last_is i js [] = refl

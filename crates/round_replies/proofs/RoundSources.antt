@@ -129,7 +129,7 @@ named_has test i (m ∷ ms) all named =
       | inr r ↦ named_has test i ms p.1 r
     ]
 
-follows_front : (n : ℕ) (t g b h : List Entry) → g ≡ b ++ h → Follows (view n) (likes n) t g → Follows (view n) (likes n) t b
+pub follows_front : (n : ℕ) (t g b h : List Entry) → g ≡ b ++ h → Follows (view n) (likes n) t g → Follows (view n) (likes n) t b
 follows_front n t g b h s fol = record {
   left = λ i. said_by i h ++ fol.left i;
   splits = λ i. fol.splits i ∙ ap (λ z. said_by i z ++ fol.left i) s ∙ ap (λ z. z ++ fol.left i) (said_append i b h) ∙ append_assoc (said_by i b) (said_by i h) (fol.left i);
