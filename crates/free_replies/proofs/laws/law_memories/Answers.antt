@@ -2,7 +2,7 @@ use Rattle.trace_theory.proofs.Machines.{one_next_ask}
 use Rattle.caf_events.specs.declared.ask.Ask.{Ask}
 use Rattle.caf_events.specs.declared.reply.Reply.{Reply}
 use Rattle.free_replies.proofs.Memories.{memories_speak}
-use Rattle.free_replies.proofs.laws.law_every_order.Goals as goal
+use Rattle.free_replies.proofs.laws.law_memories.Goals as goal
 
 pub returns : goal.returns
 returns g c s n first t u declared fit core end decided alone run =
