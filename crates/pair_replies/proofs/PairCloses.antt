@@ -1,26 +1,21 @@
 -- The close of SYNC IMAGES in a trace, and its status: told by what the images that it names say in all.
-use Rattle.std.proofs.Common.{◌≡◌, ◌<◌, ◌≤◌, ℕ, suc, ◌+◌, Bool, true, false, IsTrue, nat_eq, nat_le, nat_lt, ◌&&◌, ◌||◌, not, cond, List, [], ◌∷◌, ◌++◌, length, inl, inr, refl, ap, sym, ◌∙◌, subst, arith, append_assoc, length-append}
-use Rattle.std.specs.Prelude.{ℤ, pos, Option, Some, None, is_some}
+use Rattle.std.proofs.Common.{◌≡◌, ◌<◌, ◌≤◌, ℕ, Bool, true, false, IsTrue, nat_eq, nat_le, nat_lt, ◌&&◌, ◌||◌, not, cond, List, [], ◌∷◌, ◌++◌, length, inl, inr, refl, ap, sym, ◌∙◌, subst, arith, append_assoc, length-append}
+use Rattle.std.specs.Prelude.{pos, Option, Some, None, is_some}
 use Rattle.std.specs.List.{list_any, list_all, cons_option}
 use Rattle.std.proofs.lemmas.List.{append-nil}
 use Rattle.std.proofs.lemmas.Bool.{cases_Bool, cases_lt, and_parts, and_from, or_cases, or_left, or_right, both_ways, lt-ltb, le-ltb, leb-true, le-leb, eqb-true, eq-eqb}
-use Rattle.trace_theory.specs.Entries.{Each}
-use Rattle.trace_theory.specs.Machines.{Said}
-use Rattle.caf_events.specs.declared.ask.Ask.{Ask}
 use Rattle.caf_events.specs.declared.ask.Ask.TheVariants as asks
-use Rattle.caf_events.specs.declared.reply.Reply.{Reply}
 use Rattle.caf_events.specs.declared.reply.Reply.TheVariants as replies
 use Rattle.caf_events.specs.declared.event.Entry.{Entry}
 use Rattle.object_rules.specs.Cells.{Declared}
-use Rattle.object_rules.specs.Scans.{or_else, front_where, first_front_from, first_front}
-use Rattle.object_rules.specs.Happenings.{Happening, images, happens, happened, has_stopped, has_failed, has_ended}
+use Rattle.object_rules.specs.Scans.{or_else, first_front_from, first_front}
+use Rattle.object_rules.specs.Happenings.{Happening, images, happens, happened, has_stopped, has_failed}
 use Rattle.object_rules.specs.TeamRounds.{status_of}
 use Rattle.object_rules.specs.ImagePairs.{pairs_of, naming, last_named, has_partner, has_paired, at_pairing, pairing_status}
 use Rattle.object_rules.specs.BoardRules.{is_image, fits_board, can_come, board_ready, board_reply, unpair_status}
 use Rattle.object_rules.proofs.Growing.{none_now}
 use Rattle.team_laws.proofs.Lists.{all_by}
 use Rattle.core_runs.specs.CoreRuns.{at_board, said_by}
-use Rattle.free_replies.proofs.Alike.{IsFree, each_front}
 use Rattle.round_words.specs.RoundRuns.{IsAhead, IsRoundRun}
 use Rattle.round_words.proofs.BoardWords.{happened_board, stopped_said, stopped_append, own_stops, none_failed, any_ext}
 use Rattle.round_words.proofs.Ahead.{front_ahead, stopped_whole}
@@ -183,12 +178,12 @@ module _ (s : List Declared) (n : ℕ) (i : ℕ) (g : List Entry) (run : IsRound
         let js = last_set [] sets in
         let named : last_named i hs ≡ js = own_last i c.front ∙ ap (last_set []) sets_front in
         let each : (j : ℕ) → (has_stopped j hs && not (has_partner i hs j)) ≡ (stopped_said (said_by j c.front) && not (nat_le (count_in j sets) (count_in i (sets_said (said_by j c.front))))) =
-            λ j. ap (λ b. b && not (has_partner i hs j)) (own_stops images j c.front)
-              ∙ ap (λ a. stopped_said (said_by j c.front) && not (nat_le a (naming j i hs))) (own_naming i j c.front ∙ ap (count_in j) sets_front)
-              ∙ ap (λ b. stopped_said (said_by j c.front) && not (nat_le (count_in j sets) b)) (own_naming j i c.front) in
+        λ j. ap (λ b. b && not (has_partner i hs j)) (own_stops images j c.front)
+        ∙ ap (λ a. stopped_said (said_by j c.front) && not (nat_le a (naming j i hs))) (own_naming i j c.front ∙ ap (count_in j) sets_front)
+        ∙ ap (λ b. stopped_said (said_by j c.front) && not (nat_le (count_in j sets) b)) (own_naming j i c.front) in
         let a = any_ext (λ j. has_stopped j hs && not (has_partner i hs j)) (λ j. stopped_said (said_by j c.front) && not (nat_le (count_in j sets) (count_in i (sets_said (said_by j c.front))))) each js
-            ∙ any_where (comes_said i sets (λ m. said_by m c.front)) (λ j. stopped_said (said_by j c.front) && not (nat_le (count_in j sets) (count_in i (sets_said (said_by j c.front)))))
-              (λ j. nat_lt (count_in i (sets_said (said_by j t))) (count_in j sets)) missed_by_one js all_come in
+        ∙ any_where (comes_said i sets (λ m. said_by m c.front)) (λ j. stopped_said (said_by j c.front) && not (nat_le (count_in j sets) (count_in i (sets_said (said_by j c.front)))))
+        (λ j. nat_lt (count_in i (sets_said (said_by j t))) (count_in j sets)) missed_by_one js all_come in
         let b = any_ext (λ j. has_failed j hs) (λ j. false) (λ j. none_failed images j c.front pair_front.free) js ∙ any_false js in
         ap (λ z. status_of (list_any (λ j. has_stopped j hs && not (has_partner i hs j)) z) (list_any (λ j. has_failed j hs) z)) named
         ∙ ap (λ z. status_of z (list_any (λ j. has_failed j hs) js)) a
@@ -229,12 +224,12 @@ unpair_stays s n w u run_w run_u ahead i same ready =
     let sets = sets_said (said_by i w) in
     let more = far s n i w run_w c u run_u ahead in
     let all = all_by (comes_said i sets (λ j. said_by j c.front)) (comes_said i sets (λ j. said_by j u)) (λ j q. elim (or_cases (nat_le (count_in j sets) (count_in i (sets_said (said_by j c.front)))) (stopped_said (said_by j c.front)) q) [
-          | inl a ↦ (
-              let l = leb-true (count_in j sets) (count_in i (sets_said (said_by j c.front))) a in
-              let m = counts_more s n i w run_w c u run_u ahead j in
-              or_left (nat_le (count_in j sets) (count_in i (sets_said (said_by j u)))) (stopped_said (said_by j u)) (le-leb (count_in j sets) (count_in i (sets_said (said_by j u))) (omega arith)))
-          | inr b ↦ or_right (nat_le (count_in j sets) (count_in i (sets_said (said_by j u)))) (stopped_said (said_by j u)) (let a = more j in ap stopped_said a.1 ∙ stopped_append (said_by j c.front) a.0 ∙ or_left (stopped_said (said_by j c.front)) (stopped_said a.0) b)
-        ]) (last_set [] sets) (all_come s n i w run_w c) in
+      | inl a ↦ (
+          let l = leb-true (count_in j sets) (count_in i (sets_said (said_by j c.front))) a in
+          let m = counts_more s n i w run_w c u run_u ahead j in
+          or_left (nat_le (count_in j sets) (count_in i (sets_said (said_by j u)))) (stopped_said (said_by j u)) (le-leb (count_in j sets) (count_in i (sets_said (said_by j u))) (omega arith)))
+      | inr b ↦ or_right (nat_le (count_in j sets) (count_in i (sets_said (said_by j u)))) (stopped_said (said_by j u)) (let a = more j in ap stopped_said a.1 ∙ stopped_append (said_by j c.front) a.0 ∙ or_left (stopped_said (said_by j c.front)) (stopped_said a.0) b)
+    ]) (last_set [] sets) (all_come s n i w run_w c) in
     let paired = paired_is i u run_u.free ∙ subst (λ z. list_all (comes_said i z (λ j. said_by j u)) (last_set [] z) ≡ true) (ap sets_said same) all in
     let some = some_paired i (length (sets_said (said_by i u))) u (own_pairs i u) paired in
     and_from (is_image n i && nat_le 1 (pairs_of i (happened images (at_board u)))) (can_come n (at_board u) i asks.Unpair) fits

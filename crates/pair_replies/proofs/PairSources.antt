@@ -1,10 +1,9 @@
 -- Who ends SYNC IMAGES has the same sources in every run: the segments in which the images that it named began theirs.
-use Rattle.std.proofs.Common.{◌≡◌, ◌⊎◌, ◌<◌, ◌≤◌, ℕ, suc, ◌+◌, ◌-◌, Bool, true, false, IsTrue, nat_eq, nat_le, ◌&&◌, ◌||◌, not, cond, List, [], ◌∷◌, ◌++◌, length, map, inl, inr, refl, ap, sym, ◌∙◌, subst, arith, append_assoc, length-append}
+use Rattle.std.proofs.Common.{◌≡◌, ◌⊎◌, ◌≤◌, ℕ, suc, ◌+◌, ◌-◌, Bool, true, false, IsTrue, nat_eq, nat_le, ◌&&◌, ◌||◌, not, cond, List, [], ◌∷◌, ◌++◌, length, map, inl, inr, refl, ap, sym, ◌∙◌, subst, arith, append_assoc}
 use Rattle.std.specs.Prelude.{zero, take, drop, Option, Some, None}
-use Rattle.std.specs.List.{list_any, list_all, flat_map}
-use Rattle.std.proofs.lemmas.List.{append-nil, map-append}
-use Rattle.std.proofs.lemmas.Bool.{cases_Bool, cases_lt, or_cases, or_left, or_right, both_ways, leb-true, eqb-true, eq-eqb}
-use Rattle.trace_theory.specs.Entries.{Each}
+use Rattle.std.specs.List.{flat_map}
+use Rattle.std.proofs.lemmas.List.{append-nil}
+use Rattle.std.proofs.lemmas.Bool.{cases_Bool, or_cases, or_left, or_right, both_ways, leb-true, eqb-true, eq-eqb}
 use Rattle.trace_theory.specs.Machines.{Said}
 use Rattle.caf_base.specs.declared.place.ImageNo.{ImageNo}
 use Rattle.caf_events.specs.declared.ask.Ask.{Ask}
@@ -31,53 +30,53 @@ use Rattle.order_cuts.proofs.OwnParts.{same_marks, same_act}
 use Rattle.every_order.specs.Likes.{likes}
 use Rattle.free_replies.proofs.Alike.{said_same}
 use Rattle.free_replies.proofs.Written.{all_at}
-use Rattle.free_replies.proofs.Replies.{board_here, said_append, front_follows}
+use Rattle.free_replies.proofs.Replies.{board_here, front_follows}
 use Rattle.round_words.specs.RoundRuns.{IsAhead, IsRoundRun}
 use Rattle.round_words.proofs.BoardWords.{stopped_said, stopped_append}
 use Rattle.round_words.proofs.Ahead.{follows_ahead, stopped_whole}
 use Rattle.round_words.proofs.RoundRuns.{round_front}
 use Rattle.round_replies.proofs.RoundSources.{follows_front}
 use Rattle.pair_replies.proofs.PairWords.{sets_said, add_set, sets_append, count_in, count_append, last_set, comes_said}
-use Rattle.pair_replies.proofs.PairCloses.{PairedBy, unpair_paired, pair_front, behind, far, all_come}
+use Rattle.pair_replies.proofs.PairCloses.{unpair_paired, behind, all_come}
 
 -- the act begins SYNC IMAGES with image i
 abbrev pairs_with : ℕ → Act → Bool
 pairs_with i (pairs js) = names i js
 pairs_with i a = false
 
--- what a step adds to the segments in which image j began SYNC IMAGES with i, where d are completed before it
-abbrev begun_by : ℕ → ℕ → ℕ → Act → List Segment → List Segment
-begun_by j i d a q = cond (pairs_with i a) (record { image = j; number = d } ∷ q) q
+-- what a step adds to the segments of image j in which it makes steps of which the test holds, where d are completed before it
+abbrev pub begun_by : (Act → Bool) → ℕ → ℕ → Act → List Segment → List Segment
+begun_by test j d a q = cond (test a) (record { image = j; number = d } ∷ q) q
 
-abbrev done_by : Act → ℕ → ℕ
+abbrev pub done_by : Act → ℕ → ℕ
 done_by a d = cond (completing a) 1 0 + d
 
 -- these segments by its words
-abbrev pub segments_said : ℕ → ℕ → ℕ → List (Said Ask Reply) → List Segment
-segments_said j i d [] = []
-segments_said j i d (w ∷ ws) = begun_by j i d (act_by w.ask w.reply) (segments_said j i (done_by (act_by w.ask w.reply) d) ws)
+abbrev pub segments_said : (Act → Bool) → ℕ → ℕ → List (Said Ask Reply) → List Segment
+segments_said test j d [] = []
+segments_said test j d (w ∷ ws) = begun_by test j d (act_by w.ask w.reply) (segments_said test j (done_by (act_by w.ask w.reply) d) ws)
 
-abbrev done_after : ℕ → List (Said Ask Reply) → ℕ
+abbrev pub done_after : ℕ → List (Said Ask Reply) → ℕ
 done_after d [] = d
 done_after d (w ∷ ws) = done_after (done_by (act_by w.ask w.reply) d) ws
 
-begun_append : (j i d : ℕ) (a : Act) (q r : List Segment) → begun_by j i d a (q ++ r) ≡ begun_by j i d a q ++ r
-begun_append j i d a q r = by (pairs_with i a)
+begun_append : (test : Act → Bool) (j d : ℕ) (a : Act) (q r : List Segment) → begun_by test j d a (q ++ r) ≡ begun_by test j d a q ++ r
+begun_append test j d a q r = by (test a)
   where
     by : (b : Bool) → cond b (record { image = j; number = d } ∷ (q ++ r)) (q ++ r) ≡ cond b (record { image = j; number = d } ∷ q) q ++ r
     by true = refl
     by false = refl
 
-pub segments_append : (j i d : ℕ) (xs ys : List (Said Ask Reply)) → segments_said j i d (xs ++ ys) ≡ segments_said j i d xs ++ segments_said j i (done_after d xs) ys
-segments_append j i d [] ys = refl
-segments_append j i d (w ∷ xs) ys =
-    ap (begun_by j i d (act_by w.ask w.reply)) (segments_append j i (done_by (act_by w.ask w.reply) d) xs ys)
-    ∙ begun_append j i d (act_by w.ask w.reply) (segments_said j i (done_by (act_by w.ask w.reply) d) xs) (segments_said j i (done_after (done_by (act_by w.ask w.reply) d) xs) ys)
+pub segments_append : (test : Act → Bool) (j d : ℕ) (xs ys : List (Said Ask Reply)) → segments_said test j d (xs ++ ys) ≡ segments_said test j d xs ++ segments_said test j (done_after d xs) ys
+segments_append test j d [] ys = refl
+segments_append test j d (w ∷ xs) ys =
+    ap (begun_by test j d (act_by w.ask w.reply)) (segments_append test j (done_by (act_by w.ask w.reply) d) xs ys)
+    ∙ begun_append test j d (act_by w.ask w.reply) (segments_said test j (done_by (act_by w.ask w.reply) d) xs) (segments_said test j (done_after (done_by (act_by w.ask w.reply) d) xs) ys)
 
-said_segments : (j i d : ℕ) (x : Entry) (g : List Entry) (o : Bool) → segments_said j i d (map (λ (y : Entry). said y.event) (cond o (x ∷ g) g))
-    ≡ cond o (begun_by j i d (act_of x) (segments_said j i (done_by (act_of x) d) (map (λ (y : Entry). said y.event) g))) (segments_said j i d (map (λ (y : Entry). said y.event) g))
-said_segments j i d x g true = refl
-said_segments j i d x g false = refl
+said_segments : (test : Act → Bool) (j d : ℕ) (x : Entry) (g : List Entry) (o : Bool) → segments_said test j d (map (λ (y : Entry). said y.event) (cond o (x ∷ g) g))
+    ≡ cond o (begun_by test j d (act_of x) (segments_said test j (done_by (act_of x) d) (map (λ (y : Entry). said y.event) g))) (segments_said test j d (map (λ (y : Entry). said y.event) g))
+said_segments test j d x g true = refl
+said_segments test j d x g false = refl
 
 turned_pair : (j i k : ℕ) (a : Act) (seg : Segment) (q : List Segment) → turned (turn (pair j i) k a) seg q ≡ q ++ cond (nat_eq k j) (cond (pairs_with i a) (seg ∷ []) []) []
 turned_pair j i k (pairs js) seg q = by (nat_eq k j) (names i js)
@@ -108,35 +107,35 @@ module _ (n j i : ℕ) where
   many b = done (entries (view n)) j b
 
   step_is : (b : List Entry) (e : Entry) (g : List Entry) (p : List Segment) (o : Bool) → nat_eq e.image.0 j ≡ o
-      → (p ++ cond (nat_eq e.image.0 j) (cond (pairs_with i (act_of e)) (segment_of (entries (view n)) b e ∷ []) []) []) ++ segments_said j i (many (b ++ e ∷ [])) (said_by j g)
-      ≡ p ++ cond o (begun_by j i (many b) (act_of e) (segments_said j i (done_by (act_of e) (many b)) (said_by j g))) (segments_said j i (many b) (said_by j g))
+      → (p ++ cond (nat_eq e.image.0 j) (cond (pairs_with i (act_of e)) (segment_of (entries (view n)) b e ∷ []) []) []) ++ segments_said (pairs_with i) j (many (b ++ e ∷ [])) (said_by j g)
+      ≡ p ++ cond o (begun_by (pairs_with i) j (many b) (act_of e) (segments_said (pairs_with i) j (done_by (act_of e) (many b)) (said_by j g))) (segments_said (pairs_with i) j (many b) (said_by j g))
   step_is b e g p true own =
       let is = eqb-true e.image.0 j own in
       let count : many (b ++ e ∷ []) ≡ done_by (act_of e) (many b) =
-          done_append Entry (entries (view n)) j b (e ∷ []) ∙ ap (λ c. many b + (cond (c && completing (act_of e)) 1 0 + 0)) own ∙ swap_count (many b) (completing (act_of e)) in
+      done_append Entry (entries (view n)) j b (e ∷ []) ∙ ap (λ c. many b + (cond (c && completing (act_of e)) 1 0 + 0)) own ∙ swap_count (many b) (completing (act_of e)) in
       let seg : segment_of (entries (view n)) b e ≡ record { image = j; number = many b } = ap (λ k. record { image = k; number = done (entries (view n)) k b }) is in
-      let rest = segments_said j i (many (b ++ e ∷ [])) (said_by j g) in
+      let rest = segments_said (pairs_with i) j (many (b ++ e ∷ [])) (said_by j g) in
       append_assoc p (cond (nat_eq e.image.0 j) (cond (pairs_with i (act_of e)) (segment_of (entries (view n)) b e ∷ []) []) []) rest
       ∙ ap (λ z. p ++ (cond z (cond (pairs_with i (act_of e)) (segment_of (entries (view n)) b e ∷ []) []) [] ++ rest)) own
       ∙ ap (λ z. p ++ (cond (pairs_with i (act_of e)) (z ∷ []) [] ++ rest)) seg
-      ∙ ap (λ z. p ++ (cond (pairs_with i (act_of e)) (record { image = j; number = many b } ∷ []) [] ++ segments_said j i z (said_by j g))) count
-      ∙ ap (λ z. p ++ z) (begins (pairs_with i (act_of e)) (record { image = j; number = many b }) (segments_said j i (done_by (act_of e) (many b)) (said_by j g)))
+      ∙ ap (λ z. p ++ (cond (pairs_with i (act_of e)) (record { image = j; number = many b } ∷ []) [] ++ segments_said (pairs_with i) j z (said_by j g))) count
+      ∙ ap (λ z. p ++ z) (begins (pairs_with i (act_of e)) (record { image = j; number = many b }) (segments_said (pairs_with i) j (done_by (act_of e) (many b)) (said_by j g)))
   step_is b e g p false own =
       let count : many (b ++ e ∷ []) ≡ many b = done_append Entry (entries (view n)) j b (e ∷ []) ∙ ap (λ c. many b + (cond (c && completing (act_of e)) 1 0 + 0)) own ∙ no_count (many b) in
-      ap (λ z. (p ++ cond z (cond (pairs_with i (act_of e)) (segment_of (entries (view n)) b e ∷ []) []) []) ++ segments_said j i (many (b ++ e ∷ [])) (said_by j g)) own
-      ∙ ap (λ z. z ++ segments_said j i (many (b ++ e ∷ [])) (said_by j g)) (append-nil p)
-      ∙ ap (λ z. p ++ segments_said j i z (said_by j g)) count
+      ap (λ z. (p ++ cond z (cond (pairs_with i (act_of e)) (segment_of (entries (view n)) b e ∷ []) []) []) ++ segments_said (pairs_with i) j (many (b ++ e ∷ [])) (said_by j g)) own
+      ∙ ap (λ z. z ++ segments_said (pairs_with i) j (many (b ++ e ∷ [])) (said_by j g)) (append-nil p)
+      ∙ ap (λ z. p ++ segments_said (pairs_with i) j z (said_by j g)) count
 
   -- the segments that wait at the pair are those of image j's words
-  waits_from : (b es : List Entry) (q : List Segment) → waiting_from (view n) (pair j i) b q es ≡ q ++ segments_said j i (done (entries (view n)) j b) (said_by j es)
+  waits_from : (b es : List Entry) (q : List Segment) → waiting_from (view n) (pair j i) b q es ≡ q ++ segments_said (pairs_with i) j (done (entries (view n)) j b) (said_by j es)
   waits_from b [] q = sym (append-nil q)
   waits_from b (e ∷ es) q =
       ap (λ z. waiting_from (view n) (pair j i) (b ++ e ∷ []) z es) (turned_pair j i e.image.0 (act_of e) (segment_of (entries (view n)) b e) q)
       ∙ waits_from (b ++ e ∷ []) es (q ++ cond (nat_eq e.image.0 j) (cond (pairs_with i (act_of e)) (segment_of (entries (view n)) b e ∷ []) []) [])
       ∙ step_is b e es q (nat_eq e.image.0 j) refl
-      ∙ ap (λ z. q ++ z) (sym (said_segments j i (done (entries (view n)) j b) e (of_image j es) (nat_eq e.image.0 j)))
+      ∙ ap (λ z. q ++ z) (sym (said_segments (pairs_with i) j (done (entries (view n)) j b) e (of_image j es) (nat_eq e.image.0 j)))
 
-  pub waits_are : (g : List Entry) → waiting (view n) (pair j i) g ≡ segments_said j i 0 (said_by j g)
+  pub waits_are : (g : List Entry) → waiting (view n) (pair j i) g ≡ segments_said (pairs_with i) j 0 (said_by j g)
   waits_are g = waits_from [] g []
 
 -- the images named, as the entries' acts have them and as the board has them
@@ -207,17 +206,17 @@ count_step i a r ss = ap (λ b. cond b 1 0 + count_in i ss) (with_is i (act_by a
     by (asks.Pair named) = ap (λ b. cond b 1 0 + count_in i ss) (names_are i named)
     by a = zero_add (count_in i ss)
 
-length_step : (j i d : ℕ) (a : Act) (q : List Segment) → length (begun_by j i d a q) ≡ cond (pairs_with i a) 1 0 + length q
+length_step : (j i d : ℕ) (a : Act) (q : List Segment) → length (begun_by (pairs_with i) j d a q) ≡ cond (pairs_with i a) 1 0 + length q
 length_step j i d a q = by (pairs_with i a)
   where
     by : (b : Bool) → length (cond b (record { image = j; number = d } ∷ q) q) ≡ cond b 1 0 + length q
     by true = omega arith
     by false = omega arith
 
-pub segments_many : (j i d : ℕ) (ws : List (Said Ask Reply)) → length (segments_said j i d ws) ≡ count_in i (sets_said ws)
+pub segments_many : (j i d : ℕ) (ws : List (Said Ask Reply)) → length (segments_said (pairs_with i) j d ws) ≡ count_in i (sets_said ws)
 segments_many j i d [] = refl
 segments_many j i d (w ∷ ws) =
-    length_step j i d (act_by w.ask w.reply) (segments_said j i (done_by (act_by w.ask w.reply) d) ws)
+    length_step j i d (act_by w.ask w.reply) (segments_said (pairs_with i) j (done_by (act_by w.ask w.reply) d) ws)
     ∙ ap (λ m. cond (pairs_with i (act_by w.ask w.reply)) 1 0 + m) (segments_many j i (done_by (act_by w.ask w.reply) d) ws)
     ∙ count_step i w.ask w.reply (sets_said ws)
 
@@ -324,10 +323,10 @@ module _ (s : List Declared) (n : ℕ) (t : List Entry) (run_t : IsRoundRun s n 
     sets = sets_said (said_by i f)
 
     abbrev begun : ℕ → List Entry → List Segment
-    begun j h = segments_said j i 0 (said_by j h)
+    begun j h = segments_said (pairs_with i) j 0 (said_by j h)
 
     grown : (j : ℕ) (h : List Entry) → IsAhead t h → (more : List Segment) × (begun j t ≡ begun j h ++ more)
-    grown j h ahead = let a = ahead j in (segments_said j i (done_after 0 (said_by j h)) a.0, ap (segments_said j i 0) a.1 ∙ segments_append j i 0 (said_by j h) a.0)
+    grown j h ahead = let a = ahead j in (segments_said (pairs_with i) j (done_after 0 (said_by j h)) a.0, ap (segments_said (pairs_with i) j 0) a.1 ∙ segments_append (pairs_with i) j 0 (said_by j h) a.0)
 
     -- the corresponding segment of one that it names
     one_same : (j : ℕ) (a : Segment) → Within j (last_set [] sets) → Within a (take 1 (drop (count_in j sets - 1) (begun j x.before))) → Within a (take 1 (drop (count_in j sets - 1) (begun j f)))
@@ -351,7 +350,7 @@ module _ (s : List Declared) (n : ℕ) (t : List Entry) (run_t : IsRoundRun s n 
           | inr stopped ↦ (
               let b = behind s n i f run_f c j in
               let still = ap stopped_said b.1 ∙ stopped_append (said_by j c.front) b.0 ∙ or_left (stopped_said (said_by j c.front)) (stopped_said b.0) stopped in
-              (p.back ++ rx.0, ap (segments_said j i 0) (sym (stopped_whole t f j (run_t.ends j) ahead_f still)) ∙ all))
+              (p.back ++ rx.0, ap (segments_said (pairs_with i) j 0) (sym (stopped_whole t f j (run_t.ends j) ahead_f still)) ∙ all))
         ] in
         subst (λ z. Within a (take 1 (drop (count_in j sets - 1) z))) (sym here.1) (subst (λ m. Within a (take 1 (drop m (p.front ++ a ∷ here.0)))) size (nth_within a p.front here.0))
 
@@ -372,5 +371,5 @@ module _ (s : List Declared) (n : ℕ) (t : List Entry) (run_t : IsRoundRun s n 
         let named : Within m.0 (last_set [] sets) = subst (Within m.0) (last_are n i [] x.before ∙ ap (λ z. last_set [] (sets_said z)) words) m.1 in
         let one = one_same m.0 a named (subst (Within a) (corresponds x.before m.0 words) m.2) in
         let there : Within a (flat_map (corresponding (view n) f i) (last_named_from (view n) i [] f)) =
-            flat_within (corresponding (view n) f i) a m.0 (last_named_from (view n) i [] f) (subst (Within m.0) (sym (last_are n i [] f)) named) (subst (Within a) (sym (corresponds f m.0 refl)) one) in
+        flat_within (corresponding (view n) f i) a m.0 (last_named_from (view n) i [] f) (subst (Within m.0) (sym (last_are n i [] f)) named) (subst (Within a) (sym (corresponds f m.0 refl)) one) in
         subst (λ q. Within a (released (view n) f y.event.image.0 q)) (sym act_y) (subst (λ k. Within a (released (view n) f k (unpairs true))) same.image there)

@@ -1,7 +1,6 @@
 -- SYNC IMAGES by what each image says: with which images it began each.
-use Rattle.std.proofs.Common.{◌≡◌, ℕ, suc, ◌+◌, ◌≤◌, Bool, true, false, nat_eq, nat_le, ◌&&◌, ◌||◌, cond, List, [], ◌∷◌, ◌++◌, length, map, inl, inr, refl, ap, sym, ◌∙◌, subst, arith}
-use Rattle.std.specs.Prelude.{Option, Some, None}
-use Rattle.std.specs.List.{list_any, list_all, cons_option}
+use Rattle.std.proofs.Common.{◌≡◌, ℕ, ◌+◌, Bool, true, false, nat_eq, nat_le, ◌||◌, cond, List, [], ◌∷◌, ◌++◌, length, map, inl, inr, refl, ap, sym, ◌∙◌, arith}
+use Rattle.std.specs.List.{list_all, cons_option}
 use Rattle.std.proofs.lemmas.Bool.{cases_Bool}
 use Rattle.trace_theory.specs.Entries.{Each}
 use Rattle.trace_theory.specs.Machines.{Said}
@@ -9,8 +8,8 @@ use Rattle.caf_events.specs.declared.ask.Ask.{Ask}
 use Rattle.caf_events.specs.declared.ask.Ask.TheVariants as asks
 use Rattle.caf_events.specs.declared.reply.Reply.{Reply}
 use Rattle.caf_events.specs.declared.event.Entry.{Entry}
-use Rattle.object_rules.specs.Happenings.{Happening, arrives, pairs, stops, fails, images, happens, happened, has_ended, numbers_of}
-use Rattle.object_rules.specs.ImagePairs.{names, is_pair, pairs_of, is_naming, naming, named_after, last_named_from, last_named, has_partner, has_paired}
+use Rattle.object_rules.specs.Happenings.{Happening, pairs, images, happens, happened, has_ended, numbers_of}
+use Rattle.object_rules.specs.ImagePairs.{names, pairs_of, naming, last_named_from, last_named, has_partner, has_paired}
 use Rattle.core_runs.specs.Lists.{said}
 use Rattle.core_runs.specs.CoreRuns.{of_image, said_by}
 use Rattle.free_replies.proofs.Alike.{IsFree}
@@ -106,7 +105,7 @@ pub paired_is : (i : ℕ) (g : List Entry) → Each IsFree g
     → has_paired i (happened images g) ≡ list_all (comes_said i (sets_said (said_by i g)) (λ j. said_by j g)) (last_set [] (sets_said (said_by i g)))
 paired_is i g f =
     all_ext (λ j. has_partner i (happened images g) j || has_ended j (happened images g)) (comes_said i (sets_said (said_by i g)) (λ j. said_by j g))
-      (λ j. ap (λ a. nat_le a (naming j i (happened images g)) || has_ended j (happened images g)) (own_naming i j g)
-        ∙ ap (λ b. nat_le (count_in j (sets_said (said_by i g))) b || has_ended j (happened images g)) (own_naming j i g)
-        ∙ ap (λ c. nat_le (count_in j (sets_said (said_by i g))) (count_in i (sets_said (said_by j g))) || c) (own_ends images j g f)) (last_named i (happened images g))
+    (λ j. ap (λ a. nat_le a (naming j i (happened images g)) || has_ended j (happened images g)) (own_naming i j g)
+    ∙ ap (λ b. nat_le (count_in j (sets_said (said_by i g))) b || has_ended j (happened images g)) (own_naming j i g)
+    ∙ ap (λ c. nat_le (count_in j (sets_said (said_by i g))) (count_in i (sets_said (said_by j g))) || c) (own_ends images j g f)) (last_named i (happened images g))
     ∙ ap (list_all (comes_said i (sets_said (said_by i g)) (λ j. said_by j g))) (own_last i g)

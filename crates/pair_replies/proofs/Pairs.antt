@@ -1,14 +1,12 @@
 -- Rounds of the initial team, SYNC IMAGES and memories: a decided trace of them speaks for every other run.
-use Rattle.std.proofs.Common.{◌≡◌, ℕ, Bool, false, true, IsTrue, nat_eq, nat_le, ◌&&◌, cond, List, [], ◌∷◌, ◌++◌, inl, inr, refl, ap, sym, ◌∙◌, subst}
+use Rattle.std.proofs.Common.{◌≡◌, ℕ, true, IsTrue, cond, List, [], ◌∷◌, refl, ap, sym, ◌∙◌, subst}
 use Rattle.std.specs.Prelude.{pos, nat_lt}
 use Rattle.std.specs.List.{list_all, list_any}
-use Rattle.std.proofs.lemmas.Bool.{both_ways, and_parts}
+use Rattle.std.proofs.lemmas.Bool.{both_ways}
 use Rattle.trace_theory.specs.Entries.{Each}
 use Rattle.trace_theory.specs.Machines.{Move, OneNextAsk}
-use Rattle.trace_theory.proofs.Filters.{each_filter}
 use Rattle.caf_base.specs.declared.place.ImageNo.{ImageNo}
 use Rattle.caf_base.specs.declared.place.Place.TheVariants as places
-use Rattle.caf_base.specs.declared.span.Span.{Span}
 use Rattle.caf_events.specs.declared.ask.Ask.{Ask}
 use Rattle.caf_events.specs.declared.ask.Ask.TheVariants as asks
 use Rattle.caf_events.specs.declared.reply.Reply.{Reply}
@@ -17,9 +15,9 @@ use Rattle.caf_events.specs.declared.round.Arriving.TheVariants as arrivings
 use Rattle.caf_events.specs.declared.event.Entry.{Entry}
 use Rattle.caf_events.specs.Asks.{place_of}
 use Rattle.object_rules.specs.Cells.{Declared}
-use Rattle.object_rules.specs.MemoryRules.{has_first_values, memory_ready}
+use Rattle.object_rules.specs.MemoryRules.{has_first_values}
 use Rattle.object_rules.specs.BoardRules.{board_ready, board_reply}
-use Rattle.core_runs.specs.CoreRuns.{IsCoreRun, IsFit, at_board, of_memory, said_by}
+use Rattle.core_runs.specs.CoreRuns.{IsCoreRun, IsFit, at_board, said_by}
 use Rattle.core_runs.specs.Lawful.{made_memory, full_rules, full_beginning}
 use Rattle.order_theory.specs.Races.{Stands}
 use Rattle.order_axioms.specs.Views.{view}
@@ -33,7 +31,6 @@ use Rattle.free_replies.proofs.Replies.{board_here, front_follows}
 use Rattle.round_words.specs.RoundRuns.{FormsNone, IsRoundRun, is_no_form}
 use Rattle.round_words.proofs.Ahead.{follows_ahead}
 use Rattle.round_words.proofs.RoundRuns.{round_front}
-use Rattle.round_replies.specs.Subsets.{is_of_rounds}
 use Rattle.round_replies.proofs.RoundSources.{is_taking}
 use Rattle.round_replies.proofs.Rounds.{access_there}
 use Rattle.round_replies.proofs.NoTakings.{is_no_event, no_wait}
