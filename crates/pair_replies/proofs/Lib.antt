@@ -2,3 +2,4 @@ pub mod PairWords
 pub mod PairCloses
 pub mod PairSources
 pub mod Pairs
+pub mod EventCounts
