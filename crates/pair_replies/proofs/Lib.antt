@@ -3,3 +3,4 @@ pub mod PairCloses
 pub mod PairSources
 pub mod Pairs
 pub mod EventCounts
+pub mod EventRuns
