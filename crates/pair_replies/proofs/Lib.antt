@@ -4,3 +4,4 @@ pub mod PairSources
 pub mod Pairs
 pub mod EventCounts
 pub mod EventRuns
+pub mod Events

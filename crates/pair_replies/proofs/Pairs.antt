@@ -57,10 +57,23 @@ no_event (asks.Post owner span) h = absurd (cc)
 no_event (asks.Wait owner span threshold) h = absurd (cc)
 no_event a h = refl
 
-access : (owner : ImageNo) (a : Ask) → is_of_pairs a ≡ true → place_of a ≡ places.Memory owner → is_of_cells a ≡ true
+pub access : (owner : ImageNo) (a : Ask) → is_of_pairs a ≡ true → place_of a ≡ places.Memory owner → is_of_cells a ≡ true
 access owner (asks.Pair named) h p = absurd (cc)
 access owner asks.Unpair h p = absurd (cc)
 access owner a h p = access_there owner a h p
+
+-- an end of SYNC IMAGES has the same status
+pub unpair_again : (s : List Declared) (n : ℕ) (t : List Entry) → IsRoundRun s n t → (g : List Entry) → IsRoundRun s n g → Follows (view n) (likes n) t g → (y : Stands t) → said_by y.event.image.0 y.before ≡ said_by y.event.image.0 g → y.event.event.ask ≡ asks.Unpair
+    → IsTrue (board_ready n (at_board g) y.event.image.0 asks.Unpair) → board_reply n (at_board g) y.event.image.0 asks.Unpair ≡ y.event.event.reply
+unpair_again s n t run_t g run fol y words e ready =
+    let i = y.event.image.0 in
+    let here = board_here s n t run_t.lawful y (ap place_of e) in
+    let mine = subst (λ a. IsTrue (board_ready n (at_board y.before) i a)) e here.0 in
+    let run_y = round_front s n y.before (y.event ∷ y.rest) (subst (IsRoundRun s n) y.split run_t) in
+    unpair_is s n t g run_t run (follows_ahead n t g fol) i ready
+    ∙ ap (λ ws. replies.Number (cond (list_any (λ j. nat_lt (count_in i (sets_said (said_by j t))) (count_in j (sets_said ws))) (last_set [] (sets_said ws))) (pos 6000) (pos 0))) (sym words)
+    ∙ sym (unpair_is s n t y.before run_t run_y (follows_ahead n t y.before (front_follows n t y)) i mine)
+    ∙ sym (here.1 ∙ ap (board_reply n (at_board y.before) i) e)
 
 module _ (s : List Declared) (n : ℕ) (t : List Entry) (run_t : IsRoundRun s n t) (alone : IsOfPairs n t) where
   kind_at : (x : Stands t) → is_of_pairs x.event.event.ask ≡ true
@@ -69,22 +82,10 @@ module _ (s : List Declared) (n : ℕ) (t : List Entry) (run_t : IsRoundRun s n 
   no_events : (g : List Entry) → Follows (view n) (likes n) t g → Each (λ x. is_no_event x.event.ask ≡ true) g
   no_events g fol = carried n t g fol (λ w. is_no_event w.ask ≡ true) (each_from (λ x. is_no_event x.event.ask ≡ true) t (λ x. no_event x.event.event.ask (kind_at x)))
 
-  unpaired : (g : List Entry) → IsRoundRun s n g → Follows (view n) (likes n) t g → (y : Stands t) → said_by y.event.image.0 y.before ≡ said_by y.event.image.0 g → y.event.event.ask ≡ asks.Unpair
-      → IsTrue (board_ready n (at_board g) y.event.image.0 asks.Unpair) → board_reply n (at_board g) y.event.image.0 asks.Unpair ≡ y.event.event.reply
-  unpaired g run fol y words e ready =
-      let i = y.event.image.0 in
-      let here = board_here s n t run_t.lawful y (ap place_of e) in
-      let mine = subst (λ a. IsTrue (board_ready n (at_board y.before) i a)) e here.0 in
-      let run_y = round_front s n y.before (y.event ∷ y.rest) (subst (IsRoundRun s n) y.split run_t) in
-      unpair_is s n t g run_t run (follows_ahead n t g fol) i ready
-      ∙ ap (λ ws. replies.Number (cond (list_any (λ j. nat_lt (count_in i (sets_said (said_by j t))) (count_in j (sets_said ws))) (last_set [] (sets_said ws))) (pos 6000) (pos 0))) (sym words)
-      ∙ sym (unpair_is s n t y.before run_t run_y (follows_ahead n t y.before (front_follows n t y)) i mine)
-      ∙ sym (here.1 ∙ ap (board_reply n (at_board y.before) i) e)
-
   pub pair_takings : TellsTakings s n t
   pair_takings = record {
     taken = λ g run fol x y a same takes w. pair_release s n t run_t g run fol x y same (is_unpair x.event.event.ask (kind_at x) takes) a w;
-    unpaired = unpaired;
+    unpaired = λ g run fol y words e ready. unpair_again s n t run_t g run fol y words e ready;
     unpair_more = λ w u run_w run_u fol_w fol_u ahead i same ready. unpair_stays s n w u run_w run_u ahead i same ready;
     wait_more = λ w u run_w run_u fol_w fol_u ahead i same owner o span threshold ready. absurd (no_wait w (no_events w fol_w) i (made_memory s owner.0) owner.0 o span threshold ready);
     memory_again = λ g run fol y words owner place not_cells. absurd (both_ways _ not_cells (access owner y.event.event.ask (kind_at y) place));
