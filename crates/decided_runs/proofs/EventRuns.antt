@@ -1,16 +1,12 @@
 -- Events of one poster each in the runs that follow a decided trace: what a wait takes, when it can come, and what a post hears.
 use Rattle.std.proofs.Common.{◌≡◌, ◌⊎◌, ◌≤◌, ℕ, zero, suc, ◌+◌, ◌-◌, Bool, true, false, IsTrue, nat_eq, nat_le, ◌&&◌, cond, List, [], ◌∷◌, ◌++◌, length, inl, inr, refl, ap, sym, ◌∙◌, subst, arith, append_assoc, length-append}
-use Rattle.std.specs.Prelude.{pos, take, drop, Option, slice_get}
-use Rattle.std.specs.List.{list_all}
-use Rattle.std.specs.Ordering.{int_eq}
+use Rattle.std.specs.Prelude.{take, drop}
 use Rattle.std.proofs.lemmas.List.{append-nil}
-use Rattle.std.proofs.lemmas.Bool.{cases_Bool, and_parts, and_from, eqb-true, eq-eqb, leb-true, le-leb}
+use Rattle.std.proofs.lemmas.Bool.{cases_Bool, and_parts, eqb-true, leb-true}
 use Rattle.trace_theory.specs.Entries.{Each}
 use Rattle.trace_theory.specs.Machines.{Said}
 use Rattle.caf_base.specs.declared.place.ImageNo.{ImageNo}
-use Rattle.caf_base.specs.declared.place.Place.TheVariants as places
 use Rattle.caf_base.specs.declared.span.Span.{Span}
-use Rattle.caf_base.specs.Spans.{offsets_of}
 use Rattle.caf_events.specs.declared.ask.Ask.{Ask}
 use Rattle.caf_events.specs.declared.ask.Ask.TheVariants as asks
 use Rattle.caf_events.specs.declared.reply.Reply.{Reply}
@@ -18,30 +14,26 @@ use Rattle.caf_events.specs.declared.reply.Reply.TheVariants as replies
 use Rattle.caf_events.specs.declared.event.Entry.{Entry}
 use Rattle.caf_events.specs.Asks.{place_of, object_of}
 use Rattle.object_rules.specs.Locks.{is_at, event_turn, event_from, event_after}
-use Rattle.object_rules.specs.Cells.{Declared, MadeMemory, size_turn, size_from, size_after, first_size, is_offset, is_within, is_marked}
-use Rattle.object_rules.specs.MemoryRules.{is_event, is_cell_of, is_here, is_own, memory_ready, memory_reply}
-use Rattle.core_runs.specs.Lists.{key_of, said}
+use Rattle.object_rules.specs.Cells.{Declared, MadeMemory, is_within}
+use Rattle.object_rules.specs.MemoryRules.{is_event, is_cell_of, is_here, is_own, memory_ready}
+use Rattle.core_runs.specs.Lists.{key_of}
 use Rattle.core_runs.specs.CoreRuns.{of_memory, said_by}
 use Rattle.core_runs.specs.Lawful.{made_memory}
-use Rattle.order_theory.specs.Order.{Segment, Within}
+use Rattle.order_theory.specs.Order.{Segment}
 use Rattle.order_theory.specs.Races.{Cell, same_cell, Stands}
-use Rattle.order_theory.specs.Acts.{Act, posts, waits, creates, deletes, unpairs, finishes, event, released, waiting}
+use Rattle.order_theory.specs.Acts.{Act, posts, waits, creates, deletes, finishes, event, waiting}
 use Rattle.order_axioms.specs.Statuses.{tells_success}
 use Rattle.order_axioms.specs.Views.{view, act_by, act_of, end_of_pair, first_cell}
 use Rattle.order_axioms.proofs.Marked.{served_here}
 use Rattle.order_cuts.specs.Cuts.{Follows, IsSame}
-use Rattle.order_cuts.proofs.OwnParts.{known, same_act, same_marks}
+use Rattle.order_cuts.proofs.OwnParts.{known, same_act}
 use Rattle.every_order.specs.Decided.{is_free, OnePoster, EventsStay}
 use Rattle.every_order.specs.Likes.{likes}
-use Rattle.free_replies.proofs.Alike.{IsFree, each_stands, said_same, unmarked}
-use Rattle.free_replies.proofs.OwnSizes.{sizes_own, size_same}
-use Rattle.free_replies.proofs.Replies.{front_follows}
+use Rattle.free_replies.proofs.Alike.{IsFree, each_stands}
 use Rattle.round_words.specs.RoundRuns.{IsAhead, IsRoundRun}
-use Rattle.round_words.proofs.RoundRuns.{round_front}
 use Rattle.round_words.proofs.Ahead.{follows_ahead}
-use Rattle.round_replies.proofs.RoundSources.{follows_front}
-use Rattle.pair_replies.proofs.PairSources.{segments_said, segments_append, done_after}
-use Rattle.pair_replies.proofs.EventCounts.{posts_at, taken_said, Stays, posted, taken, IsCounted, one_more, none_yet}
+use Rattle.decided_runs.proofs.PairSources.{segments_said, segments_append, done_after}
+use Rattle.decided_runs.proofs.EventCounts.{posts_at, taken_said, posted, taken, IsCounted, one_more, none_yet}
 
 cell_is : (c d : Cell) → same_cell c d ≡ true → d ≡ c
 cell_is c d h =
@@ -186,15 +178,15 @@ module _ (s : List Declared) (n : ℕ) (t : List Entry) (run_t : IsRoundRun s n 
           one_more cell n p y.before y.event free ((λ e. no.0 (act_in y (creates cell.owner cell.coarray) e)), (λ e. no.1 (act_in y (deletes cell.owner cell.coarray) e))) old
           (λ d act same. sym x.1.image ∙ one x.0 z cell (act_in y (posts d) act ∙ ap posts (cell_is cell d same)) post)
           (λ d k act same. (
-              let w = act_waits d k y.event.event.ask y.event.event.reply free act in
-              let there = served_here s n g run.lawful y.before y.rest y.event y.split w.owner (ap place_of w.asked) in
-              let ready : IsTrue (memory_ready (made_memory s w.owner.0) (of_memory w.owner.0 y.before) y.event.image.0 (asks.Wait w.owner w.span k)) =
-                  subst (λ a. IsTrue (memory_ready (made_memory s w.owner.0) (of_memory w.owner.0 y.before) y.event.image.0 a)) w.asked there.0 in
-              let c = wait_came y.event.image.0 w.owner w.span k (made_memory s w.owner.0) (of_memory w.owner.0 y.before) ready in
-              let is : first_cell w.owner.0 w.span ≡ cell = w.cell ∙ cell_is cell d same in (
-                c.image ∙ ap (λ (q : Cell). q.owner) is,
-                subst (λ (q : Cell). k ≤ event_after q.coarray q.offset (of_memory q.owner y.before)) is c.can,
-              )))
+          let w = act_waits d k y.event.event.ask y.event.event.reply free act in
+          let there = served_here s n g run.lawful y.before y.rest y.event y.split w.owner (ap place_of w.asked) in
+          let ready : IsTrue (memory_ready (made_memory s w.owner.0) (of_memory w.owner.0 y.before) y.event.image.0 (asks.Wait w.owner w.span k)) =
+          subst (λ a. IsTrue (memory_ready (made_memory s w.owner.0) (of_memory w.owner.0 y.before) y.event.image.0 a)) w.asked there.0 in
+          let c = wait_came y.event.image.0 w.owner w.span k (made_memory s w.owner.0) (of_memory w.owner.0 y.before) ready in
+          let is : first_cell w.owner.0 w.span ≡ cell = w.cell ∙ cell_is cell d same in (
+            c.image ∙ ap (λ (q : Cell). q.owner) is,
+            subst (λ (q : Cell). k ≤ event_after q.coarray q.offset (of_memory q.owner y.before)) is c.can,
+          )))
 
       go : (b h : List Entry) → g ≡ b ++ h → IsCounted cell n p b → IsCounted cell n p g
       go b [] split old = subst (IsCounted cell n p) (sym (split ∙ append-nil b)) old

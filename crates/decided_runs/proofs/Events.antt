@@ -1,8 +1,8 @@
--- Rounds of the initial team, SYNC IMAGES, events of one poster each and memories: a decided trace of them speaks for every other run.
-use Rattle.std.proofs.Common.{◌≡◌, ◌⊎◌, ◌≤◌, ℕ, suc, Bool, false, true, IsTrue, nat_eq, nat_le, ◌&&◌, cond, List, [], ◌∷◌, ◌++◌, inl, inr, refl, ap, sym, ◌∙◌, subst, arith}
-use Rattle.std.specs.Prelude.{pos, Option, Some, None, take, slice_get}
+-- A decided trace without FORM TEAM speaks for every other run: with its events, of which each has one poster, the last steps are told.
+use Rattle.std.proofs.Common.{◌≡◌, ◌⊎◌, ◌≤◌, ℕ, suc, Bool, false, true, IsTrue, nat_eq, nat_le, ◌&&◌, cond, List, [], ◌∷◌, inl, inr, refl, ap, sym, ◌∙◌, subst, arith}
+use Rattle.std.specs.Prelude.{pos, Option, slice_get}
 use Rattle.std.specs.List.{list_all}
-use Rattle.std.proofs.lemmas.Bool.{cases_Bool, both_ways, and_parts, and_from, eqb-true, le-leb}
+use Rattle.std.proofs.lemmas.Bool.{cases_Bool, and_parts, and_from, eqb-true, le-leb}
 use Rattle.trace_theory.specs.Entries.{Each}
 use Rattle.trace_theory.specs.Machines.{Move, Said, OneNextAsk}
 use Rattle.caf_base.specs.declared.place.ImageNo.{ImageNo}
@@ -13,18 +13,17 @@ use Rattle.caf_events.specs.declared.ask.Ask.{Ask}
 use Rattle.caf_events.specs.declared.ask.Ask.TheVariants as asks
 use Rattle.caf_events.specs.declared.reply.Reply.{Reply}
 use Rattle.caf_events.specs.declared.reply.Reply.TheVariants as replies
-use Rattle.caf_events.specs.declared.round.Arriving.TheVariants as arrivings
 use Rattle.caf_events.specs.declared.event.Entry.{Entry}
 use Rattle.caf_events.specs.Asks.{place_of, object_of}
 use Rattle.object_rules.specs.Locks.{event_after}
-use Rattle.object_rules.specs.Cells.{Declared, MadeMemory, size_turn, size_from, size_after, first_size, is_offset, is_within, is_marked}
+use Rattle.object_rules.specs.Cells.{Declared, MadeMemory, size_turn, size_from, first_size, is_offset, is_within, is_marked}
 use Rattle.object_rules.specs.MemoryRules.{has_first_values, is_event, is_cell_of, is_own, memory_ready, memory_reply}
 use Rattle.core_runs.specs.Lists.{key_of}
 use Rattle.core_runs.specs.CoreRuns.{IsCoreRun, IsFit, of_memory, said_by}
 use Rattle.core_runs.specs.Lawful.{made_memory, full_rules, full_beginning}
 use Rattle.order_theory.specs.Order.{Segment, Within}
 use Rattle.order_theory.specs.Races.{Cell, Stands}
-use Rattle.order_theory.specs.Acts.{Act, posts, waits, creates, deletes, finishes, event, released, waiting}
+use Rattle.order_theory.specs.Acts.{posts, waits, creates, deletes, finishes, released}
 use Rattle.order_axioms.specs.Views.{view, act_by, act_of, first_cell}
 use Rattle.order_axioms.proofs.Marked.{served_here}
 use Rattle.order_cuts.specs.Cuts.{Follows, IsSame}
@@ -36,22 +35,15 @@ use Rattle.free_replies.specs.Subsets.{is_of_cells}
 use Rattle.free_replies.proofs.Alike.{IsFree, each_from, each_stands, said_same, unmarked}
 use Rattle.free_replies.proofs.OwnSizes.{sizes_own, size_same}
 use Rattle.free_replies.proofs.Replies.{front_follows}
-use Rattle.round_words.specs.RoundRuns.{FormsNone, IsAhead, IsRoundRun, is_no_form}
+use Rattle.round_words.specs.RoundRuns.{IsAhead, IsRoundRun}
 use Rattle.round_words.proofs.RoundRuns.{round_front}
 use Rattle.round_replies.proofs.RoundSources.{is_taking, follows_front}
 use Rattle.round_replies.proofs.AnyRounds.{TellsTakings, any_speak}
-use Rattle.pair_replies.specs.Subsets.{is_of_pairs, is_of_events, IsOfEvents}
-use Rattle.pair_replies.proofs.PairCloses.{unpair_stays}
-use Rattle.pair_replies.proofs.PairSources.{pair_release}
-use Rattle.pair_replies.proofs.Pairs.{unpair_again, access}
-use Rattle.pair_replies.proofs.EventRuns.{wait_came, post_there, takes_same, count_more}
-
-abbrev IsOfEvent : Entry → Type 0
-IsOfEvent x = is_of_events x.event.ask ≡ true
-
-no_form : (a : Ask) → is_of_events a ≡ true → is_no_form a ≡ true
-no_form (asks.Arrive team (arrivings.Form number new_index)) h = absurd (cc)
-no_form a h = refl
+use Rattle.decided_runs.specs.Subsets.{HasNoForm}
+use Rattle.decided_runs.proofs.PairCloses.{unpair_stays}
+use Rattle.decided_runs.proofs.PairSources.{pair_release}
+use Rattle.decided_runs.proofs.PairReplies.{unpair_again}
+use Rattle.decided_runs.proofs.EventRuns.{wait_came, post_there, takes_same, count_more}
 
 pub record IsWait (a : Ask) : Type 0 where
   pub owner : ImageNo
@@ -96,10 +88,7 @@ post_act o span r f = absurd (cc)
 owner_same : (o owner : ImageNo) → places.Memory o ≡ places.Memory owner → o ≡ owner
 owner_same o owner e = cc
 
-module _ (s : List Declared) (n : ℕ) (t : List Entry) (run_t : IsRoundRun s n t) (one : OnePoster t) (stay : EventsStay t) (alone : IsOfEvents n t) where
-  kind_at : (x : Stands t) → is_of_events x.event.event.ask ≡ true
-  kind_at x = each_stands IsOfEvent t alone.steps x
-
+module _ (s : List Declared) (n : ℕ) (t : List Entry) (run_t : IsRoundRun s n t) (one : OnePoster t) (stay : EventsStay t) where
   -- a post that a run has is one of the trace
   abbrev Posted : Cell → Type 0
   Posted cell = (z : Stands t) × (act_of z.event ≡ posts cell)
@@ -188,11 +177,11 @@ module _ (s : List Declared) (n : ℕ) (t : List Entry) (run_t : IsRoundRun s n 
         ∙ sym (ap (λ q. cond q (replies.Number (pos 6001)) (cond (is_within m (of_memory owner.0 y.before) span) (replies.Number (pos 0)) replies.Absent)) (unmarked owner.0 y.before run_y.free))
 
     -- the reply to a post and to a wait
-    again : (a : Ask) → y.event.event.ask ≡ a → is_of_events a ≡ true → is_of_cells a ≡ false → place_of a ≡ places.Memory owner → memory_reply m (of_memory owner.0 g) i a ≡ y.event.event.reply
+    again : (a : Ask) → y.event.event.ask ≡ a → is_free a y.event.event.reply ≡ true → is_of_cells a ≡ false → place_of a ≡ places.Memory owner → memory_reply m (of_memory owner.0 g) i a ≡ y.event.event.reply
     again (asks.Post o span) e h f p = subst (λ q. y.event.event.ask ≡ asks.Post q span → memory_reply m (of_memory owner.0 g) i (asks.Post q span) ≡ y.event.event.reply) (sym (owner_same o owner p))
         (λ e'. post_reply span e' ∙ sym (due ∙ ap (memory_reply m (of_memory owner.0 y.before) i) e')) e
     again (asks.Wait o span k) e h f p = either_same (is_marked (of_memory owner.0 g)) (is_marked (of_memory owner.0 y.before)) (replies.Number (pos 0)) ∙ sym (due ∙ ap (memory_reply m (of_memory owner.0 y.before) i) e)
-    again a e h f p = absurd (both_ways (is_of_cells a) f (access owner a h p))
+    again a e h f p = absurd (cc)
 
   pub event_takings : TellsTakings s n t
   event_takings = record {
@@ -203,13 +192,12 @@ module _ (s : List Declared) (n : ℕ) (t : List Entry) (run_t : IsRoundRun s n 
     unpaired = λ g run fol y words e ready. unpair_again s n t run_t g run fol y words e ready;
     unpair_more = λ w u run_w run_u fol_w fol_u ahead i same ready. unpair_stays s n w u run_w run_u ahead i same ready;
     wait_more = wait_stays;
-    memory_again = λ g run fol y words owner place not_cells. again g run fol y owner place y.event.event.ask refl (kind_at y) not_cells place;
+    memory_again = λ g run fol y words owner place not_cells. again g run fol y owner place y.event.event.ask refl (each_stands IsFree t run_t.free y) not_cells place;
   }
 
 module _ {C : Type 0} (step : C → Move C Ask Reply) (hears : C → Reply → Type 0) (one : OneNextAsk step) (s : List Declared) (n : ℕ) (first : ℕ → C) (t : List Entry)
     (declared : list_all has_first_values s ≡ true) (fit : IsFit (full_rules step hears) (full_beginning s n first)) (core : IsCoreRun (full_rules step hears) (full_beginning s n first) t)
-    (end : IsAtEnd (full_rules step hears) (full_beginning s n first) t) (decided : IsDecided n t) (alone : IsOfEvents n t) where
+    (end : IsAtEnd (full_rules step hears) (full_beginning s n first) t) (decided : IsDecided n t) (none_forms : HasNoForm n t) where
   pub events_speak : (u : List Entry) → IsCoreRun (full_rules step hears) (full_beginning s n first) u → SpeaksFor (full_rules step hears) (full_beginning s n first) s n t u
   events_speak u run =
-      any_speak step hears one s n first t declared fit core end decided (each_from FormsNone t (λ x. no_form x.event.event.ask (each_stands IsOfEvent t alone.steps x)))
-      (λ run_t. event_takings s n t run_t decided.one_poster decided.events_stay alone) u run
+      any_speak step hears one s n first t declared fit core end decided none_forms (λ run_t. event_takings s n t run_t decided.one_poster decided.events_stay) u run

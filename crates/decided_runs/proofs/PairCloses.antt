@@ -21,7 +21,7 @@ use Rattle.round_words.proofs.BoardWords.{happened_board, stopped_said, stopped_
 use Rattle.round_words.proofs.Ahead.{front_ahead, stopped_whole}
 use Rattle.round_words.proofs.RoundRuns.{round_front}
 use Rattle.round_words.proofs.RoundStops.{any_where}
-use Rattle.pair_replies.proofs.PairWords.{sets_said, sets_append, count_in, count_append, last_set, comes_said, own_pairs, own_naming, own_last, paired_is}
+use Rattle.decided_runs.proofs.PairWords.{sets_said, sets_append, count_in, count_append, last_set, comes_said, own_pairs, own_naming, own_last, paired_is}
 
 any_false : {A : Type 0} (xs : List A) → list_any (λ x. false) xs ≡ false
 any_false [] = refl

@@ -1,7 +1,6 @@
 -- The count of an event, and the segments that wait there, by the words of its one poster and of the image that waits.
-use Rattle.std.proofs.Common.{◌≡◌, ◌≤◌, ℕ, zero, suc, ◌+◌, ◌-◌, Bool, true, false, IsTrue, nat_eq, ◌&&◌, cond, List, [], ◌∷◌, ◌++◌, length, map, inl, inr, refl, ap, sym, ◌∙◌, subst, arith, append_assoc, length-append}
-use Rattle.std.specs.Prelude.{pos, drop}
-use Rattle.std.specs.Ordering.{int_eq}
+use Rattle.std.proofs.Common.{◌≡◌, ◌≤◌, ℕ, zero, suc, ◌+◌, ◌-◌, Bool, true, false, nat_eq, ◌&&◌, cond, List, [], ◌∷◌, ◌++◌, length, inl, inr, refl, ap, sym, ◌∙◌, arith, length-append}
+use Rattle.std.specs.Prelude.{drop}
 use Rattle.std.proofs.lemmas.List.{append-nil}
 use Rattle.std.proofs.lemmas.Bool.{cases_Bool, and_parts, and_from, eqb-true, eq-eqb}
 use Rattle.trace_theory.specs.Machines.{Said}
@@ -17,7 +16,7 @@ use Rattle.caf_events.specs.Asks.{place_of, object_of}
 use Rattle.object_rules.specs.Locks.{is_at, event_turn, event_after}
 use Rattle.object_rules.proofs.MemoryGrowing.{event_more}
 use Rattle.core_runs.specs.Lists.{key_of, said}
-use Rattle.core_runs.specs.CoreRuns.{of_image, of_memory, said_by}
+use Rattle.core_runs.specs.CoreRuns.{of_memory, said_by}
 use Rattle.order_theory.specs.Order.{Segment, done, segment_of}
 use Rattle.order_theory.specs.Races.{Cell, same_cell, within_coarray}
 use Rattle.order_theory.specs.Acts.{Act, posts, waits, creates, deletes, finishes, event, adds, clears, drops, leaves_all, turn, turned, waiting, completing, entries}
@@ -25,7 +24,7 @@ use Rattle.order_theory.proofs.Sources.{waiting_more}
 use Rattle.order_axioms.specs.Views.{view, act_by, act_of, first_cell}
 use Rattle.every_order.specs.Decided.{is_free}
 use Rattle.every_order.proofs.Induction.{said_more}
-use Rattle.pair_replies.proofs.PairSources.{begun_by, done_by, done_after, segments_said, segments_append}
+use Rattle.decided_runs.proofs.PairSources.{done_by, done_after, segments_said, segments_append}
 
 bool_ext : (a b : Bool) → (a ≡ true → b ≡ true) → (b ≡ true → a ≡ true) → a ≡ b
 bool_ext true b f g = sym (f refl)
@@ -265,15 +264,15 @@ module _ (cell : Cell) where
             let number : done_after 0 (said_by p h) ≡ done (entries (view n)) e.image.0 h = sym (done_words n p h 0) ∙ (let m = done (entries (view n)) p h in plain m) ∙ ap (λ i. done (entries (view n)) i h) (sym image) in
             let is_seg : record { image = p; number = done_after 0 (said_by p h) } ≡ seg = (λ k. record { image = (sym image) k; number = number k }) in
             let s : posted (h ++ e ∷ []) ≡ posted h ++ seg ∷ [] =
-                posted_step ∙ ap (λ b. posted h ++ cond b (cond (posts_at (act_of e)) (record { image = p; number = done_after 0 (said_by p h) } ∷ []) []) []) own
-                ∙ ap (λ a. posted h ++ cond (posts_at a) (record { image = p; number = done_after 0 (said_by p h) } ∷ []) []) act
-                ∙ ap (λ b. posted h ++ cond b (record { image = p; number = done_after 0 (said_by p h) } ∷ []) []) here
-                ∙ ap (λ z. posted h ++ z ∷ []) is_seg in
+            posted_step ∙ ap (λ b. posted h ++ cond b (cond (posts_at (act_of e)) (record { image = p; number = done_after 0 (said_by p h) } ∷ []) []) []) own
+            ∙ ap (λ a. posted h ++ cond (posts_at a) (record { image = p; number = done_after 0 (said_by p h) } ∷ []) []) act
+            ∙ ap (λ b. posted h ++ cond b (record { image = p; number = done_after 0 (said_by p h) } ∷ []) []) here
+            ∙ ap (λ z. posted h ++ z ∷ []) is_seg in
             let l = ap length s ∙ length-append (posted h) (seg ∷ []) in
             let low = old.enough in
             let count = old.count in
             let more : event_after cell.coarray cell.offset (of_memory cell.owner (h ++ e ∷ [])) ≡ event_after cell.coarray cell.offset (of_memory cell.owner h) + 1 =
-                count_step ∙ ap (counted (event_after cell.coarray cell.offset (of_memory cell.owner h))) act ∙ ap (λ b. cond b (event_after cell.coarray cell.offset (of_memory cell.owner h) + 1) (event_after cell.coarray cell.offset (of_memory cell.owner h))) here in
+            count_step ∙ ap (counted (event_after cell.coarray cell.offset (of_memory cell.owner h))) act ∙ ap (λ b. cond b (event_after cell.coarray cell.offset (of_memory cell.owner h) + 1) (event_after cell.coarray cell.offset (of_memory cell.owner h))) here in
             record {
               waits = waits_step ∙ ap (shifted seg (waiting (view n) (event cell) h)) act
                   ∙ ap (λ b. cond b (waiting (view n) (event cell) h ++ seg ∷ []) (waiting (view n) (event cell) h)) here ∙ ap (λ q. q ++ seg ∷ []) old.waits
@@ -294,14 +293,14 @@ module _ (cell : Cell) where
         waits_here d k act here image can =
             let own = eq-eqb e.image.0 cell.owner image in
             let t : taken (h ++ e ∷ []) ≡ taken h + k =
-                taken_step ∙ ap (λ b. taken h + cond b (takes_at (act_of e)) 0) own ∙ ap (λ a. taken h + takes_at a) act ∙ ap (λ b. taken h + cond b k 0) here in
+            taken_step ∙ ap (λ b. taken h + cond b (takes_at (act_of e)) 0) own ∙ ap (λ a. taken h + takes_at a) act ∙ ap (λ b. taken h + cond b k 0) here in
             let s : posted (h ++ e ∷ []) ≡ posted h =
-                posted_step ∙ ap (λ a. posted h ++ cond (nat_eq e.image.0 p) (cond (posts_at a) (record { image = p; number = done_after 0 (said_by p h) } ∷ []) []) []) act ∙ nil_more (posted h) (nat_eq e.image.0 p) in
+            posted_step ∙ ap (λ a. posted h ++ cond (nat_eq e.image.0 p) (cond (posts_at a) (record { image = p; number = done_after 0 (said_by p h) } ∷ []) []) []) act ∙ nil_more (posted h) (nat_eq e.image.0 p) in
             let l = ap length s in
             let low = old.enough in
             let count = old.count in
             let less : event_after cell.coarray cell.offset (of_memory cell.owner (h ++ e ∷ [])) ≡ event_after cell.coarray cell.offset (of_memory cell.owner h) - k =
-                count_step ∙ ap (counted (event_after cell.coarray cell.offset (of_memory cell.owner h))) act ∙ ap (λ b. cond b (event_after cell.coarray cell.offset (of_memory cell.owner h) - k) (event_after cell.coarray cell.offset (of_memory cell.owner h))) here in
+            count_step ∙ ap (counted (event_after cell.coarray cell.offset (of_memory cell.owner h))) act ∙ ap (λ b. cond b (event_after cell.coarray cell.offset (of_memory cell.owner h) - k) (event_after cell.coarray cell.offset (of_memory cell.owner h))) here in
             record {
               waits = waits_step ∙ ap (shifted seg (waiting (view n) (event cell) h)) act
                   ∙ ap (λ b. cond b (drop k (waiting (view n) (event cell) h)) (waiting (view n) (event cell) h)) here ∙ ap (drop k) old.waits

@@ -36,8 +36,8 @@ use Rattle.round_words.proofs.BoardWords.{stopped_said, stopped_append}
 use Rattle.round_words.proofs.Ahead.{follows_ahead, stopped_whole}
 use Rattle.round_words.proofs.RoundRuns.{round_front}
 use Rattle.round_replies.proofs.RoundSources.{follows_front}
-use Rattle.pair_replies.proofs.PairWords.{sets_said, add_set, sets_append, count_in, count_append, last_set, comes_said}
-use Rattle.pair_replies.proofs.PairCloses.{unpair_paired, behind, all_come}
+use Rattle.decided_runs.proofs.PairWords.{sets_said, add_set, sets_append, count_in, count_append, last_set, comes_said}
+use Rattle.decided_runs.proofs.PairCloses.{unpair_paired, behind, all_come}
 
 -- the act begins SYNC IMAGES with image i
 abbrev pairs_with : ℕ → Act → Bool
