@@ -29,7 +29,7 @@ module _ (E S : Type 0) (v : View E) (k : Likeness v S) where
       omega arith
 
   -- an entry stands within the trace
-  stands_short : {t : List E} → (y : Stands t) → place y < length t
+  pub stands_short : {t : List E} → (y : Stands t) → place y < length t
   stands_short {t} y = let e = ap length y.split in let l = length-append y.before (y.event ∷ y.rest) in omega arith
 
   -- its segment has begun in the trace
@@ -40,7 +40,7 @@ module _ (E S : Type 0) (v : View E) (k : Likeness v S) where
       omega arith
 
   -- two entries at one place are of one image
-  same_here : {t : List E} → (x y : Stands t) → place x ≡ place y → v.image x.event ≡ v.image y.event
+  pub same_here : {t : List E} → (x y : Stands t) → place x ≡ place y → v.image x.event ≡ v.image y.event
   same_here {t} x y e =
       let f = same_fronts E x.before (x.event ∷ x.rest) y.before (y.event ∷ y.rest) (sym x.split ∙ y.split) e in
       let q = f.1 in

@@ -121,32 +121,9 @@ module _ (E S V : Type 0) (v : View E) (k : Likeness v S) (a : Accesses E V) (va
   from_t : (g : List E) → Runs g → (c : Cell) (x : Stands t) (y : Stands g) → IsSame v k x y → Writing E V a value x c → Writing E V a value y c
   from_t g r c x y s w = (subst (λ cs. Within c cs) (r.alike_cells x y s) w.0, sym (ap defines (r.alike_class x y s)) ∙ w.1)
 
-  -- x is the next step of its image, it touches the cell, and meets all that define it; and so do those with one another
-  module _ (acting : (y : Stands t) (c : Cell) → Writing E V a value y c → acts y.before y.event) (x : Stands t) (ax : acts x.before x.event) (c : Cell) (touch : Within c (a.touching.cells x.before x.event))
-      (meets_x : (w : Stands t) → Writing E V a value w c → (meets (a.touching.class_of w.event) (a.touching.class_of x.event) ≡ true) × (meets (a.touching.class_of x.event) (a.touching.class_of w.event) ≡ true))
+  -- all that define the cell act, and meet one another
+  module _ (acting : (y : Stands t) (c : Cell) → Writing E V a value y c → acts y.before y.event) (c : Cell)
       (meets_all : (w z : Stands t) → Writing E V a value w c → Writing E V a value z c → meets (a.touching.class_of w.event) (a.touching.class_of z.event) ≡ true) where
-    -- an entry of x's image is before x where it is inside, and the other way round
-    own_before : (g : List E) → IsNext v k g x → (w : Stands t) → v.image w.event ≡ v.image x.event → IsInside v k g w → place w < place x
-    own_before g next w same inside =
-        elim (cases_lt (place w) (place x)) [
-          | inl l ↦ l
-          | inr l ↦ (
-              let m = not_later E S v k t x w (sym same) l in
-              let j = ap (λ i. length (own_list v i g)) same in
-              absurd (omega arith))
-        ]
-
-    own_inside : (g : List E) → IsNext v k g x → (w : Stands t) → v.image w.event ≡ v.image x.event → own_place v k w < own_place v k x → IsInside v k g w
-    own_inside g next w same l = let j = ap (λ i. length (own_list v i g)) same in omega arith
-
-    writer_before : (g : List E) → Runs g → IsNext v k g x → (w : Stands t) → Writing E V a value w c → IsInside v k g w → place w < place x
-    writer_before g r next w ww inside =
-        elim (cases_eq (v.image w.event) (v.image x.event)) [
-          | inl same ↦ own_before g next w same inside
-          | inr other ↦ before_if_inside E S v k t g r.follows acts quiet r.silent r.keeps a.touching clean w x (acting w c ww) ax
-              (record { images = λ e. other (sym e); cell = c; shared = (touch, ww.0); met = (meets_x w ww).1 }) next inside
-        ]
-
     -- an earlier entry of the same image has an earlier place among that image's
     own_sooner : {g : List E} → (w z : Stands g) → v.image w.event ≡ v.image z.event → place w < place z → own_place v k w < own_place v k z
     own_sooner {g} w z same l =
@@ -155,14 +132,6 @@ module _ (E S V : Type 0) (v : View E) (k : Likeness v S) (a : Accesses E V) (va
         let p = placed E S v k z.before here in
         let j = ap (λ i. length (own_list v i z.before)) same in
         omega arith
-
-    writer_inside : (g : List E) → Runs g → IsNext v k g x → (w : Stands t) → Writing E V a value w c → place w < place x → IsInside v k g w
-    writer_inside g r next w ww l =
-        elim (cases_eq (v.image w.event) (v.image x.event)) [
-          | inl same ↦ own_inside g next w same (own_sooner w x same l)
-          | inr other ↦ inside_if_before E S v k t g r.follows acts quiet r.silent r.keeps a.touching clean w x (acting w c ww) ax
-              (record { images = other; cell = c; shared = (ww.0, touch); met = (meets_x w ww).0 }) next l
-        ]
 
     -- two writers stand in g as they stand in t
     writers_in_order : (g : List E) → Runs g → (w z : Stands t) (w' z' : Stands g) → IsSame v k w w' → IsSame v k z z' → Writing E V a value w c → Writing E V a value z c → place w < place z → place w' < place z'
@@ -184,24 +153,26 @@ module _ (E S V : Type 0) (v : View E) (k : Likeness v S) (a : Accesses E V) (va
     inside_of : (g : List E) → Runs g → (w : Stands t) (y : Stands g) → IsSame v k w y → IsInside v k g w
     inside_of g r w y s = let p = placed E S v k g y in let o = s.own in let j = ap (λ i. length (own_list v i g)) s.image in omega arith
 
-    -- no run has a later last writer than another one
-    none_later : (g f : List E) → Runs g → Runs f → IsNext v k g x → IsNext v k f x → (lg : LastIs E V a value g c) (lf : LastIs E V a value f c)
+    -- f has all writers of the cell that g has
+    abbrev HasWriters : List E → List E → Type 0
+    HasWriters g f = (w : Stands t) → Writing E V a value w c → IsInside v k g w → IsInside v k f w
+
+    -- no run has a later last writer than another one that has its writers
+    none_later : (g f : List E) → Runs g → Runs f → HasWriters f g → (lg : LastIs E V a value g c) (lf : LastIs E V a value f c)
         → (wg wf : Stands t) → IsSame v k wg lg.entry → IsSame v k wf lf.entry → place wg < place wf → ⊥
-    none_later g f rg rf ng nf lg lf wg wf sg sf l =
+    none_later g f rg rf has lg lf wg wf sg sf l =
         let ww = to_t g rg c wg lg.entry sg lg.writing in
         let wz = to_t f rf c wf lf.entry sf lf.writing in
-        let b = writer_before f rf nf wf wz (inside_of f rf wf lf.entry sf) in
-        let z = there E S v k t g rg.follows wf (writer_inside g rg ng wf wz b) in
+        let z = there E S v k t g rg.follows wf (has wf wz (inside_of f rf wf lf.entry sf)) in
         let m = lg.last z.0 (from_t g rg c wf z.0 z.1 wz) in
         let o = writers_in_order g rg wg wf lg.entry z.0 sg z.1 ww wz l in
         omega arith
 
-    none_alone : (g f : List E) → Runs g → Runs f → IsNext v k g x → IsNext v k f x → LastIs E V a value g c → NoneIs E V a value f c → ⊥
-    none_alone g f rg rf ng nf lg nof =
+    none_alone : (g f : List E) → Runs g → Runs f → HasWriters g f → LastIs E V a value g c → NoneIs E V a value f c → ⊥
+    none_alone g f rg rf has lg nof =
         let w = known E S v k t g rg.follows lg.entry in
         let ww = to_t g rg c w.0 lg.entry w.1 lg.writing in
-        let b = writer_before g rg ng w.0 ww (inside_of g rg w.0 lg.entry w.1) in
-        let z = there E S v k t f rf.follows w.0 (writer_inside f rf nf w.0 ww b) in
+        let z = there E S v k t f rf.follows w.0 (has w.0 ww (inside_of g rg w.0 lg.entry w.1)) in
         nof.none z.0 (from_t f rf c w.0 z.0 z.1 ww)
 
     same_place : (w z : Stands t) → place w ≡ place z → (w.before ≡ z.before) × (w.event ≡ z.event)
@@ -211,14 +182,14 @@ module _ (E S V : Type 0) (v : View E) (k : Likeness v S) (a : Accesses E V) (va
         let h : w.event ≡ z.event = cc in
         (f.0, h)
 
-    by_last : (g f : List E) → Runs g → Runs f → IsNext v k g x → IsNext v k f x → LastIs E V a value g c → LastIs E V a value f c → value g c ≡ value f c
-    by_last g f rg rf ng nf lg lf =
+    by_last : (g f : List E) → Runs g → Runs f → HasWriters g f → HasWriters f g → LastIs E V a value g c → LastIs E V a value f c → value g c ≡ value f c
+    by_last g f rg rf to_f to_g lg lf =
         let w = known E S v k t g rg.follows lg.entry in
         let z = known E S v k t f rf.follows lf.entry in
         elim (cases_lt (place w.0) (place z.0)) [
-          | inl l ↦ absurd (none_later g f rg rf ng nf lg lf w.0 z.0 w.1 z.1 l)
+          | inl l ↦ absurd (none_later g f rg rf to_g lg lf w.0 z.0 w.1 z.1 l)
           | inr l ↦ elim (cases_lt (place z.0) (place w.0)) [
-            | inl m ↦ absurd (none_later f g rf rg nf ng lf lg z.0 w.0 z.1 w.1 m)
+            | inl m ↦ absurd (none_later f g rf rg to_f lf lg z.0 w.0 z.1 w.1 m)
             | inr m ↦ (
                 let s = same_place w.0 z.0 (omega arith) in
                 lg.holds ∙ sym (rg.alike_leaves w.0 lg.entry c w.1 (to_t g rg c w.0 lg.entry w.1 lg.writing))
@@ -227,15 +198,57 @@ module _ (E S V : Type 0) (v : View E) (k : Likeness v S) (a : Accesses E V) (va
           ]
         ]
 
-    -- A cell that the next access of an image touches holds the same in every two runs that follow t and have come to that access. (One of them may be the front of t before it.)
-    pub same_value : (g f : List E) → Runs g → Runs f → IsNext v k g x → IsNext v k f x → value g c ≡ value f c
-    same_value g f rg rf ng nf = elim (last_is E V a value g rg.has c) [
+    -- Two runs that have the same writers of a cell leave the same there.
+    pub same_by : (g f : List E) → Runs g → Runs f → HasWriters g f → HasWriters f g → value g c ≡ value f c
+    same_by g f rg rf to_f to_g = elim (last_is E V a value g rg.has c) [
       | inl lg ↦ elim (last_is E V a value f rf.has c) [
-        | inl lf ↦ by_last g f rg rf ng nf lg lf
-        | inr nof ↦ absurd (none_alone g f rg rf ng nf lg nof)
+        | inl lf ↦ by_last g f rg rf to_f to_g lg lf
+        | inr nof ↦ absurd (none_alone g f rg rf to_f lg nof)
       ]
       | inr nog ↦ elim (last_is E V a value f rf.has c) [
-        | inl lf ↦ absurd (none_alone f g rf rg nf ng lf nog)
+        | inl lf ↦ absurd (none_alone f g rf rg to_g lf nog)
         | inr nof ↦ nog.holds ∙ sym nof.holds
       ]
     ]
+
+    -- x is the next step of its image, it touches the cell, and meets all that define it
+    module _ (x : Stands t) (ax : acts x.before x.event) (touch : Within c (a.touching.cells x.before x.event))
+        (meets_x : (w : Stands t) → Writing E V a value w c → (meets (a.touching.class_of w.event) (a.touching.class_of x.event) ≡ true) × (meets (a.touching.class_of x.event) (a.touching.class_of w.event) ≡ true)) where
+      -- an entry of x's image is before x where it is inside, and the other way round
+      own_before : (g : List E) → IsNext v k g x → (w : Stands t) → v.image w.event ≡ v.image x.event → IsInside v k g w → place w < place x
+      own_before g next w same inside =
+          elim (cases_lt (place w) (place x)) [
+            | inl l ↦ l
+            | inr l ↦ (
+                let m = not_later E S v k t x w (sym same) l in
+                let j = ap (λ i. length (own_list v i g)) same in
+                absurd (omega arith))
+          ]
+
+      own_inside : (g : List E) → IsNext v k g x → (w : Stands t) → v.image w.event ≡ v.image x.event → own_place v k w < own_place v k x → IsInside v k g w
+      own_inside g next w same l = let j = ap (λ i. length (own_list v i g)) same in omega arith
+
+      writer_before : (g : List E) → Runs g → IsNext v k g x → (w : Stands t) → Writing E V a value w c → IsInside v k g w → place w < place x
+      writer_before g r next w ww inside =
+          elim (cases_eq (v.image w.event) (v.image x.event)) [
+            | inl same ↦ own_before g next w same inside
+            | inr other ↦ before_if_inside E S v k t g r.follows acts quiet r.silent r.keeps a.touching clean w x (acting w c ww) ax
+                (record { images = λ e. other (sym e); cell = c; shared = (touch, ww.0); met = (meets_x w ww).1 }) next inside
+          ]
+
+      writer_inside : (g : List E) → Runs g → IsNext v k g x → (w : Stands t) → Writing E V a value w c → place w < place x → IsInside v k g w
+      writer_inside g r next w ww l =
+          elim (cases_eq (v.image w.event) (v.image x.event)) [
+            | inl same ↦ own_inside g next w same (own_sooner w x same l)
+            | inr other ↦ inside_if_before E S v k t g r.follows acts quiet r.silent r.keeps a.touching clean w x (acting w c ww) ax
+                (record { images = other; cell = c; shared = (ww.0, touch); met = (meets_x w ww).0 }) next l
+          ]
+
+      -- A cell that the next access of an image touches holds the same in every two runs that follow t and have come to that access. (One of them may be the front of t before it.)
+      pub same_value : (g f : List E) → Runs g → Runs f → IsNext v k g x → IsNext v k f x → value g c ≡ value f c
+      same_value g f rg rf ng nf =
+          same_by g f rg rf (λ w ww inside. writer_inside f rf nf w ww (writer_before g rg ng w ww inside)) (λ w ww inside. writer_inside g rg ng w ww (writer_before f rf nf w ww inside))
+
+    -- Two runs that have made all steps of t leave the same at each cell.
+    pub same_end : (g f : List E) → Runs g → Runs f → ((w : Stands t) → IsInside v k g w) → ((w : Stands t) → IsInside v k f w) → value g c ≡ value f c
+    same_end g f rg rf all_g all_f = same_by g f rg rf (λ w ww inside. all_f w) (λ w ww inside. all_g w)

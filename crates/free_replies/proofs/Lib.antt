@@ -1,0 +1,12 @@
+pub mod Alike
+pub mod OwnSizes
+pub mod Written
+pub mod SameCells
+pub mod CellsKept
+pub mod Followers
+pub mod CellReplies
+pub mod SameRaces
+pub mod FirstLeft
+pub mod Replies
+pub mod Speaking
+pub mod Memories
