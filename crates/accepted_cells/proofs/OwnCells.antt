@@ -1,4 +1,5 @@
--- The coarrays with which an image begins are small, where the tables of its program fit it; and those that are made of the tables hold what it declares.
+-- The coarrays with which an image begins are small, where the tables of its program fit it; and those that are made of
+-- the tables hold what it declares.
 use Rattle.std.proofs.Common.{◌≡◌, ℕ, ◌+◌, true, List, [], ◌∷◌, map, refl, ap₂, arith}
 use Rattle.std.specs.Prelude.{nat_le, slice_get, ◌&&◌, Option, Some, None}
 use Rattle.std.proofs.lemmas.Bool.{leb-true}

@@ -10,7 +10,8 @@ use Rattle.object_rules.specs.Cells.{Declared}
 use Rattle.object_rules.specs.MemoryRules.{holds, is_lock, is_event}
 
 module _ (coarrays : List Declared) where
-  -- an object of this type is a declared coarray of locks or events, where it is of these (ISO/IEC 1539-1:2018, 16.10.2.10, 16.10.2.19)
+  -- an object of this type is a declared coarray of locks or events, where it is of these (ISO/IEC 1539-1:2018,
+  -- 16.10.2.10, 16.10.2.19)
   abbrev pub IsOf : DataType → Object → Type 0
   IsOf Lock (objects.Coarray n) = holds is_lock (slice_get coarrays n) ≡ true
   IsOf Lock (objects.Local l) = ⊥

@@ -177,7 +177,8 @@ module _ (n me : ℕ) (coarrays : List Declared) (steady : Bool) where
   IsAsked x m = (y : Sizes) (c : Core) (o s : ℕ) (us : List ℤ) (After : Sizes → Core → Type 0) → IsOneOf n o → s < most_cells → Sound y c → ((d : Core) (xs : List ℤ) → Sound y d → length xs ≡ m → d.values ≡ xs ++ us → After y d)
       → EffectFits n me coarrays steady (effect_of (ask x) (with_values c (pos o ∷ pos s ∷ us))) After y
 
-  -- result places are put down, the coarray is there, and the place and the owner once more: then comes the ask, and behind it parts that take all
+  -- result places are put down, the coarray is there, and the place and the owner once more: then comes the ask, and
+  -- behind it parts that take all
   pub asked : (x : a.AskAct) (m : ℕ) → IsAsked x m → (tail : List Act) {q k : ℕ} {place there more : Parts Act} → Turns (numbers 0 q) place → Safe false place → Turns none there → Safe false there
       → Turns (numbers (m + (q + (k + 2))) 0) (doing tail ▸ more) → Safe false (doing tail ▸ more) → (vs ps : List ℤ) (y : Sizes) (c : Core) (o s : ℕ) → Sound y c → IsOneOf n o → s < most_cells → length ps ≡ k
       → c.values ≡ pos o ∷ pos s ∷ (ps ++ vs) → Fit (place ▸ there ▸ copying q 2 ▸ doing (ask x ∷ tail) ▸ more) (Done vs) y c

@@ -1,4 +1,5 @@
--- What the place and the owner of one cell come to: the cell is within its coarray, and the owner is an image of the run.
+-- What the place and the owner of one cell come to: the cell is within its coarray, and the owner is an image of the
+-- run.
 use Rattle.std.proofs.Common.{◌≡◌, ◌∙◌, ℕ, zero, suc, ◌+◌, ◌≤◌, ◌<◌, Bool, true, false, cond, List, [], ◌∷◌, ◌++◌, length, refl, ap, ap₂, sym, subst, arith}
 use Rattle.std.specs.Prelude.{map, ℤ, pos, ◌==◌, ◌||◌, not, min, drop, nat_eq, nat_lt, nat_le, slice_get, slice_index_or, Option, None, Some}
 use Rattle.std.proofs.lemmas.Bool.{leb-true, lt-ltb, and_from}

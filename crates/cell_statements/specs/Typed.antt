@@ -1,4 +1,5 @@
--- Which coarrays LOCK, UNLOCK, EVENT POST, EVENT WAIT and EVENT_QUERY name (ISO/IEC 1539-1:2018, 11.6.7, 11.6.8, 11.6.10, 16.9.72, 16.10.2).
+-- Which coarrays LOCK, UNLOCK, EVENT POST, EVENT WAIT and EVENT_QUERY name (ISO/IEC 1539-1:2018, 11.6.7, 11.6.8,
+-- 11.6.10, 16.9.72, 16.10.2).
 use Rattle.std.specs.Prelude.{ℕ, ◌≡◌, Bool, true, false, pos, List, [], ◌∷◌, slice_get}
 use Rattle.checked_tree.specs.declared.data.Object.TheVariants as objects
 use Rattle.checked_tree.specs.Expressions as t
@@ -62,7 +63,8 @@ module _ (coarrays : List Declared) where
   abbrev pub IsTypedProgram : s.Program → Type 0
   IsTypedProgram p = AreTyped p.main.statements × AreTypedProcedures p.procedures
 
--- EVENT WAIT calls no procedure between its event and its end, so that the event is there as it was found; and EVENT_QUERY, of this image's event, calls none at all
+-- EVENT WAIT calls no procedure between its event and its end, so that the event is there as it was found; and
+-- EVENT_QUERY, of this image's event, calls none at all
 module _ (e : Environment) where
   abbrev pub IsOwn : t.Designator → Type 0
   IsOwn (t.part o ss t.no_selector) = Unit {0}

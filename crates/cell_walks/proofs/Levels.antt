@@ -18,8 +18,8 @@ use Rattle.cell_walks.proofs.Parts.{effect_more, parts_more, test_fits}
 use Rattle.cell_walks.proofs.Acts.{IsFree, Holds, act_fits}
 use Rattle.cell_walks.proofs.Allocations.{made_fits, freed_fits}
 
--- Parts that ask for no lock and for no event. Where `still` is true they allocate and deallocate no coarray, and where `alone` is true they call no procedure. An allocation
--- is noted directly behind its ask.
+-- Parts that ask for no lock and for no event. Where `still` is true they allocate and deallocate no coarray, and where
+-- `alone` is true they call no procedure. An allocation is noted directly behind its ask.
 pub data IsQuiet (still alone : Bool) : Parts Act → Type 0 where
   ends : IsQuiet still alone end_parts
   values : (p q : Parts Act) → IsQuiet still alone p → IsQuiet still alone q → IsQuiet still alone (value p q)

@@ -42,7 +42,8 @@ module _ (n me : ℕ) (coarrays : List Declared) (steady : Bool) where
   callers [] = []
   callers (vs ∷ bs) = bs
 
-  -- tasks whose asks fit from this core on, where these numbers are those of the bodies; a truth value may stand on those of the first
+  -- tasks whose asks fit from this core on, where these numbers are those of the bodies; a truth value may stand on
+  -- those of the first
   abbrev TasksFit : List (List ℤ) → List (Task Act) → Sizes → Core → Type 0
   TasksFit bs [] z c = Unit {0}
   TasksFit bs (run stop ∷ ts) z c = TasksFit bs ts z c

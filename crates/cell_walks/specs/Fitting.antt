@@ -1,4 +1,5 @@
--- Which asks for one cell of a memory fit (ISO/IEC 1539-1:2018, 9.6, 11.6.7, 11.6.8, 11.6.10, 16.10.2), along the walk of a program.
+-- Which asks for one cell of a memory fit (ISO/IEC 1539-1:2018, 9.6, 11.6.7, 11.6.8, 11.6.10, 16.10.2), along the walk
+-- of a program.
 use Rattle.std.specs.Prelude.{ℕ, ◌≡◌, ◌≤◌, ◌<◌, ℤ, Bool, true, map, slice_get, List, [], ◌∷◌, Option, Some, None}
 use Rattle.trace_theory.specs.Entries.{Each}
 use Rattle.trace_theory.specs.Machines.{Said}
@@ -39,7 +40,8 @@ IsSmall (Some o) = size_of o.bounds ≤ most_cells
 abbrev pub Sizes : Type 0
 Sizes = List (Option ℕ)
 
--- The invariant of a walk of image `me` of n: each team that it knows has members of the run alone, and its own coarrays have these sizes, none more cells than an image has.
+-- The invariant of a walk of image `me` of n: each team that it knows has members of the run alone, and its own
+-- coarrays have these sizes, none more cells than an image has.
 pub record Sounds (n me : ℕ) (z : Sizes) (m : ℕ) (ts : List Team) (fs : List FormedTeam) (os : List (Option Own)) : Type 0 where
   pub own : m ≡ me
   pub known : Each (λ (x : Team). Each (IsOneOf n) x.members) ts
@@ -54,8 +56,8 @@ IsSound n me z c = Sounds n me z c.me c.known c.formed c.coarrays
 abbrev pub HasCell : Sizes → Span → Type 0
 HasCell z span = (m : ℕ) × (joined (slice_get z span.coarray) ≡ Some m) × (span.start < m)
 
--- The ask of image `me`, whose own coarrays have these sizes, fits, as far as it is one for a lock or an event. EVENT WAIT and EVENT_QUERY name a cell that is there where
--- `steady` is true.
+-- The ask of image `me`, whose own coarrays have these sizes, fits, as far as it is one for a lock or an event. EVENT
+-- WAIT and EVENT_QUERY name a cell that is there where `steady` is true.
 abbrev pub FitsCell : (n me : ℕ) → List Declared → Bool → Sizes → Ask → Type 0
 FitsCell n me coarrays steady z (asking.Lock owner span) = IsOneOf n owner.0 × (is_cell_of (made_memory coarrays owner.0) is_lock span ≡ true)
 FitsCell n me coarrays steady z (asking.TryLock owner span) = IsOneOf n owner.0 × (is_cell_of (made_memory coarrays owner.0) is_lock span ≡ true)

@@ -13,7 +13,8 @@ ghost use Rattle.image_acts.specs.Core.{Core};
 ghost use Rattle.image_acts.specs.Meaning.{image_language};
 ghost use Rattle.cell_walks.specs.Fitting.{Sizes, IsSound, TellsImages, StepsFit, AllFit};
 
-/// Where the blocks of a program fit, each ask of its walks fits, whatever the replies are that tell of images of the run alone.
+/// Where the blocks of a program fit, each ask of its walks fits, whatever the replies are that tell of images of the
+/// run alone.
 pub fn law_walks_fit()
     ensures { (n me : ℕ) (coarrays : List Declared) (steady : Bool) (procedures : ℕ → Steps Act) (limit : ℕ) → ((k : ℕ) → StepsFit n me coarrays steady (procedures k))
         → (line : ℕ) (sizes : Sizes) (first : Core) → IsSound n me sizes first → first.values ≡ [] → (es : List (Said Ask Reply)) (c : Config Act Core)

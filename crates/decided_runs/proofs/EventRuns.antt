@@ -1,4 +1,5 @@
--- Events of one poster each in the runs that follow a decided trace: what a wait takes, when it can come, and what a post hears.
+-- Events of one poster each in the runs that follow a decided trace: what a wait takes, when it can come, and what a
+-- post hears.
 use Rattle.std.proofs.Common.{◌≡◌, ◌⊎◌, ◌≤◌, ℕ, zero, suc, ◌+◌, ◌-◌, Bool, true, false, IsTrue, nat_eq, nat_le, ◌&&◌, cond, List, [], ◌∷◌, ◌++◌, length, inl, inr, refl, ap, sym, ◌∙◌, subst, arith, append_assoc, length-append}
 use Rattle.std.specs.Prelude.{take, drop}
 use Rattle.std.proofs.lemmas.List.{append-nil}

@@ -1,4 +1,5 @@
--- A decided trace without FORM TEAM speaks for every other run: with its events, of which each has one poster, the last steps are told.
+-- A decided trace without FORM TEAM speaks for every other run: with its events, of which each has one poster, the last
+-- steps are told.
 use Rattle.std.proofs.Common.{◌≡◌, ◌⊎◌, ◌≤◌, ℕ, suc, Bool, false, true, IsTrue, nat_eq, nat_le, ◌&&◌, cond, List, [], ◌∷◌, inl, inr, refl, ap, sym, ◌∙◌, subst, arith}
 use Rattle.std.specs.Prelude.{pos, Option, slice_get}
 use Rattle.std.specs.List.{list_all}

@@ -44,7 +44,8 @@ abbrev pairs_with : ℕ → Act → Bool
 pairs_with i (pairs js) = names i js
 pairs_with i a = false
 
--- what a step adds to the segments of image j in which it makes steps of which the test holds, where d are completed before it
+-- what a step adds to the segments of image j in which it makes steps of which the test holds, where d are completed
+-- before it
 abbrev pub begun_by : (Act → Bool) → ℕ → ℕ → Act → List Segment → List Segment
 begun_by test j d a q = cond (test a) (record { image = j; number = d } ∷ q) q
 

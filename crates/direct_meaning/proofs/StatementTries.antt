@@ -46,8 +46,8 @@ overflow = refl
 limit : said (program [] [] 0 ((1, s.do_forever s.no_statements) ∷ []) 3) 10 1 1 [] ≡ (asked.LimitStatements 11, 1) ∷ []
 limit = refl
 
--- `integer :: x[*]`, `x = this_image()`, `sync all`, `if (this_image() == 1) print *, x[4]`, `end`, image 1 of 4; with the status
--- 6000 error termination
+-- `integer :: x[*]`, `x = this_image()`, `sync all`, `if (this_image() == 1) print *, x[4]`, `end`, image 1 of 4; with
+-- the status 6000 error termination
 neighbour_read : s.Program
 neighbour_read = program (coscalar int ∷ []) (0 ∷ []) 0 ((2, put 0 me) ∷ (3, sync) ∷ (4, if_then (eq me (num (pos 1))) 4 (print (s.value (at_image 0 (one (num (pos 4)))) ∷ []))) ∷ []) 5
 
@@ -85,8 +85,8 @@ twice : said (program (scalar int ∷ []) [] 0 ((2, s.sync_images (s.images (t.t
 unfolding digits
 twice = refl
 
--- `select case (num_images())`, `case (:1)`, `print *, 1`, `case (2, 4:6)`, `print *, 2`, `end select` on 5 images; `critical`,
--- `end critical` entered behind a failed image
+-- `select case (num_images())`, `case (:1)`, `print *, 1`, `case (2, 4:6)`, `print *, 2`, `end select` on 5 images;
+-- `critical`, `end critical` entered behind a failed image
 chosen : s.Program
 chosen = program [] [] 1
     ((1, s.select count 0 (s.more_cases (ranges.AtMost (pos 1) ∷ []) (block ((3, print (s.value (num (pos 1)) ∷ [])) ∷ [])) 2 (s.more_cases (ranges.Value (pos 2) ∷ ranges.Between (pos 4) (pos 6) ∷ []) (block ((5, print (s.value (num (pos 2)) ∷ [])) ∷ [])) 4 s.no_cases)) s.no_statements)
@@ -109,8 +109,8 @@ same_chosen : walk.said chosen 100 1 5 (done ∷ status 6001 ∷ done ∷ []) �
 unfolding chosen digits
 same_chosen = refl
 
--- `integer, allocatable :: b(:)`, `b(9) = 2147483648_8`: Overflow comes before NotAllocated, and no bound is tested; with `b(9) =
--- 1` NotAllocated
+-- `integer, allocatable :: b(:)`, `b(9) = 2147483648_8`: Overflow comes before NotAllocated, and no bound is tested;
+-- with `b(9) = 1` NotAllocated
 into_b : t.Expression → s.Program
 into_b x = program
     (record { name = []; of_type = int; dimensions = dimensions.Deferred 1; codimensions = codimensions.Absent; is_allocatable = true; initial = initials.Unstated } ∷ []) [] 0

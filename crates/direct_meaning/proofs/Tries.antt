@@ -191,8 +191,8 @@ asked_whether : val (t.typed (t.intrinsic (t.allocated (objects.Local (own 3))))
 unfolding env st few co2
 asked_whether = refl
 
--- this_image() is 3 of num_images() 6; this_image(x, 1) is 0, this_image(x, 2) is 2; image_index(x, [1, 3]) is 1 + 1 + 2 * 2 = 6;
--- [1, 4] names none
+-- this_image() is 3 of num_images() 6; this_image(x, 1) is 0, this_image(x, 2) is 2; image_index(x, [1, 3]) is 1 + 1 +
+-- 2 * 2 = 6; [1, 4] names none
 own_number : val (times me count) st ≡ is (pos 18)
 unfolding env st few co2
 own_number = refl

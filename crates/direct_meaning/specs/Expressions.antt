@@ -1,7 +1,6 @@
--- The value of an expression, one clause a form (ISO/IEC 1539-1:2018, 10.1; 9.4 to 9.6; 15.5; 16.9). Operands are evaluated from
--- left to right. A designator
--- evaluates its subscripts, its cosubscripts, its team and the subscripts of its STAT= variable, makes one access, and sets that
--- variable.
+-- The value of an expression, one clause a form (ISO/IEC 1539-1:2018, 10.1; 9.4 to 9.6; 15.5; 16.9). Operands are
+-- evaluated from left to right. A designator evaluates its subscripts, its cosubscripts, its team and the subscripts of
+-- its STAT= variable, makes one access, and sets that variable.
 use Rattle.std.specs.Prelude.{ℕ, zero, suc, ◌==◌, ℤ, pos, ◌-ℤ◌, Bool, false, not, int_rem, List, [], ◌∷◌, ◌++◌, length, Option, None, Some, is_some}
 use Rattle.coarray_types.specs.Places.{extent_of, size_of}
 use Rattle.caf_base.specs.declared.value.Kind.{Kind}
@@ -175,7 +174,8 @@ module _ (e : Environment) (calls : ℕ → List Passed → Does Value) where
     optional_target (t.result (t.result_variable v (t.more_expressions x es) k)) =
         value x ▹ℤ (λ i. scalars es ▹ (λ is. allocated (scope_of v.home) v.variable ▹ (λ a. part_of a.bounds (singles (i ∷ is)) ▹ (λ p. giving (element (scope_of v.home) v.variable p)))))
 
-    -- actual arguments from left to right (15.5.2); of a variable that goes back the place is found where it is evaluated
+    -- actual arguments from left to right (15.5.2); of a variable that goes back the place is found where it is
+    -- evaluated
     pub arguments : List Variable → List Dummy → t.Arguments → Does (List Passed)
     arguments vs ds t.no_arguments = giving []
     arguments vs [] (t.more_arguments x es) = giving []
@@ -194,7 +194,7 @@ module _ (e : Environment) (calls : ℕ → List Passed → Does Value) where
     team_of t.missing = the current_team
     team_of (t.given x) = value x ▹ℤ own_team
 
-    -- the bounds of an array (16.9.109, 16.9.163, 16.9.196); of a variable or a part of one nothing is read
+    -- the bounds of an array (16.9.109, 16.9.179, 16.9.196); of a variable or a part of one nothing is read
     pub bounds : t.Expression → Does (List (ℤ × ℤ))
     bounds (t.typed (t.designator d) type rank) = bounds_of_part d rank
     bounds (t.typed f type rank) = form f (kind_of type) rank ▹A (λ a. giving (from_one a.extents))

@@ -49,13 +49,13 @@ sibling (Some k) v ks = sibling_in k v ks
 abbrev pub numbered_team : ℤ → Does Team
 numbered_team v = λ l s. or_fault no_team (sibling (team_in (current_team s) s.known) v s.known) l s
 
--- the coarray was allocated in the selected team or an ancestor of it; for a team that this image isn't in, in an ancestor of the
--- current team (5.4.7)
+-- the coarray was allocated in the selected team or an ancestor of it; for a team that this image isn't in, in an
+-- ancestor of the current team (5.4.7)
 abbrev pub is_established : ℕ → ℕ → State → Bool
 is_established made t s = is_in made (cond (is_in t s.teams) (from_team t s.teams) (behind_first s.teams))
 
--- the image that cosubscripts name in a team, for an access to a part: CoBounds where they name none, but for a part without
--- cells
+-- the image that cosubscripts name in a team, for an access to a part: CoBounds where they name none, but for a part
+-- without cells
 abbrev pub image_in : Own → List ℤ → ℕ → Place → Does ℕ
 image_in o cs t p = λ l s.
     unless cobounds_fault (not (index_of o cs (length (members t s)) == 0) || (cells_of p == 0))

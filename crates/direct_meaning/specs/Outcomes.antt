@@ -5,8 +5,8 @@ use Rattle.caf_events.specs.declared.reply.Reply.{Reply}
 use Rattle.walk_theory.specs.Terms.{Found, found, at_fault}
 use Rattle.direct_meaning.specs.States.{State}
 
--- asks and faults are at a line, and the state in which they come is told with them; `unsaid` stands where a program that broke a
--- rule of the language would come to
+-- asks and faults are at a line, and the state in which they come is told with them; `unsaid` stands where a program
+-- that broke a rule of the language would come to
 pub data Outcome (X : Type 0) : Type 0 where
   done : X → Outcome X
   faults : ℕ → (line : ℕ) → State → Outcome X
@@ -22,7 +22,8 @@ and_then (asks a l z g) f = asks a l z (λ r. and_then (g r) f)
 and_then (over z) f = over z
 and_then unsaid f = unsaid
 
--- An evaluation: at the line of its statement, from the state that it finds, to what it gives and the state that it leaves.
+-- An evaluation: at the line of its statement, from the state that it finds, to what it gives and the state that it
+-- leaves.
 abbrev pub Does : Type 0 → Type 0
 Does X = (line : ℕ) → State → Outcome (X × State)
 

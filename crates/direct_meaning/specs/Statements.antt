@@ -1,5 +1,6 @@
--- What a statement does, and where execution goes on (ISO/IEC 1539-1:2018, 10.2, 11.1, 11.2, 11.4 to 11.6, 12.6). Procedure
--- calls, allocation, teams that are formed or changed, locks, events, atomic subroutines and collectives aren't said here.
+-- What a statement does, and where execution goes on (ISO/IEC 1539-1:2018, 10.2, 11.1, 11.2, 11.4 to 11.6, 12.6).
+-- Procedure calls, allocation, teams that are formed or changed, locks, events, atomic subroutines and collectives
+-- aren't said here.
 use Rattle.std.specs.Prelude.{ℕ, zero, suc, ◌+◌, ◌-◌, ◌==◌, nat_lt, cond, ℤ, pos, ◌+ℤ◌, Bool, false, not, ◌||◌, ◌&&◌, int_le, List, [], ◌∷◌, ◌++◌, map, length, replicate, min, Option, None, Some}
 use Rattle.std.specs.List.{list_all}
 use Rattle.std.specs.Ordering.{int_eq}
@@ -88,8 +89,8 @@ abbrev pub spread : Place → Value → Does (List ℤ)
 spread p (number v) = giving (replicate (cells_of p) v)
 spread p (array a) = unless shape_fault (same_extents a.extents (extents_of p)) (giving a.elements)
 
--- The place of a part of a local array; the subscripts of one that isn't allocated have no bounds to be tested against, and the
--- fault comes where it would be defined.
+-- The place of a part of a local array; the subscripts of one that isn't allocated have no bounds to be tested against,
+-- and the fault comes where it would be defined.
 abbrev pub place_of_array : Option l.Local → List Subscript → Does (Option Place)
 place_of_array None xs = giving None
 place_of_array (Some a) xs = part_of a.bounds xs ▹ (λ p. giving (Some p))
@@ -131,8 +132,8 @@ abbrev pub in_some : ℤ → List CaseRange → Bool
 in_some v [] = false
 in_some v (r ∷ rs) = in_range v r || in_some v rs
 
--- where execution goes on: behind the statement, behind a loop or at its next iteration, so many loops out, or behind the
--- procedure's body
+-- where execution goes on: behind the statement, behind a loop or at its next iteration, so many loops out, or behind
+-- the procedure's body
 pub data Control : Type 0 where
   onward : Control
   exits : ℕ → Control
@@ -198,7 +199,8 @@ module _ (limit : ℕ) (e : Environment) (calls : ℕ → List Passed → Does V
   image_of c p t.no_selector f = this_image p ▹ (λ i. f i nowhere)
   image_of c p (t.selector cs which stat) f = selected (scalars e calls cs) (selected_team e calls which) (optional_target e calls stat) c p f
 
-  -- the assignment of a value (10.2.1.3): the place and the image of the left side, the conversion, the definition, STAT=
+  -- the assignment of a value (10.2.1.3): the place and the image of the left side, the conversion, the definition,
+  -- STAT=
   abbrev pub assigned : t.Designator → Kind → ℕ → Kind → Value → Does (Unit {0})
   assigned (t.part (objects.Local v) t.no_subscripts sel) k zero from x = as_number x ▹ (λ z. converted from k x ▹ (λ u. set_scalar (scope_of v.home) v.variable z))
   assigned (t.part (objects.Local v) ss sel) k rank from x =
@@ -239,8 +241,8 @@ module _ (limit : ℕ) (e : Environment) (calls : ℕ → List Passed → Does V
   abbrev pub parameter : Kind → Does ℤ → Does ℤ
   parameter k m = m ▹ (λ v. unless overflow (fits_kind k v) (giving v))
 
-  -- first, last and step, each converted to the variable's kind at once; the variable gets the first; the iteration count, and
-  -- the step (11.1.7.4.1)
+  -- first, last and step, each converted to the variable's kind at once; the variable gets the first; the iteration
+  -- count, and the step (11.1.7.4.1)
   abbrev pub do_parameters : Local → Kind → t.Expression → t.Expression → t.OptionalExpression → Does (ℕ × ℤ)
   do_parameters v k first last step = parameter k (num first) ▹ (λ f. parameter k (num last) ▹ (λ u. parameter k (or_number step (pos 1)) ▹ (λ i.
       unless zero_step (not (int_eq i (pos 0))) (set_scalar (scope_of v.home) v.variable f ▹ (λ w. giving (min (iterations f u i) most_iterations, i))))))

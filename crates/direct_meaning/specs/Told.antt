@@ -42,7 +42,8 @@ module _ (procedures : ℕ → Steps Act) (limit : ℕ) where
   abbrev pub ComesBy : (c e : Config Act Core) → Type 0
   ComesBy c e = (i : ℕ) × (machine.go (step image_language procedures limit) i c ≡ goes e)
 
-  -- the walk says and hears what the acts come to, with this state where it stands at an ask, and comes to what is left to do
+  -- the walk says and hears what the acts come to, with this state where it stands at an ask, and comes to what is left
+  -- to do
   abbrev pub Says : Outcome Core → List (Task Act) → (count : ℕ) → Config Act Core → Type 0
   Says (done d) ts n c = ComesBy c (to ts d n)
   Says (faulty k l z) ts n c = (e : Config Act Core) × ComesBy c e × (state_of e.core ≡ z) × (d : Core) × (step image_language procedures limit e ≡ asks (image_language.fault k) l (λ r. to [] d n))

@@ -60,8 +60,9 @@ set_scalar x n v = λ l s. giving tt l (with_scalar x n v s)
 abbrev pub allocated : Scope → ℕ → Does Local
 allocated x n = λ l s. or_fault not_allocated (array_in x n s) l s
 
--- The part of an array by its subscripts (9.5.3): within bounds, with a stride that isn't 0. In an array without elements it is empty.
--- (Nothing is said of bounds that no program has: of an array of 2 ** 63 elements, or without elements but with such an extent.)
+-- The part of an array by its subscripts (9.5.3): within bounds, with a stride that isn't 0. In an array without
+-- elements it is empty. (Nothing is said of bounds that no program has: of an array of 2 ** 63 elements, or without
+-- elements but with such an extent.)
 abbrev pub part_of : List (ℤ × ℤ) → List Subscript → Does Place
 part_of bs ss = cond (nat_lt (spread_of bs) 9223372036854775808) (of_found (place_of bs ss)) (cond (is_empty bs) (of_found (empty_place bs ss)) nothing_said)
 
@@ -76,7 +77,8 @@ local_part x n rank ss = allocated x n ▹ (λ a. part_of a.bounds ss ▹ (λ p.
 abbrev pub set_elements : Scope → ℕ → Place → List ℤ → Does (Unit {0})
 set_elements x n p ws = allocated x n ▹ (λ a. or_fault shape_fault (elements_of a p) ▹ (λ vs. changing (with_array x n (record a { elements = with_elements_at (offsets p) ws a.elements }))))
 
--- A part of a coarray has this image's bounds. Those of one that isn't allocated here nobody knows: what comes next is a fault.
+-- A part of a coarray has this image's bounds. Those of one that isn't allocated here nobody knows: what comes next is
+-- a fault.
 abbrev pub part_of_own : Option Own → ℕ → List Subscript → Does Place
 part_of_own None rank ss = giving (no_place rank)
 part_of_own (Some o) rank ss = part_of o.bounds ss
@@ -88,14 +90,14 @@ coarray_part c rank ss = λ l s. part_of_own (own_in c s) rank ss l s
 abbrev pub owned : ℕ → Does Own
 owned c = λ l s. or_fault not_allocated (own_in c s) l s
 
--- an access without a selector to a part of an array is one to this image's, which has to be there; a scalar's access tells that
--- itself
+-- an access without a selector to a part of an array is one to this image's, which has to be there; a scalar's access
+-- tells that itself
 abbrev pub need_own : Bool → ℕ → Does (Unit {0})
 need_own true c = giving tt
 need_own false c = owned c ▹ (λ o. giving tt)
 
--- The values that a reference of a part gives, and its status: of a failed image zeros and STAT_FAILED_IMAGE (9.6, and the
--- profile's); what isn't allocated there is NotAllocated.
+-- The values that a reference of a part gives, and its status: of a failed image zeros and STAT_FAILED_IMAGE (9.6, and
+-- the profile's); what isn't allocated there is NotAllocated.
 abbrev pub read_values : Place → Reply → Does (List ℤ × ℤ)
 read_values p (replies.Values vs) = cond (length vs == cells_of p) (giving (map number_of vs, pos 0)) nothing_said
 read_values p replies.Dead = giving (replicate (cells_of p) (pos 0), failed_image)
@@ -106,7 +108,7 @@ read_values p reply = nothing_said
 abbrev pub read_part : ℕ → ImageNo → Place → Does (List ℤ × ℤ)
 read_part c o p = cond (cells_of p == 0) (giving ([], pos 0)) (asking (asks.Read o (span_of c p)) ▹ (λ r. read_values p r))
 
--- bounds (16.9.109, 16.9.163, 16.9.196): of a dimension without elements 1 and 0; results are of default kind
+-- bounds (16.9.109, 16.9.179, 16.9.196): of a dimension without elements 1 and 0; results are of default kind
 abbrev pub from_one : List ℕ → List (ℤ × ℤ)
 from_one ns = map (λ n. (pos 1, pos n)) ns
 

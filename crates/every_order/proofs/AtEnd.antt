@@ -1,4 +1,5 @@
--- An image that has said all that it says in t makes no further step: it has ended, or waits for what isn't ready after t.
+-- An image that has said all that it says in t makes no further step: it has ended, or waits for what isn't ready after
+-- t.
 use Rattle.std.proofs.Common.{◌≡◌, ℕ, ◌+◌, cond, List, [], ◌∷◌, ◌++◌, refl, ap, sym, ◌∙◌, subst, append_assoc}
 use Rattle.std.proofs.lemmas.Bool.{eq-eqb}
 use Rattle.trace_theory.specs.Machines.{Move, asks, goes, over, go, goes_on, Said, Comes, Walk, OneNextAsk}

@@ -1,4 +1,5 @@
--- The induction of the law: where each next step of a run has the reply that it has in t, its images say no more than those of t.
+-- The induction of the law: where each next step of a run has the reply that it has in t, its images say no more than
+-- those of t.
 use Rattle.std.proofs.Common.{◌≡◌, ℕ, ◌+◌, nat_eq, cond, List, [], ◌∷◌, ◌++◌, length, map, inl, inr, refl, ap, sym, ◌∙◌, subst, arith, append_assoc, length-append}
 use Rattle.std.proofs.lemmas.List.{append-nil, map-append, length-map}
 use Rattle.std.proofs.lemmas.List.Elements.{filter-append}

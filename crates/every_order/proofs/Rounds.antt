@@ -1,5 +1,5 @@
--- Who leaves a round has the same sources in every order: the arrivals of the round stand in each run that follows t before the
--- round's close.
+-- Who leaves a round has the same sources in every order: the arrivals of the round stand in each run that follows t
+-- before the round's close.
 use Rattle.std.proofs.Common.{◌≡◌, ℕ, suc, ◌+◌, ◌<◌, ◌⊎◌, Bool, true, false, nat_eq, nat_le, ◌&&◌, cond, List, [], ◌∷◌, ◌++◌, length, map, inl, inr, refl, ap, sym, ◌∙◌, arith, append_assoc}
 use Rattle.std.proofs.lemmas.List.{length-map}
 use Rattle.std.proofs.lemmas.Bool.{cases_lt, cases_Bool, and_parts, eq-eqb, eqb-true, leb-true}
@@ -119,9 +119,8 @@ module _ (n : ℕ) (t f : List Entry) (fol : Follows (view n) (likes n) t f) whe
             absurd (omega arith))
       ]
 
-  -- THE SAME SOURCES OF A ROUND. Where each image that arrives at the round in t has joined so many rounds in f or has said in f
-  -- all that it says in t, the segments that wait at the round in a
-  -- front of t wait there in f.
+  -- THE SAME SOURCES OF A ROUND. Where each image that arrives at the round in t has joined so many rounds in f or has
+  -- said in f all that it says in t, the segments that wait at the round in a front of t wait there in f.
   pub round_sources : (team k : ℕ) (g h : List Entry) → t ≡ g ++ h
       → ((z : Stands t) → act_of z.event ≡ arrives team k → suc (joined_by team z.event.image.0 z.before) ≡ k)
       → ((z : Stands t) → act_of z.event ≡ arrives team k → (nat_le k (joined_by team z.event.image.0 f) ≡ true) ⊎ (said_by z.event.image.0 t ≡ said_by z.event.image.0 f))

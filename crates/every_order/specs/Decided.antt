@@ -15,16 +15,14 @@ use Rattle.order_axioms.specs.Views.{edges, act_of}
 use Rattle.order_axioms.specs.Touching.{touches}
 use Rattle.order_axioms.specs.FirstRaces.{HasNoRace}
 
--- A team is formed of the initial team alone: then the teams are made, and numbered, in one order (11.6.9). (At first: no team is
--- formed at all.)
+-- A team is formed of the initial team alone: then the teams are made, and numbered, in one order (11.6.9).
 abbrev pub is_flat : ℕ → Arriving → Bool
 is_flat team (arrivings.Form number new_index) = nat_eq team 1
 is_flat team arriving = true
 
--- The ask has a reply that no order changes, where there is no race: it touches its cells or joins its round, and tells neither
--- who came first nor who is still
--- running. Left out are locks, CRITICAL, atomic subroutines, EVENT_QUERY, STOPPED_IMAGES, IMAGE_STATUS, the steps of a failure,
--- and all that ends the run.
+-- The ask has a reply that no order changes, where there is no race: it touches its cells or joins its round, and tells
+-- neither who came first nor who is still running. Left out are locks, CRITICAL, atomic subroutines, EVENT_QUERY,
+-- STOPPED_IMAGES, IMAGE_STATUS, the steps of a failure, and all that ends the run.
 abbrev pub is_free : Ask → Reply → Bool
 is_free (asks.Read owner span) (replies.Values vs) = true
 is_free (asks.Write owner span vs) replies.Done = true
@@ -54,7 +52,8 @@ EventsStay t =
     (x y : Stands t) (c : Cell) → act_of x.event ≡ posts c
     → (act_of y.event ≡ creates c.owner c.coarray → ⊥) × (act_of y.event ≡ deletes c.owner c.coarray → ⊥)
 
--- A decided trace of n images: it has no race, each of its replies is free, and each of its events has one poster.
+-- A decided trace of n images: it has no race, each of its replies is free, each of its events has one poster, and no coarray
+-- of which an event is posted is allocated or deallocated.
 pub record IsDecided (n : ℕ) (t : List Entry) : Type 0 where
   pub no_race : HasNoRace (edges n) touches t
   pub free : Each (λ x. is_free x.event.ask x.event.reply ≡ true) t

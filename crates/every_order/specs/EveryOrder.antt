@@ -26,9 +26,8 @@ pub record SaysNoMore (t u : List Entry) : Type 0 where
   pub left : ℕ → List (Said Ask Reply)
   pub splits : (i : ℕ) → said_by i t ≡ said_by i u ++ left i
 
--- What a run t that is at its end says of another one, u: u's images went the same ways; u has no race and is decided too; and
--- where u is at its end as well,
--- each image made all of the steps, and every cell holds what it holds after t.
+-- What a run t that is at its end says of another one, u: u's images went the same ways; u has no race and is decided
+-- too; and where u is at its end as well, each image made all of the steps, and every cell holds what it holds after t.
 pub record SpeaksFor {C : Type 0} (r : Rules C MadeMemory ℕ) (b : Beginning C MadeMemory ℕ) (coarrays : List Declared) (n : ℕ) (t u : List Entry) : Type 0 where
   pub no_more : SaysNoMore t u
   pub no_race : HasNoRace (edges n) touches u

@@ -40,8 +40,8 @@ SameMemoryReply =
     → (x : Stands t) → ComesNext u x → place_of x.event.event.ask ≡ Memory (record { 0 = owner }) → IsTrue (memory_ready (made_memory coarrays owner) (of_memory owner u) x.event.image.0 x.event.event.ask)
     → memory_reply (made_memory coarrays owner) (of_memory owner u) x.event.image.0 x.event.event.ask ≡ x.event.event.reply
 
--- READY STAYS READY: what was ready after w is ready after u, where u's images have come as far as w's or farther, and this one
--- as far.
+-- READY STAYS READY: what was ready after w is ready after u, where u's images have come as far as w's or farther, and
+-- this one as far.
 abbrev pub ReadyMore : Type 0
 ReadyMore =
     (coarrays : List Declared) (n i : ℕ) (t w u : List Entry) → IsLawfulTrace coarrays n t → IsDecided n t → IsLawfulTrace coarrays n w → IsLawfulTrace coarrays n u
@@ -49,8 +49,8 @@ ReadyMore =
     → ((owner : ℕ) → place_of x.event.event.ask ≡ Memory (record { 0 = owner }) → IsTrue (memory_ready (made_memory coarrays owner) (of_memory owner w) i x.event.event.ask) → IsTrue (memory_ready (made_memory coarrays owner) (of_memory owner u) i x.event.event.ask))
     × (place_of x.event.event.ask ≡ Board → IsTrue (board_ready n (at_board w) i x.event.event.ask) → IsTrue (board_ready n (at_board u) i x.event.event.ask))
 
--- THE SAME SOURCES: who leaves a round, ends SYNC IMAGES or takes posts has heard of the same segments in every order. (`same` is
--- the likeness by ask and reply.)
+-- THE SAME SOURCES: who leaves a round, ends SYNC IMAGES or takes posts has heard of the same segments in every order.
+-- (`same` is the likeness by ask and reply.)
 abbrev pub SameSources : {S : Type 0} → ((n : ℕ) → Likeness (view n) S) → Type 0
 SameSources same =
     (coarrays : List Declared) (n : ℕ) (t u : List Entry) → IsLawfulTrace coarrays n t → IsLawfulTrace coarrays n u → IsDecided n t → SaysNoMore t u

@@ -23,8 +23,8 @@ pub fn law_images_say_no_more<M: Walker, O: Object, B: Object>()
         → IsCoreRun (rules M.Walker O.Object B.Object) b u → SaysNoMore t u }
 {}
 
-/// An image that said all that it says in t makes no further step where it ended in t; and where it waits in t, its next
-/// step asks for what it waits for.
+/// An image that said all that it says in t makes no further step where it ended in t; and where it waits in t, its
+/// next step asks for what it waits for.
 pub fn law_behind_the_end<M: Walker, O: Object, B: Object>()
     ensures ended { (b : Beginning M.Config O.Made B.Made) (t g : List Entry) (x : Entry)
         → IsCoreRun (rules M.Walker O.Object B.Object) b (g ++ x ∷ [])

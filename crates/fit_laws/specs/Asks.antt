@@ -7,8 +7,9 @@ use Rattle.object_rules.specs.Cells.{Declared}
 use Rattle.object_rules.specs.MemoryRules.{is_allocatable}
 use Rattle.told_programs.specs.Allowed.{AllocatesOf}
 
--- Whether what an ask names is known to fit from what the image was told, or stands in the ask itself: that of all asks but a collective's arrival, what allocates and
--- deallocates, and those at a memory that a program's own statements make.
+-- Whether what an ask names is known to fit from what the image was told, or stands in the ask itself: that of all asks
+-- but a collective's arrival, what allocates and deallocates, and those at a memory that a program's own statements
+-- make.
 abbrev pub is_told : Ask → Bool
 is_told (asks.Gather team op root kind values) = false
 is_told (asks.Create owner coarray cells) = false

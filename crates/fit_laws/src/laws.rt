@@ -18,10 +18,13 @@ ghost use Rattle.told_walks.specs.Asked.{most_team};
 ghost use Rattle.walk_laws.specs.Fits.{StandsAt, AreDeclaredBy};
 ghost use Rattle.fit_laws.specs.Asks.{is_told, is_allocation, AllocatesAllocatable};
 
-/// In a core run of a checked program of fewer than 2 to the 32nd teams the next ask of an image fits (ISO/IEC 1539-1:2018, 9.7, 11.6), where what it names was told to the image or is its own: a team has the image as a member, an index is one of that team, a SYNC IMAGES names images
-/// of the run and none twice; a departure is from a round that the image has joined, or behind its SYNC IMAGES; the mark of a failing image is at its own memory, and each lock
-/// that it frees is one. Where each memory has from the start the coarrays that the program declares, and the program allocates those alone that are declared ALLOCATABLE,
-/// a coarray that it allocates isn't there and has room, and one that it deallocates is there.
+/// In a core run of a checked program of fewer than 2 to the 32nd teams the next ask of an image fits (ISO/IEC
+/// 1539-1:2018, 9.7, 11.6), where what it names was told to the image or is its own: a team has the image as a member,
+/// an index is one of that team, a SYNC IMAGES names images of the run and none twice; a departure is from a round that
+/// the image has joined, or behind its SYNC IMAGES; the mark of a failing image is at its own memory, and each lock
+/// that it frees is one. Where each memory has from the start the coarrays that the program declares, and the program
+/// allocates those alone that are declared ALLOCATABLE, a coarray that it allocates isn't there and has room, and one
+/// that it deallocates is there.
 pub fn law_asks_fit()
     ensures told { (p : checked.Program) (limit : ℕ) (coarrays : List Declared) (n : ℕ) (fails_at : ℕ → ℕ) (words : ℕ) (t : List Entry) → list_all has_first_values coarrays ≡ true
         → IsCoreRun (program_rules p limit) (program_begins p coarrays n fails_at words) t → length (teams_after n (at_board t)) ≤ most_team
@@ -38,7 +41,8 @@ pub fn law_waits_fit()
         → (i line : ℕ) (a : Ask) → IsWaiting (program_rules p limit) (program_begins p coarrays n fails_at words) t i line a → is_told a ≡ true → is_fit_after coarrays n t i a ≡ true }
 {}
 
-/// The memories of a run have from the start the coarrays that the program declares, where they are made of its tables with as many cells, and allocatable or not as there.
+/// The memories of a run have from the start the coarrays that the program declares, where they are made of its tables
+/// with as many cells, and allocatable or not as there.
 pub fn law_tables_declare()
     ensures { (made : Coarray → Declared) → ((c : Coarray) → (made c).allocatable ≡ c.is_allocatable) → ((c : Coarray) → (made c).cells ≡ c.cells)
         → (p : checked.Program) → AreDeclaredBy p (map made (tables_of p).coarrays) }

@@ -1,5 +1,5 @@
--- In a lawful trace a value stays while no entry defines its cell. (As in the rule of memory of `order_axioms`, of which only
--- the result is open to other crates.)
+-- In a lawful trace a value stays while no entry defines its cell. (As in the rule of memory of `order_axioms`, of
+-- which only the result is open to other crates.)
 use Rattle.std.proofs.Common.{◌≡◌, ℕ, suc, false, ◌&&◌, IsTrue, nat_eq, cond, List, [], ◌∷◌, ◌++◌, inl, inr, ap, ◌∙◌, subst, arith}
 use Rattle.std.proofs.lemmas.List.{append-nil}
 use Rattle.std.proofs.lemmas.Bool.{cases_Bool, eqb-true}

@@ -1,4 +1,5 @@
--- Memories alone: a decided trace of accesses, prints, SYNC MEMORY and STOP, in which each image has ended, speaks for every other run.
+-- Memories alone: a decided trace of accesses, prints, SYNC MEMORY and STOP, in which each image has ended, speaks for
+-- every other run.
 use Rattle.std.proofs.Common.{◌≡◌, ℕ, true, List, [], ◌∷◌, ◌++◌, refl, sym, ◌∙◌, subst}
 use Rattle.std.specs.List.{list_all}
 use Rattle.std.proofs.lemmas.Bool.{both_ways}

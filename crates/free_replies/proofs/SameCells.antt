@@ -68,7 +68,8 @@ module _ (m : MadeMemory) (full : list_all has_first_values m.coarrays ≡ true)
       no_negative None = refl
       no_negative (Some n) = refl
 
--- Where the one reply is free, neither memory is marked, and the values of the cells are the same, the other reply is the same.
+-- Where the one reply is free, neither memory is marked, and the values of the cells are the same, the other reply is
+-- the same.
 module _ (m : MadeMemory) (full : list_all has_first_values m.coarrays ≡ true) (g h : List Entry) (i : ℕ) (owner : ImageNo) (span : Span)
     (is : holds is_values (slice_get m.coarrays span.coarray) ≡ true) (clean_g : is_marked g ≡ false) (clean_h : is_marked h ≡ false) where
   -- the values at the cells of the span are the same, if g has them

@@ -19,8 +19,9 @@ ghost use Rattle.cell_walks.specs.Fitting.{IsSmall};
 ghost use Rattle.cell_statements.specs.Typed.{IsTypedProgram, IsSteadyProgram};
 ghost use Rattle.memory_fits.specs.CellAsks.{is_of_cell, is_of_own_event};
 
-/// In a core run of a checked program whose ranks are right, and whose statements on locks and events name ones that are declared, each next ask of an image with LOCK, UNLOCK
-/// or EVENT POST fits (11.6.7, 11.6.10). So does one with EVENT WAIT or EVENT_QUERY where no procedure is called between its event and the ask, and EVENT_QUERY names this
+/// In a core run of a checked program whose ranks are right, and whose statements on locks and events name ones that
+/// are declared, each next ask of an image with LOCK, UNLOCK or EVENT POST fits (11.6.7, 11.6.10). So does one with
+/// EVENT WAIT or EVENT_QUERY where no procedure is called between its event and the ask, and EVENT_QUERY names this
 /// image's event (11.6.8, 16.9.72).
 pub fn law_cell_asks_fit()
     ensures named { (p : checked.Program) (limit : ℕ) (coarrays : List Declared) (n : ℕ) (fails_at : ℕ → ℕ) (words : ℕ) (t : List Entry) → list_all has_first_values coarrays ≡ true

@@ -1,4 +1,5 @@
--- Which entries of t are in f: all that act in a segment that precedes one of f, and of those that conflict with the next one exactly those before it in t.
+-- Which entries of t are in f: all that act in a segment that precedes one of f, and of those that conflict with the
+-- next one exactly those before it in t.
 use Rattle.std.proofs.Common.{◌≡◌, ◌<◌, ◌≤◌, ◌⊎◌, true, List, [], ◌∷◌, ◌++◌, length, map, inl, inr, ap, sym, ◌∙◌, subst, arith, append_assoc, length-append}
 use Rattle.std.proofs.lemmas.Bool.{cases_lt}
 use Rattle.std.proofs.lemmas.List.{length-map}
@@ -139,7 +140,8 @@ module _ (E S : Type 0) (v : View E) (k : Likeness v S) where
         | inr q ↦ (let m = acts_forward E v acts t quiet y.before y.rest x.before x.rest y.event x.event y.split x.split ay q in absurd (omega arith))
       ]
 
-      -- Of the entries that conflict with the one that an image makes next behind f, f has exactly those that stand before it in t.
+      -- Of the entries that conflict with the one that an image makes next behind f, f has exactly those that stand
+      -- before it in t.
       pub inside_if_before : (w a : Stands t) → acts w.before w.event → acts a.before a.event → Conflict (edge_rules v) touching t w a → IsNext v k f a → place w < place a → IsInside v k f w
       inside_if_before w a aw aa c n l =
           closes w aw (segment_of (entries v) a.before a.event)

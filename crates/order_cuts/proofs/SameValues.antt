@@ -244,7 +244,8 @@ module _ (E S V : Type 0) (v : View E) (k : Likeness v S) (a : Accesses E V) (va
                 (record { images = other; cell = c; shared = (ww.0, touch); met = (meets_x w ww).0 }) next l
           ]
 
-      -- A cell that the next access of an image touches holds the same in every two runs that follow t and have come to that access. (One of them may be the front of t before it.)
+      -- A cell that the next access of an image touches holds the same in every two runs that follow t and have come to
+      -- that access. (One of them may be the front of t before it.)
       pub same_value : (g f : List E) → Runs g → Runs f → IsNext v k g x → IsNext v k f x → value g c ≡ value f c
       same_value g f rg rf ng nf =
           same_by g f rg rf (λ w ww inside. writer_inside f rf nf w ww (writer_before g rg ng w ww inside)) (λ w ww inside. writer_inside g rg ng w ww (writer_before f rf nf w ww inside))

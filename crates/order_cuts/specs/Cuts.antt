@@ -1,12 +1,14 @@
--- A cut of a trace: another list of entries, of which each image's are the first of its entries in the trace. So it is with another run of the same images, as far as
--- that one went. Segments are ISO/IEC 1539-1:2018, 11.6.2; the word is this project's own.
+-- A cut of a trace: another list of entries, of which each image's are the first of its entries in the trace. So it is
+-- with another run of the same images, as far as that one went. Segments are ISO/IEC 1539-1:2018, 11.6.2; the word is
+-- this project's own.
 use Rattle.std.specs.Prelude.{ℕ, ◌<◌, ◌≡◌, true, List, [], ◌++◌, length, map}
 use Rattle.order_theory.specs.Order.{Segment, Within}
 use Rattle.order_theory.specs.Races.{Stands, Touching, NoRace}
 use Rattle.order_theory.specs.Acts.{Act, View, completing, edge_rules}
 use Rattle.order_theory.specs.Facts.{AccessesCell, Pauses, own_list}
 
--- What two runs can have in common of an entry: all but where it stands among the entries of other images (its stamp). The act is told by it.
+-- What two runs can have in common of an entry: all but where it stands among the entries of other images (its stamp).
+-- The act is told by it.
 pub record Likeness {E : Type 0} (v : View E) (S : Type 0) : Type 0 where
   pub mark : E → S
   pub act_by : S → Act
@@ -39,7 +41,8 @@ module _ {E S : Type 0} (v : View E) (k : Likeness v S) where
     pub image : v.image x.event ≡ v.image y.event
     pub own : own_place x ≡ own_place y
 
-  -- Each completing entry that both have has in f all the sources that it has in t: whoever waits for others has heard of the same ones, whatever the order was.
+  -- Each completing entry that both have has in f all the sources that it has in t: whoever waits for others has heard
+  -- of the same ones, whatever the order was.
   abbrev pub KeepsSources : List E → List E → Type 0
   KeepsSources t f =
       (x : Stands t) (y : Stands f) (a : Segment) → IsSame x y → completing (v.act x.event) ≡ true
@@ -49,8 +52,8 @@ module _ {E S : Type 0} (v : View E) (k : Likeness v S) where
   abbrev pub NoneSpeaks : List E → Type 0
   NoneSpeaks f = (y : Stands f) → v.speaks y.before y.event ≡ []
 
-  -- What the laws ask of a trace t and a cut f of it: images that wait make no access, t has no race, f's completing entries have the sources that they have in t, and no status in f
-  -- speaks of a failed image.
+  -- What the laws ask of a trace t and a cut f of it: images that wait make no access, t has no race, f's completing
+  -- entries have the sources that they have in t, and no status in f speaks of a failed image.
   pub record IsCut (touching : Touching E) (t f : List E) : Type 0 where
     pub follows : Follows t f
     pub keeps : KeepsSources t f

@@ -1,4 +1,5 @@
--- What can come stays so: an ask that is ready after a run is ready after one that is ahead of it, where its own image has said the same.
+-- What can come stays so: an ask that is ready after a run is ready after one that is ahead of it, where its own image
+-- has said the same.
 use Rattle.std.proofs.Common.{◌≡◌, ℕ, Bool, true, false, IsTrue, nat_eq, nat_le, ◌&&◌, ◌||◌, not, cond, List, [], ◌∷◌, length, inl, inr, refl, ap, sym, ◌∙◌, subst}
 use Rattle.std.specs.Prelude.{is_some}
 use Rattle.std.specs.List.{list_all}

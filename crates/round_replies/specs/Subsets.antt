@@ -7,8 +7,8 @@ use Rattle.caf_events.specs.declared.round.Arriving.TheVariants as arrivings
 use Rattle.caf_events.specs.declared.event.Entry.{Entry}
 use Rattle.free_replies.specs.Subsets.{is_of_memories}
 
--- A step at a round of image control statements but FORM TEAM (ISO/IEC 1539-1:2018, 11.6) or of a collective subroutine (16.6), FAILED_IMAGES, or a step
--- of memories alone.
+-- A step at a round of image control statements but FORM TEAM (ISO/IEC 1539-1:2018, 11.6) or of a collective subroutine
+-- (16.6), FAILED_IMAGES, or a step of memories alone.
 abbrev pub is_of_rounds : Ask → Bool
 is_of_rounds (asks.Arrive team (arrivings.Form number new_index)) = false
 is_of_rounds (asks.Arrive team arriving) = true

@@ -1,4 +1,5 @@
--- A run that is ahead of another one: each image has said what it said there, or more. What closed there has closed here.
+-- A run that is ahead of another one: each image has said what it said there, or more. What closed there has closed
+-- here.
 use Rattle.std.proofs.Common.{◌≡◌, ◌<◌, ◌≤◌, ℕ, Bool, true, nat_le, ◌||◌, List, [], ◌∷◌, ◌++◌, length, inl, inr, refl, ap, sym, ◌∙◌, arith, append_assoc, length-append}
 use Rattle.std.specs.List.{list_any, list_all}
 use Rattle.std.proofs.lemmas.List.{append-nil, length-map}

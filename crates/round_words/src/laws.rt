@@ -10,7 +10,8 @@ ghost use Rattle.object_rules.specs.BoardTeams.{closing};
 ghost use Rattle.core_runs.specs.CoreRuns.{at_board, said_by};
 ghost use Rattle.round_words.specs.RoundRuns.{IsRoundRun, IsAhead, IsRoundClass, team_members, arrivals_said};
 
-/// The members that had stopped by the close of a round in a run are those that never arrive at it in a run that is ahead.
+/// The members that had stopped by the close of a round in a run are those that never arrive at it in a run that is
+/// ahead.
 pub fn law_who_missed()
     ensures { (s : List Declared) (n : ℕ) (class : Class) (team k : ℕ) (t g f : List Entry) → IsRoundRun s n t → IsRoundRun s n g → IsAhead t g
         → IsRoundClass class → 1 ≤ k → closing class team k (team_members n team) (at_board g) ≡ Some f

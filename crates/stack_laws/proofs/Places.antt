@@ -1,4 +1,5 @@
--- How many numbers a place is: those of a section with as many dimensions as its form has triplets. And the place of an element, which is inside its array.
+-- How many numbers a place is: those of a section with as many dimensions as its form has triplets. And the place of an
+-- element, which is inside its array.
 use Rattle.std.proofs.Common.{◌≡◌, ℕ, zero, suc, ◌+◌, ◌*◌, ◌≤◌, ◌<◌, ◌⊎◌, inl, inr, ℤ, pos, ◌-ℤ◌, ◌≤ℤ◌, Bool, true, false, cond, List, [], ◌∷◌, length, drop, refl, ap, ap₂, sym, ◌∙◌, subst, arith}
 use Rattle.std.specs.Prelude.{Option, ◌+ℤ◌, ◌*ℤ◌, ◌-◌, ◌&&◌, ◌||◌, unwrap_or, unsigned_abs, int_le, nat_lt, ◌==◌}
 use Rattle.std.specs.Ordering.{int_eq}
