@@ -1,0 +1,5 @@
+pub mod Joins
+pub mod Given
+pub mod Reached
+pub mod Renames
+pub mod Tables
