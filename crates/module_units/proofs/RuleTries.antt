@@ -17,7 +17,8 @@ use Rattle.rule_definitions.specs.Statements.{judged_statements}
 row_b : breaks_first (record { modules = ((record { name = (n (codes "a") 1 8); uses = ([]); implicit_none = None; declarations = ((record { type_spec = (s.integer None); attributes = ([]); entities = ((record { name = (n (codes "n") 2 12); dimensions = ([]); coshape = None; initial = (Some (f.number 1 kinds.Unstated (p 2 16))) }) ∷ []); at = (p 2 1) }) ∷ []); procedures = None; end = record { name = None; at = (p 3 1) }; at = (p 1 1) }) ∷ (record { name = (n (codes "b") 4 8); uses = ([]); implicit_none = None; declarations = ((record { type_spec = (s.integer None); attributes = ([]); entities = ((record { name = (n (codes "n") 5 12); dimensions = ([]); coshape = None; initial = (Some (f.number 2 kinds.Unstated (p 5 16))) }) ∷ []); at = (p 5 1) }) ∷ []); procedures = None; end = record { name = None; at = (p 6 1) }; at = (p 4 1) }) ∷ []); main = record { name = None; uses = ((record { nature = natures.Unstated; module_name = (n (codes "a") 7 5); list = (files.all_but ([])); at = (p 7 1) }) ∷ (record { nature = natures.Unstated; module_name = (n (codes "b") 8 5); list = (files.all_but ([])); at = (p 8 1) }) ∷ []); body = (record { implicit_none = None; declarations = ([]); statements = (s.more_statements (s.action (s.print s.free ((s.value (f.designator (f.part_ref (n (codes "n") 9 10) f.no_section_subscripts f.no_image_selector))) ∷ [])) (p 9 1)) s.no_statements) }); procedures = None; end = record { name = None; at = (p 10 1) } } }) 60 9 10 ≡ true
 row_b = refl
 
--- module a; integer :: n = 1; end module; module b; integer :: n = 2; end module; use a; use b, only: m => n; print *, n, m; end
+-- module a; integer :: n = 1; end module; module b; integer :: n = 2; end module; use a; use b, only: m => n; print *,
+-- n, m; end
 row_b_second : accepted_file (record { modules = ((record { name = (n (codes "a") 1 8); uses = ([]); implicit_none = None; declarations = ((record { type_spec = (s.integer None); attributes = ([]); entities = ((record { name = (n (codes "n") 2 12); dimensions = ([]); coshape = None; initial = (Some (f.number 1 kinds.Unstated (p 2 16))) }) ∷ []); at = (p 2 1) }) ∷ []); procedures = None; end = record { name = None; at = (p 3 1) }; at = (p 1 1) }) ∷ (record { name = (n (codes "b") 4 8); uses = ([]); implicit_none = None; declarations = ((record { type_spec = (s.integer None); attributes = ([]); entities = ((record { name = (n (codes "n") 5 12); dimensions = ([]); coshape = None; initial = (Some (f.number 2 kinds.Unstated (p 5 16))) }) ∷ []); at = (p 5 1) }) ∷ []); procedures = None; end = record { name = None; at = (p 6 1) }; at = (p 4 1) }) ∷ []); main = record { name = None; uses = ((record { nature = natures.Unstated; module_name = (n (codes "a") 7 5); list = (files.all_but ([])); at = (p 7 1) }) ∷ (record { nature = natures.Unstated; module_name = (n (codes "b") 8 5); list = (files.only ((files.renamed (record { local = (n (codes "m") 8 14); entity = (n (codes "n") 8 19) })) ∷ [])); at = (p 8 1) }) ∷ []); body = (record { implicit_none = None; declarations = ([]); statements = (s.more_statements (s.action (s.print s.free ((s.value (f.designator (f.part_ref (n (codes "n") 9 10) f.no_section_subscripts f.no_image_selector))) ∷ (s.value (f.designator (f.part_ref (n (codes "m") 9 13) f.no_section_subscripts f.no_image_selector))) ∷ [])) (p 9 1)) s.no_statements) }); procedures = None; end = record { name = None; at = (p 10 1) } } }) ≡ true
 unfolding judged_statements
 row_b_second = refl
@@ -139,16 +140,19 @@ file_60_same_entity_under_two_names : accepted_file (record { modules = ((record
 unfolding judged_statements
 file_60_same_entity_under_two_names = refl
 
--- module a; integer :: n; end module; module b; integer :: n; end module; module c; use a; use b; end module; use c, only: n; n = 1; end
+-- module a; integer :: n; end module; module b; integer :: n; end module; module c; use a; use b; end module; use c,
+-- only: n; n = 1; end
 file_60_through_only_of_a_module_with_two : breaks_first (record { modules = ((record { name = (n (codes "a") 1 8); uses = ([]); implicit_none = None; declarations = ((record { type_spec = (s.integer None); attributes = ([]); entities = ((record { name = (n (codes "n") 2 12); dimensions = ([]); coshape = None; initial = None }) ∷ []); at = (p 2 1) }) ∷ []); procedures = None; end = record { name = None; at = (p 3 1) }; at = (p 1 1) }) ∷ (record { name = (n (codes "b") 4 8); uses = ([]); implicit_none = None; declarations = ((record { type_spec = (s.integer None); attributes = ([]); entities = ((record { name = (n (codes "n") 5 12); dimensions = ([]); coshape = None; initial = None }) ∷ []); at = (p 5 1) }) ∷ []); procedures = None; end = record { name = None; at = (p 6 1) }; at = (p 4 1) }) ∷ (record { name = (n (codes "c") 7 8); uses = ((record { nature = natures.Unstated; module_name = (n (codes "a") 8 5); list = (files.all_but ([])); at = (p 8 1) }) ∷ (record { nature = natures.Unstated; module_name = (n (codes "b") 9 5); list = (files.all_but ([])); at = (p 9 1) }) ∷ []); implicit_none = None; declarations = ([]); procedures = None; end = record { name = None; at = (p 10 1) }; at = (p 7 1) }) ∷ []); main = record { name = None; uses = ((record { nature = natures.Unstated; module_name = (n (codes "c") 11 5); list = (files.only ((files.named (n (codes "n") 11 14)) ∷ [])); at = (p 11 1) }) ∷ []); body = (record { implicit_none = None; declarations = ([]); statements = (s.more_statements (s.action (s.assignment (f.part_ref (n (codes "n") 12 1) f.no_section_subscripts f.no_image_selector) (f.number 1 kinds.Unstated (p 12 5))) (p 12 1)) s.no_statements) }); procedures = None; end = record { name = None; at = (p 13 1) } } }) 60 12 1 ≡ true
 file_60_through_only_of_a_module_with_two = refl
 
--- module a; integer :: n; end module; module b; integer :: n; end module; use a; use b; call s(3); contains; subroutine s(n); integer, intent(in) :: n; print *, n; end subroutine; end
+-- module a; integer :: n; end module; module b; integer :: n; end module; use a; use b; call s(3); contains; subroutine
+-- s(n); integer, intent(in) :: n; print *, n; end subroutine; end
 file_60_hidden_by_a_dummy : accepted_file (record { modules = ((record { name = (n (codes "a") 1 8); uses = ([]); implicit_none = None; declarations = ((record { type_spec = (s.integer None); attributes = ([]); entities = ((record { name = (n (codes "n") 2 12); dimensions = ([]); coshape = None; initial = None }) ∷ []); at = (p 2 1) }) ∷ []); procedures = None; end = record { name = None; at = (p 3 1) }; at = (p 1 1) }) ∷ (record { name = (n (codes "b") 4 8); uses = ([]); implicit_none = None; declarations = ((record { type_spec = (s.integer None); attributes = ([]); entities = ((record { name = (n (codes "n") 5 12); dimensions = ([]); coshape = None; initial = None }) ∷ []); at = (p 5 1) }) ∷ []); procedures = None; end = record { name = None; at = (p 6 1) }; at = (p 4 1) }) ∷ []); main = record { name = None; uses = ((record { nature = natures.Unstated; module_name = (n (codes "a") 7 5); list = (files.all_but ([])); at = (p 7 1) }) ∷ (record { nature = natures.Unstated; module_name = (n (codes "b") 8 5); list = (files.all_but ([])); at = (p 8 1) }) ∷ []); body = (record { implicit_none = None; declarations = ([]); statements = (s.more_statements (s.action (s.call (n (codes "s") 9 6) (Some (f.more_arguments None (f.number 3 kinds.Unstated (p 9 8)) f.no_arguments))) (p 9 1)) s.no_statements) }); procedures = (Some ((record { heading = (u.subroutine recursions.Unstated (n (codes "s") 11 12) (Some ((n (codes "n") 11 14) ∷ []))); body = (record { implicit_none = None; declarations = ((record { type_spec = (s.integer None); attributes = ((s.intent intents.In) ∷ []); entities = ((record { name = (n (codes "n") 12 24); dimensions = ([]); coshape = None; initial = None }) ∷ []); at = (p 12 1) }) ∷ []); statements = (s.more_statements (s.action (s.print s.free ((s.value (f.designator (f.part_ref (n (codes "n") 13 10) f.no_section_subscripts f.no_image_selector))) ∷ [])) (p 13 1)) s.no_statements) }); end = record { name = None; at = (p 14 1) }; at = (p 11 1) }) ∷ [])); end = record { name = None; at = (p 15 1) } } }) ≡ true
 unfolding judged_statements
 file_60_hidden_by_a_dummy = refl
 
--- module a; integer :: n; end module; module b; integer :: n; end module; use a; use b; contains; subroutine s(); print *, n; end subroutine; end
+-- module a; integer :: n; end module; module b; integer :: n; end module; use a; use b; contains; subroutine s(); print
+-- *, n; end subroutine; end
 file_60_in_a_procedure : breaks_first (record { modules = ((record { name = (n (codes "a") 1 8); uses = ([]); implicit_none = None; declarations = ((record { type_spec = (s.integer None); attributes = ([]); entities = ((record { name = (n (codes "n") 2 12); dimensions = ([]); coshape = None; initial = None }) ∷ []); at = (p 2 1) }) ∷ []); procedures = None; end = record { name = None; at = (p 3 1) }; at = (p 1 1) }) ∷ (record { name = (n (codes "b") 4 8); uses = ([]); implicit_none = None; declarations = ((record { type_spec = (s.integer None); attributes = ([]); entities = ((record { name = (n (codes "n") 5 12); dimensions = ([]); coshape = None; initial = None }) ∷ []); at = (p 5 1) }) ∷ []); procedures = None; end = record { name = None; at = (p 6 1) }; at = (p 4 1) }) ∷ []); main = record { name = None; uses = ((record { nature = natures.Unstated; module_name = (n (codes "a") 7 5); list = (files.all_but ([])); at = (p 7 1) }) ∷ (record { nature = natures.Unstated; module_name = (n (codes "b") 8 5); list = (files.all_but ([])); at = (p 8 1) }) ∷ []); body = (record { implicit_none = None; declarations = ([]); statements = s.no_statements }); procedures = (Some ((record { heading = (u.subroutine recursions.Unstated (n (codes "s") 10 12) (Some ([]))); body = (record { implicit_none = None; declarations = ([]); statements = (s.more_statements (s.action (s.print s.free ((s.value (f.designator (f.part_ref (n (codes "n") 11 10) f.no_section_subscripts f.no_image_selector))) ∷ [])) (p 11 1)) s.no_statements) }); end = record { name = None; at = (p 12 1) }; at = (p 10 1) }) ∷ [])); end = record { name = None; at = (p 13 1) } } }) 60 11 10 ≡ true
 file_60_in_a_procedure = refl
 
@@ -190,7 +194,8 @@ file_61_renamed_away : accepted_file (record { modules = ((record { name = (n (c
 unfolding judged_statements
 file_61_renamed_away = refl
 
--- module a; integer :: x = 4; end module; use a; call s(); print *, x; contains; subroutine s(); integer :: x; x = 9; print *, x; end subroutine; end
+-- module a; integer :: x = 4; end module; use a; call s(); print *, x; contains; subroutine s(); integer :: x; x = 9;
+-- print *, x; end subroutine; end
 file_61_local_of_a_procedure_is_none : accepted_file (record { modules = ((record { name = (n (codes "a") 1 8); uses = ([]); implicit_none = None; declarations = ((record { type_spec = (s.integer None); attributes = ([]); entities = ((record { name = (n (codes "x") 2 12); dimensions = ([]); coshape = None; initial = (Some (f.number 4 kinds.Unstated (p 2 16))) }) ∷ []); at = (p 2 1) }) ∷ []); procedures = None; end = record { name = None; at = (p 3 1) }; at = (p 1 1) }) ∷ []); main = record { name = None; uses = ((record { nature = natures.Unstated; module_name = (n (codes "a") 4 5); list = (files.all_but ([])); at = (p 4 1) }) ∷ []); body = (record { implicit_none = None; declarations = ([]); statements = (s.more_statements (s.action (s.call (n (codes "s") 5 6) (Some f.no_arguments)) (p 5 1)) (s.more_statements (s.action (s.print s.free ((s.value (f.designator (f.part_ref (n (codes "x") 6 10) f.no_section_subscripts f.no_image_selector))) ∷ [])) (p 6 1)) s.no_statements)) }); procedures = (Some ((record { heading = (u.subroutine recursions.Unstated (n (codes "s") 8 12) (Some ([]))); body = (record { implicit_none = None; declarations = ((record { type_spec = (s.integer None); attributes = ([]); entities = ((record { name = (n (codes "x") 9 12); dimensions = ([]); coshape = None; initial = None }) ∷ []); at = (p 9 1) }) ∷ []); statements = (s.more_statements (s.action (s.assignment (f.part_ref (n (codes "x") 10 1) f.no_section_subscripts f.no_image_selector) (f.number 9 kinds.Unstated (p 10 5))) (p 10 1)) (s.more_statements (s.action (s.print s.free ((s.value (f.designator (f.part_ref (n (codes "x") 11 10) f.no_section_subscripts f.no_image_selector))) ∷ [])) (p 11 1)) s.no_statements)) }); end = record { name = None; at = (p 12 1) }; at = (p 8 1) }) ∷ [])); end = record { name = None; at = (p 13 1) } } }) ≡ true
 unfolding judged_statements
 file_61_local_of_a_procedure_is_none = refl
@@ -208,7 +213,8 @@ file_61_module_and_its_own_name_inside = refl
 file_62_intrinsic : breaks_first (record { modules = ((record { name = (n (codes "a") 1 8); uses = ([]); implicit_none = None; declarations = ([]); procedures = (Some ((record { heading = (u.subroutine recursions.Unstated (n (codes "s") 3 12) (Some ([]))); body = (record { implicit_none = None; declarations = ([]); statements = (s.more_statements (s.action (s.print s.free ((s.value (f.designator (f.part_ref (n (codes "abs") 4 10) (f.more_section_subscripts (f.subscript (f.prefix prefixes.Minus (f.number 1 kinds.Unstated (p 4 15)) (p 4 14))) f.no_section_subscripts) f.no_image_selector))) ∷ [])) (p 4 1)) s.no_statements) }); end = record { name = None; at = (p 5 1) }; at = (p 3 1) }) ∷ [])); end = record { name = None; at = (p 6 1) }; at = (p 1 1) }) ∷ []); main = record { name = None; uses = ((record { nature = natures.Unstated; module_name = (n (codes "a") 7 5); list = (files.all_but ([])); at = (p 7 1) }) ∷ []); body = (record { implicit_none = None; declarations = ((record { type_spec = (s.integer None); attributes = ([]); entities = ((record { name = (n (codes "abs") 8 12); dimensions = ([]); coshape = None; initial = None }) ∷ []); at = (p 8 1) }) ∷ []); statements = (s.more_statements (s.action (s.assignment (f.part_ref (n (codes "abs") 9 1) f.no_section_subscripts f.no_image_selector) (f.number 1 kinds.Unstated (p 9 7))) (p 9 1)) s.no_statements) }); procedures = None; end = record { name = None; at = (p 10 1) } } }) 62 8 12 ≡ true
 file_62_intrinsic = refl
 
--- module a; contains; subroutine s(); print *, 1; end subroutine; end module; use a; integer :: abs; abs = 1; call s(); print *, abs; end
+-- module a; contains; subroutine s(); print *, 1; end subroutine; end module; use a; integer :: abs; abs = 1; call s();
+-- print *, abs; end
 file_62_intrinsic_not_referred_to : accepted_file (record { modules = ((record { name = (n (codes "a") 1 8); uses = ([]); implicit_none = None; declarations = ([]); procedures = (Some ((record { heading = (u.subroutine recursions.Unstated (n (codes "s") 3 12) (Some ([]))); body = (record { implicit_none = None; declarations = ([]); statements = (s.more_statements (s.action (s.print s.free ((s.value (f.number 1 kinds.Unstated (p 4 10))) ∷ [])) (p 4 1)) s.no_statements) }); end = record { name = None; at = (p 5 1) }; at = (p 3 1) }) ∷ [])); end = record { name = None; at = (p 6 1) }; at = (p 1 1) }) ∷ []); main = record { name = None; uses = ((record { nature = natures.Unstated; module_name = (n (codes "a") 7 5); list = (files.all_but ([])); at = (p 7 1) }) ∷ []); body = (record { implicit_none = None; declarations = ((record { type_spec = (s.integer None); attributes = ([]); entities = ((record { name = (n (codes "abs") 8 12); dimensions = ([]); coshape = None; initial = None }) ∷ []); at = (p 8 1) }) ∷ []); statements = (s.more_statements (s.action (s.assignment (f.part_ref (n (codes "abs") 9 1) f.no_section_subscripts f.no_image_selector) (f.number 1 kinds.Unstated (p 9 7))) (p 9 1)) (s.more_statements (s.action (s.call (n (codes "s") 10 6) (Some f.no_arguments)) (p 10 1)) (s.more_statements (s.action (s.print s.free ((s.value (f.designator (f.part_ref (n (codes "abs") 11 10) f.no_section_subscripts f.no_image_selector))) ∷ [])) (p 11 1)) s.no_statements))) }); procedures = None; end = record { name = None; at = (p 12 1) } } }) ≡ true
 unfolding judged_statements
 file_62_intrinsic_not_referred_to = refl
@@ -229,16 +235,19 @@ file_62_in_the_module_by_a_new_name = refl
 file_62_by_a_new_name_in_the_main_program : breaks_first (record { modules = ([]); main = record { name = None; uses = ((record { nature = natures.Unstated; module_name = (n (codes "iso_fortran_env") 1 5); list = (files.only ((files.renamed (record { local = (n (codes "k") 1 28); entity = (n (codes "int64") 1 33) })) ∷ [])); at = (p 1 1) }) ∷ []); body = (record { implicit_none = None; declarations = ((record { type_spec = (s.integer None); attributes = ([]); entities = ((record { name = (n (codes "int64") 2 12); dimensions = ([]); coshape = None; initial = None }) ∷ []); at = (p 2 1) }) ∷ (record { type_spec = (s.integer (Some (f.designator (f.part_ref (n (codes "k") 3 9) f.no_section_subscripts f.no_image_selector)))); attributes = ([]); entities = ((record { name = (n (codes "x") 3 15); dimensions = ([]); coshape = None; initial = None }) ∷ []); at = (p 3 1) }) ∷ []); statements = s.no_statements }); procedures = None; end = record { name = None; at = (p 4 1) } } }) 62 3 9 ≡ true
 file_62_by_a_new_name_in_the_main_program = refl
 
--- use iso_fortran_env, k => int64; call s(); contains; subroutine s(); integer :: int64; int64 = 3; print *, 1_k; end subroutine; end
+-- use iso_fortran_env, k => int64; call s(); contains; subroutine s(); integer :: int64; int64 = 3; print *, 1_k; end
+-- subroutine; end
 file_62_by_a_new_name_in_a_procedure : breaks_first (record { modules = ([]); main = record { name = None; uses = ((record { nature = natures.Unstated; module_name = (n (codes "iso_fortran_env") 1 5); list = (files.all_but ((record { local = (n (codes "k") 1 22); entity = (n (codes "int64") 1 27) }) ∷ [])); at = (p 1 1) }) ∷ []); body = (record { implicit_none = None; declarations = ([]); statements = (s.more_statements (s.action (s.call (n (codes "s") 2 6) (Some f.no_arguments)) (p 2 1)) s.no_statements) }); procedures = (Some ((record { heading = (u.subroutine recursions.Unstated (n (codes "s") 4 12) (Some ([]))); body = (record { implicit_none = None; declarations = ((record { type_spec = (s.integer None); attributes = ([]); entities = ((record { name = (n (codes "int64") 5 12); dimensions = ([]); coshape = None; initial = None }) ∷ []); at = (p 5 1) }) ∷ []); statements = (s.more_statements (s.action (s.assignment (f.part_ref (n (codes "int64") 6 1) f.no_section_subscripts f.no_image_selector) (f.number 3 kinds.Unstated (p 6 9))) (p 6 1)) (s.more_statements (s.action (s.print s.free ((s.value (f.number 1 (kinds.Named (codes "k")) (p 7 10))) ∷ [])) (p 7 1)) s.no_statements)) }); end = record { name = None; at = (p 8 1) }; at = (p 4 1) }) ∷ [])); end = record { name = None; at = (p 9 1) } } }) 62 7 10 ≡ true
 file_62_by_a_new_name_in_a_procedure = refl
 
--- use iso_fortran_env, k => int64; call s(); print *, huge(1_k); contains; subroutine s(); integer :: int64; int64 = 3; print *, int64; end subroutine; end
+-- use iso_fortran_env, k => int64; call s(); print *, huge(1_k); contains; subroutine s(); integer :: int64; int64 = 3;
+-- print *, int64; end subroutine; end
 file_62_by_a_new_name_elsewhere : accepted_file (record { modules = ([]); main = record { name = None; uses = ((record { nature = natures.Unstated; module_name = (n (codes "iso_fortran_env") 1 5); list = (files.all_but ((record { local = (n (codes "k") 1 22); entity = (n (codes "int64") 1 27) }) ∷ [])); at = (p 1 1) }) ∷ []); body = (record { implicit_none = None; declarations = ([]); statements = (s.more_statements (s.action (s.call (n (codes "s") 2 6) (Some f.no_arguments)) (p 2 1)) (s.more_statements (s.action (s.print s.free ((s.value (f.designator (f.part_ref (n (codes "huge") 3 10) (f.more_section_subscripts (f.subscript (f.number 1 (kinds.Named (codes "k")) (p 3 15))) f.no_section_subscripts) f.no_image_selector))) ∷ [])) (p 3 1)) s.no_statements)) }); procedures = (Some ((record { heading = (u.subroutine recursions.Unstated (n (codes "s") 5 12) (Some ([]))); body = (record { implicit_none = None; declarations = ((record { type_spec = (s.integer None); attributes = ([]); entities = ((record { name = (n (codes "int64") 6 12); dimensions = ([]); coshape = None; initial = None }) ∷ []); at = (p 6 1) }) ∷ []); statements = (s.more_statements (s.action (s.assignment (f.part_ref (n (codes "int64") 7 1) f.no_section_subscripts f.no_image_selector) (f.number 3 kinds.Unstated (p 7 9))) (p 7 1)) (s.more_statements (s.action (s.print s.free ((s.value (f.designator (f.part_ref (n (codes "int64") 8 10) f.no_section_subscripts f.no_image_selector))) ∷ [])) (p 8 1)) s.no_statements)) }); end = record { name = None; at = (p 9 1) }; at = (p 5 1) }) ∷ [])); end = record { name = None; at = (p 10 1) } } }) ≡ true
 unfolding judged_statements
 file_62_by_a_new_name_elsewhere = refl
 
--- module a; contains; subroutine s(); integer :: abs; abs = 2; print *, abs; end subroutine; end module; use a; integer :: abs; abs = 1; call s(); print *, abs; end
+-- module a; contains; subroutine s(); integer :: abs; abs = 2; print *, abs; end subroutine; end module; use a; integer
+-- :: abs; abs = 1; call s(); print *, abs; end
 file_62_hidden_by_a_local_of_the_module : accepted_file (record { modules = ((record { name = (n (codes "a") 1 8); uses = ([]); implicit_none = None; declarations = ([]); procedures = (Some ((record { heading = (u.subroutine recursions.Unstated (n (codes "s") 3 12) (Some ([]))); body = (record { implicit_none = None; declarations = ((record { type_spec = (s.integer None); attributes = ([]); entities = ((record { name = (n (codes "abs") 4 12); dimensions = ([]); coshape = None; initial = None }) ∷ []); at = (p 4 1) }) ∷ []); statements = (s.more_statements (s.action (s.assignment (f.part_ref (n (codes "abs") 5 1) f.no_section_subscripts f.no_image_selector) (f.number 2 kinds.Unstated (p 5 7))) (p 5 1)) (s.more_statements (s.action (s.print s.free ((s.value (f.designator (f.part_ref (n (codes "abs") 6 10) f.no_section_subscripts f.no_image_selector))) ∷ [])) (p 6 1)) s.no_statements)) }); end = record { name = None; at = (p 7 1) }; at = (p 3 1) }) ∷ [])); end = record { name = None; at = (p 8 1) }; at = (p 1 1) }) ∷ []); main = record { name = None; uses = ((record { nature = natures.Unstated; module_name = (n (codes "a") 9 5); list = (files.all_but ([])); at = (p 9 1) }) ∷ []); body = (record { implicit_none = None; declarations = ((record { type_spec = (s.integer None); attributes = ([]); entities = ((record { name = (n (codes "abs") 10 12); dimensions = ([]); coshape = None; initial = None }) ∷ []); at = (p 10 1) }) ∷ []); statements = (s.more_statements (s.action (s.assignment (f.part_ref (n (codes "abs") 11 1) f.no_section_subscripts f.no_image_selector) (f.number 1 kinds.Unstated (p 11 7))) (p 11 1)) (s.more_statements (s.action (s.call (n (codes "s") 12 6) (Some f.no_arguments)) (p 12 1)) (s.more_statements (s.action (s.print s.free ((s.value (f.designator (f.part_ref (n (codes "abs") 13 10) f.no_section_subscripts f.no_image_selector))) ∷ [])) (p 13 1)) s.no_statements))) }); procedures = None; end = record { name = None; at = (p 14 1) } } }) ≡ true
 unfolding judged_statements
 file_62_hidden_by_a_local_of_the_module = refl

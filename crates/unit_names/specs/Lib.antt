@@ -1,0 +1,3 @@
+pub mod Accessible
+pub mod Found
+pub mod Levels
