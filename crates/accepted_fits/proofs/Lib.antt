@@ -1,0 +1,5 @@
+pub mod Actions
+pub mod Statements
+pub mod Names
+pub mod Programs
+pub mod Fitting
