@@ -1,6 +1,6 @@
 //! Laws of the runs of accepted programs over their own coarrays. Each is the contract of a function that does nothing.
 
-ghost use Rattle.std.specs.Prelude.{◌≡◌, ◌≤◌, ℕ, true, List, length};
+ghost use Rattle.std.specs.Prelude.{◌≡◌, ◌<◌, ◌≤◌, ◌+◌, ◌*◌, ◌/◌, ℕ, true, List, length};
 ghost use Rattle.fortran_tree.specs.Units as units;
 ghost use Rattle.caf_events.specs.declared.ask.Ask.{Ask};
 ghost use Rattle.caf_events.specs.declared.event.Entry.{Entry};
@@ -33,13 +33,22 @@ pub fn law_accepted_own_is_sound()
     ensures { (x : units.Program) (p : checked.Program) → Accepts x p → IsSteadyProgram p → IsSound (coarrays_of p) p }
 {}
 
-/// So in a core run of an accepted program over its own coarrays, of fewer than 2 to the 32nd teams, the next ask of each
-/// image fits, but for a read, a write, an atomic action and an arrival at a collective, of which nothing is said.
+/// A core run of a checked program has fewer than 2 to the 32nd teams where its images times twice its limit of recorded
+/// words and four are fewer: each team but the initial one has an own entry at the control board. The command's numbers are
+/// far below: 1 to 256 images with an equal share of 16,777,216 words each.
+pub fn law_run_has_few_teams()
+    ensures few { (p : checked.Program) (limit : ℕ) (coarrays : List Declared) (n : ℕ) (fails_at : ℕ → ℕ) (words : ℕ) (t : List Entry)
+        → IsCoreRun (program_rules p limit) (program_begins p coarrays n fails_at words) t → n * (2 * words + 4) < most_team
+        → length (teams_after n (at_board t)) ≤ most_team }
+    ensures shares { (n : ℕ) → n ≤ 256 → n * (2 * (16777216 / n) + 4) < most_team }
+{}
+
+/// So in a core run of an accepted program over its own coarrays, with such numbers, the next ask of each image fits, but for
+/// a read, a write, an atomic action and an arrival at a collective, of which nothing is said.
 pub fn law_accepted_next_ask_fits()
     ensures { (x : units.Program) (p : checked.Program) → Accepts x p → IsSteadyProgram p
-        → (limit n : ℕ) (fails_at : ℕ → ℕ) (words : ℕ) (t : List Entry)
+        → (limit n : ℕ) (fails_at : ℕ → ℕ) (words : ℕ) (t : List Entry) → n * (2 * words + 4) < most_team
         → IsCoreRun (program_rules p limit) (program_begins p (coarrays_of p) n fails_at words) t
-        → length (teams_after n (at_board t)) ≤ most_team
         → (i : ℕ) (a : Ask) → StandsAt p limit (coarrays_of p) n fails_at words t i a → is_known a ≡ true
         → is_fit_after (coarrays_of p) n t i a ≡ true }
 {}
@@ -47,9 +56,8 @@ pub fn law_accepted_next_ask_fits()
 /// So does the ask with which an image waits.
 pub fn law_accepted_next_wait_fits()
     ensures { (x : units.Program) (p : checked.Program) → Accepts x p → IsSteadyProgram p
-        → (limit n : ℕ) (fails_at : ℕ → ℕ) (words : ℕ) (t : List Entry)
+        → (limit n : ℕ) (fails_at : ℕ → ℕ) (words : ℕ) (t : List Entry) → n * (2 * words + 4) < most_team
         → IsCoreRun (program_rules p limit) (program_begins p (coarrays_of p) n fails_at words) t
-        → length (teams_after n (at_board t)) ≤ most_team
         → (i line : ℕ) (a : Ask)
         → IsWaiting (program_rules p limit) (program_begins p (coarrays_of p) n fails_at words) t i line a
         → is_known a ≡ true → is_fit_after (coarrays_of p) n t i a ≡ true }
