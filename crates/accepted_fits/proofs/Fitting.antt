@@ -34,10 +34,14 @@ pub own_sound : (x : u.Program) (p : s.Program) → Accepts x p → IsSteadyProg
 own_sound x p accepts quiet =
     let run = can_run x p accepts in
     let declared = tables_declare in_memory (λ c. refl) (λ c. refl) p in
-    accepted_sound x p accepts (coarrays_of p) (tables_held in_memory (λ c. same_content c.of_type) p) declared run.begins run.values quiet (accepted_allocates x p accepts (coarrays_of p) declared)
+    accepted_sound x p accepts (coarrays_of p) (tables_held in_memory (λ c. same_content c.of_type) p) declared run.begins run.values quiet
+    (accepted_allocates x p accepts (coarrays_of p) declared)
 
-pub next_ask : (x : u.Program) (p : s.Program) → Accepts x p → IsSteadyProgram p → (limit n : ℕ) (fails_at : ℕ → ℕ) (words : ℕ) (t : List Entry) → n * (2 * words + 4) < most_team
+pub next_ask : (x : u.Program) (p : s.Program) → Accepts x p → IsSteadyProgram p
+    → (limit n : ℕ) (fails_at : ℕ → ℕ) (words : ℕ) (t : List Entry) → n * (2 * words + 4) < most_team
     → IsCoreRun (program_rules p limit) (program_begins p (coarrays_of p) n fails_at words) t
-    → (i : ℕ) (a : Ask) → StandsAt p limit (coarrays_of p) n fails_at words t i a → is_known a ≡ true → is_fit_after (coarrays_of p) n t i a ≡ true
+    → (i : ℕ) (a : Ask) → StandsAt p limit (coarrays_of p) n fails_at words t i a → is_known a ≡ true
+    → is_fit_after (coarrays_of p) n t i a ≡ true
 next_ask x p accepts quiet limit n fails_at words t few core i a h e =
-    next_fits p limit (coarrays_of p) n fails_at words t (own_sound x p accepts quiet) core (run_few p limit (coarrays_of p) n fails_at words t core few) i a h e
+    next_fits p limit (coarrays_of p) n fails_at words t (own_sound x p accepts quiet) core
+    (run_few p limit (coarrays_of p) n fails_at words t core few) i a h e

@@ -55,9 +55,11 @@ few_open x h e =
     either x.is_allocatable (is_open x.coshape) (and_right b c (and_right a (b && c) h)) e
 
 -- an ALLOCATABLE coarray has no cells of its own at the start
-unowned : (ws : List Variable) (a : ℕ) (v : Variable) (x : Symbol) → slice_get ws a ≡ Some v → Shape v x → is_few x ≡ true → x.is_allocatable ≡ true → own_cells (own_in ws a) ≡ None
+unowned : (ws : List Variable) (a : ℕ) (v : Variable) (x : Symbol) → slice_get ws a ≡ Some v → Shape v x → is_few x ≡ true
+    → x.is_allocatable ≡ true → own_cells (own_in ws a) ≡ None
 unowned ws a v x e g h k =
-    ap (λ o. own_cells (own_of_variable o)) e ∙ ap own_cells (open_none (declared_bounds v.dimensions) v.codimensions (ap is_open g.0 ∙ few_open x h k))
+    ap (λ o. own_cells (own_of_variable o)) e ∙ ap own_cells
+    (open_none (declared_bounds v.dimensions) v.codimensions (ap is_open g.0 ∙ few_open x h k))
 
 no_cells : (b : Bool) (n : ℕ) → cond b None (Some n) ≡ None → b ≡ true
 no_cells true n e = refl
@@ -95,16 +97,23 @@ module _ (f : ℕ → Bool) where
   coarray_made b (objects.Constant m) k c h = absurd c
 
   -- ---- a procedure's own: none is a coarray
-  local_step : (m : Meaning) (ns : List Named) (k : ℕ) → (AreCounted k (variables_of ns) → count_coarrays (variables_of ns) ≡ 0 → all_meant is_made ns ≡ true)
-      → AreCounted k (elim m [ Names.variable y ↦ y ∷ variables_of ns | z ↦ variables_of ns ]) → count_coarrays (elim m [ Names.variable y ↦ y ∷ variables_of ns | z ↦ variables_of ns ]) ≡ 0 → (is_made m && all_meant is_made ns) ≡ true
+  local_step : (m : Meaning) (ns : List Named) (k : ℕ)
+      → (AreCounted k (variables_of ns) → count_coarrays (variables_of ns) ≡ 0 → all_meant is_made ns ≡ true)
+      → AreCounted k (elim m [ Names.variable y ↦ y ∷ variables_of ns | z ↦ variables_of ns ])
+      → count_coarrays (elim m [ Names.variable y ↦ y ∷ variables_of ns | z ↦ variables_of ns ]) ≡ 0
+      → (is_made m && all_meant is_made ns) ≡ true
   local_step (Names.variable x) ns k more counted none = by (nat_eq x.corank 0) counted.0 counted.1 none
     where
-      by : (b : Bool) → IsCounted b k x.object → AreCounted (cond b k (suc k)) (variables_of ns) → cond b (count_coarrays (variables_of ns)) (count_coarrays (variables_of ns) + 1) ≡ 0 → (is_made (Names.variable x) && all_meant is_made ns) ≡ true
-      by true c rest e = both_true (is_made (Names.variable x)) (all_meant is_made ns) (local_made x.is_allocatable x.object k c) (more rest e)
+      by : (b : Bool) → IsCounted b k x.object → AreCounted (cond b k (suc k)) (variables_of ns)
+          → cond b (count_coarrays (variables_of ns)) (count_coarrays (variables_of ns) + 1) ≡ 0
+          → (is_made (Names.variable x) && all_meant is_made ns) ≡ true
+      by true c rest e = both_true (is_made (Names.variable x)) (all_meant is_made ns) (local_made x.is_allocatable x.object k c)
+          (more rest e)
       by false c rest e = absurd (omega arith)
   local_step m ns k more counted none = more counted none
 
-  pub locals_made : (ns : List Named) (k : ℕ) → AreCounted k (variables_of ns) → count_coarrays (variables_of ns) ≡ 0 → all_meant is_made ns ≡ true
+  pub locals_made : (ns : List Named) (k : ℕ) → AreCounted k (variables_of ns) → count_coarrays (variables_of ns) ≡ 0
+      → all_meant is_made ns ≡ true
   locals_made [] k counted none = refl
   locals_made (x ∷ ns) k counted none = local_step x.meaning ns k (locals_made ns k) counted none
 
@@ -121,7 +130,9 @@ module _ (f : ℕ → Bool) where
   pub hosted_all : (ns : List Named) → all_meant is_made ns ≡ true → all_meant is_made (map hosted ns) ≡ true
   hosted_all [] h = refl
   hosted_all (x ∷ ns) h =
-      both_true (is_made (hosted_meaning x.meaning)) (all_meant is_made (map hosted ns)) (hosted_made x.meaning (and_left (is_made x.meaning) (all_meant is_made ns) h)) (hosted_all ns (and_right (is_made x.meaning) (all_meant is_made ns) h))
+      both_true (is_made (hosted_meaning x.meaning)) (all_meant is_made (map hosted ns))
+      (hosted_made x.meaning (and_left (is_made x.meaning) (all_meant is_made ns) h))
+      (hosted_all ns (and_right (is_made x.meaning) (all_meant is_made ns) h))
 
   -- ---- names of procedures, and those that USE makes accessible
   heading_made : (n : ℕ) (o : Option Name) → is_made (elim o [ None ↦ Names.subroutine n | Some r ↦ Names.function n ]) ≡ true
@@ -130,18 +141,21 @@ module _ (f : ℕ → Bool) where
 
   pub headings_made : (n : ℕ) (hs : List Headed) → all_meant is_made (procedure_names n hs) ≡ true
   headings_made n [] = refl
-  headings_made n (h ∷ hs) = both_true (is_made (meaning_of_heading n h)) (all_meant is_made (procedure_names (n + 1) hs)) (heading_made n h.answer) (headings_made (n + 1) hs)
+  headings_made n (h ∷ hs) = both_true (is_made (meaning_of_heading n h)) (all_meant is_made (procedure_names (n + 1) hs))
+      (heading_made n h.answer) (headings_made (n + 1) hs)
 
   module_made : all_meant is_made module_names ≡ true
   module_made = refl
 
-  one_made : (n : List ℕ) (o : Option Meaning) → ((m : Meaning) → o ≡ Some m → is_made m ≡ true) → all_meant is_made (elim o [ None ↦ [] | Some m ↦ named n m ∷ [] ]) ≡ true
+  one_made : (n : List ℕ) (o : Option Meaning) → ((m : Meaning) → o ≡ Some m → is_made m ≡ true)
+      → all_meant is_made (elim o [ None ↦ [] | Some m ↦ named n m ∷ [] ]) ≡ true
   one_made n None h = refl
   one_made n (Some m) h = both_true (is_made m) true (h m refl) refl
 
   accessible_made : (ns : List Name) → all_meant is_made (accessible_names ns) ≡ true
   accessible_made [] = refl
-  accessible_made (n ∷ ns) = meant_both is_made (accessible_name n.text) (accessible_names ns) (one_made n.text (denoted_in module_names n.text) (λ m e. meant_in is_made module_names n.text m module_made e)) (accessible_made ns)
+  accessible_made (n ∷ ns) = meant_both is_made (accessible_name n.text) (accessible_names ns)
+      (one_made n.text (denoted_in module_names n.text) (λ m e. meant_in is_made module_names n.text m module_made e)) (accessible_made ns)
 
   only_made : (o : Option (List Name)) → all_meant is_made (elim o [ None ↦ module_names | Some ns ↦ accessible_names ns ]) ≡ true
   only_made None = module_made
@@ -153,7 +167,9 @@ module _ (f : ℕ → Bool) where
 
   pub uses_made : (xs : List u.Use) → all_meant is_made (accessible_of xs) ≡ true
   uses_made [] = refl
-  uses_made (x ∷ xs) = meant_both is_made (accessible_by x) (accessible_of xs) (cond_made (is_module x.module_name.text) (elim x.only [ None ↦ module_names | Some ns ↦ accessible_names ns ]) (only_made x.only)) (uses_made xs)
+  uses_made (x ∷ xs) = meant_both is_made (accessible_by x) (accessible_of xs)
+      (cond_made (is_module x.module_name.text) (elim x.only [ None ↦ module_names | Some ns ↦ accessible_names ns ]) (only_made x.only))
+      (uses_made xs)
 
   -- ---- a scope
   pub record IsMadeScope (s : Scope) : Type 0 where
@@ -174,7 +190,9 @@ module _ (f : ℕ → Bool) where
   denoted_made s h n m e =
       else_cases (denoted_in s.own n) (cond (is_among s.pending n) None (denoted_outside s n)) m e
       (λ k. meant_in is_made s.own n m h.own k)
-      (λ k. else_cases (denoted_in s.host n) (or_else (denoted_in s.procedures n) (or_else (denoted_in s.accessible n) (denoted_in intrinsic_procedures n))) m (unless_pending (is_among s.pending n) (denoted_outside s n) m k)
+      (λ k. else_cases (denoted_in s.host n) (or_else (denoted_in s.procedures n)
+      (or_else (denoted_in s.accessible n) (denoted_in intrinsic_procedures n))) m
+      (unless_pending (is_among s.pending n) (denoted_outside s n) m k)
       (λ i. meant_in is_made s.host n m h.host i)
       (λ i. else_cases (denoted_in s.procedures n) (or_else (denoted_in s.accessible n) (denoted_in intrinsic_procedures n)) m i
       (λ j. meant_in is_made s.procedures n m h.procedures j)
@@ -196,14 +214,19 @@ module _ (coarrays : List Declared) (ws : List Variable) where
   is_one c = is_allocatable (slice_get coarrays c)
 
   abbrev pub Follows : ℕ → ℕ → List Symbol → Type 0
-  Follows k a xs = (j : ℕ) → slice_get (map first_cells coarrays) (k + j) ≡ slice_get (map own_cells (map (own_in ws) (coarray_numbers a xs))) j
+  Follows k a xs = (j : ℕ) → slice_get (map first_cells coarrays) (k + j) ≡ slice_get
+      (map own_cells (map (own_in ws) (coarray_numbers a xs))) j
 
   -- the coarray of a variable, where it is one
-  here_made : (x : Symbol) (k a : ℕ) (v : Variable) → is_few x ≡ true → slice_get ws a ≡ Some v → (variable_of x).meaning ≡ Some v → slice_get (map first_cells coarrays) (k + 0) ≡ Some (own_cells (own_in ws a)) → x.is_allocatable ≡ true → is_one k ≡ true
+  here_made : (x : Symbol) (k a : ℕ) (v : Variable) → is_few x ≡ true → slice_get ws a ≡ Some v → (variable_of x).meaning ≡ Some v
+      → slice_get (map first_cells coarrays) (k + 0) ≡ Some (own_cells (own_in ws a)) → x.is_allocatable ≡ true → is_one k ≡ true
   here_made x k a v few there made e g =
-      found_allocatable coarrays k (ap (slice_get (map first_cells coarrays)) (let z : k ≡ k + 0 = omega arith in z) ∙ e ∙ ap (λ o. Some o) (unowned ws a v x there (shape_of x v made) few g))
+      found_allocatable coarrays k (ap (slice_get (map first_cells coarrays)) (let z : k ≡ k + 0 = omega arith in z) ∙ e ∙ ap (λ o. Some o)
+      (unowned ws a v x there (shape_of x v made) few g))
 
-  later : (k a : ℕ) (xs : List Symbol) → ((j : ℕ) → slice_get (map first_cells coarrays) (k + j) ≡ slice_get (map own_cells (map (own_in ws) (a ∷ coarray_numbers (a + 1) xs))) j) → Follows (suc k) (a + 1) xs
+  later : (k a : ℕ) (xs : List Symbol) → ((j : ℕ)
+      → slice_get (map first_cells coarrays) (k + j) ≡ slice_get (map own_cells (map (own_in ws) (a ∷ coarray_numbers (a + 1) xs))) j)
+      → Follows (suc k) (a + 1) xs
   later k a xs h j = ap (slice_get (map first_cells coarrays)) (let e : suc k + j ≡ k + suc j = omega arith in e) ∙ h (suc j)
 
   abbrev AllMade : List Symbol → Type 0
@@ -212,15 +235,23 @@ module _ (coarrays : List Declared) (ws : List Variable) where
 
   symbols_made : (xs : List Symbol) (k a : ℕ) → AreCounted k xs → AreFew xs → AreAt ws a xs → Follows k a xs → AllMade xs
   symbols_made [] k a counted few at follows = tt
-  symbols_made (x ∷ xs) k a counted few at follows = by (nat_eq x.corank 0) counted.0 counted.1 follows (λ i c h. symbols_made xs i (a + 1) c few.1 at.1 h)
+  symbols_made (x ∷ xs) k a counted few at follows = by (nat_eq x.corank 0) counted.0 counted.1 follows
+      (λ i c h. symbols_made xs i (a + 1) c few.1 at.1 h)
     where
       by : (b : Bool) → IsCounted b k x.object → AreCounted (cond b k (suc k)) xs
-          → ((j : ℕ) → slice_get (map first_cells coarrays) (k + j) ≡ slice_get (map own_cells (map (own_in ws) (cond b (coarray_numbers (a + 1) xs) (a ∷ coarray_numbers (a + 1) xs)))) j)
+          → ((j : ℕ) → slice_get (map first_cells coarrays) (k + j) ≡ slice_get
+          (map own_cells (map (own_in ws) (cond b (coarray_numbers (a + 1) xs) (a ∷ coarray_numbers (a + 1) xs)))) j)
           → ((i : ℕ) → AreCounted i xs → Follows i (a + 1) xs → AllMade xs) → AllMade (x ∷ xs)
       by true c rest h more = (local_made is_one x.is_allocatable x.object k c, more k rest h)
-      by false c rest h more = (coarray_made is_one x.is_allocatable x.object k c (here_made x k a at.0.0 few.0 at.0.1 at.0.2 (h 0)), more (suc k) rest (later k a xs h))
+      by false c rest h more = (
+        coarray_made is_one x.is_allocatable x.object k c (here_made x k a at.0.0 few.0 at.0.1 at.0.2 (h 0)),
+        more
+            (suc k) rest (later k a xs h),
+      )
 
-  step : (m : Meaning) (ns : List Named) → (AllMade (variables_of ns) → all_meant (is_made is_one) ns ≡ true) → AllMade (elim m [ Names.variable y ↦ y ∷ variables_of ns | z ↦ variables_of ns ]) → (is_made is_one m && all_meant (is_made is_one) ns) ≡ true
+  step : (m : Meaning) (ns : List Named) → (AllMade (variables_of ns) → all_meant (is_made is_one) ns ≡ true)
+      → AllMade (elim m [ Names.variable y ↦ y ∷ variables_of ns | z ↦ variables_of ns ])
+      → (is_made is_one m && all_meant (is_made is_one) ns) ≡ true
   step (Names.variable x) ns more h = both_true (is_made is_one (Names.variable x)) (all_meant (is_made is_one) ns) h.0 (more h.1)
   step m ns more h = more h
 
@@ -228,11 +259,13 @@ module _ (coarrays : List Declared) (ws : List Variable) where
   all_names [] h = refl
   all_names (x ∷ ns) h = step x.meaning ns (all_names ns) h
 
-  pub names_made : (ns : List Named) → AreCounted 0 (variables_of ns) → AreFew (variables_of ns) → AreAt ws 0 (variables_of ns) → Follows 0 0 (variables_of ns) → all_meant (is_made is_one) ns ≡ true
+  pub names_made : (ns : List Named) → AreCounted 0 (variables_of ns) → AreFew (variables_of ns) → AreAt ws 0 (variables_of ns)
+      → Follows 0 0 (variables_of ns) → all_meant (is_made is_one) ns ≡ true
   names_made ns counted few at follows = all_names ns (symbols_made (variables_of ns) 0 0 counted few at follows)
 
   -- ---- what END TEAM deallocates
-  allocatable_at : (vs : List Variable) (a : ℕ) (v : Variable) → slice_get vs a ≡ Some v → is_allocatable_variable vs a ≡ true → v.is_allocatable ≡ true
+  allocatable_at : (vs : List Variable) (a : ℕ) (v : Variable) → slice_get vs a ≡ Some v → is_allocatable_variable vs a ≡ true
+      → v.is_allocatable ≡ true
   allocatable_at [] a v e h = no h
   allocatable_at (w ∷ vs) zero v e h = subst (λ z. z.is_allocatable ≡ true) (some_same w v e) h
   allocatable_at (w ∷ vs) (suc a) v e h = allocatable_at vs a v e h
@@ -244,7 +277,13 @@ module _ (coarrays : List Declared) (ws : List Variable) where
   all_ended [] k a few at follows = tt
   all_ended (x ∷ xs) k a few at follows = by (nat_eq x.corank 0) follows (λ i h. all_ended xs i (a + 1) few.1 at.1 h)
     where
-      by : (b : Bool) → ((j : ℕ) → slice_get (map first_cells coarrays) (k + j) ≡ slice_get (map own_cells (map (own_in ws) (cond b (coarray_numbers (a + 1) xs) (a ∷ coarray_numbers (a + 1) xs)))) j)
-          → ((i : ℕ) → Follows i (a + 1) xs → AreEnded Ended ws (coarray_numbers (a + 1) xs) i) → AreEnded Ended ws (cond b (coarray_numbers (a + 1) xs) (a ∷ coarray_numbers (a + 1) xs)) k
+      by : (b : Bool) → ((j : ℕ) → slice_get (map first_cells coarrays) (k + j) ≡ slice_get
+          (map own_cells (map (own_in ws) (cond b (coarray_numbers (a + 1) xs) (a ∷ coarray_numbers (a + 1) xs)))) j)
+          → ((i : ℕ) → Follows i (a + 1) xs → AreEnded Ended ws (coarray_numbers (a + 1) xs) i)
+          → AreEnded Ended ws (cond b (coarray_numbers (a + 1) xs) (a ∷ coarray_numbers (a + 1) xs)) k
       by true h more = more k h
-      by false h more = (λ e. here_made x k a at.0.0 few.0 at.0.1 at.0.2 (h 0) (sym (shape_of x at.0.0 at.0.2).1 ∙ allocatable_at ws a at.0.0 at.0.1 e), more (suc k) (later k a xs h))
+      by false h more = (
+        λ e. here_made x k a at.0.0 few.0 at.0.1 at.0.2 (h 0)
+            (sym (shape_of x at.0.0 at.0.2).1 ∙ allocatable_at ws a at.0.0 at.0.1 e),
+        more (suc k) (later k a xs h),
+      )

@@ -45,7 +45,8 @@ module _ (f : ℕ → Bool) where
   more_constants : (s : Scope) (cs : List Constant) → IsHost s → IsHost (record s { constants = cs })
   more_constants s cs h = record { own = h.own; procedures = h.procedures; accessible = h.accessible }
 
-  opened_made : (is : List Interface) (cs : List Constant) (s : Scope) (xs : List u.Procedure) → IsHost s → opened_breaks (opened_procedures s xs) ≡ [] → AllMade is cs (opened_procedures s xs)
+  opened_made : (is : List Interface) (cs : List Constant) (s : Scope) (xs : List u.Procedure) → IsHost s
+      → opened_breaks (opened_procedures s xs) ≡ [] → AllMade is cs (opened_procedures s xs)
   opened_made is cs s [] h b = tt
   opened_made is cs s (x ∷ xs) h b =
       let o = opened_procedure s (headed x.heading) x in
@@ -53,7 +54,8 @@ module _ (f : ℕ → Bool) where
       let rest = opened_breaks (opened_procedures (record s { constants = o.scope.constants }) xs) in
       let here = left_nothing o.breaks rest b in
       let c = procedure_counted s (headed x.heading) x here in
-      let r = opened_made is cs (record s { constants = o.scope.constants }) xs (more_constants s o.scope.constants h) (right_nothing o.breaks rest b) in
+      let r = opened_made is cs (record s { constants = o.scope.constants }) xs (more_constants s o.scope.constants h)
+      (right_nothing o.breaks rest b) in
       let all : IsMadeScope f (completed is cs o.scope) = record {
         own = locals_made f o.scope.own 0 c.0 (c.1 refl);
         host = hosted_all f s.own h.own;
@@ -63,16 +65,23 @@ module _ (f : ℕ → Bool) where
       (all, r)
 
   -- ---- units
-  unit_allowed : (xs : List Symbol) (ss : fs.Statements) {j : Judgement ts.Statements} → Means j Are → Means (unit_judged xs ss j) (λ x. Are x.statements)
+  unit_allowed : (xs : List Symbol) (ss : fs.Statements) {j : Judgement ts.Statements} → Means j Are
+      → Means (unit_judged xs ss j) (λ x. Are x.statements)
   unit_allowed xs ss h = both_means _ (any {j = all_made (map variable_of xs)}) h (λ vs body v w. w)
 
-  procedure_allowed : (is : List Interface) (cs : List Constant) (c : Counted) (o : Opened) → IsMadeScope f (completed is cs o.scope) → Means (procedure_judged is cs c o) (λ q. Are q.unit.statements)
+  procedure_allowed : (is : List Interface) (cs : List Constant) (c : Counted) (o : Opened) → IsMadeScope f (completed is cs o.scope)
+      → Means (procedure_judged is cs c o) (λ q. Are q.unit.statements)
   procedure_allowed is cs c o r = ruled_means (end_breaks (Some o.headed.name) o.end)
-      (λ b. made_means (procedure_form (interface_of o)) (unit_allowed (variables_of o.scope.own) o.body.statements (statements_allowed f (position_of (completed is cs o.scope) c) (scope_made f (completed is cs o.scope) r) o.body.statements)) (λ x h. h))
+      (λ b. made_means (procedure_form (interface_of o))
+      (unit_allowed (variables_of o.scope.own) o.body.statements
+      (statements_allowed f (position_of (completed is cs o.scope) c) (scope_made f (completed is cs o.scope) r) o.body.statements))
+      (λ x h. h))
 
-  procedures_allowed : (is : List Interface) (cs : List Constant) (c : Counted) (os : List Opened) → AllMade is cs os → Means (procedures_judged is cs c os) (AreAllowedProcedures (MakesOf f) (FreesOf f))
+  procedures_allowed : (is : List Interface) (cs : List Constant) (c : Counted) (os : List Opened) → AllMade is cs os
+      → Means (procedures_judged is cs c os) (AreAllowedProcedures (MakesOf f) (FreesOf f))
   procedures_allowed is cs c [] h = fine_means [] tt
-  procedures_allowed is cs c (o ∷ os) h = both_means (λ q qs. q ∷ qs) (procedure_allowed is cs c o h.0) (procedures_allowed is cs (behind c (counted_statements o.body.statements)) os h.1) (λ q qs v w. (v, w))
+  procedures_allowed is cs c (o ∷ os) h = both_means (λ q qs. q ∷ qs) (procedure_allowed is cs c o h.0)
+      (procedures_allowed is cs (behind c (counted_statements o.body.statements)) os h.1) (λ q qs v w. (v, w))
 
 -- ---- the program
 module _ (coarrays : List Declared) where
@@ -80,17 +89,23 @@ module _ (coarrays : List Declared) where
   AllocatesIfDeclared c = AreDeclaredBy c coarrays → AllocatesAllocatable coarrays c
 
   -- the main program's names, and what END TEAM deallocates
-  main_made : (s : Scope) (vs : List Variable) → AreAll false (variables_of s.own) → AreFew (variables_of s.own) → AreAt vs 0 (variables_of s.own) → map first_cells coarrays ≡ map own_cells (map (own_in vs) (coarray_numbers 0 (variables_of s.own)))
-      → (all_meant (is_made (is_one coarrays vs)) s.own ≡ true) × AreEnded (λ c. is_one coarrays vs c ≡ true) vs (coarray_numbers 0 (variables_of s.own)) 0
+  main_made : (s : Scope) (vs : List Variable) → AreAll false (variables_of s.own) → AreFew (variables_of s.own)
+      → AreAt vs 0 (variables_of s.own) → map first_cells coarrays ≡ map own_cells
+      (map (own_in vs) (coarray_numbers 0 (variables_of s.own)))
+      → (all_meant (is_made (is_one coarrays vs)) s.own ≡ true) × AreEnded (λ c. is_one coarrays vs c ≡ true) vs
+      (coarray_numbers 0 (variables_of s.own)) 0
   main_made s vs counted few at declared =
       let xs = variables_of s.own in
-      let follows : (j : ℕ) → slice_get (map first_cells coarrays) (0 + j) ≡ slice_get (map own_cells (map (own_in vs) (coarray_numbers 0 xs))) j
+      let follows : (j : ℕ) → slice_get (map first_cells coarrays) (0 + j) ≡ slice_get
+      (map own_cells (map (own_in vs) (coarray_numbers 0 xs))) j
       = λ j. ap (slice_get (map first_cells coarrays)) (let z : 0 + j ≡ j = omega arith in z) ∙ ap (λ ns. slice_get ns j) declared in
       (names_made coarrays vs s.own counted.0 few at follows, all_ended coarrays vs xs 0 0 few at follows)
 
-  with_allowed : (p : u.Program) (s : Scope) (os : List Opened) (cs : List Constant) → AreAll false (variables_of s.own) → AreFew (variables_of s.own) → s.host ≡ []
+  with_allowed : (p : u.Program) (s : Scope) (os : List Opened) (cs : List Constant) → AreAll false (variables_of s.own)
+      → AreFew (variables_of s.own) → s.host ≡ []
       → ((f : ℕ → Bool) → all_meant (is_made f) s.procedures ≡ true) → ((f : ℕ → Bool) → all_meant (is_made f) s.accessible ≡ true)
-      → ((f : ℕ → Bool) → IsHost f s → AllMade f (map interface_of os) cs os) → Means (program_with p s os (map interface_of os) cs) AllocatesIfDeclared
+      → ((f : ℕ → Bool) → IsHost f s → AllMade f (map interface_of os) cs os)
+      → Means (program_with p s os (map interface_of os) cs) AllocatesIfDeclared
   with_allowed p s os cs counted few alone procedures accessible opened = record {
     means = λ e x m.
         let is = map interface_of os in
@@ -109,13 +124,23 @@ module _ (coarrays : List Declared) where
         let f = is_one coarrays vs in
         let main = main_made s vs counted few (subst (λ ws. AreAt ws 0 xs) same (made_at xs w.0 w.2)) declared in
         let host : IsHost f s = record { own = main.0; procedures = procedures f; accessible = accessible f } in
-        let here : IsMadeScope f (completed is cs s) = record { own = main.0; host = ap (all_meant (is_made f)) alone; procedures = procedures f; accessible = accessible f } in
-        let body = (unit_allowed f xs p.body.statements (statements_allowed f (position_of (completed is cs s) start) (scope_made f (completed is cs s) here) p.body.statements)).means (left_nothing a.breaks b.breaks e) o.0 o.2 in
+        let here : IsMadeScope f (completed is cs s) = record {
+          own = main.0;
+          host = ap
+              (all_meant (is_made f)) alone;
+          procedures = procedures f;
+          accessible = accessible f;
+        } in
+        let body = (unit_allowed f xs p.body.statements
+        (statements_allowed f (position_of (completed is cs s) start) (scope_made f (completed is cs s) here) p.body.statements)).means
+        (left_nothing a.breaks b.breaks e) o.0 o.2 in
         let others = (procedures_allowed f is cs c os (opened f host)).means (right_nothing a.breaks b.breaks e) o.1 o.3 in
         (body, others, main.1));
   }
 
-  opened_allowed : (p : u.Program) (s : Scope) → AreAll false (variables_of s.own) → AreFew (variables_of s.own) → s.host ≡ [] → s.procedures ≡ procedure_names 0 (headings_of p) → s.accessible ≡ accessible_of p.uses → Means (program_opened p s) AllocatesIfDeclared
+  opened_allowed : (p : u.Program) (s : Scope) → AreAll false (variables_of s.own) → AreFew (variables_of s.own) → s.host ≡ []
+      → s.procedures ≡ procedure_names 0 (headings_of p) → s.accessible ≡ accessible_of p.uses
+      → Means (program_opened p s) AllocatesIfDeclared
   opened_allowed p s counted few alone g h =
       let xs = procedures_of p in
       let os = opened_procedures s xs in
@@ -126,17 +151,24 @@ module _ (coarrays : List Declared) where
       let c = opened_breaks os in
       let x = limit_breaks (variables_of s.own) in
       let y = end_breaks p.name p.end.name in
-      let procedures : (f : ℕ → Bool) → all_meant (is_made f) s.procedures ≡ true = λ f. ap (all_meant (is_made f)) g ∙ headings_made f 0 (headings_of p) in
-      let accessible : (f : ℕ → Bool) → all_meant (is_made f) s.accessible ≡ true = λ f. ap (all_meant (is_made f)) h ∙ uses_made f p.uses in
+      let procedures : (f : ℕ → Bool) → all_meant (is_made f) s.procedures ≡ true = λ f. ap (all_meant (is_made f)) g ∙ headings_made f 0
+      (headings_of p) in
+      let accessible : (f : ℕ → Bool) → all_meant (is_made f) s.accessible ≡ true = λ f. ap
+      (all_meant (is_made f)) h ∙ uses_made f p.uses in
       ruled_means (a ++ (b ++ (c ++ (x ++ y)))) (λ w.
-      with_allowed p s os cs counted few alone procedures accessible (λ f host. opened_made f is cs s xs host (left_nothing c (x ++ y) (right_nothing b (c ++ (x ++ y)) (right_nothing a (b ++ (c ++ (x ++ y))) w)))))
+      with_allowed p s os cs counted few alone procedures accessible
+      (λ f host. opened_made f is cs s xs host
+      (left_nothing c (x ++ y) (right_nothing b (c ++ (x ++ y)) (right_nothing a (b ++ (c ++ (x ++ y))) w)))))
 
   program_allowed : (p : u.Program) → Means (program_judged p) AllocatesIfDeclared
   program_allowed p =
       let s = record (first_scope p) { interfaces = interfaces_of p } in
       let x = main_declared p (interfaces_of p) in
       let g : Grows (Unit {0}) false s x = declarations_grow main_unit p.body.declarations s in
-      ruled_means x.breaks (λ e. opened_allowed p (record x.scope { pending = [] }) (declarations_keep main_unit p.body.declarations s (tt, λ z. no z) e) (declared_few p (interfaces_of p) e) g.host g.procedures g.accessible)
+      ruled_means x.breaks (λ e. opened_allowed p (record x.scope { pending = [] })
+      (declarations_keep main_unit p.body.declarations s (tt, λ z. no z) e)
+      (declared_few p (interfaces_of p) e) g.host g.procedures g.accessible)
 
-pub accepted_allocates : (x : u.Program) (p : ts.Program) → Accepts x p → (coarrays : List Declared) → AreDeclaredBy p coarrays → AllocatesAllocatable coarrays p
+pub accepted_allocates : (x : u.Program) (p : ts.Program) → Accepts x p → (coarrays : List Declared) → AreDeclaredBy p coarrays
+    → AllocatesAllocatable coarrays p
 accepted_allocates x p accepts coarrays declared = (program_allowed coarrays x).means accepts.unbroken p accepts.meaning declared

@@ -18,7 +18,8 @@ filter_few : {A : Type 0} (p : A → Bool) (xs : List A) → length (filter p xs
 filter_few p [] = omega arith
 filter_few p (x ∷ xs) = let r = filter_few p xs in elim (cases_Bool (p x)) [ inl t ↦ rw t (omega arith) | inr f ↦ rw f (omega arith) ]
 
-pub run_few : (p : s.Program) (limit : ℕ) (coarrays : List Declared) (n : ℕ) (fails_at : ℕ → ℕ) (words : ℕ) (t : List Entry) → IsCoreRun (program_rules p limit) (program_begins p coarrays n fails_at words) t
+pub run_few : (p : s.Program) (limit : ℕ) (coarrays : List Declared) (n : ℕ) (fails_at : ℕ → ℕ) (words : ℕ) (t : List Entry)
+    → IsCoreRun (program_rules p limit) (program_begins p coarrays n fails_at words) t
     → n * (2 * words + 4) < most_team → length (teams_after n (at_board t)) ≤ most_team
 run_few p limit coarrays n fails_at words t core few =
     let a = teams_few n (at_board t) in

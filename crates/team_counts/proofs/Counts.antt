@@ -35,7 +35,8 @@ same_times true i ms h = (let e = as_times ms in omega arith)
     as_times [] = refl
     as_times (m ∷ ms) = (let r = as_times ms in omega arith)
 
-one_arrives : (t : ℕ) (ms : List ℕ) (x : Happening) → ((i : ℕ) → times i ms ≤ 1) → sum_of (λ m. cond (is_arrival t m x) 1 0) ms ≤ cond (is_there t x) 1 0
+one_arrives : (t : ℕ) (ms : List ℕ) (x : Happening) → ((i : ℕ) → times i ms ≤ 1)
+    → sum_of (λ m. cond (is_arrival t m x) 1 0) ms ≤ cond (is_there t x) 1 0
 one_arrives t ms (arrives u i kind line) h = same_times (nat_eq u t) i ms (h i)
 one_arrives t ms (pairs i set) h = (let e = of_none ms in omega arith)
 one_arrives t ms (stops i) h = (let e = of_none ms in omega arith)
@@ -79,7 +80,8 @@ hit x t r = cond (is_of_round (suc t) r x) 1 0
 
 is_hit : (j k : ℕ) (x : Team) → IsIn j k x → 1 ≤ sum_to (λ t. sum_to (hit x t) k) j
 is_hit j k x h =
-    let one : hit x h.0 x.round ≡ 1 = ap (λ b. cond b 1 0) (and_from (nat_eq x.parent (suc h.0)) (nat_eq x.round x.round) (eq-eqb x.parent (suc h.0) h.1) (eq-eqb x.round x.round refl)) in
+    let one : hit x h.0 x.round ≡ 1 = ap (λ b. cond b 1 0)
+    (and_from (nat_eq x.parent (suc h.0)) (nat_eq x.round x.round) (eq-eqb x.parent (suc h.0) h.1) (eq-eqb x.round x.round refl)) in
     let a = one_to (hit x h.0) k x.round h.3 in
     let b = one_to (λ t. sum_to (hit x t) k) j h.0 h.2 in
     omega arith
@@ -92,7 +94,8 @@ covers j k (x ∷ xs) h =
     let both = to_both (λ t. sum_to (hit x t) k) (λ t. sum_to (λ r. made (suc t) r xs) k) j in
     let more = to_le (λ t. sum_to (hit x t) k + sum_to (λ r. made (suc t) r xs) k) (λ t. sum_to (λ r. made (suc t) r (x ∷ xs)) k) j (λ t.
     let b = to_both (hit x t) (λ r. made (suc t) r xs) k in
-    let l = to_le (λ r. hit x t r + made (suc t) r xs) (λ r. made (suc t) r (x ∷ xs)) k (λ r. let e = more_made (suc t) r x xs in omega arith) in
+    let l = to_le (λ r. hit x t r + made (suc t) r xs) (λ r. made (suc t) r (x ∷ xs)) k
+    (λ r. let e = more_made (suc t) r x xs in omega arith) in
     omega arith) in
     omega arith
 
@@ -127,9 +130,11 @@ module _ (n : ℕ) (h : List Entry) where
         let c = closing_is control (suc t) r m.parent.members h m.front m.closed in
         let a = round_makes (suc t) r m.front c.0 m.parent.members in
         let b : length (teams_made (suc t) r m.parent.members m.front) ≤ sum_of (λ i. is_within (arrived t i) r) m.parent.members
-        = subst (λ z. length (teams_made (suc t) r m.parent.members m.front) ≤ sum_of (λ i. is_within (arrivals (suc t) i (happened control z)) r) m.parent.members) (sym c.1) a in
+        = subst (λ z. length (teams_made (suc t) r m.parent.members m.front) ≤ sum_of
+        (λ i. is_within (arrivals (suc t) i (happened control z)) r) m.parent.members) (sym c.1) a in
         let e = ap length m.made in
-        subst (λ (z : Team). made (suc t) r ts ≤ sum_of (λ i. is_within (arrived t i) r) z.members) (same_parent m.place t m.parent x m.there there (omega arith)) (omega arith))
+        subst (λ (z : Team). made (suc t) r ts ≤ sum_of (λ i. is_within (arrived t i) r) z.members)
+        (same_parent m.place t m.parent x m.there there (omega arith)) (omega arith))
   ]
 
   no_round : (t r : ℕ) → slice_get ts t ≡ None → made (suc t) r ts ≤ 0
@@ -168,7 +173,8 @@ module _ (n : ℕ) (h : List Entry) where
       (p.0, p.1, omega arith, get_round new i y e)) in
       let a = covers j k new inside in
       let b = to_le (λ t. sum_to (λ r. made (suc t) r new) k) (λ t. sum_to (λ r. made (suc t) r ts) k) j (λ t.
-      to_le (λ r. made (suc t) r new) (λ r. made (suc t) r ts) k (λ r. let e = ap (made (suc t) r) split in let m = more_made (suc t) r x new in omega arith)) in
+      to_le (λ r. made (suc t) r new) (λ r. made (suc t) r ts) k
+      (λ r. let e = ap (made (suc t) r) split in let m = more_made (suc t) r x new in omega arith)) in
       let c = to_le (λ t. sum_to (λ r. made (suc t) r ts) k) (λ t. at_team (suc t) (happened control h)) j (λ t. team_makes t k) in
       let d = all_arrive j (happened control h) in
       let f = happened_few h in

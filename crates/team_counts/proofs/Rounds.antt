@@ -32,7 +32,8 @@ numbers_few (a ∷ args) = let r = numbers_few args in let p = put_few a.number 
 
 teams_of_few : (ns : List ℤ) (args : List FormArg) → length (teams_of ns args) ≤ length ns
 teams_of_few [] args = omega arith
-teams_of_few (n ∷ ns) args = let r = teams_of_few ns args in elim (cases_Bool (int_le (pos 1) n)) [ inl t ↦ rw t (omega arith) | inr f ↦ rw f (omega arith) ]
+teams_of_few (n ∷ ns) args = let r = teams_of_few ns args in elim
+    (cases_Bool (int_le (pos 1) n)) [ inl t ↦ rw t (omega arith) | inr f ↦ rw f (omega arith) ]
 
 option_few : {A : Type 0} (o : Option A) (xs : List A) (k : ℕ) → length xs ≤ k → length (cons_option o xs) ≤ suc k
 option_few None xs k h = omega arith
@@ -71,8 +72,11 @@ module _ (t r : ℕ) (f g : List Entry) where
   nth_within m e h =
       let w = nth_at control t m r f e h in
       let a : arrivals t m (happened control f) ≡ arrivals t m (happened control w.before) + arrivals t m (happened control (e ∷ w.after))
-      = ap (λ z. arrivals t m (happened control z)) w.split ∙ ap (arrivals t m) (happened_append control w.before (e ∷ w.after)) ∙ arrivals_append t m (happened control w.before) (happened control (e ∷ w.after)) in
-      let b : arrivals t m (happened control (e ∷ w.after)) ≡ 1 + arrivals t m (happened control w.after) = rw w.joins at (cons_arrivals control t m e w.after) in
+      = ap (λ z. arrivals t m (happened control z)) w.split ∙ ap (arrivals t m)
+      (happened_append control w.before (e ∷ w.after)) ∙ arrivals_append t m (happened control w.before)
+      (happened control (e ∷ w.after)) in
+      let b : arrivals t m (happened control (e ∷ w.after)) ≡ 1 + arrivals t m (happened control w.after) = rw w.joins at
+      (cons_arrivals control t m e w.after) in
       let c : arrivals t m (happened control (f ++ g)) ≡ arrivals t m (happened control f) + arrivals t m (happened control g)
       = ap (arrivals t m) (happened_append control f g) ∙ arrivals_append t m (happened control f) (happened control g) in
       let n = w.count in
@@ -80,13 +84,16 @@ module _ (t r : ℕ) (f g : List Entry) where
       let all = le-leb r (arrivals t m (happened control (f ++ g))) (omega arith) in
       ap (λ b. cond b 1 0) (and_from (nat_le 1 r) (nat_le r (arrivals t m (happened control (f ++ g)))) one all)
 
-  one_more : (m k : ℕ) (o : Option Entry) (es : List Entry) → ((e : Entry) → o ≡ Some e → is_within (arrivals t m (happened control (f ++ g))) r ≡ 1) → length es ≤ k → length (cons_option o es) ≤ is_within (arrivals t m (happened control (f ++ g))) r + k
+  one_more : (m k : ℕ) (o : Option Entry) (es : List Entry)
+      → ((e : Entry) → o ≡ Some e → is_within (arrivals t m (happened control (f ++ g))) r ≡ 1) → length es ≤ k
+      → length (cons_option o es) ≤ is_within (arrivals t m (happened control (f ++ g))) r + k
   one_more m k None es h le = omega arith
   one_more m k (Some e) es h le = let one = h e refl in omega arith
 
   round_few : (ms : List ℕ) → length (round_of control t r ms f) ≤ sum_of (λ m. is_within (arrivals t m (happened control (f ++ g))) r) ms
   round_few [] = omega arith
-  round_few (m ∷ ms) = one_more m (sum_of (λ m. is_within (arrivals t m (happened control (f ++ g))) r) ms) (nth_arrival control t m r f) (round_of control t r ms f) (λ e. nth_within m e) (round_few ms)
+  round_few (m ∷ ms) = one_more m (sum_of (λ m. is_within (arrivals t m (happened control (f ++ g))) r) ms) (nth_arrival control t m r f)
+      (round_of control t r ms f) (λ e. nth_within m e) (round_few ms)
 
   pub round_makes : (ms : List ℕ) → length (teams_made t r ms f) ≤ sum_of (λ m. is_within (arrivals t m (happened control (f ++ g))) r) ms
   round_makes ms = let a = made_few t r ms f in let b = round_few ms in omega arith

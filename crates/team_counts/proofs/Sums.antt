@@ -78,7 +78,8 @@ is_next t i = cond (nat_eq t (suc i)) 1 0
 
 next_none : (t k : ℕ) → suc k < t → sum_to (is_next t) k ≡ 0
 next_none t zero h = elim (eqb_tells t 1) [ inl y ↦ (let e = y.1 in absurd (omega arith)) | inr n ↦ rw n.0 refl ]
-next_none t (suc k) h = let r = next_none t k (omega arith) in elim (eqb_tells t (suc (suc k))) [ inl y ↦ (let e = y.1 in absurd (omega arith)) | inr n ↦ rw n.0 (omega arith) ]
+next_none t (suc k) h = let r = next_none t k (omega arith) in elim
+    (eqb_tells t (suc (suc k))) [ inl y ↦ (let e = y.1 in absurd (omega arith)) | inr n ↦ rw n.0 (omega arith) ]
 
 pub next_once : (t k : ℕ) → sum_to (is_next t) k ≤ 1
 next_once t zero = elim (cases_Bool (nat_eq t 1)) [ inl y ↦ rw y (omega arith) | inr n ↦ rw n (omega arith) ]
