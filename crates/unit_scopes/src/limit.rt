@@ -11,6 +11,7 @@ ghost use Rattle.unit_scopes.specs.Limits.{capped, cells_from, chosen, is_chosen
 
 use caf_base::place::Pos;
 use rule_definitions::broken::Broken;
+use rule_definitions::rule;
 use scope_table::broken::note;
 use scope_table::symbol::{Entry, KnownBounds, Symbol};
 use scope_table::table::Table;
@@ -104,7 +105,7 @@ fn note_passing(first: &mut Option<Broken>, sum: u64, more: u64, at: Pos)
         return;
     }
     if more > LIMIT - sum {
-        note(first, 30, at);
+        note(first, rule::TOO_MANY_CELLS, at);
     }
 }
 
