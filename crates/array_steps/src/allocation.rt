@@ -12,10 +12,10 @@ ghost use Rattle.image_state.specs.Acting.{Acts};
 
 use crate::few::FewNumbers;
 use crate::locals::{elements, is_there};
-use crate::sections::ROOM;
 use crate::values::MOST_CELLS;
 use array_places::bounds::cells_between;
 use caf_base::value::Kind;
+use caf_events::fault::ROOM;
 use image_code::step::Scope;
 use image_state::state::{Acting, ImageState};
 use number_operators::arithmetic::is_of_kind;

@@ -13,8 +13,8 @@ ghost use Rattle.local_arrays.specs.Arrays.{has_length, HasCells};
 
 use crate::few::FewNumbers;
 use crate::locals::{check, element, elements, place_on_top, place_over_number};
-use crate::sections::ROOM;
 use array_places::place::cells_in;
+use caf_events::fault::ROOM;
 use image_code::step::Scope;
 use image_state::state::{Acting, ImageState};
 

@@ -16,19 +16,7 @@ use crate::coarrays::Coarrays;
 use crate::cobounds::{cosubscript_at, order_of};
 use array_places::bounds::in_kind;
 use array_places::place::{cells_in, natural};
-
-/// The numbers of run faults.
-const BOUNDS: u32 = 3;
-
-const COBOUNDS: u32 = 5;
-
-const NOT_ALLOCATED: u32 = 6;
-
-const NOT_ESTABLISHED: u32 = 7;
-
-const CELLS: u32 = 9;
-
-const SHAPE: u32 = 12;
+use caf_events::fault::{BOUNDS, CELLS, COBOUNDS, NOT_ALLOCATED, NOT_ESTABLISHED, SHAPE};
 
 /// The most cells of one access.
 const MOST_ACCESS_CELLS: u64 = 4096;
