@@ -13,6 +13,9 @@ use caf_base::refusal::NoMemory;
 use caf_base::span::Span;
 use std::alloc::Global;
 
+// The most cells that a coarray can have.
+const CELLS: u64 = COARRAY_CELLS as u64;
+
 /// The offsets of the span's cells in array element order (ISO/IEC 1539-1:2018, 9.5.3.2 and 9.5.3.3), where each is one of so many cells.
 pub fn section_within(
     alloc: Global,
@@ -165,7 +168,7 @@ fn lie_within(start: u32, dims: &[(u32, i32)]) -> bool
     requires { list_all (λ d. nat_le 2 d.0) dims.now ≡ true }
     ensures { result ≡ list_all is_cell_offset (offsets_from (pos start) dims.now) }
 {
-    lie_between(start, dims, 0, u64::from(COARRAY_CELLS))
+    lie_between(start, dims, 0, CELLS)
 }
 
 // Whether each cell lies from one offset on and before another: of a row it is enough that its ends do.
@@ -180,12 +183,7 @@ fn lie_between(start: u32, dims: &[(u32, i32)], low: u64, high: u64) -> bool
     };
     let reach = u64::from(*count - 1) * u64::from(step.unsigned_abs());
     if *step < 0 {
-        lie_between(
-            start,
-            dims,
-            (low + reach).min(u64::from(COARRAY_CELLS)),
-            high,
-        )
+        lie_between(start, dims, (low + reach).min(CELLS), high)
     } else {
         lie_between(start, dims, low, high.saturating_sub(reach))
     }
