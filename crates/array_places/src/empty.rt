@@ -7,13 +7,11 @@ ghost use Rattle.image_acts.specs.Frames.{pairs_in};
 ghost use Rattle.image_acts.specs.Places.{digits, with_digit, subscripts_in, are_small, empty_place, place_within, spread_of};
 ghost use Rattle.array_places.specs.Sections.{Lies, numbers_of, rested_from};
 
-use crate::bounds::{BOUNDS, cells_between, extent};
+use crate::bounds::{cells_between, extent};
 use crate::list::PlaceNumbers;
 use crate::place::first_pair;
 use crate::triplet::{Subscripts, behind, dimension};
-
-/// The number of the run fault Room.
-const ROOM: u32 = 11;
+use caf_events::fault::{BOUNDS, ROOM};
 
 /// Whether each extent between these bounds is of 63 bits.
 pub fn are_small(bounds: &[i64]) -> bool

@@ -7,8 +7,9 @@ ghost use Rattle.image_acts.specs.Teams.{cosubscripts_behind, index_in, index_of
 ghost use Rattle.array_places.specs.Bounds.{as_found};
 ghost use Rattle.array_places.specs.Images.{cosubscript_found, order_found};
 
-use crate::bounds::{BOUNDS, in_kind};
+use crate::bounds::in_kind;
 use crate::place::natural;
+use caf_events::fault::BOUNDS;
 
 /// A place among images with a digit more, or the largest number of 64 bits where it is larger.
 fn order_behind(order: u64, weight: u64, digit: u64) -> u64

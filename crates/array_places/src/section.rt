@@ -8,10 +8,11 @@ ghost use Rattle.image_acts.specs.Frames.{pairs_in};
 ghost use Rattle.image_acts.specs.Places.{digits, with_digit, subscripts_in, place_of as place_found, spread_of};
 ghost use Rattle.array_places.specs.Sections.{Fine, Lies, numbers_from, numbers_of};
 
-use crate::bounds::{BOUNDS, extent};
+use crate::bounds::extent;
 use crate::list::PlaceNumbers;
 use crate::place::first_pair;
 use crate::triplet::{Subscripts, behind, dimension};
+use caf_events::fault::BOUNDS;
 
 /// What is found of a place: how far apart, in cells, neighbours of the next dimension are; the offset of the first cell in the dimensions so far; and their
 /// counts and steps, behind a first number that waits for the offset.

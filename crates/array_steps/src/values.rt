@@ -13,13 +13,14 @@ ghost use Rattle.local_arrays.specs.Arrays.{has_length, HasCells};
 
 use crate::few::FewNumbers;
 use crate::locals::{check, element, elements, place_on_top, place_over_number};
-use crate::sections::ROOM;
 use array_places::place::cells_in;
+use caf_base::limits::LOCAL_CELLS;
+use caf_events::fault::ROOM;
 use image_code::step::Scope;
 use image_state::state::{Acting, ImageState};
 
 /// The most local cells.
-pub(crate) const MOST_CELLS: u64 = 65_536;
+pub(crate) const MOST_CELLS: u64 = LOCAL_CELLS as u64;
 
 /// Does the step `Load`.
 #[tactic(auto, using(crate::proofs::LoadLaws::one_array))]

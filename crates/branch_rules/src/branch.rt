@@ -15,6 +15,7 @@ use caf_base::refusal::NoMemory;
 use checked_tree::statement::StatementForm;
 use fortran_tree::name::Name;
 use part_rules::judged::{Judged, fine, refused, ruled};
+use rule_definitions::rule;
 use std::alloc::Global;
 
 /// The loop that a branch means: how many loops out it is, and whether a construct that no branch may leave stands between.
@@ -154,8 +155,13 @@ fn judge_target(
     ensures meaning { IfOk result (λ j. j.meaning ≡ (sought.target_judged target absent at).meaning) }
 {
     match target {
-        Some(target) => ruled(fine(alloc, target.loops), !target.crosses, 42, at),
-        None => refused(alloc, 41, absent),
+        Some(target) => ruled(
+            fine(alloc, target.loops),
+            !target.crosses,
+            rule::LEAVES_CONSTRUCT,
+            at,
+        ),
+        None => refused(alloc, rule::CONSTRUCT_NAME, absent),
     }
 }
 
@@ -271,7 +277,7 @@ pub fn judge_return(
     ensures meaning { IfOk result (λ j. option_map statement_form j.meaning ≡ (rules.returning (map construct_seen around.now) at).meaning) }
 {
     let form = fine(alloc, StatementForm::Return);
-    ruled(form, !has_boundary(around), 42, at)
+    ruled(form, !has_boundary(around), rule::LEAVES_CONSTRUCT, at)
 }
 
 /// A statement that may not stand in a CRITICAL block: rule 43 at its place.
@@ -283,5 +289,5 @@ pub fn control(
     ensures breaks { IfOk result (λ j. j.breaks.items ≡ statement.breaks.items ++ unless (not (rules.is_in_critical (map construct_seen around.now))) 43 at) }
     ensures meaning { IfOk result (λ j. j.meaning ≡ cond (not (rules.is_in_critical (map construct_seen around.now))) statement.meaning None) }
 {
-    ruled(statement, !is_in_critical(around), 43, at)
+    ruled(statement, !is_in_critical(around), rule::IN_CRITICAL, at)
 }

@@ -17,6 +17,7 @@ use part_rules::bracket::{Actual, Item, is_triplet};
 use part_rules::judged::{Judged, add_all, are_none, note_unless};
 use part_rules::part::{Part, plain};
 use rule_definitions::broken::Broken;
+use rule_definitions::rule;
 use std::alloc::Global;
 
 /// A dummy argument of an intrinsic procedure: its name, whether it must have an argument, and whether a list of images may stand for it.
@@ -312,7 +313,7 @@ fn argument_breaks(
     let is_bound = is_bound(taken, &binding);
     let own = bound_breaks_in(alloc, dummies, is_bound, binding)?;
     if are_none(own.as_slice()) {
-        note_unless(breaks, is_bound, 59, at)
+        note_unless(breaks, is_bound, rule::INTRINSIC_ARGUMENT, at)
     } else {
         add_all(breaks, own)
     }
@@ -349,7 +350,7 @@ pub fn unbound<T: Drop>(
     let is_whole = has_needed(dummies, bindings.as_slice());
     let mut breaks = binding_breaks(alloc, dummies, bindings)?;
     if are_none(breaks.as_slice()) {
-        note_unless(&mut breaks, is_whole, 59, at)?;
+        note_unless(&mut breaks, is_whole, rule::INTRINSIC_ARGUMENT, at)?;
     }
     Ok(Judged {
         breaks,

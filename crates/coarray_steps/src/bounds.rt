@@ -7,13 +7,9 @@ ghost use Rattle.image_acts.specs.Operate.Bounds.{bounds_effect};
 ghost use Rattle.image_state.specs.Acting.{Acts};
 
 use crate::forms::numbers_of_form;
+use caf_events::fault::{NOT_ALLOCATED, ROOM};
 use image_state::state::{Acting, ImageState};
 use number_operators::operators::truth;
-
-/// The numbers of the run faults NotAllocated and Room.
-const NOT_ALLOCATED: u32 = 6;
-
-const ROOM: u32 = 11;
 
 /// Does the step `CoSection`.
 #[tactic(auto, using(crate::proofs::OwnBounds::section_missing, crate::proofs::OwnBounds::section_faults, crate::proofs::OwnBounds::section_placed))]

@@ -14,12 +14,10 @@ ghost use Rattle.coarray_tables.specs.Owns.{own_at};
 ghost use Rattle.coarray_tables.specs.Steps.{made_team};
 ghost use Rattle.image_state.specs.Acting.{Acts, with_core};
 
+use caf_events::fault::CELLS;
 use coarray_tables::images::has_few_cells;
 use image_state::state::{Acting, ImageState};
 use team_tables::named::team_of;
-
-/// The number of the run fault Cells.
-const CELLS: u32 = 9;
 
 /// How many numbers a place of this rank is.
 fn place_size(rank: u32) -> usize

@@ -16,22 +16,11 @@ use crate::coarrays::Coarrays;
 use crate::cobounds::{cosubscript_at, order_of};
 use array_places::bounds::in_kind;
 use array_places::place::{cells_in, natural};
-
-/// The numbers of run faults.
-const BOUNDS: u32 = 3;
-
-const COBOUNDS: u32 = 5;
-
-const NOT_ALLOCATED: u32 = 6;
-
-const NOT_ESTABLISHED: u32 = 7;
-
-const CELLS: u32 = 9;
-
-const SHAPE: u32 = 12;
+use caf_base::limits::ACCESS_CELLS;
+use caf_events::fault::{BOUNDS, CELLS, COBOUNDS, NOT_ALLOCATED, NOT_ESTABLISHED, SHAPE};
 
 /// The most cells of one access.
-const MOST_ACCESS_CELLS: u64 = 4096;
+const MOST_ACCESS_CELLS: u64 = ACCESS_CELLS as u64;
 
 /// The index of the image that cosubscripts name among so many, or 0 where they name none.
 fn index_among(cobounds: &[i64], subscripts: &[i64], images: u64) -> u64

@@ -7,9 +7,10 @@ ghost use Rattle.image_acts.specs.Statuses.{most_cells};
 
 use crate::few::Few;
 use array_places::bounds::cells_between;
+use caf_base::limits::COARRAY_CELLS;
 
 /// The most coarray cells of an image.
-const MOST_CELLS: u128 = 65_536;
+const MOST_CELLS: u128 = COARRAY_CELLS as u128;
 
 /// The bounds and cobounds of a coarray as they stood on the stack, and the team in which it was allocated.
 #[derive(Drop)]

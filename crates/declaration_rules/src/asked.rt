@@ -9,6 +9,7 @@ use caf_base::place::Pos;
 use checked_tree::data::DataType;
 use constant_values::constancy::Constancy;
 use rule_definitions::broken::Broken;
+use rule_definitions::rule;
 use scope_table::broken::note;
 
 /// An expression in which nothing is broken: its type, what it stands for before the run, and whether it is a list of images.
@@ -67,7 +68,7 @@ pub fn plain_value<'a>(first: &mut Option<Broken>, expr: &'a Asked) -> Option<&'
     note_all(first, expr.breaks.as_slice());
     let value = expr.value.as_ref()?;
     if value.is_list {
-        note(first, 56, expr.at);
+        note(first, rule::IMAGE_LIST, expr.at);
         return None;
     }
     Some(value)

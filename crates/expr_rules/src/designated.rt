@@ -21,6 +21,7 @@ use checked_tree::expr::{Selector, TypedExpr};
 use part_rules::bracket::Actual;
 use part_rules::designator::Selection;
 use part_rules::judged::{Judged, are_none, joined, refused, ruled};
+use rule_definitions::rule;
 use scope_table::scope::{Denoted, Scope};
 use std::alloc::Global;
 
@@ -72,7 +73,7 @@ fn unselected(
 {
     let holds = is_unsaid(is_plain, &selection);
     let Selection { judged, .. } = selection;
-    let Judged { breaks, meaning } = ruled(part, holds, 34, at)?;
+    let Judged { breaks, meaning } = ruled(part, holds, rule::NO_COARRAY, at)?;
     let Judged {
         breaks: further,
         meaning: selector,
@@ -147,7 +148,7 @@ fn undeclared(
 {
     drop(actuals);
     drop(selection);
-    refused(alloc, 20, at)
+    refused(alloc, rule::UNKNOWN_NAME, at)
 }
 
 /// What a designator is, by what its name stands for: rule 20 for nothing and for a type.

@@ -16,14 +16,12 @@ use crate::operands::{number, team_at};
 use crate::replies::{join, status_of};
 use caf_base::place::TeamNo;
 use caf_events::ask::Ask;
+use caf_events::fault::COBOUNDS;
 use caf_events::reply::Reply;
 use caf_events::round::Arriving;
 use coarray_tables::asks::word;
 use image_state::state::ImageState;
 use team_tables::named::team_of;
-
-/// The number of the run fault CoBounds.
-const COBOUNDS: u32 = 5;
 
 /// The arrival of SYNC ALL or SYNC TEAM.
 #[tactic(auto, using(crate::proofs::TeamAsks::sync_asked))]

@@ -12,12 +12,13 @@ ghost use Rattle.local_arrays.specs.Frames.{Framed, first_array, array_of, with_
 ghost use Rattle.image_acts.specs.Operate.Variables.{elements_there};
 
 use crate::first::room_for;
-use crate::row::{NOT_ALLOCATED, Row, SHAPE};
+use crate::row::Row;
 use crate::slot::slot;
 use array_places::elements::are_there;
 use array_places::list::PlaceNumbers;
 use array_places::place::cells_in;
 use caf_base::refusal::NoMemory;
+use caf_events::fault::{NOT_ALLOCATED, SHAPE};
 use image_code::step::Scope;
 use image_code::tables::FirstArray;
 use std::alloc::Global;

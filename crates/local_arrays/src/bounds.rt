@@ -11,9 +11,7 @@ ghost use Rattle.array_places.specs.Sections.{numbers_of};
 use array_places::empty::wide_place;
 use array_places::list::PlaceNumbers;
 use array_places::section::{has_places, place_of};
-
-/// The number of the run fault Room.
-pub(crate) const ROOM: u32 = 11;
+use caf_events::fault::ROOM;
 
 /// Lower and upper bounds of at most three dimensions, and whether they have fewer than 2 ** 63 cells, an empty dimension counting as one.
 #[derive(Clone, Copy)]

@@ -10,19 +10,15 @@ ghost use Rattle.array_places.specs.Sections.{numbers_of};
 ghost use Rattle.local_arrays.specs.Arrays.{array_at, from_one, bounds_in, place_found, elements_of, loaded, overwritten, refilled, HasCells, HasNewElement, IsElement};
 ghost use Rattle.local_arrays.specs.Rows.{Rowed, Fit, IsCell, IsSpot, exchanged, locals_of, pairs_of, local_with, placed, total_size, IsWell};
 
-use crate::bounds::{Bounds, ROOM, bounds_of};
+use crate::bounds::{Bounds, bounds_of};
 use crate::offsets::{offset_of_one, offset_of_two};
 use crate::reach::{Reach, reach_of};
 use array_places::bounds::cells_between;
 use array_places::elements::{fill, put};
 use array_places::list::PlaceNumbers;
+use caf_events::fault::{NOT_ALLOCATED, ROOM, SHAPE};
 use std::alloc::{AllocError, Global};
 use std::marker::Model;
-
-/// The numbers of the run faults NotAllocated and Shape.
-pub(crate) const NOT_ALLOCATED: u32 = 6;
-
-pub(crate) const SHAPE: u32 = 12;
 
 /// An array: how its elements are found at once; its bounds, where it is there; where its cells begin, and how many it has.
 #[derive(Clone, Copy)]

@@ -10,11 +10,9 @@ ghost use Rattle.image_acts.specs.Operate.Operators.{in_kind, divided, quotient}
 ghost use Rattle.number_operators.specs.Kinds.{IsInteger};
 ghost use Rattle.number_operators.specs.Operators.{as_found};
 
-use crate::arithmetic::{Computed, OVERFLOW, in_kind, is_zero};
+use crate::arithmetic::{Computed, in_kind, is_zero};
 use caf_base::value::Kind;
-
-/// The number of the run fault DivideByZero.
-const DIVIDE_BY_ZERO: u32 = 2;
+use caf_events::fault::{DIVIDE_BY_ZERO, OVERFLOW};
 
 /// A quotient, truncated toward 0.
 #[inline(always)]

@@ -8,9 +8,10 @@ ghost use Rattle.image_acts.specs.Operate.Operators.{in_kind, raised};
 ghost use Rattle.number_operators.specs.Kinds.{IsInteger};
 ghost use Rattle.number_operators.specs.Operators.{as_found};
 
-use crate::arithmetic::{Computed, OVERFLOW, in_kind};
+use crate::arithmetic::{Computed, in_kind};
 use crate::division::quotient;
 use caf_base::value::Kind;
+use caf_events::fault::OVERFLOW;
 
 /// A power. One with a negative exponent is 1 divided by that with the exponent without its sign.
 #[tactic(auto, using(crate::proofs::PowerLaws::raised_faults, crate::proofs::PowerLaws::raised_below, crate::proofs::PowerLaws::raised_above))]

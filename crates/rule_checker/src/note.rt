@@ -8,6 +8,7 @@ ghost use Rattle.rule_checker.specs.Noted.{noted};
 
 use fortran_tree::name::Name;
 use rule_definitions::broken::Broken;
+use rule_definitions::rule;
 use scope_table::broken::note;
 
 /// Notes the first of the rules that were noted apart.
@@ -30,7 +31,7 @@ pub fn judge_end(first: &mut Option<Broken>, name: Option<&Name>, end: &Option<N
     if is_named(name, end) {
         return true;
     }
-    note(first, 41, end.at);
+    note(first, rule::CONSTRUCT_NAME, end.at);
     false
 }
 

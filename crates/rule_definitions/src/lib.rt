@@ -10,4 +10,5 @@
 #![tactic(auto)]
 
 pub mod broken;
+pub mod rule;
 pub mod taken;

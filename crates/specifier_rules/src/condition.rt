@@ -11,6 +11,7 @@ use checked_tree::expr::TypedExpr;
 use part_rules::judged::Judged;
 use part_rules::operand::{team_of, wanted};
 use part_rules::part::Part;
+use rule_definitions::rule;
 use rule_definitions::taken::Taken;
 
 /// A condition, which is a logical scalar (11.1.8.1, 11.1.7.2): rule 39 for another type, rule 37 for an array.
@@ -34,5 +35,5 @@ pub fn team(part: Part) -> Result<Judged<TypedExpr>, NoMemory>
     ensures breaks { IfOk result (λ j. j.breaks.items ≡ (rules.team (placed part)).breaks) }
     ensures meaning { IfOk result (λ j. option_map expression j.meaning ≡ (rules.team (placed part)).meaning) }
 {
-    team_of(51, part)
+    team_of(rule::TEAM, part)
 }

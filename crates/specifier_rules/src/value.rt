@@ -16,6 +16,7 @@ use part_rules::judged::{Judged, add_all};
 use part_rules::operand::integer;
 use part_rules::part::plain;
 use rule_definitions::broken::Broken;
+use rule_definitions::rule;
 use rule_definitions::taken::Taken;
 use std::alloc::Global;
 
@@ -90,15 +91,15 @@ fn take_value(
             take(breaks, &mut values.team, value)
         }
         Some(Keyword::TeamNumber) => {
-            let value = integer(39, value)?;
+            let value = integer(rule::CONDITION, value)?;
             take(breaks, &mut values.team_number, value)
         }
         Some(Keyword::NewIndex) => {
-            let value = integer(39, value)?;
+            let value = integer(rule::CONDITION, value)?;
             take(breaks, &mut values.new_index, value)
         }
         Some(Keyword::UntilCount) => {
-            let value = integer(39, value)?;
+            let value = integer(rule::CONDITION, value)?;
             take(breaks, &mut values.until_count, value)
         }
         None => {

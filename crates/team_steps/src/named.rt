@@ -5,12 +5,10 @@ ghost use Rattle.image_acts.specs.Acts as acts;
 ghost use Rattle.image_acts.specs.Operate.Selecting.{selector_effect};
 ghost use Rattle.image_state.specs.Acting.{Acts};
 
+use caf_events::fault::NO_TEAM;
 use image_state::state::{Acting, ImageState};
 use number_operators::operators::truth;
 use team_tables::named::team_of;
-
-/// The number of the run fault NoTeam.
-const NO_TEAM: u32 = 8;
 
 /// Does the step `ThisTeam`.
 pub fn this_team(image: &mut ImageState) -> Acting
