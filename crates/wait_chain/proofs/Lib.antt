@@ -12,5 +12,6 @@ pub mod Blocked
 pub mod Chaining
 pub mod Tries
 pub mod OneChain
+pub mod OneTold
 pub mod Reporting
 pub mod Behinds

@@ -3,14 +3,14 @@ use Rattle.std.proofs.lemmas.List.{length-append}
 use Rattle.object_rules.specs.Happenings.{numbers_of}
 use Rattle.wait_chain.specs.Links.{last_of, IsOpen, ComesBehind}
 use Rattle.wait_chain.specs.Reports.{as_waits}
-use Rattle.wait_chain.proofs.Reporting.{first_link, open_more, last_link_more, links_few}
-use Rattle.wait_chain.proofs.chain.why.Goals as goal
+use Rattle.wait_chain.proofs.Reporting.{open_more, last_link_more, links_few}
+use Rattle.wait_chain.proofs.chain.why_from.Goals as goal
 
 pub loop-count-init : goal.loop-count-init
 loop-count-init c =
     let one = c.in_ok-links.ensures in
     let size = ap length one in record {
-      open_ = subst (λ z. IsOpen c.args.n c.args.before.now (as_waits c.args.waits.now) (numbers_of z)) (sym one) (first_link c.args.n c.args.before.now c.args.waits.now c.index-waits-0.result c.requires);
+      open_ = subst (λ z. IsOpen c.args.n c.args.before.now (as_waits c.args.waits.now) (numbers_of z)) (sym one) c.requires;
       last = ap (λ z. last_of (numbers_of z)) one;
       size = omega arith;
     }
