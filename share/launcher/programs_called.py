@@ -108,7 +108,8 @@ def _answered(path: str, asked: Asked) -> Answered:
     kept = KeptTrace()
     has_trace = is_on_workers(words)
     cut = Cut(kept, *(it in asked.options() for it in ("--vars", "--trace", "--why"))) if has_trace else None
-    outcome = run(path, _traced(asked, words, ["--trace", "--why"]) if has_trace else words, asked.standard_input(), cut)
+    of_run = _traced(asked, words, ["--trace", "--why"]) if has_trace else words
+    outcome = run(path, of_run, asked.standard_input(), cut)
     if words[0] == "judge":
         return Answered(outcome.status, outcome.lines, TraceFile(asked.trace_file()))
     if not has_trace and any(it.kind in TRACED for it in read_ends(outcome.lines)):
