@@ -63,12 +63,7 @@ fn shown_of(options: Options) -> Shown
 }
 
 // The lines of the chain of waits that the trace of a run of n images tells.
-fn chain_text(
-    alloc: Global,
-    n: u32,
-    trace: &Trace,
-    waits: &[Waiting],
-) -> Result<Vec<u8>, NoMemory>
+fn chain_text(alloc: Global, n: u32, trace: &Trace, waits: &[Waiting]) -> Result<Vec<u8>, NoMemory>
     ensures { IfOk result (λ text. IsChainText n trace.now.entries waits.now text.items) }
 {
     let chain = why(alloc, trace.entries.as_slice(), n, waits)?;

@@ -25,10 +25,13 @@ module _ {W : Type 0} (key : W → ℕ) (test : ℕ → Bool) where
 
   others : (a m : ℕ) (ws : List W) → test a ≡ false → Each (λ w. test (key w) ≡ true) ws → Each (λ w. Within a (suc m) (key w)) ws → Each (λ w. Within (a + 1) m (key w)) ws
   others a m [] f passes each = tt
-  others a m (w ∷ ws) f passes each = (elim (cases_eq (key w) a) [
-    | inl e ↦ absurd (both_ways (test a) f (subst (λ z. test z ≡ true) e passes.0))
-    | inr ne ↦ (let low = each.0.0 in let high = each.0.1 in (omega arith, omega arith))
-  ], others a m ws f passes.1 each.1)
+  others a m (w ∷ ws) f passes each = (
+    elim (cases_eq (key w) a) [
+      | inl e ↦ absurd (both_ways (test a) f (subst (λ z. test z ≡ true) e passes.0))
+      | inr ne ↦ (let low = each.0.0 in let high = each.0.1 in (omega arith, omega arith))
+    ],
+    others a m ws f passes.1 each.1,
+  )
 
   pub rising_is : (a m : ℕ) (ws : List W) → Rises key ws → Each (λ w. test (key w) ≡ true) ws → Each (λ w. Within a m (key w)) ws → ((i : ℕ) → a ≤ i → i < a + m → test i ≡ true → IsKey i ws)
       → map key ws ≡ filter test (range_with_len a m)
