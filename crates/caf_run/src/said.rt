@@ -1,6 +1,6 @@
 //! What is due, as a status and a text.
 
-ghost use Rattle.std.specs.Prelude.{◌≡◌, ◌++◌, List, ℕ, IfOk, OnOk, Some, None, codes};
+ghost use Rattle.std.specs.Prelude.{◌≡◌, ◌++◌, IfOk, Some, None, codes};
 ghost use Rattle.std.specs.Fmt.{decimal};
 ghost use Rattle.caf_report.specs.Ends.{HasEnd, status_of};
 ghost use Rattle.caf_run.specs.RunTexts as spec;

@@ -13,7 +13,7 @@ use Rattle.object_rules.specs.ImagePairs.{names}
 use Rattle.core_runs.specs.Beginnings.{IsOneOf, numbers_to}
 use Rattle.core_runs.specs.CoreRuns.{at_board}
 use Rattle.wait_reason.specs.WaitsFor.{waits_with}
-use Rattle.wait_reason.specs.Chains.{Wait, Close, post, stopped, cycle, IsAmong, AsksThere, IsEventWait, Stopped, IsLeft, IsFirst, IsNext, GoesOn, IsChain}
+use Rattle.wait_reason.specs.Chains.{Wait, Close, post, stopped, cycle, IsAmong, AsksThere, IsEventWait, Stopped, IsLeft, IsNext, GoesOn, IsChain}
 use Rattle.wait_reason.proofs.Waiting.{some_waits}
 use Rattle.wait_chain.specs.declared.links.Behind.{Behind}
 use Rattle.wait_chain.specs.declared.links.Behind.TheVariants as behinds
@@ -258,7 +258,7 @@ module _ (n : ℕ) (t : List Entry) (waits : List Wait) (stuck : IsStuck n t wai
       ]
 
   -- whom the whole trace tells is whom an image waits for with its ask
-  Asked : ℕ → Option ℕ → Type 0
+  abbrev Asked : ℕ → Option ℕ → Type 0
   Asked i o = (a : Ask) × AsksThere waits i a × IsLeast (waits_with n t i a) n o
 
   asked_of : (i : ℕ) (o : Option ℕ) → IsOneOf n i → IsLeft n t waits i → IsNextTold n t waits i o → Asked i o

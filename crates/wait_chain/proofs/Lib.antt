@@ -7,7 +7,6 @@ pub mod LockLeft
 pub mod Births
 pub mod Tellings
 pub mod Awaiting
-pub mod Holding
 pub mod Blocked
 pub mod Chaining
 pub mod Tries

@@ -73,12 +73,19 @@ pub(crate) fn least_lacking(
     None
 }
 
+// Whether the image has neither stopped nor failed.
+fn is_left(alloc: Global, before: &[Entry], image: u32) -> bool
+    ensures { result ≡ is_left before.now image }
+{
+    !has_ended(alloc, image, before)
+}
+
 /// The least of so many images that has neither stopped nor failed.
 pub(crate) fn first_left(alloc: Global, n: u32, before: &[Entry]) -> Option<u32>
     ensures { IsLeast (is_left before.now) n result }
 {
     for number in 0..n {
-        if !has_ended(alloc, number + 1, before) {
+        if is_left(alloc, before, number + 1) {
             return Some(number + 1);
         }
     }
