@@ -1,8 +1,7 @@
 -- Which images have ended in a run in which no event ends it: those that have stopped or failed. One that waits has done neither.
-use Rattle.std.proofs.Common.{◌≡◌, ℕ, pos, Bool, true, false, nat_eq, ◌||◌, List, [], ◌∷◌, ◌++◌, ◌⊎◌, inl, inr, map, refl, ap, sym, ◌∙◌, subst}
+use Rattle.std.proofs.Common.{◌≡◌, ℕ, pos, Bool, true, false, nat_eq, ◌||◌, List, [], ◌∷◌, ◌++◌, ◌⊎◌, inl, inr, refl, ap, sym, ◌∙◌, subst}
 use Rattle.std.specs.List.{list_any}
-use Rattle.std.proofs.lemmas.Bool.{cases_Bool, both_ways, eqb-true, eq-eqb}
-use Rattle.std.proofs.lemmas.Bool.Decides.{eqb_tells}
+use Rattle.std.proofs.lemmas.Bool.{cases_Bool, eqb-true, eq-eqb}
 use Rattle.caf_events.specs.declared.ask.Ask.{Ask}
 use Rattle.caf_events.specs.declared.ask.Ask.TheVariants as asking
 use Rattle.caf_events.specs.declared.reply.Reply.{Reply}
@@ -12,12 +11,12 @@ use Rattle.caf_events.specs.Answers.{Answers}
 use Rattle.caf_events.specs.Events.{EndsBy, EndsRun, EndsImage}
 use Rattle.caf_events.specs.Walkers.{AsksNext}
 use Rattle.trace_theory.specs.Entries.{Each}
-use Rattle.trace_theory.specs.Machines.{Move, goes, asks, over, Said, WalkTo}
+use Rattle.trace_theory.specs.Machines.{Move, goes, asks, over, Said}
 use Rattle.trace_theory.proofs.Machines.{walk_to_more}
 use Rattle.object_rules.specs.Happenings.{control, happened, has_ended, has_stopped, has_failed}
-use Rattle.core_runs.specs.Beginnings.{Beginning, IsImage}
-use Rattle.core_runs.specs.CoreRuns.{IsCoreRun, IsFit, of_image, at_board, said_by}
-use Rattle.core_runs.specs.Lists.{image_of, said}
+use Rattle.core_runs.specs.Beginnings.{Beginning}
+use Rattle.core_runs.specs.CoreRuns.{IsCoreRun, IsFit, at_board, said_by}
+use Rattle.core_runs.specs.Lists.{said}
 use Rattle.core_runs.specs.Moments.{Rules}
 use Rattle.core_runs.specs.Waits.{HasEndedIn, IsWaiting}
 use Rattle.core_runs.proofs.Lawfuls.{answered_by}
@@ -132,17 +131,18 @@ pub record IsLast (i : ℕ) (t : List Entry) (s : Said Ask Reply) : Type 0 where
 last_more : (i : ℕ) (e : Entry) (es : List Entry) (s : Said Ask Reply) → IsLast i es s → IsLast i (e ∷ es) s
 last_more i e es s l = record { entry = l.entry; xs = e ∷ l.xs; ys = l.ys; form = ap (λ zs. e ∷ zs) l.form; same = l.same; image = l.image }
 
+last_here : (i : ℕ) (e : Entry) (es : List Entry) (before : List (Said Ask Reply)) (s : Said Ask Reply) → e.image.0 ≡ i → said e.event ∷ said_by i es ≡ before ++ s ∷ []
+    → ((bs : List (Said Ask Reply)) → said_by i es ≡ bs ++ s ∷ [] → IsLast i es s) → IsLast i (e ∷ es) s
+last_here i e es [] s is h later = record { entry = e; xs = []; ys = es; form = refl; same = cc; image = is }
+last_here i e es (b ∷ before) s is h later = last_more i e es s (later before (cc))
+
 last_of : (i : ℕ) (t : List Entry) (before : List (Said Ask Reply)) (s : Said Ask Reply) → said_by i t ≡ before ++ s ∷ [] → IsLast i t s
 last_of i [] [] s h = absurd (cc)
 last_of i [] (b ∷ before) s h = absurd (cc)
 last_of i (e ∷ es) before s h = elim (cases_Bool (nat_eq e.image.0 i)) [
   | inr f ↦ last_more i e es s (last_of i es before s (rw f at h))
-  | inl y ↦ here before (rw y at h)
+  | inl y ↦ last_here i e es before s (eqb-true e.image.0 i y) (rw y at h) (λ bs k. last_of i es bs s k)
 ]
-  where
-    here : (bs : List (Said Ask Reply)) → said e.event ∷ said_by i es ≡ bs ++ s ∷ [] → IsLast i (e ∷ es) s
-    here [] k = record { entry = e; xs = []; ys = es; form = refl; same = cc; image = eqb-true e.image.0 i y }
-    here (b ∷ bs) k = last_more i e es s (last_of i es bs s (cc))
 
 each_one : (P : Entry → Type 0) (xs : List Entry) (x : Entry) (ys : List Entry) → Each P (xs ++ x ∷ ys) → P x
 each_one P [] x ys h = h.0

@@ -1,40 +1,37 @@
 -- The report of a stuck run shows a stuck trace with its waits.
-use Rattle.std.proofs.Common.{◌≡◌, ℕ, zero, suc, ◌+◌, ◌<◌, ◌≤◌, Bool, true, false, ◌&&◌, not, List, [], ◌∷◌, ◌⊎◌, inl, inr, length, map, refl, ap, sym, ◌∙◌, subst, arith}
-use Rattle.std.specs.Prelude.{Option, None, Some, slice_get, MatchOption}
-use Rattle.std.specs.List.{list_all, filter, range_with_len}
-use Rattle.std.proofs.lemmas.Bool.{both_ways}
+use Rattle.std.proofs.Common.{◌≡◌, ℕ, zero, suc, ◌+◌, ◌<◌, ◌≤◌, Bool, true, false, ◌&&◌, not, List, [], ◌∷◌, inl, inr, length, map, refl, ap, sym, ◌∙◌, subst, arith}
+use Rattle.std.specs.Prelude.{Option, None, Some, slice_get}
+use Rattle.std.specs.List.{list_all}
+use Rattle.std.proofs.lemmas.Bool.{both_ways, not-true}
 use Rattle.std.proofs.lemmas.List.{length-map}
 use Rattle.caf_base.specs.declared.place.Place.{Place}
 use Rattle.caf_base.specs.declared.place.Place.TheVariants as places
 use Rattle.caf_events.specs.declared.ask.Ask.{Ask}
 use Rattle.caf_events.specs.declared.ask.Ask.TheVariants as asking
-use Rattle.caf_events.specs.declared.reply.Reply.{Reply}
 use Rattle.caf_events.specs.declared.event.Entry.{Entry}
 use Rattle.caf_events.specs.declared.event.Trace.{Trace}
 use Rattle.caf_events.specs.Asks.{place_of}
-use Rattle.caf_events.specs.Events.{EndsRun}
-use Rattle.caf_report.specs.declared.report.End.{End}
 use Rattle.caf_report.specs.declared.report.End.TheVariants as ends
 use Rattle.caf_report.specs.declared.report.Report.{Report}
 use Rattle.caf_report.specs.declared.report.Waiting.{Waiting}
-use Rattle.caf_report.specs.Ends.{EndsAt, IsFirstEnding, HasNoEnding, ending_by, ending_of, ending_at, end_of_waits}
-use Rattle.trace_theory.specs.Entries.{Each, Rises}
+use Rattle.caf_report.specs.Ends.{EndsAt, HasNoEnding, ending_by, ending_of, end_of_waits}
+use Rattle.trace_theory.specs.Entries.{Each}
 use Rattle.checked_tree.specs.Statements.{Program}
 use Rattle.object_rules.specs.Cells.{Declared}
 use Rattle.object_rules.specs.Happenings.{control, happened, has_ended}
-use Rattle.object_rules.specs.MemoryRules.{has_first_values, memory_ready}
+use Rattle.object_rules.specs.MemoryRules.{has_first_values}
 use Rattle.object_rules.specs.BoardRules.{is_image}
-use Rattle.core_runs.specs.Beginnings.{Beginning, IsOneOf, IsImage, numbers_to}
-use Rattle.core_runs.specs.CoreRuns.{IsCoreRun, IsFit, at_board, of_memory}
+use Rattle.core_runs.specs.Beginnings.{Beginning}
+use Rattle.core_runs.specs.CoreRuns.{IsCoreRun, at_board}
 use Rattle.core_runs.specs.Moments.{Rules}
-use Rattle.core_runs.specs.Waits.{HasEndedIn, IsUnready, IsWaiting}
+use Rattle.core_runs.specs.Waits.{IsUnready, IsWaiting}
 use Rattle.core_runs.proofs.Lawfuls.{core_run_lawful}
 use Rattle.order_report.specs.Reports.{WaitsAs, AreWaiting, IsRunEnd, IsReportEnd}
 use Rattle.order_report.proofs.Runs.{no_ending}
 use Rattle.program_run.specs.Reports.{IsProgramReport}
 use Rattle.program_walks.specs.Runs.{program_rules, program_begins}
 use Rattle.program_walks.proofs.Fits.{program_fit}
-use Rattle.wait_reason.specs.WaitsFor.{ready_at, is_ready_after, is_fit_after}
+use Rattle.wait_reason.specs.WaitsFor.{ready_at}
 use Rattle.wait_reason.specs.Chains.{Wait}
 use Rattle.wait_chain.specs.Reports.{as_wait, as_waits}
 use Rattle.wait_chain.specs.Stuck.{IsHeld, IsStuck, left_after}
@@ -94,7 +91,7 @@ and_no true y h = h refl
 and_no false y h = refl
 
 module _ (p : Program) (limit : ℕ) (coarrays : List Declared) (n : ℕ) (fails_at : ℕ → ℕ) (words : ℕ) (t : Trace) where
-  is_test : ℕ → Bool
+  abbrev is_test : ℕ → Bool
   is_test i = not (has_ended i (happened control (at_board t.entries)))
 
   -- an ask at which an image waits isn't ready
@@ -104,7 +101,7 @@ module _ (p : Program) (limit : ℕ) (coarrays : List Declared) (n : ℕ) (fails
   unready i a places.Own h = absurd h
 
   module _ (core : IsCoreRun (program_rules p limit) (program_begins p coarrays n fails_at words) t.entries) (waits : List Waiting) (w : AreWaiting (program_rules p limit) (program_begins p coarrays n fails_at words) t waits) (open_ : HasNoEnding t) where
-    Waits : Waiting → Type 0
+    abbrev Waits : Waiting → Type 0
     Waits x = IsWaiting (program_rules p limit) (program_begins p coarrays n fails_at words) t.entries x.image.0 x.line x.ask
 
     waits_left : (x : Waiting) → Waits x → is_test x.image.0 ≡ true
@@ -115,14 +112,10 @@ module _ (p : Program) (limit : ℕ) (coarrays : List Declared) (n : ℕ) (fails
 
     left_waits : (i : ℕ) → 1 ≤ i → i < 1 + n → is_test i ≡ true → IsKey (λ (x : Waiting). x.image.0) is_test i waits
     left_waits i low high left = elim (w.all i (omega arith, omega arith)) [
-      | inl ended ↦ absurd (both_ways (has_ended i (happened control (at_board t.entries))) (not_false left) (has_ended_of i t.entries (no_ending t open_) ended))
+      | inl ended ↦ absurd (both_ways (has_ended i (happened control (at_board t.entries))) (not-true (has_ended i (happened control (at_board t.entries))) left) (has_ended_of i t.entries (no_ending t open_) ended))
       | inr there ↦ key_of i waits there
     ]
       where
-        not_false : {b : Bool} → not b ≡ true → b ≡ false
-        not_false {true} h = absurd (cc)
-        not_false {false} h = refl
-
         key_of : (k : ℕ) (ws : List Waiting) → WaitsAs k ws → IsKey (λ (x : Waiting). x.image.0) is_test k ws
         key_of k [] h = h
         key_of k (x ∷ ws) (inl e) = inl e
