@@ -1,4 +1,5 @@
--- Each act but an arrival, a departure, an inquiry of a team's images and what CHANGE TEAM, END TEAM and FORM TEAM do themselves names no team, and leaves the teams of a core as they are.
+-- Each act but an arrival, a departure, an inquiry of a team's images, SYNC IMAGES, what allocates or deallocates a coarray, and what CHANGE TEAM, END TEAM and FORM TEAM do
+-- themselves names no team, and leaves the teams and the coarrays of a core as they are.
 use Rattle.std.proofs.Common.{◌≡◌, ℕ, zero, suc, Bool, true, false, cond, List, [], ◌∷◌, refl}
 use Rattle.std.specs.Prelude.{ℤ, pos, ◌+◌, ◌-◌, ◌&&◌, ◌||◌, ◌==◌, not, int_le, min, nat_le, length, take, drop, slice_get, is_some, Option, None, Some}
 use Rattle.std.specs.List.{list_all}
@@ -23,7 +24,7 @@ use Rattle.image_acts.specs.Acts.{stack, team, ask}
 use Rattle.image_acts.specs.Core.{Core, Array, Local, Own, Team, Frame, Item, Portion, Printing, with_values, pushed, with_array}
 use Rattle.image_acts.specs.Places.{Place, place_in, place_size, extents_of, digits, numbers_of_form, triplets, subscripts_in, place_within, no_place, place_numbers, cells_of}
 use Rattle.image_acts.specs.Frames.{pairs_in, array_in, with_array_in, with_cell, with_frame, with_last}
-use Rattle.image_acts.specs.Owning.{own_in, with_own}
+use Rattle.image_acts.specs.Owning.{own_in}
 use Rattle.image_acts.specs.Teams.{behind_first, members, index_of, is_established, member_at, cosubscripts_behind, index_in}
 use Rattle.image_acts.specs.Taking.{Acted, giving, put_down, given, found_in, unless, taken, taking_one, taking_two, taking, seeing, taking_array, seeing_array, using}
 use Rattle.image_acts.specs.Operate.Stack.{stack_effect}
@@ -37,21 +38,25 @@ use Rattle.image_acts.specs.Operate.Calling.{call_effect}
 use Rattle.image_acts.specs.Operate.Printing.{print_effect, printed, renewed, with_values_behind, with_literal_behind, open_portions, text_of}
 use Rattle.image_acts.specs.Operate.Asking.{ask_effect}
 use Rattle.caf_events.specs.declared.reply.FormedTeam.{FormedTeam}
-use Rattle.told_walks.specs.Asked.{Told, Names}
+use Rattle.told_walks.specs.Asked.{Told, Names, sizes_by}
 
--- the teams of a core, that it knows and that aren't noted
+-- the teams of a core, that it knows and that aren't noted, and its own coarrays
 abbrev pub Known : Type 0
-Known = ℕ × (List ℕ × (List Team × List FormedTeam))
+Known = ℕ × (List ℕ × (List Team × (List FormedTeam × (List (Option Own) × ℕ))))
 
 abbrev pub known_of : Core → Known
-known_of c = (c.me, (c.teams, (c.known, c.formed)))
+known_of c = (c.me, (c.teams, (c.known, (c.formed, (c.coarrays, c.coarray_cells)))))
 
--- what it comes to names no team, and leaves these teams
+-- an ask that names what is there whatever the image was told, and neither allocates nor deallocates
+abbrev pub IsCalm : Ask → Type 0
+IsCalm a = ((k : Told) → Names k a) × ((sizes : List (Option ℕ)) → sizes_by sizes a ≡ sizes)
+
+-- what it comes to asks so, and leaves these teams and coarrays
 abbrev pub Calm : Known → Acted → Type 0
 Calm n (goes_to d) = known_of d ≡ n
 Calm n (faults k) = Unit {0}
-Calm n (asking a f) = ((k : Told) → Names k a) × ((r : Reply) → known_of (f r) ≡ n)
-Calm n (ends_with a) = (k : Told) → Names k a
+Calm n (asking a f) = IsCalm a × ((r : Reply) → known_of (f r) ≡ n)
+Calm n (ends_with a) = IsCalm a
 Calm n stuck = Unit {0}
 
 pub record Fine (n : Known) (e : Acted) : Type 0 where
@@ -217,10 +222,6 @@ abbrev freed : a.Scope → ℕ → Option Local → Core → Acted
 freed s x None c = stuck
 freed s x (Some l) c = goes_to (record (with_array_in s x None c) { local_cells = c.local_cells - length l.elements })
 
-abbrev own_freed : ℕ → Option Own → Core → Acted
-own_freed k None c = stuck
-own_freed k (Some o) c = goes_to (with_own k None (c.coarray_cells - size_of o.bounds) c)
-
 abbrev selected : Core → ℕ → Own → Place → ℕ → Acted
 selected c t o p i =
     unless cobounds_fault (not (i == 0) || (cells_of p == 0)) (unless not_established (is_established c o.team t) (unless cells_fault (nat_le (cells_of p) most_access_cells) (giving (pos (member_at (members c t) i)) c)))
@@ -243,10 +244,6 @@ plans well m n vs c = no_operand (known_of c)
 frees : (s : a.Scope) (x : ℕ) (o : Option Local) (c : Core) → Fine (known_of c) (freed s x o c)
 frees s x None c = no_operand (known_of c)
 frees s x (Some l) c = search fine
-
-frees_own : (k : ℕ) (o : Option Own) (c : Core) → Fine (known_of c) (own_freed k o c)
-frees_own k None c = no_operand (known_of c)
-frees_own k (Some o) c = goes _ _ refl
 
 owner_found : (c : Core) (t : ℕ) (o : Option Own) (ss : List ℤ) (p : Place) → Fine (known_of c) (owner_in c t o ss p)
 owner_found c t None ss p = fault (known_of c) not_established
@@ -358,22 +355,28 @@ fine_bounded a.every_index c = search fine
 fine_bounded a.are_indices c = search fine
 fine_bounded a.is_index c = search fine
 
-pub fine_allocation : (x : a.AllocationAct) (c : Core) → Fine (known_of c) (allocation_effect x c)
-fine_allocation a.begin_plan c = search fine
-fine_allocation (a.plan_coarray k depth rank corank) c =
+-- an act that notes no coarray
+abbrev pub IsFreeAllocation : a.AllocationAct → Type 0
+IsFreeAllocation (a.note_made k depth rank corank) = ⊥
+IsFreeAllocation (a.note_freed k) = ⊥
+IsFreeAllocation x = Unit {0}
+
+pub fine_allocation : (x : a.AllocationAct) (c : Core) → IsFreeAllocation x → Fine (known_of c) (allocation_effect x c)
+fine_allocation a.begin_plan c free = search fine
+fine_allocation (a.plan_coarray k depth rank corank) c free =
     seen (known_of c) (depth + 3) (bounds_size rank + cobounds_size corank) c (λ vs. taking 3 c (λ plan d. planned (not (is_some (own_in d k)) && (are_of_kind_4 vs && are_cobounds (drop (bounds_size rank) vs))) (size_of (pairs_in (take (bounds_size rank) vs))) 0 plan d))
     (λ vs. some_of (known_of c) 3 c (λ plan d. planned (not (is_some (own_in d k)) && (are_of_kind_4 vs && are_cobounds (drop (bounds_size rank) vs))) (size_of (pairs_in (take (bounds_size rank) vs))) 0 plan d)
     (λ plan ws. plans (not (is_some (own_in c k)) && (are_of_kind_4 vs && are_cobounds (drop (bounds_size rank) vs))) (size_of (pairs_in (take (bounds_size rank) vs))) 0 plan (with_values c ws)))
-fine_allocation (a.plan_local s x depth rank) c =
+fine_allocation (a.plan_local s x depth rank) c free =
     seen (known_of c) (depth + 3) (bounds_size rank) c (λ vs. taking 3 c (λ plan d. planned (not (is_some (array_in s x d)) && are_of_kind_4 vs) 0 (size_of (pairs_in vs)) plan d))
     (λ vs. some_of (known_of c) 3 c (λ plan d. planned (not (is_some (array_in s x d)) && are_of_kind_4 vs) 0 (size_of (pairs_in vs)) plan d)
     (λ plan ws. plans (not (is_some (array_in s x (with_values c ws))) && are_of_kind_4 vs) 0 (size_of (pairs_in vs)) plan (with_values c ws)))
-fine_allocation (a.note_made k depth rank corank) c = search fine depth 7
-fine_allocation a.end_plan c = search fine
-fine_allocation (a.make s x depth rank) c = search fine depth 7
-fine_allocation (a.free s x) c = frees s x (array_in s x c) c
-fine_allocation (a.note_freed k) c = frees_own k (own_in c k) c
-fine_allocation (a.lay_out x rank) c = search fine depth 7
+fine_allocation (a.note_made k depth rank corank) c free = absurd free
+fine_allocation a.end_plan c free = search fine
+fine_allocation (a.make s x depth rank) c free = search fine depth 7
+fine_allocation (a.free s x) c free = frees s x (array_in s x c) c
+fine_allocation (a.note_freed k) c free = absurd free
+fine_allocation (a.lay_out x rank) c free = search fine depth 7
 
 pub fine_selector : (x : a.SelectorAct) (c : Core) → Fine (known_of c) (selector_effect x c)
 fine_selector (a.own_image rank) c = search fine
@@ -422,13 +425,13 @@ fine_print (a.print_array k) c = search (fine, printed_fine)
 fine_print (a.print_literal number text) c = renewed_fine (known_of c) (with_literal_behind number text) c refl
 
 -- ---- asks
-said : (n : Known) (a : Ask) (f : Reply → Core) → ((k : Told) → Names k a) → ((r : Reply) → known_of (f r) ≡ n) → Fine n (asking a f)
+said : (n : Known) (a : Ask) (f : Reply → Core) → IsCalm a → ((r : Reply) → known_of (f r) ≡ n) → Fine n (asking a f)
 said n a f m k = record { calm = (m, k) }
 
-last : (n : Known) (a : Ask) → ((k : Told) → Names k a) → Fine n (ends_with a)
+last : (n : Known) (a : Ask) → IsCalm a → Fine n (ends_with a)
 last n a m = record { calm = m }
 
--- an ask that names no team by a number of the stack
+-- an ask that names neither a team by a number of the stack nor images by indices of it, and neither allocates nor deallocates
 abbrev pub IsFreeAsk : a.AskAct → Type 0
 IsFreeAsk a.arrive_sync = ⊥
 IsFreeAsk a.arrive_form = ⊥
@@ -439,6 +442,9 @@ IsFreeAsk (a.arrive_deallocate n) = ⊥
 IsFreeAsk a.failed = ⊥
 IsFreeAsk a.stopped = ⊥
 IsFreeAsk a.status = ⊥
+IsFreeAsk a.pair = ⊥
+IsFreeAsk (a.create k depth rank) = ⊥
+IsFreeAsk (a.delete k) = ⊥
 IsFreeAsk x = Unit {0}
 
 abbrev saying : List Printing → Core → Acted
@@ -446,52 +452,46 @@ saying [] c = stuck
 saying (p ∷ ps) c = found_in (text_of p) (λ text. asking (asks.Print text) (λ r. record c { printing = ps }))
 
 reads : (n : Known) (o : ImageNo) (s : Span) (f : Reply → Core) → ((r : Reply) → known_of (f r) ≡ n) → Fine n (asking (asks.Read o s) f)
-reads n o s f k = said n (asks.Read o s) f (λ z. tt) k
+reads n o s f k = said n (asks.Read o s) f (λ z. tt, λ z. refl) k
 
 writes : (n : Known) (o : ImageNo) (s : Span) (vs : List Value) (f : Reply → Core) → ((r : Reply) → known_of (f r) ≡ n) → Fine n (asking (asks.Write o s vs) f)
-writes n o s vs f k = said n (asks.Write o s vs) f (λ z. tt) k
+writes n o s vs f k = said n (asks.Write o s vs) f (λ z. tt, λ z. refl) k
 
 atomics : (n : Known) (o : ImageNo) (op : AtomicOp) (s : Span) (x y : Value) (f : Reply → Core) → ((r : Reply) → known_of (f r) ≡ n) → Fine n (asking (asks.Atomic o op s x y) f)
-atomics n o op s x y f k = said n (asks.Atomic o op s x y) f (λ z. tt) k
+atomics n o op s x y f k = said n (asks.Atomic o op s x y) f (λ z. tt, λ z. refl) k
 
 locks : (n : Known) (o : ImageNo) (s : Span) (f : Reply → Core) → ((r : Reply) → known_of (f r) ≡ n) → Fine n (asking (asks.Lock o s) f)
-locks n o s f k = said n (asks.Lock o s) f (λ z. tt) k
+locks n o s f k = said n (asks.Lock o s) f (λ z. tt, λ z. refl) k
 
 try_locks : (n : Known) (o : ImageNo) (s : Span) (f : Reply → Core) → ((r : Reply) → known_of (f r) ≡ n) → Fine n (asking (asks.TryLock o s) f)
-try_locks n o s f k = said n (asks.TryLock o s) f (λ z. tt) k
+try_locks n o s f k = said n (asks.TryLock o s) f (λ z. tt, λ z. refl) k
 
 unlocks : (n : Known) (o : ImageNo) (s : Span) (f : Reply → Core) → ((r : Reply) → known_of (f r) ≡ n) → Fine n (asking (asks.Unlock o s) f)
-unlocks n o s f k = said n (asks.Unlock o s) f (λ z. tt) k
+unlocks n o s f k = said n (asks.Unlock o s) f (λ z. tt, λ z. refl) k
 
 posts : (n : Known) (o : ImageNo) (s : Span) (f : Reply → Core) → ((r : Reply) → known_of (f r) ≡ n) → Fine n (asking (asks.Post o s) f)
-posts n o s f k = said n (asks.Post o s) f (λ z. tt) k
+posts n o s f k = said n (asks.Post o s) f (λ z. tt, λ z. refl) k
 
 waits : (n : Known) (o : ImageNo) (s : Span) (m : ℕ) (f : Reply → Core) → ((r : Reply) → known_of (f r) ≡ n) → Fine n (asking (asks.Wait o s m) f)
-waits n o s m f k = said n (asks.Wait o s m) f (λ z. tt) k
+waits n o s m f k = said n (asks.Wait o s m) f (λ z. tt, λ z. refl) k
 
 queries : (n : Known) (o : ImageNo) (s : Span) (f : Reply → Core) → ((r : Reply) → known_of (f r) ≡ n) → Fine n (asking (asks.Query o s) f)
-queries n o s f k = said n (asks.Query o s) f (λ z. tt) k
+queries n o s f k = said n (asks.Query o s) f (λ z. tt, λ z. refl) k
 
 takes_back : (n : Known) (t : TeamNo) (m : ℕ) (f : Reply → Core) → ((r : Reply) → known_of (f r) ≡ n) → Fine n (asking (asks.Take t m) f)
-takes_back n t m f k = said n (asks.Take t m) f (λ z. tt) k
-
-pairs : (n : Known) (is : List ImageNo) (f : Reply → Core) → ((r : Reply) → known_of (f r) ≡ n) → Fine n (asking (asks.Pair is) f)
-pairs n is f k = said n (asks.Pair is) f (λ z. tt) k
-
-creates : (n : Known) (o : ImageNo) (coarray m : ℕ) (f : Reply → Core) → ((r : Reply) → known_of (f r) ≡ n) → Fine n (asking (asks.Create o coarray m) f)
-creates n o coarray m f k = said n (asks.Create o coarray m) f (λ z. tt) k
+takes_back n t m f k = said n (asks.Take t m) f (λ z. tt, λ z. refl) k
 
 stops : (n : Known) (z : ℤ) → Fine n (ends_with (asks.Stop z))
-stops n z = last n (asks.Stop z) (λ z. tt)
+stops n z = last n (asks.Stop z) (λ z. tt, λ z. refl)
 
 error_stops : (n : Known) (z : ℤ) → Fine n (ends_with (asks.ErrorStop z))
-error_stops n z = last n (asks.ErrorStop z) (λ z. tt)
+error_stops n z = last n (asks.ErrorStop z) (λ z. tt, λ z. refl)
 
 says : (ps : List Printing) (c : Core) → Fine (known_of c) (saying ps c)
 says [] c = no_operand (known_of c)
-says (p ∷ ps) c = find (known_of c) (text_of p) (λ text. asking (asks.Print text) (λ r. record c { printing = ps })) (λ text. said _ (asks.Print text) (λ r. record c { printing = ps }) (λ z. tt) (λ r. refl))
+says (p ∷ ps) c = find (known_of c) (text_of p) (λ text. asking (asks.Print text) (λ r. record c { printing = ps })) (λ text. said _ (asks.Print text) (λ r. record c { printing = ps }) (λ z. tt, λ z. refl) (λ r. refl))
 
-ruleset fine_asks = (fine, reads, writes, atomics, locks, try_locks, unlocks, posts, waits, queries, takes_back, pairs, creates, stops, error_stops)
+ruleset fine_asks = (fine, reads, writes, atomics, locks, try_locks, unlocks, posts, waits, queries, takes_back, stops, error_stops)
 
 -- and that isn't a departure from a round or an arrival at a collective either
 abbrev pub IsPlainAsk : a.AskAct → Type 0
@@ -503,8 +503,6 @@ pub fine_ask : (x : a.AskAct) (c : Core) → IsPlainAsk x → Fine (known_of c) 
 fine_ask (a.read k rank) c h = search fine_asks
 fine_ask (a.write k rank kind) c h = search fine_asks
 fine_ask (a.write_array k rank kind) c h = search fine_asks
-fine_ask (a.create k depth rank) c h = search fine_asks
-fine_ask (a.delete k) c h = said _ _ _ (λ z. tt) (λ r. refl)
 fine_ask (a.atomic op k kind) c h = search fine_asks
 fine_ask (a.lock k) c h = search fine_asks
 fine_ask (a.try_lock k) c h = search fine_asks
@@ -512,15 +510,14 @@ fine_ask (a.unlock k) c h = search fine_asks
 fine_ask (a.post k) c h = search fine_asks
 fine_ask (a.wait k) c h = search fine_asks
 fine_ask (a.query k) c h = search fine_asks
-fine_ask (a.enter_critical n) c h = said _ _ _ (λ z. tt) (λ r. refl)
-fine_ask (a.exit_critical n) c h = said _ _ _ (λ z. tt) (λ r. refl)
+fine_ask (a.enter_critical n) c h = said _ _ _ (λ z. tt, λ z. refl) (λ r. refl)
+fine_ask (a.exit_critical n) c h = said _ _ _ (λ z. tt, λ z. refl) (λ r. refl)
 fine_ask a.take c h = search fine_asks
-fine_ask a.pair c h = search fine_asks
-fine_ask a.unpair c h = said _ _ _ (λ z. tt) (λ r. refl)
+fine_ask a.unpair c h = said _ _ _ (λ z. tt, λ z. refl) (λ r. refl)
 fine_ask a.say c h = says c.printing c
-fine_ask a.memory c h = said _ _ _ (λ z. tt) (λ r. refl)
-fine_ask a.fail c h = last _ asks.Fail (λ z. tt)
+fine_ask a.memory c h = said _ _ _ (λ z. tt, λ z. refl) (λ r. refl)
+fine_ask a.fail c h = last _ asks.Fail (λ z. tt, λ z. refl)
 fine_ask a.stop c h = search fine_asks
 fine_ask a.error_stop c h = search fine_asks
-fine_ask a.end_program c h = last _ (asks.Stop (pos 0)) (λ z. tt)
+fine_ask a.end_program c h = last _ (asks.Stop (pos 0)) (λ z. tt, λ z. refl)
 fine_ask x c h = absurd h

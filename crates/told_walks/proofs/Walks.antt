@@ -1,21 +1,20 @@
 -- The walk of a program whose blocks name no team but one that was told names no other.
-use Rattle.std.proofs.Common.{◌≡◌, ℕ, zero, suc, ◌+◌, nat_lt, nat_eq, List, [], ◌∷◌, ◌++◌, Bool, true, false, cond, ◌||◌, ◌⊎◌, inl, inr, length, refl, sym, subst}
-use Rattle.std.specs.Prelude.{Option, None, Some}
+use Rattle.std.proofs.Common.{ℕ, zero, suc, ◌+◌, nat_lt, List, [], ◌∷◌, Bool, true, false, cond, subst}
 use Rattle.trace_theory.specs.Entries.{Each}
 use Rattle.trace_theory.specs.Machines.{Move, goes, asks, over, Said, go, goes_on, Walk}
 use Rattle.trace_theory.specs.Simulations.{AllAnswer}
 use Rattle.caf_events.specs.declared.ask.Ask.{Ask}
 use Rattle.caf_events.specs.declared.reply.Reply.{Reply}
 use Rattle.caf_events.specs.Answers.{Answers}
-use Rattle.walk_theory.specs.Language.{Effect, goes_to, faults, asking, ends_with, stuck, Tested, no_value, holds, fails, acted, counted, by_test}
+use Rattle.walk_theory.specs.Language.{goes_to, faults, asking, ends_with, stuck, Tested, no_value, holds, fails, acted, counted, by_test}
 use Rattle.walk_theory.specs.Syntax.{Parts, end_parts, value, act, enter, either, Form, simple, choose, loop, around, exit, cycle, return, otherwise, branch, Steps, stop, also}
 use Rattle.walk_theory.specs.Walks.{Loop, Task, run, eval, tally, decide, pick, again, iterate, back, after_loop, from_loop, from_back, backs, Config, to, form_tasks, start, step, step_task}
 use Rattle.image_acts.specs.Acts.{Act, ask, end_program}
 use Rattle.image_acts.specs.Core.{Core}
 use Rattle.image_acts.specs.Taking.{Acted, tested}
 use Rattle.image_acts.specs.Meaning.{effect_of, frames, image_language}
-use Rattle.told_walks.specs.Asked.{Told, IsKnown, IsShort, Names, EffectNames, TestNames, PartsName, NamesTold, FormNames, BranchesName, StepsName, AllName, WalksTold, at_first, and_by}
-use Rattle.told_walks.proofs.Parts.{Within, names_then, known_test}
+use Rattle.told_walks.specs.Asked.{Told, IsKnown, IsShort, Names, EffectNames, TestNames, PartsName, NamesTold, FormNames, BranchesName, StepsName, AllName, WalksTold, told_next}
+use Rattle.told_walks.proofs.Parts.{names_then, known_test}
 
 -- ---- what is left to do
 abbrev LoopNames : Loop Act → Type 0
@@ -110,7 +109,7 @@ Good k c = TasksName c.tasks k c.core × AreLeft c.tasks
 
 abbrev Follows : Told → Move (Config Act Core) Ask Reply → Type 0
 Follows k (goes c) = Good k c
-Follows k (asks a l f) = Names k a × ((r : Reply) → Answers a r → IsShort r → Good (and_by k r) (f r))
+Follows k (asks a l f) = Names k a × ((r : Reply) → Answers a r → IsShort r → Good (told_next k a r) (f r))
 Follows k over = Unit {0}
 
 counted_follows : (limit l n : ℕ) (k : Told) (onward : Config Act Core) (c : Core) → Good k onward → Follows k (counted image_language limit l n onward (to [] c n))
@@ -185,12 +184,12 @@ module _ (procedures : ℕ → Steps Act) (limit : ℕ) (bodies : (n : ℕ) → 
   walks_name [] k c e g answers short w = tt
   walks_name (x ∷ es) k c e g (a, answers) (b, short) (f, (n, h), w) =
       let s = subst (Follows k) h (come n k c g) in
-      (s.0, walks_name es (and_by k x.reply) (f x.reply) e (s.1 x.reply a b) answers short w)
+      (s.0, walks_name es (told_next k x.ask x.reply) (f x.reply) e (s.1 x.reply a b) answers short w)
 
   clear_walks : (c : Config Act Core) (k : Told) → IsKnown k c.core → Clear c.tasks → (es : List (Said Ask Reply)) (e : Config Act Core) → AllAnswer Answers es
       → Each (λ (x : Said Ask Reply). IsShort x.reply) es → Walk Ls c es e → AllName k es
   clear_walks c k i h es e answers short w = walks_name es k c e (h.0 k c.core i, h.1) answers short w
 
   -- from the start of a program on
-  pub start_walks : (me line : ℕ) (first : Core) → IsKnown (at_first me) first → WalksTold me Ls (start (ask end_program) line first)
-  start_walks me line first i es e answers short w = clear_walks (start (ask end_program) line first) (at_first me) i (λ j d h. (h, λ k b g. tt), tt) es e answers short w
+  pub start_walks : (line : ℕ) (first : Core) (k : Told) → IsKnown k first → WalksTold k Ls (start (ask end_program) line first)
+  start_walks line first k i es e answers short w = clear_walks (start (ask end_program) line first) k i (λ j d h. (h, λ l b g. tt), tt) es e answers short w

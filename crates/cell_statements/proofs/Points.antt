@@ -1,0 +1,197 @@
+-- What the place and the owner of one cell come to: the cell is within its coarray, and the owner is an image of the run.
+use Rattle.std.proofs.Common.{◌≡◌, ◌∙◌, ℕ, zero, suc, ◌+◌, ◌≤◌, ◌<◌, Bool, true, false, cond, List, [], ◌∷◌, ◌++◌, length, refl, ap, ap₂, sym, subst, arith}
+use Rattle.std.specs.Prelude.{map, ℤ, pos, ◌==◌, ◌||◌, not, min, drop, nat_eq, nat_lt, nat_le, slice_get, slice_index_or, Option, None, Some}
+use Rattle.std.proofs.lemmas.Bool.{leb-true, lt-ltb, and_from}
+use Rattle.trace_theory.specs.Entries.{Each}
+use Rattle.coarray_types.specs.Places.{size_of}
+use Rattle.coarray_types.specs.Coplaces.{image_order}
+use Rattle.caf_base.specs.Arithmetic.{natural}
+use Rattle.walk_theory.specs.Language as language
+use Rattle.walk_theory.specs.Terms.{Found, found, at_fault}
+use Rattle.object_rules.specs.Cells.{Content, Declared}
+use Rattle.object_rules.specs.MemoryRules.{holds, is_cell_of}
+use Rattle.core_runs.specs.Beginnings.{IsOneOf}
+use Rattle.core_runs.specs.Lawful.{made_memory}
+use Rattle.image_acts.specs.Statuses.{most_cells, most_access_cells}
+use Rattle.image_acts.specs.Faults.{cobounds_fault, not_established, cells_fault}
+use Rattle.image_acts.specs.Words.{word}
+use Rattle.image_acts.specs.Acts as a
+use Rattle.image_acts.specs.Acts.{Act, stack, bounded, selector}
+use Rattle.image_acts.specs.Core.{Core, Own, Team, with_values}
+use Rattle.image_acts.specs.Owning.{own_in}
+use Rattle.image_acts.specs.Frames.{joined}
+use Rattle.image_acts.specs.Places.{Place, place_in, place_size, cells_of, digits, numbers_of_form, triplets, subscripts_in, place_within, no_place, place_numbers, dims_numbers}
+use Rattle.image_acts.specs.Teams.{team_in, members_of, members, index_of, is_established, member_at, are_within_cobounds}
+use Rattle.image_acts.specs.Taking.{Acted, giving, given, found_in, unless, taken, put_down, seeing}
+use Rattle.image_acts.specs.Operate.Asking.{cell_span}
+use Rattle.image_acts.specs.Meaning.{settled, effect_of}
+use Rattle.stack_laws.proofs.Standing.{taken_of}
+use Rattle.told_walks.specs.Asked.{own_cells}
+use Rattle.stack_laws.proofs.Places.{element_inside}
+use Rattle.cell_walks.specs.Fitting.{Sizes, IsSmall, IsSound, EffectFits}
+
+-- the cell with this offset is one that a coarray can have, and is there where coarray k is allocated here
+abbrev pub IsPoint : Core → ℕ → ℕ → Type 0
+IsPoint c k s = (s < most_cells) × ((o : Own) → own_in c k ≡ Some o → s < size_of o.bounds)
+
+-- ---- the asks
+capped : (k : ℕ) → min k 4294967295 ≤ k
+capped k = omega arith
+
+word_below : (s m : ℕ) → s < m → word (pos s) < m
+word_below s m h = (let l = capped s in omega arith)
+
+pub word_image : (n j : ℕ) → IsOneOf n j → IsOneOf n (word (pos j))
+word_image n j h = (let a' = h.0 in let b = h.1 in (omega arith, omega arith))
+
+pub cell_fits : (coarrays : List Declared) (i : ℕ) (test : Content → Bool) (k s : ℕ) → s < most_cells → holds test (slice_get coarrays k) ≡ true → is_cell_of (made_memory coarrays i) test (cell_span k (pos s)) ≡ true
+cell_fits coarrays i test k s h t = and_from (nat_lt (word (pos s)) 65536) (holds test (slice_get coarrays k)) (lt-ltb (word (pos s)) 65536 (word_below s most_cells h)) t
+
+pub start_within : (s m : ℕ) → s < m → word (pos s) < m
+start_within s m h = word_below s m h
+
+-- ---- coarrays that are allocated here
+small_in : (os : List (Option Own)) (k : ℕ) (o : Own) → Each IsSmall os → joined (slice_get os k) ≡ Some o → size_of o.bounds ≤ most_cells
+small_in [] k o h e = absurd (cc)
+small_in (None ∷ os) zero o h e = absurd (cc)
+small_in (Some p ∷ os) zero o h e = (let q : p ≡ o = cc in subst (λ (z : Own). size_of z.bounds ≤ most_cells) q h.0)
+small_in (p ∷ os) (suc k) o h e = small_in os k o h.1 e
+
+size_in : (os : List (Option Own)) (k : ℕ) (o : Own) → joined (slice_get os k) ≡ Some o → joined (slice_get (map own_cells os) k) ≡ Some (size_of o.bounds)
+size_in [] k o e = absurd (cc)
+size_in (x ∷ os) zero o e = ap own_cells e
+size_in (x ∷ os) (suc k) o e = size_in os k o e
+
+-- what the image was told of it is its size
+pub told_size : (n me : ℕ) (z : Sizes) (c : Core) (k : ℕ) (o : Own) → IsSound n me z c → own_in c k ≡ Some o → joined (slice_get z k) ≡ Some (size_of o.bounds)
+told_size n me z c k o i e = subst (λ y. joined (slice_get y k) ≡ Some (size_of o.bounds)) i.sizes (size_in c.coarrays k o e)
+
+-- ---- members
+team_images : (n t : ℕ) (ks : List Team) → Each (λ (x : Team). Each (IsOneOf n) x.members) ks → Each (IsOneOf n) (members_of (team_in t ks))
+team_images n t [] h = tt
+team_images n t (k ∷ ks) h = by_number (nat_eq k.team t) (team_images n t ks h.1)
+  where
+    by_number : (b : Bool) → Each (IsOneOf n) (members_of (team_in t ks)) → Each (IsOneOf n) (members_of (cond b (Some k) (team_in t ks)))
+    by_number true g = h.0
+    by_number false g = g
+
+nth_image : (n : ℕ) (ms : List ℕ) (i : ℕ) → Each (IsOneOf n) ms → i < length ms → IsOneOf n (slice_index_or ms i 0)
+nth_image n [] i h l = absurd (let z : i < 0 = l in omega arith)
+nth_image n (m ∷ ms) zero h l = h.0
+nth_image n (m ∷ ms) (suc i) h l = nth_image n ms i h.1 (let z : suc i < suc (length ms) = l in omega arith)
+
+member_image : (n : ℕ) (ms : List ℕ) (i : ℕ) → Each (IsOneOf n) ms → (i == 0) ≡ false → i ≤ length ms → IsOneOf n (member_at ms i)
+member_image n ms zero h z l = absurd (cc)
+member_image n ms (suc i) h z l = nth_image n ms i h (omega arith)
+
+index_within : (b : Bool) (i m : ℕ) → cond b (cond (nat_le i m) i 0) 0 ≤ m
+index_within true i m = by_size (nat_le i m) refl
+  where
+    by_size : (t : Bool) → nat_le i m ≡ t → cond t i 0 ≤ m
+    by_size true e = leb-true i m e
+    by_size false e = omega arith
+index_within false i m = omega arith
+
+index_in_team : (o : Own) (ss : List ℤ) (m : ℕ) → index_of o ss m ≤ m
+index_in_team o ss m = index_within (are_within_cobounds o.lowers o.extents ss) (image_order o.lowers o.extents ss + 1) m
+
+module _ (n me : ℕ) (coarrays : List Declared) (steady : Bool) where
+  abbrev Comes : Sizes → Acted → (Sizes → Core → Type 0) → Type 0
+  Comes z e After = EffectFits n me coarrays steady e After z
+
+  -- ---- the place of one cell
+  abbrev co_placing : Option Own → List ℕ → List ℤ → Core → Acted
+  co_placing None ds vs c = language.goes_to (with_values c (put_down (place_numbers (no_place (triplets ds))) c.values))
+  co_placing (Some o) ds vs c = found_in (place_within o.bounds (subscripts_in ds vs)) (λ p. language.goes_to (with_values c (put_down (place_numbers p) c.values)))
+
+  point_numbers : (p : Place) (k : ℕ) → p.dims ≡ [] → p.start ≡ pos k → place_numbers p ≡ pos k ∷ []
+  point_numbers p k d s = ap₂ (λ x y. x ∷ dims_numbers y) s d
+
+  pub pointed : (k form : ℕ) (z : Sizes) (c : Core) (xs vs : List ℤ) → length xs ≡ numbers_of_form (digits form) → triplets (digits form) ≡ 0 → IsSound n me z c → (After : Sizes → Core → Type 0)
+      → ((s : ℕ) → IsPoint c k s → After z (with_values c (pos s ∷ vs))) → Comes z (effect_of (bounded (a.co_section k form)) (with_values c (xs ++ vs))) After
+  pointed k form z c xs vs h t i After more =
+      subst (λ o. Comes z (settled x (given o (λ p. co_placing (own_in c k) ds p.0 (with_values c p.1)))) After) (sym (taken_of (numbers_of_form ds) xs vs h)) (by_own (own_in c k) refl)
+    where
+      x : Act
+      x = bounded (a.co_section k form)
+
+      ds : List ℕ
+      ds = digits form
+
+      ys : List ℤ
+      ys = put_down xs []
+
+      by_found : (o : Own) → own_in c k ≡ Some o → (f : Found Place) → place_within o.bounds (subscripts_in ds ys) ≡ f
+          → Comes z (settled x (found_in f (λ p. language.goes_to (with_values c (put_down (place_numbers p) vs))))) After
+      by_found o e (found p) q =
+          let r = element_inside o.bounds ds ys p q t in
+          subst (λ ns. After z (with_values c (put_down ns vs))) (sym (point_numbers p r.1 r.0 r.2))
+          (more r.1 (let l = r.3 in let m = small_in c.coarrays k o i.coarrays e in omega arith, λ o' e'. (let w : o ≡ o' = (let v : Some o ≡ Some o' = sym e ∙ e' in cc) in subst (λ (u : Own). r.1 < size_of u.bounds) w r.3)))
+      by_found o e (at_fault j) q = tt
+
+      by_own : (o : Option Own) → own_in c k ≡ o → Comes z (settled x (co_placing o ds ys (with_values c vs))) After
+      by_own None e =
+          subst (λ m. After z (with_values c (put_down (place_numbers (no_place m)) vs))) (sym t) (more 0 (omega arith, λ o' e'. absurd (let v : None ≡ Some o' = sym e ∙ e' in cc)))
+      by_own (Some o) e = by_found o e (place_within o.bounds (subscripts_in ds ys)) refl
+
+  -- ---- the owner
+  pub own_imaged : (z : Sizes) (c : Core) (s : ℤ) (us : List ℤ) (After : Sizes → Core → Type 0) → After z (with_values c (pos c.me ∷ s ∷ us)) → Comes z (effect_of (selector (a.own_image 0)) (with_values c (s ∷ us))) After
+  own_imaged z c s us After h = h
+
+  abbrev selected : Core → ℕ → Own → Place → ℕ → Acted
+  selected c t o p i =
+      unless cobounds_fault (not (i == 0) || (cells_of p == 0)) (unless not_established (is_established c o.team t) (unless cells_fault (nat_le (cells_of p) most_access_cells) (giving (pos (member_at (members c t) i)) c)))
+
+  abbrev owner_in : Core → ℕ → Option Own → List ℤ → Place → Acted
+  owner_in c t None ss p = language.faults not_established
+  owner_in c t (Some o) ss p = selected c t o p (index_of o ss (length (members c t)))
+
+  pub imaged : (k corank : ℕ) (z : Sizes) (c : Core) (t s : ℤ) (ys us : List ℤ) → length ys ≡ corank → IsSound n me z c → (After : Sizes → Core → Type 0) → ((j : ℕ) → IsOneOf n j → After z (with_values c (pos j ∷ s ∷ us)))
+      → Comes z (effect_of (selector (a.owner k 0 corank)) (with_values c (t ∷ (ys ++ (s ∷ us))))) After
+  imaged k corank z c t s ys us h i After more =
+      subst (λ o. Comes z (settled x (given o (λ p. seeing 0 (place_size 0) (with_values c p.1) (λ ns. owner_in (with_values c p.1) (natural t) (own_in c k) p.0 (place_in ns))))) After)
+      (sym (taken_of corank ys (s ∷ us) h)) (by_own (own_in c k))
+    where
+      x : Act
+      x = selector (a.owner k 0 corank)
+
+      e : Core
+      e = with_values c (s ∷ us)
+
+      by_index : (o : Own) (j : ℕ) → j ≤ length (members c (natural t)) → (b d : Bool) → (j == 0) ≡ b
+          → Comes z (settled x (unless cobounds_fault (not b || false) (unless not_established d (language.goes_to (with_values c (pos (member_at (members c (natural t)) j) ∷ s ∷ us)))))) After
+      by_index o j l true d w = tt
+      by_index o j l false true w = more (member_at (members c (natural t)) j) (member_image n (members c (natural t)) j (team_images n (natural t) c.known i.known) w l)
+      by_index o j l false false w = tt
+
+      by_own : (o : Option Own) → Comes z (settled x (owner_in e (natural t) o (put_down ys []) (record { start = s; dims = [] }))) After
+      by_own None = tt
+      by_own (Some o) =
+          let j = index_of o (put_down ys []) (length (members c (natural t))) in
+          by_index o j (index_in_team o (put_down ys []) (length (members c (natural t)))) (j == 0) (is_established e o.team (natural t)) refl
+
+  -- ---- numbers that are moved
+  drop_front : (qs zs : List ℤ) → drop (length qs) (qs ++ zs) ≡ zs
+  drop_front [] zs = refl
+  drop_front (q ∷ qs) zs = drop_front qs zs
+
+  -- the two numbers beneath some are put down once more
+  pub two_copied : (o : ℕ) (z : Sizes) (c : Core) (qs : List ℤ) (v w : ℤ) (us : List ℤ) → length qs ≡ o → (After : Sizes → Core → Type 0) → After z (with_values c (v ∷ w ∷ (qs ++ (v ∷ w ∷ us))))
+      → Comes z (effect_of (stack (a.copy o 2)) (with_values c (qs ++ (v ∷ w ∷ us)))) After
+  two_copied o z c qs v w us h After g =
+      let e : drop o (qs ++ (v ∷ w ∷ us)) ≡ v ∷ w ∷ us = subst (λ k. drop k (qs ++ (v ∷ w ∷ us)) ≡ v ∷ w ∷ us) h (drop_front qs (v ∷ w ∷ us)) in
+      subst (λ y. Comes z (settled (stack (a.copy o 2)) (given (taken 2 y []) (λ p. language.goes_to (with_values c (put_down p.0 (qs ++ (v ∷ w ∷ us))))))) After) (sym e) g
+
+  put_back : (bs ys zs : List ℤ) → put_down (put_down bs ys) zs ≡ put_down ys (bs ++ zs)
+  put_back [] ys zs = refl
+  put_back (b ∷ bs) ys zs = put_back bs (b ∷ ys) zs
+
+  -- those beneath some others come to the top
+  pub brought_up : (o m : ℕ) (z : Sizes) (c : Core) (ps bs us : List ℤ) → length ps ≡ o → length bs ≡ m → (After : Sizes → Core → Type 0) → After z (with_values c (bs ++ (ps ++ us)))
+      → Comes z (effect_of (stack (a.bring o m)) (with_values c (ps ++ (bs ++ us)))) After
+  brought_up o m z c ps bs us h g After more =
+      let x = stack (a.bring o m) in
+      let last : put_down (put_down bs []) (put_down (put_down ps []) us) ≡ bs ++ (ps ++ us) = put_back bs [] (put_down (put_down ps []) us) ∙ ap (λ y. bs ++ y) (put_back ps [] us) in
+      subst (λ y. Comes z (settled x (given y (λ p. given (taken m p.1 []) (λ q. language.goes_to (with_values c (put_down q.0 (put_down p.0 q.1))))))) After) (sym (taken_of o ps (bs ++ us) h))
+      (subst (λ y. Comes z (settled x (given y (λ q. language.goes_to (with_values c (put_down q.0 (put_down (put_down ps []) q.1)))))) After) (sym (taken_of m bs us g))
+      (subst (λ y. After z (with_values c y)) (sym last) more))

@@ -1,0 +1,6 @@
+pub mod Parts
+pub mod Acts
+pub mod Allocations
+pub mod Levels
+pub mod Quieting
+pub mod Walks

@@ -1,0 +1,6 @@
+use Rattle.next_fits.proofs.NextFits.{next_fits}
+use Rattle.next_fits.proofs.laws.law_next_wait_fits.Goals as goal
+
+pub returns : goal.returns
+returns c p limit coarrays n fails_at words t sound core few i line a w known =
+    next_fits p limit coarrays n fails_at words t sound core few i a (record { image = w.image; config = w.config; walks = w.walks; asks = w.asks }) known

@@ -1,0 +1,35 @@
+-- Of which programs, and of which of their asks, it is known that the next ask of an image fits.
+use Rattle.std.specs.Prelude.{◌≡◌, Bool, true, false, List}
+use Rattle.std.specs.List.{list_all}
+use Rattle.trace_theory.specs.Entries.{Each}
+use Rattle.caf_events.specs.declared.ask.Ask.{Ask}
+use Rattle.caf_events.specs.declared.ask.Ask.TheVariants as asks
+use Rattle.checked_tree.specs.Statements as checked
+use Rattle.tree_meaning.specs.Start.{own_coarrays}
+use Rattle.made_code.specs.Ranks.{IsRankedProgram}
+use Rattle.object_rules.specs.Cells.{Declared}
+use Rattle.object_rules.specs.MemoryRules.{has_first_values}
+use Rattle.walk_laws.specs.Fits.{AreDeclaredBy}
+use Rattle.fit_laws.specs.Asks.{AllocatesAllocatable}
+use Rattle.cell_walks.specs.Fitting.{IsSmall}
+use Rattle.cell_statements.specs.Typed.{IsTypedProgram, IsSteadyProgram}
+
+-- Each part of the program has the rank that its place wants; its statements on locks and events name such, and those that allocate name ALLOCATABLE coarrays; no procedure
+-- is called between the event of an EVENT WAIT or EVENT_QUERY and the ask, and the latter names this image's event. The memories of a run have from the start the coarrays
+-- that the program declares, none of more cells than an image may have.
+pub record IsSound (coarrays : List Declared) (p : checked.Program) : Type 0 where
+  pub values : list_all has_first_values coarrays ≡ true
+  pub declared : AreDeclaredBy p coarrays
+  pub small : Each IsSmall (own_coarrays p)
+  pub ranked : IsRankedProgram p
+  pub typed : IsTypedProgram coarrays p
+  pub steady : IsSteadyProgram p
+  pub allocates : AllocatesAllocatable coarrays p
+
+-- all asks but these four
+abbrev pub is_known : Ask → Bool
+is_known (asks.Read owner span) = false
+is_known (asks.Write owner span values) = false
+is_known (asks.Atomic owner op span x y) = false
+is_known (asks.Gather team op root kind values) = false
+is_known ask = true
