@@ -31,12 +31,16 @@ use Rattle.order_report.proofs.Runs.{no_ending}
 use Rattle.program_run.specs.Reports.{IsProgramReport}
 use Rattle.program_walks.specs.Runs.{program_rules, program_begins}
 use Rattle.program_walks.proofs.Fits.{program_fit}
-use Rattle.wait_reason.specs.WaitsFor.{ready_at}
+use Rattle.wait_reason.specs.WaitsFor.{is_fit_after, ready_at}
 use Rattle.wait_reason.specs.Chains.{Wait}
 use Rattle.wait_chain.specs.Reports.{as_wait, as_waits}
 use Rattle.wait_chain.specs.Stuck.{IsHeld, IsStuck, left_after}
 use Rattle.wait_chain.proofs.Images.{is_image_one}
-use Rattle.stuck_reports.specs.Fitting.{AskWhatFits}
+use Rattle.object_rules.specs.BoardTeams.{teams_after}
+use Rattle.told_walks.specs.Asked.{most_team}
+use Rattle.next_fits.specs.Known.{IsSound, is_known}
+use Rattle.next_fits.proofs.NextFits.{next_fits}
+use Rattle.stuck_reports.specs.Fitting.{AskWhatFits, AskWhatIsKnown}
 use Rattle.stuck_reports.proofs.Rising.{IsKey, rising_is}
 use Rattle.stuck_reports.proofs.Ended.{has_ended_of, waits_not_ended}
 
@@ -145,3 +149,20 @@ stuck_report p limit coarrays n fails_at words order r waits declared report is 
     let e = (subst (IsReportEnd n rules begins r.trace) is report.end).1 in
     let there = stuck_waits rules begins r.trace waits e in
     stuck_trace p limit coarrays n fails_at words r.trace report.core waits there.0 (stuck_open rules begins r.trace waits e) declared there.1 fit
+
+-- where the program is sound, what they ask fits as far as that is known
+module _ (p : Program) (limit : ℕ) (coarrays : List Declared) (n : ℕ) (fails_at : ℕ → ℕ) (words : ℕ) (t : Trace) (sound : IsSound coarrays p) (core : IsCoreRun (program_rules p limit) (program_begins p coarrays n fails_at words) t.entries) (few : length (teams_after n (at_board t.entries)) ≤ most_team) where
+  one_fits : (i line : ℕ) (a : Ask) → IsWaiting (program_rules p limit) (program_begins p coarrays n fails_at words) t.entries i line a → is_known a ≡ true → is_fit_after coarrays n t.entries i a ≡ true
+  one_fits i line a w known = next_fits p limit coarrays n fails_at words t.entries sound core few i a (record { image = w.image; config = w.config; walks = w.walks; asks = w.asks }) known
+
+  pub all_fit : (ws : List Waiting) → Each (λ x. IsWaiting (program_rules p limit) (program_begins p coarrays n fails_at words) t.entries x.image.0 x.line x.ask) ws → AskWhatIsKnown ws → AskWhatFits coarrays n t.entries ws
+  all_fit [] each known = tt
+  all_fit (x ∷ ws) each known = (one_fits x.image.0 x.line x.ask each.0 known.0, all_fit ws each.1 known.1)
+
+pub known_fit : (p : Program) (limit : ℕ) (coarrays : List Declared) (n : ℕ) (fails_at : ℕ → ℕ) (words : ℕ) (order : Option ℕ) (r : Report) (waits : List Waiting) → IsSound coarrays p
+    → IsProgramReport p limit coarrays n fails_at words order r → r.end ≡ ends.Stuck waits → length (teams_after n (at_board r.trace.entries)) ≤ most_team → AskWhatIsKnown waits → AskWhatFits coarrays n r.trace.entries waits
+known_fit p limit coarrays n fails_at words order r waits sound report is few known =
+    let rules = program_rules p limit in
+    let begins = program_begins p coarrays n fails_at words in
+    let e = (subst (IsReportEnd n rules begins r.trace) is report.end).1 in
+    all_fit p limit coarrays n fails_at words r.trace sound report.core few waits (stuck_waits rules begins r.trace waits e).0.each known

@@ -5,7 +5,12 @@ use Rattle.caf_report.specs.declared.report.Waiting.{Waiting}
 use Rattle.trace_theory.specs.Entries.{Each}
 use Rattle.object_rules.specs.Cells.{Declared}
 use Rattle.wait_reason.specs.WaitsFor.{is_fit_after}
+use Rattle.next_fits.specs.Known.{is_known}
 
 -- the ask with which each of them waits fits after the trace of n images
 abbrev pub AskWhatFits : List Declared → ℕ → List Entry → List Waiting → Type 0
 AskWhatFits coarrays n t waits = Each (λ w. is_fit_after coarrays n t w.image.0 w.ask ≡ true) waits
+
+-- none of them waits with an ask of which it isn't known that it fits
+abbrev pub AskWhatIsKnown : List Waiting → Type 0
+AskWhatIsKnown waits = Each (λ w. is_known w.ask ≡ true) waits
