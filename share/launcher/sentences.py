@@ -13,7 +13,14 @@ _NAME = re.compile(r"\{([a-z]+)\}")
 _WAITS = {"leave": "round", "take": "round", "unpair": "pair", "wait": "event"}
 _OF_CODE = re.compile(r"[0-9]{4}\b")
 # The cases that stand as a help, but for those whose name ends so, and those that stand at a further place.
-_HELPS = (("Race", "sync"), ("Race", "critical"), ("Stuck", "cycle"), ("Limit", "statements most"))
+_HELPS = (
+    ("Race", "sync"),
+    ("Race", "critical"),
+    ("Stuck", "cycle"),
+    ("Stuck", "stopped"),
+    ("Stuck", "post"),
+    ("Limit", "statements most"),
+)
 _NOTES = (("Race", "second"), ("Stuck", "posted"), ("Clash", "there"), ("NotARun", "there"))
 
 

@@ -68,3 +68,7 @@ has_come (dues.Partner image) g j = has_partner image (happened images g) j
 -- image j is one of these, hasn't come, and has neither stopped nor failed
 abbrev pub lacks : Due → List ℕ → List Entry → ℕ → Bool
 lacks due js g j = names j js && not (has_come due g j) && not (has_ended j (happened control g))
+
+-- image i has neither stopped nor failed
+abbrev pub is_left : List Entry → ℕ → Bool
+is_left g i = not (has_ended i (happened control g))

@@ -2,7 +2,7 @@ use Rattle.std.proofs.Common.{◌≡◌, ◌+◌, length}
 use Rattle.object_rules.specs.Happenings.{numbers_of}
 use Rattle.wait_chain.specs.Links.{last_of, IsOpen}
 use Rattle.wait_chain.specs.Reports.{as_waits}
-use Rattle.wait_chain.proofs.chain.why.Given as goal
+use Rattle.wait_chain.proofs.chain.why_from.Given as goal
 
 abbrev pub invariant-loop-count : goal.invariant-loop-count
 invariant-loop-count l = record {
