@@ -1,8 +1,8 @@
 """The sum of the sources that the program is made from, and whether one of them changed since it was worked out.
 
-The sum is the sha256 of crates.txt and of each file in src/, specs/ and proofs/ of the crates under the program: of
-their names from the top of the checkout on, and of what is in them. Times, modes, the place of the checkout and the
-files beside these have no part in it.
+The sum is the sha256 of the lines that crates.txt has of the crates under the program, and of each file in src/,
+specs/ and proofs/ of these crates: of its name from the top of the checkout on, and of what is in it. Times, modes, the
+place of the checkout, crates beside the program with their lines, and all other files have no part in it.
 
 A call doesn't read four thousand files to know it. What a look at all of them told (name, inode, size, times of the
 last write and of the last change) is kept with the sum, and where a later look tells the same, the sum is the same: a
@@ -30,9 +30,10 @@ SETTLED = 2_000_000_000
 
 
 class Look(NamedTuple):
-    """What a look at the sources told: a line for each, as look_below makes it, sorted; and the sum of these lines and
-    of crates.txt, which tells one state of the sources from another."""
+    """What a look at the sources told: the lines of crates.txt; a line for each file, as look_below makes it, sorted;
+    and the sum of all these lines, which tells one state of the sources from another."""
 
+    listed: bytes
     lines: list[str]
     identity: str
 
@@ -45,16 +46,22 @@ class Look(NamedTuple):
         return max((int(line.rpartition(" ")[2]) for line in self.lines), default=0)
 
 
-def crates_listed(home: str) -> dict[str, list[str]]:
-    """Returns the names that stand behind each crate of crates.txt: those of the crates that it stands on directly,
-    and of libraries of the kit."""
+def lines_listed(home: str) -> dict[str, str]:
+    """Returns the line of each crate of crates.txt, in order, without what is behind a #."""
     found = {}
     with open(f"{home}/{LIST}", encoding="utf-8") as listed:
         for line in listed:
-            names, colon, below = line.partition("#")[0].partition(":")
+            told = line.partition("#")[0].strip()
+            names, colon, _ = told.partition(":")
             if colon and names.split():
-                found[names.split()[0]] = below.split()
+                found[names.split()[0]] = told
     return found
+
+
+def crates_listed(home: str) -> dict[str, list[str]]:
+    """Returns the names that stand behind each crate of crates.txt: those of the crates that it stands on directly,
+    and of libraries of the kit."""
+    return {name: line.partition(":")[2].split() for name, line in lines_listed(home).items()}
 
 
 def crates_under(home: str, *tops: str) -> set[str]:
@@ -66,6 +73,11 @@ def crates_under(home: str, *tops: str) -> set[str]:
             found.add(name)
             waiting += listed[name]
     return found
+
+
+def lines_under(home: str, names: set[str]) -> bytes:
+    """Returns the lines that crates.txt has of these crates, in the order in which they stand there."""
+    return "".join(f"{line}\n" for name, line in lines_listed(home).items() if name in names).encode()
 
 
 def look_below(home: str, waiting: list[str], found: list[str]) -> None:
@@ -90,23 +102,24 @@ def look(home: str) -> Look:
     """Looks at all sources of a checkout, without reading them."""
     found: list[str] = []
     try:
-        crates = sorted(crates_under(home, PROGRAM))
+        under = crates_under(home, PROGRAM)
+        crates = sorted(under)
         look_below(home, [f"crates/{name}/src" for name in crates], found)
         others = [f"crates/{name}/{part}" for name in crates for part in PARTS[1:]]
         look_below(home, [it for it in others if os.path.lexists(f"{home}/{it}")], found)
         found.sort()
-        with open(f"{home}/{LIST}", "rb") as listed:
-            told = hashlib.sha256(listed.read() + "\n".join(found).encode("utf-8", "surrogateescape"))
+        listed = lines_under(home, under)
     except OSError as error:
         raise NoProgram(f"the sources of the program can't be read: {error}") from error
-    return Look(found, told.hexdigest())
+    told = hashlib.sha256(listed + "\n".join(found).encode("utf-8", "surrogateescape"))
+    return Look(listed, found, told.hexdigest())
 
 
-def read_sum(home: str, names: list[str]) -> str:
-    """Returns the sum of crates.txt and of these files, by reading them."""
-    whole = hashlib.sha256()
+def read_sum(home: str, listed: bytes, names: list[str]) -> str:
+    """Returns the sum of these lines of crates.txt and of these files, by reading the files."""
+    whole = hashlib.sha256(os.fsencode(LIST) + b"\0%d\0" % len(listed) + listed)
     try:
-        for name in (LIST, *names):
+        for name in names:
             with open(f"{home}/{name}", "rb") as source:
                 text = source.read()
             whole.update(os.fsencode(name) + b"\0%d\0" % len(text) + text)
@@ -153,7 +166,7 @@ def sum_of_sources(home: str, seen: Look | None = None) -> str:
     places = places_of_kept(home)
     told = kept_sum(places, seen.identity)
     if told is None:
-        told = read_sum(home, seen.names())
+        told = read_sum(home, seen.listed, seen.names())
         if seen.latest() < begun - SETTLED:
             keep_sum(places, seen.identity, told)
     return told

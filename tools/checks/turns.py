@@ -1,5 +1,6 @@
-"""Every refusal in its turn: each prefix of a program, a failure at each step of an image, and each call of the system
-that the program makes. What must come is worked out from the programs and the rules, never taken from an answer."""
+"""Every refusal in its turn: each prefix of a program, a failure at each step of an image, each call of the system that
+the program makes, and each call of a source and a sink in memory. What must come is worked out from the programs and
+the rules, never taken from an answer."""
 
 import functools
 import os
@@ -7,7 +8,7 @@ import re
 import resource
 import shutil
 import signal
-from typing import Iterator, List, Tuple
+from typing import Iterator, List, Sequence, Tuple
 
 from checks.comparing import HOME, Checks, Done, call, folder, read, with_status, write
 
@@ -37,7 +38,7 @@ def check_turns(checks: Checks) -> None:
         _check_shares(checks, work)
         if shutil.which("cc"):
             refusing = compiled(work)
-            check_memory(checks, work, refusing)
+            _check_memory(checks, work, refusing)
             _check_input(checks, work, refusing, len(neighbour))
             write(f"{work}/t", _TRACE)
             _check_kept(checks, work, refusing, len(_TRACE) + len(neighbour))
@@ -137,11 +138,40 @@ def _turns(program: str, words: List[str], work: str, refusing: str, what: str) 
             return
 
 
-def check_memory(checks: Checks, work: str, refusing: str) -> None:
+def check_in_memory(checks: Checks, work: str, refusing: str) -> None:
+    """The program is tools/in_memory.rt.txt: its source and its sink are in memory. Each allocation is refused; each
+    call of the source and each write fails, a byte each; and the sink has room for no more than the text."""
+    _check_memory(checks, work, refusing, _pace())
+    calls = len(_source("A neighbour is read, in order and on workers")) + 2
+    for turn in range(1, calls + 2):
+        wanted = _READ_FAULT if turn <= calls else _front(len(_READ))
+        _check_pace(checks, f"call {turn} of the source fails", wanted, _pace(piece=1, broken=turn))
+    for turn in range(1, len(_READ) + 2):
+        _check_pace(checks, f"write {turn} fails", _front(turn - 1), _pace(piece=1, failing=turn))
+    for room in range(len(_READ) + 1):
+        _check_pace(checks, f"a sink with room for {room}", _front(room), _pace(room=room))
+
+
+def _pace(piece: int = 4096, broken: int = 0, failing: int = 0, room: int = 4096) -> List[str]:
+    """Returns the words that stand ahead of a call in memory."""
+    return [str(it) for it in (piece, broken, failing, room)]
+
+
+def _front(size: int) -> bytes:
+    """Returns what is written where so many bytes of the text are taken, with the line of the status."""
+    return _READ[:size] + (b"status 0\n" if size == len(_READ) else b"status 11\n")
+
+
+def _check_pace(checks: Checks, what: str, wanted: bytes, pace: List[str]) -> None:
+    """Compares a call over a source and a sink in memory that behave so."""
+    checks.same(f"in memory: {what}", wanted, with_status(call([checks.program, *pace, *_ORDERED])))
+
+
+def _check_memory(checks: Checks, work: str, refusing: str, ahead: Sequence[str] = ()) -> None:
     """Each allocation is refused once, in an ordered run and on two workers: the answer is the run's, or nothing is
-    written and the status is 12."""
+    written and the status is 12. Words may stand ahead of the call."""
     for words in (_ORDERED, _ON_WORKERS):
-        _check_allocations(checks, words, _READ, work, refusing)
+        _check_allocations(checks, [*ahead, *words], _READ, work, refusing)
 
 
 def _check_allocations(checks: Checks, words: List[str], text: bytes, work: str, refusing: str) -> None:

@@ -15,13 +15,16 @@ from trouble import NoProgram
 from tests.checkouts import FILES, WithCheckout, make_checkout, put
 
 UNDER = sorted(name for name in FILES if "/" in name and "base_tests" not in name)
+# The lines of crates.txt of the crates under the program.
+LINES = "caf_base: smallvec\ncaf_run may_wait=1: caf_base\ncaf: caf_base caf_run\n"
 
 
-def expected(files: dict[str, str]) -> str:
-    """The sum as its description says: each file's name, its size and what is in it, crates.txt first."""
+def expected(files: dict[str, str], lines: str = LINES) -> str:
+    """The sum as its description says: each file's name, its size and what is in it; first crates.txt, with these
+    lines."""
     whole = hashlib.sha256()
     for name in ["crates.txt", *UNDER]:
-        text = files[name].encode()
+        text = (lines if name == "crates.txt" else files[name]).encode()
         whole.update(f"{name}\0{len(text)}\0".encode() + text)
     return whole.hexdigest()
 
@@ -31,10 +34,20 @@ class TheSum(WithCheckout):
         self.assertEqual(sources.sum_of_sources(self.home), expected(FILES))
 
     def test_each_file_has_a_part_in_it(self) -> None:
-        for name in ["crates.txt", *UNDER]:
+        for name in UNDER:
             put(f"{self.home}/{name}", FILES[name] + "# more\n")
             self.assertEqual(sources.sum_of_sources(self.home), expected({**FILES, name: FILES[name] + "# more\n"}))
             put(f"{self.home}/{name}", FILES[name])
+        self.assertEqual(sources.sum_of_sources(self.home), expected(FILES))
+
+    def test_so_has_each_line_of_the_list(self) -> None:
+        for line in LINES.splitlines():
+            put(f"{self.home}/crates.txt", FILES["crates.txt"].replace(line, f"{line} itoa", 1))
+            changed = LINES.replace(line, f"{line} itoa", 1)
+            self.assertEqual(sources.sum_of_sources(self.home), expected(FILES, changed))
+
+    def test_lines_of_crates_beside_have_none(self) -> None:
+        put(f"{self.home}/crates.txt", "# other\n" + FILES["crates.txt"].replace("base_tests:", "more_tests:"))
         self.assertEqual(sources.sum_of_sources(self.home), expected(FILES))
 
     def test_files_beside_have_none(self) -> None:
@@ -104,9 +117,8 @@ class WhatIsKept(WithCheckout):
     def test_a_list_that_was_changed_is_seen(self) -> None:
         with self.later():
             sources.sum_of_sources(self.home)
-        put(f"{self.home}/crates.txt", FILES["crates.txt"] + "# more\n")
-        changed = {**FILES, "crates.txt": FILES["crates.txt"] + "# more\n"}
-        self.assertEqual(sources.sum_of_sources(self.home), expected(changed))
+        put(f"{self.home}/crates.txt", FILES["crates.txt"].replace("smallvec", "itoa"))
+        self.assertEqual(sources.sum_of_sources(self.home), expected(FILES, LINES.replace("smallvec", "itoa")))
 
     def test_a_checkout_that_cant_be_written_keeps_it_in_the_cache(self) -> None:
         with self.later(), mock.patch("os.makedirs", side_effect=self.refuse_out(os.makedirs)):

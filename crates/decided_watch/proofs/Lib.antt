@@ -1,0 +1,5 @@
+pub mod Tables
+pub mod Noting
+pub mod Facts
+pub mod Deciding
+pub mod Tries
