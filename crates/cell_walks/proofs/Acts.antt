@@ -63,9 +63,9 @@ each_set P [] k x h g = tt
 each_set P (y ∷ ys) zero x h g = (g, h.1)
 each_set P (y ∷ ys) (suc k) x h g = (h.0, each_set P ys k x h.1 g)
 
-module _ (n me : ℕ) (coarrays : List Declared) (steady : Bool) where
+module _ (n me : ℕ) (coarrays : List Declared) where
   -- ---- asks
-  fits_plain : (z : Sizes) (q : Ask) → is_plain q ≡ true → FitsCell n me coarrays steady z q × (sizes_by z q ≡ z)
+  fits_plain : (z : Sizes) (q : Ask) → is_plain q ≡ true → FitsCell n me coarrays z q × (sizes_by z q ≡ z)
   fits_plain z (asking.Create owner coarray cells) h = absurd (cc)
   fits_plain z (asking.Delete owner coarray) h = absurd (cc)
   fits_plain z (asking.Lock owner span) h = absurd (cc)
@@ -76,7 +76,7 @@ module _ (n me : ℕ) (coarrays : List Declared) (steady : Bool) where
   fits_plain z (asking.Query owner span) h = absurd (cc)
   fits_plain z q h = (tt, refl)
 
-  asks_fit : (x : Act) → IsFree x → (z : Sizes) (q : Ask) → AsksBy x q → FitsCell n me coarrays steady z q × (sizes_by z q ≡ z)
+  asks_fit : (x : Act) → IsFree x → (z : Sizes) (q : Ask) → AsksBy x q → FitsCell n me coarrays z q × (sizes_by z q ≡ z)
   asks_fit (ask (a.create j depth rank)) f z q h = absurd f
   asks_fit (ask (a.delete j)) f z q h = absurd f
   asks_fit (ask (a.lock j)) f z q h = absurd f
@@ -189,7 +189,7 @@ module _ (n me : ℕ) (coarrays : List Declared) (steady : Bool) where
     act_keeps x f z c xs vs e h = kept_act x z c xs vs h (exact_act x c xs vs e)
 
     joined_so : (z : Sizes) (Q : Ask → Type 0) (K : Core → Type 0) (m : ℕ) (vs : List ℤ) (e : Acted) → Exactly Q K m vs e → Keeps z e
-        → ((q : Ask) → Q q → FitsCell n me coarrays steady z q × (sizes_by z q ≡ z)) → EffectFits n me coarrays steady e (λ y d. Holds y d × Stand m vs d.values) z
+        → ((q : Ask) → Q q → FitsCell n me coarrays z q × (sizes_by z q ≡ z)) → EffectFits n me coarrays e (λ y d. Holds y d × Stand m vs d.values) z
     joined_so z Q K m vs (language.goes_to d) x k f = (k, x.0)
     joined_so z Q K m vs (language.faults j) x k f = tt
     joined_so z Q K m vs (language.asking q g) x k f = ((f q x.0).0, λ r t. (subst (λ y. Holds y (g r)) (sym (f q x.0).1) (k r t), (x.1 r).0))
@@ -197,6 +197,6 @@ module _ (n me : ℕ) (coarrays : List Declared) (steady : Bool) where
     joined_so z Q K m vs language.stuck x k f = tt
 
     pub act_fits : (x : Act) → IsFree x → (z : Sizes) (c : Core) (xs vs : List ℤ) → length xs ≡ taken_of of_numbers x → Holds z c
-        → EffectFits n me coarrays steady (effect_of x (with_values c (xs ++ vs))) (λ y d. Holds y d × Stand (left_of of_numbers x) vs d.values) z
+        → EffectFits n me coarrays (effect_of x (with_values c (xs ++ vs))) (λ y d. Holds y d × Stand (left_of of_numbers x) vs d.values) z
     act_fits x f z c xs vs e h =
         joined_so z (AsksBy x) (KeptBy x c) (left_of of_numbers x) vs (effect_of x (with_values c (xs ++ vs))) (exact_act x c xs vs e) (act_keeps x f z c xs vs e h) (asks_fit x f z)
