@@ -138,10 +138,11 @@ counted_agrees : (vs : List ℤ) (x : Act) (b : Bool) (v : ℤ) (l : ℕ) (z : S
 counted_agrees vs x true v l z c = refl
 counted_agrees vs x false v l z c = members_agree vs x (sibling (team_in (current_team z) z.known) v z.known) l z c
 
-number_agrees : (vs : List ℤ) (x : Act) (o : Option Team) (l : ℕ) (z : State) (c : Core)
-    → Agrees (put_down c) ((or_fault no_team o ▹ (λ m. giving (number m.number))) l z) (and_then (of_effect l (with_values (with_state z c) vs) (settled x (teamed o (λ k. giving_act k.number (with_state z c))))) (told end_parts l))
-number_agrees vs x None l z c = refl
-number_agrees vs x (Some k) l z c = refl
+number_agrees : (vs : List ℤ) (x : Act) (o : Option Team) (k : Kind) (l : ℕ) (z : State) (c : Core)
+    → Agrees (put_down c) ((or_fault no_team o ▹ (λ m. unless overflow (fits_kind k m.number) (giving (number m.number)))) l z)
+    (and_then (of_effect l (with_values (with_state z c) vs) (settled x (teamed o (λ m. giving_act m.number (with_state z c))))) (told (doing (operator (a.fits k 0) ∷ [])) l))
+number_agrees vs x None k l z c = refl
+number_agrees vs x (Some m) k l z c = fits_agrees (m.number ∷ c.values) (operator (a.fits k 0)) (fits_kind k m.number) m.number l z c
 
 level_agrees : (vs : List ℤ) (x : Act) (b d f : Bool) (l : ℕ) (z : State) (c : Core)
     → Agrees (put_down c) ((cond b (giving 1) (cond d (the (λ s. parent_of s.teams)) (cond f (the current_team) (fault no_team))) ▹ (λ n. giving (number (pos n)))) l z)
@@ -352,8 +353,8 @@ mutual
   intrinsic_agrees e calls (t.failed_images which) k l c room h = elim h [ ]
   intrinsic_agrees e calls (t.stopped_images which) k l c room h = elim h [ ]
   intrinsic_agrees e calls (t.number_of_team which) k l c room h =
-      agrees_then (put_team c) (put_down c) (team_of e calls which l (state_of c)) (told (parts_of_team e which) l c) (λ p. (known_team p.0 ▹ (λ m. giving (number m.number))) l p.1) (told (doing (selector a.team_number ∷ [])) l) (team_agrees e calls which l c room h)
-      (λ n z. number_agrees (pos n ∷ c.values) (selector a.team_number) (team_in n z.known) l z c)
+      agrees_then (put_team c) (put_down c) (team_of e calls which l (state_of c)) (told (parts_of_team e which) l c) (λ p. (known_team p.0 ▹ (λ m. unless overflow (fits_kind k m.number) (giving (number m.number)))) l p.1) (told (doing (selector a.team_number ∷ operator (a.fits k 0) ∷ [])) l) (team_agrees e calls which l c room h)
+      (λ n z. number_agrees (pos n ∷ c.values) (selector a.team_number) (team_in n z.known) k l z c)
   intrinsic_agrees e calls (t.get_team t.missing) k l c room h = refl
   intrinsic_agrees e calls (t.get_team (t.given x)) k l c room h =
       agrees_number (put_down c) (value e calls x) (λ v. team_of_level v ▹ (λ n. giving (number (pos n)))) l (state_of c) c (told (expression e x) l c) (told (doing (selector a.get_team ∷ [])) l) (value_agrees e calls x l c room h)
