@@ -44,7 +44,7 @@ module _ (n me : ℕ) (coarrays : List Declared) (there : IsOneOf n me) (e : Env
   even : (l : ℕ) (f : s.StatementForm) → ranks.IsStatement e.program.procedures f → IsEvenForm (tested_of of_numbers) (taken_of of_numbers) (left_of of_numbers) (form e l f)
   even l f h = (steps_even e of_numbers (s.more_statements (s.on_line f l) s.no_statements) (h, tt)).0
 
-  fit : {p : Parts Act} (m : ℕ) → Even m p → Safe false p → Fits m p
+  fit : {p : Parts Act} (m : ℕ) → Even m p → Safe p → Fits m p
   fit m l q = leaves n me coarrays m q l
 
   -- ---- statements on one cell

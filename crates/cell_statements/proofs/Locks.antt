@@ -35,21 +35,21 @@ use Rattle.stack_laws.specs.Exact.{Stand}
 use Rattle.stack_laws.proofs.Standing.{stand_of, parted}
 use Rattle.cell_walks.specs.Fitting.{Sizes, IsSound, EffectFits, PartsFit, Leave}
 use Rattle.cell_walks.proofs.Quieting.{Safe, one, both}
-use Rattle.cell_statements.proofs.Points.{asked_there, IsPoint, word_image, cell_fits, two_copied}
+use Rattle.cell_statements.proofs.Points.{asked_there, word_image, cell_fits, two_copied}
 use Rattle.cell_statements.proofs.Quiet.{quiet_expression, quiet_place, quiet_result, quiet_dropping, quiet_bringing, quiet_storing}
 use Rattle.cell_statements.proofs.QuietStatements.{quiet_there, quiet_settling, quiet_selector_status, quiet_put_down}
 use Rattle.cell_statements.proofs.Cells.{one_number, Done, passed, ending, own_celled, celled, IsAsked, asked}
 
 -- numbers that EVENT WAIT puts down
 waiting_quiet : (e : Environment) (until : t.OptionalExpression) (stat : t.OptionalResult) (order : WrittenOrder)
-    → Safe false (control.put_down_as_written order (control.or_number e until (pushing (pos 1))) 1 (view.optional_place e stat) (view.optional_size stat))
+    → Safe (control.put_down_as_written order (control.or_number e until (pushing (pos 1))) 1 (view.optional_place e stat) (view.optional_size stat))
 waiting_quiet e until stat order = by_order order (threshold until)
   where
-    threshold : (x : t.OptionalExpression) → Safe false (control.or_number e x (pushing (pos 1)))
+    threshold : (x : t.OptionalExpression) → Safe (control.or_number e x (pushing (pos 1)))
     threshold t.missing = one tt
     threshold (t.given x) = quiet_expression e x
 
-    by_order : (o : WrittenOrder) → Safe false (control.or_number e until (pushing (pos 1))) → Safe false (control.put_down_as_written o (control.or_number e until (pushing (pos 1))) 1 (view.optional_place e stat) (view.optional_size stat))
+    by_order : (o : WrittenOrder) → Safe (control.or_number e until (pushing (pos 1))) → Safe (control.put_down_as_written o (control.or_number e until (pushing (pos 1))) 1 (view.optional_place e stat) (view.optional_size stat))
     by_order orders.Same h = both h (quiet_place e stat)
     by_order orders.Reversed h = both (quiet_place e stat) (both h (quiet_bringing 1 (view.optional_size stat)))
 
@@ -89,7 +89,7 @@ module _ (n me : ℕ) (coarrays : List Declared) (there : IsOneOf n me) (e : Env
       closes (acts ended ⨾ part (selector_settled (control.cell_stat e d) (o + 4) (o + 3) (omega arith) (omega arith)) ⨾ part (status_settled stat 1 o ss (omega arith) (omega arith)) ⨾ part (dropped (o + control.cell_size e d))) (omega arith)
 
   rest_quiet : (d : t.Designator) (stat : t.OptionalResult) (ss : List ℤ)
-      → Safe false (doing (stack a.accessed ∷ []) ▸ settling_selector (control.cell_stat e d) (view.optional_size stat + 4) ▸ settling stat 1 ss ▸ dropping (view.optional_size stat + control.cell_size e d))
+      → Safe (doing (stack a.accessed ∷ []) ▸ settling_selector (control.cell_stat e d) (view.optional_size stat + 4) ▸ settling stat 1 ss ▸ dropping (view.optional_size stat + control.cell_size e d))
   rest_quiet d stat ss =
       both (one tt) (both (quiet_selector_status (control.cell_stat e d) (view.optional_size stat + 4)) (both (quiet_settling stat 1 ss) (quiet_dropping (view.optional_size stat + control.cell_size e d))))
 
@@ -114,7 +114,7 @@ module _ (n me : ℕ) (coarrays : List Declared) (there : IsOneOf n me) (e : Env
       ⨾ part (stored (o + 3) (o + 2 + m) r (omega arith) (omega arith)) ⨾ part (status_settled stat 2 (o + 1) (unlocked_failed_image ∷ []) (omega arith) (omega arith))
       ⨾ part (dropped (1 + (m + (o + control.cell_size e d))))) (omega arith)
 
-  tried_quiet : (d : t.Designator) (r : t.ResultVariable) (stat : t.OptionalResult) → Safe false
+  tried_quiet : (d : t.Designator) (r : t.ResultVariable) (stat : t.OptionalResult) → Safe
       (doing (stack a.accessed ∷ []) ▸ settling_selector (control.cell_stat e d) (view.result_size r + (view.optional_size stat + 5)) ▸ copying 1 1 ▸ view.storing (view.optional_size stat + 3) r
       ▸ settling stat 2 (unlocked_failed_image ∷ []) ▸ dropping (1 + (view.result_size r + (view.optional_size stat + control.cell_size e d))))
   tried_quiet d r stat =
@@ -158,7 +158,7 @@ module _ (n me : ℕ) (coarrays : List Declared) (there : IsOneOf n me) (e : Env
     wait_turns : Turns (numbers (1 + (view.optional_size stat + 2)) 0) after_ask
     wait_turns = closes (part (status_settled stat 1 (view.optional_size stat) [] (omega arith) (omega arith)) ⨾ part (dropped (view.optional_size stat + 2))) (omega arith)
 
-    wait_quiet : Safe false after_ask
+    wait_quiet : Safe after_ask
     wait_quiet = both (quiet_settling stat 1 []) (quiet_dropping (view.optional_size stat + 2))
 
     long : (v : ℤ) (qs : List ℤ) (u w : ℤ) → length qs ≡ view.optional_size stat → length (v ∷ (qs ++ (u ∷ w ∷ []))) ≡ 1 + (view.optional_size stat + 2)
@@ -211,8 +211,8 @@ module _ (n me : ℕ) (coarrays : List Declared) (there : IsOneOf n me) (e : Env
           copied_and_waits k stat y vs x b r.0 q.0 s m r.2 small
           (w ∙ (ap (λ u. u ++ (pos s ∷ vs)) r.4 ∙ (append_assoc r.0 r.1 (pos s ∷ vs) ∙ ap (λ u. r.0 ++ (u ++ (pos s ∷ vs))) q.1)))
 
-      begun : (x : Sizes) (d : Core) (o s : ℕ) → IsSound n me x d → IsPoint d k s → d.values ≡ pos o ∷ pos s ∷ vs → On k stat y vs (dropping 1 ▸ first) x d
+      begun : (x : Sizes) (d : Core) (o s : ℕ) → IsSound n me x d → s < most_cells → d.values ≡ pos o ∷ pos s ∷ vs → On k stat y vs (dropping 1 ▸ first) x d
       begun x d o s j p w =
           subst (λ u. EffectFits n me coarrays (effect_of (stack (a.drop 1)) (with_values d u)) (On k stat y vs first) x) (sym w)
           (passed n me coarrays (put_down_two order 1 (view.optional_size stat) (or_number e until f (number_pushed (pos 1))) (place_turns e stat g)) (waiting_quiet e until stat order)
-          (pos s ∷ vs) (On k stat y vs second) x (with_values d (pos s ∷ vs)) j refl (λ u b xs m l r. goes s p.0 u b xs m l r))
+          (pos s ∷ vs) (On k stat y vs second) x (with_values d (pos s ∷ vs)) j refl (λ u b xs m l r. goes s p u b xs m l r))

@@ -1,4 +1,4 @@
--- What the place and the owner of one cell come to: the cell is within its coarray, and the owner is an image of the run.
+-- What the place and the owner of one cell come to: the cell is one that a coarray can have, and the owner is an image of the run.
 use Rattle.std.proofs.Common.{◌≡◌, ◌∙◌, ℕ, zero, suc, ◌+◌, ◌≤◌, ◌<◌, Bool, true, false, cond, List, [], ◌∷◌, ◌++◌, length, refl, ap, ap₂, sym, subst, arith}
 use Rattle.std.specs.Prelude.{map, ℤ, pos, ◌==◌, ◌||◌, not, min, drop, nat_eq, nat_lt, nat_le, slice_get, slice_index_or, Option, None, Some}
 use Rattle.std.proofs.lemmas.Bool.{leb-true, ltb-true, lt-ltb, and_from}
@@ -32,10 +32,6 @@ use Rattle.told_walks.specs.Asked.{own_cells}
 use Rattle.stack_laws.proofs.Places.{element_inside}
 use Rattle.cell_walks.specs.Fitting.{Sizes, IsSmall, IsSound, HasCell, EffectFits}
 
--- the cell with this offset is one that a coarray can have, and is there where coarray k is allocated here
-abbrev pub IsPoint : Core → ℕ → ℕ → Type 0
-IsPoint c k s = (s < most_cells) × ((o : Own) → own_in c k ≡ Some o → s < size_of o.bounds)
-
 -- ---- the asks
 capped : (k : ℕ) → min k 4294967295 ≤ k
 capped k = omega arith
@@ -48,9 +44,6 @@ word_image n j h = (let a' = h.0 in let b = h.1 in (omega arith, omega arith))
 
 pub cell_fits : (coarrays : List Declared) (i : ℕ) (test : Content → Bool) (k s : ℕ) → s < most_cells → holds test (slice_get coarrays k) ≡ true → is_cell_of (made_memory coarrays i) test (cell_span k (pos s)) ≡ true
 cell_fits coarrays i test k s h t = and_from (nat_lt (word (pos s)) 65536) (holds test (slice_get coarrays k)) (lt-ltb (word (pos s)) 65536 (word_below s most_cells h)) t
-
-pub start_within : (s m : ℕ) → s < m → word (pos s) < m
-start_within s m h = word_below s m h
 
 -- ---- coarrays that are allocated here
 small_in : (os : List (Option Own)) (k : ℕ) (o : Own) → Each IsSmall os → joined (slice_get os k) ≡ Some o → size_of o.bounds ≤ most_cells
@@ -123,7 +116,7 @@ module _ (n me : ℕ) (coarrays : List Declared) where
   point_numbers p k d s = ap₂ (λ x y. x ∷ dims_numbers y) s d
 
   pub pointed : (k form : ℕ) (z : Sizes) (c : Core) (xs vs : List ℤ) → length xs ≡ numbers_of_form (digits form) → triplets (digits form) ≡ 0 → IsSound n me z c → (After : Sizes → Core → Type 0)
-      → ((s : ℕ) → IsPoint c k s → After z (with_values c (pos s ∷ vs))) → Comes z (effect_of (bounded (a.co_section k form)) (with_values c (xs ++ vs))) After
+      → ((s : ℕ) → s < most_cells → After z (with_values c (pos s ∷ vs))) → Comes z (effect_of (bounded (a.co_section k form)) (with_values c (xs ++ vs))) After
   pointed k form z c xs vs h t i After more =
       subst (λ o. Comes z (settled x (given o (λ p. co_placing (own_in c k) ds p.0 (with_values c p.1)))) After) (sym (taken_of (numbers_of_form ds) xs vs h)) (by_own (own_in c k) refl)
     where
@@ -141,12 +134,12 @@ module _ (n me : ℕ) (coarrays : List Declared) where
       by_found o e (found p) q =
           let r = element_inside o.bounds ds ys p q t in
           subst (λ ns. After z (with_values c (put_down ns vs))) (sym (point_numbers p r.1 r.0 r.2))
-          (more r.1 (let l = r.3 in let m = small_in c.coarrays k o i.coarrays e in omega arith, λ o' e'. (let w : o ≡ o' = (let v : Some o ≡ Some o' = sym e ∙ e' in cc) in subst (λ (u : Own). r.1 < size_of u.bounds) w r.3)))
+          (more r.1 (let l = r.3 in let m = small_in c.coarrays k o i.coarrays e in omega arith))
       by_found o e (at_fault j) q = tt
 
       by_own : (o : Option Own) → own_in c k ≡ o → Comes z (settled x (co_placing o ds ys (with_values c vs))) After
       by_own None e =
-          subst (λ m. After z (with_values c (put_down (place_numbers (no_place m)) vs))) (sym t) (more 0 (omega arith, λ o' e'. absurd (let v : None ≡ Some o' = sym e ∙ e' in cc)))
+          subst (λ m. After z (with_values c (put_down (place_numbers (no_place m)) vs))) (sym t) (more 0 (omega arith))
       by_own (Some o) e = by_found o e (place_within o.bounds (subscripts_in ds ys)) refl
 
   -- ---- the owner

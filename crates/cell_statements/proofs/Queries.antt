@@ -83,7 +83,7 @@ module _ (n me : ℕ) (coarrays : List Declared) (there : IsOneOf n me) (e : Env
   pieces_turn hs (suc (suc zero)) = hs
   pieces_turn hs (suc (suc (suc d))) = idle
 
-  pieces_quiet : (d : ℕ) → Safe false (piece_of pieces d).parts
+  pieces_quiet : (d : ℕ) → Safe (piece_of pieces d).parts
   pieces_quiet zero = both (quiet_subscripts e ss) (both (one tt) (quiet_owner e k 0 sel))
   pieces_quiet (suc zero) = quiet_result e count
   pieces_quiet (suc (suc zero)) = quiet_place e stat
@@ -93,7 +93,7 @@ module _ (n me : ℕ) (coarrays : List Declared) (there : IsOneOf n me) (e : Env
   all_turn hs [] = idle
   all_turn hs (d ∷ ds) = closes (part (pieces_turn hs d) ⨾ part (all_turn hs ds)) (omega arith)
 
-  all_quiet : (ds : List ℕ) → Safe false (evaluating pieces ds)
+  all_quiet : (ds : List ℕ) → Safe (evaluating pieces ds)
   all_quiet [] = no_parts
   all_quiet (d ∷ ds) = both (pieces_quiet d) (all_quiet ds)
 
@@ -101,7 +101,7 @@ module _ (n me : ℕ) (coarrays : List Declared) (there : IsOneOf n me) (e : Env
   one_cell : (sl : t.Selector) → ranks.IsPart e.program.procedures (t.part (objects.Coarray k) ss sl) 0 → (vs : List ℤ) (After : Sizes → Core → Type 0) (y : Sizes) (c : Core) → IsSound n me y c → c.values ≡ vs
       → ((u : Sizes) (d : Core) (o j : ℕ) (ps : List ℤ) → IsSound n me u d → j < most_cells → length ps ≡ view.optional_size (view.stat_of sl) → d.values ≡ pos o ∷ pos j ∷ (ps ++ vs) → After u d)
       → On (control.cell e (t.part (objects.Coarray k) ss sl)) After y c
-  one_cell t.no_selector g vs After y c i v more = own_celled n me coarrays there e k ss g.0 g.1 vs After y c i v (λ u d o j x one' p w. more u d o j [] x p.0 refl w)
+  one_cell t.no_selector g vs After y c i v more = own_celled n me coarrays there e k ss g.0 g.1 vs After y c i v (λ u d o j x one' p w. more u d o j [] x p refl w)
   one_cell (t.selector cs which st) g vs After y c i v more = celled n me coarrays e k ss cs which st g vs After y c i v (λ u d o j ps x one' small l w. more u d o j ps x small l w)
 
   -- what stands there behind the arguments
@@ -175,7 +175,7 @@ module _ (n me : ℕ) (coarrays : List Declared) (there : IsOneOf n me) (e : Env
           closes (part (stored (depth pieces ds 1 + 1) (depth pieces ds 1 + view.result_size count) count (omega arith) (omega arith)) ⨾ part (number_pushed (pos 0))
           ⨾ part (status_settled stat (depth pieces ds 2 + 1) (depth pieces ds 2 + view.optional_size stat) [] (omega arith) (omega arith)) ⨾ part (dropped (sizes pieces ds))) (omega arith)
 
-      rest_quiet : Safe false rest
+      rest_quiet : Safe rest
       rest_quiet = both (quiet_storing (depth pieces ds 1 + 1) count) (both (one tt) (both (quiet_settling stat (depth pieces ds 2 + 1) []) (quiet_dropping (sizes pieces ds))))
 
       asked_here : (y : Sizes) (c : Core) (j : ℕ) (xs : List ℤ) → IsSound n me y c → j < most_cells → length xs ≡ sizes pieces ds
