@@ -1,5 +1,5 @@
 -- The blocks of a program fit.
-use Rattle.std.proofs.Common.{◌≡◌, ℕ, zero, suc, Bool, true, false, List, [], ◌∷◌}
+use Rattle.std.proofs.Common.{ℕ, zero, suc, List, [], ◌∷◌}
 use Rattle.std.specs.Prelude.{pos}
 use Rattle.walk_theory.specs.Syntax.{Parts, Steps, body_of}
 use Rattle.code_heights.specs.MadeHeights.{Leaves, IsEvenForm, AreEven}
@@ -15,7 +15,7 @@ use Rattle.image_acts.specs.Acts as a
 use Rattle.image_acts.specs.Acts.{Act, here, host}
 use Rattle.image_code.specs.Levels.{of_numbers, tested_of, taken_of, left_of}
 use Rattle.tree_meaning.specs.Environment.{Environment, scope_of, kind_of, procedure_in, hidden_cell}
-use Rattle.tree_meaning.specs.Sequences.{pushing, released}
+use Rattle.tree_meaning.specs.Sequences.{released}
 use Rattle.tree_meaning.specs.Expressions as view
 use Rattle.tree_meaning.specs.Assignments as assignments
 use Rattle.tree_meaning.specs.ImageControl as control

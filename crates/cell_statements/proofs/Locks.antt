@@ -1,5 +1,5 @@
 -- LOCK, UNLOCK, EVENT POST and EVENT WAIT.
-use Rattle.std.proofs.Common.{◌≡◌, ◌∙◌, ℕ, ◌+◌, ◌<◌, ◌≤◌, Bool, true, false, max, List, [], ◌∷◌, ◌++◌, length, refl, ap, sym, subst, append_assoc, arith}
+use Rattle.std.proofs.Common.{◌≡◌, ◌∙◌, ℕ, ◌+◌, ◌<◌, ◌≤◌, true, max, List, [], ◌∷◌, ◌++◌, length, refl, ap, sym, subst, append_assoc, arith}
 use Rattle.std.specs.Prelude.{ℤ, pos, slice_get}
 use Rattle.caf_base.specs.Arithmetic.{natural}
 use Rattle.caf_events.specs.declared.ask.Ask.TheVariants as asks

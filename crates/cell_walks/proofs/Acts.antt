@@ -1,5 +1,5 @@
 -- Each act but one that asks for a lock or an event fits, and keeps the invariant.
-use Rattle.std.proofs.Common.{◌≡◌, ◌∙◌, ℕ, zero, suc, ◌*◌, Bool, true, false, cond, List, [], ◌∷◌, ◌++◌, map, length, refl, ap, sym, subst}
+use Rattle.std.proofs.Common.{◌≡◌, ℕ, zero, suc, ◌*◌, Bool, true, false, cond, List, [], ◌∷◌, ◌++◌, map, length, refl, sym, subst}
 use Rattle.std.specs.Prelude.{ℤ, pos, ◌-◌, nat_lt, slice_set, Option, None, Some}
 use Rattle.trace_theory.specs.Entries.{Each}
 use Rattle.caf_base.specs.declared.place.ImageNo.{ImageNo}
@@ -14,7 +14,7 @@ use Rattle.core_runs.specs.Beginnings.{IsOneOf}
 use Rattle.image_acts.specs.Words.{word}
 use Rattle.image_acts.specs.Acts as a
 use Rattle.image_acts.specs.Acts.{Act, constant, stack, variable, operator, bounded, allocation, selector, team, call, print, ask}
-use Rattle.image_acts.specs.Core.{Core, Own, Team, with_values}
+use Rattle.image_acts.specs.Core.{Core, Team, with_values}
 use Rattle.image_acts.specs.Frames.{with_cell}
 use Rattle.image_acts.specs.Teams.{is_in, current_team}
 use Rattle.image_acts.specs.Replies.{leave_reply, fitting}

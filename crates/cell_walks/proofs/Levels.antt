@@ -1,12 +1,12 @@
 -- Parts that ask for no lock and for no event fit, and leave as many numbers as their heights say.
-use Rattle.std.proofs.Common.{◌≡◌, ◌∙◌, ℕ, suc, ◌+◌, ◌≤◌, Bool, true, false, List, [], ◌∷◌, ◌++◌, length, refl, ap, sym, subst, append_assoc, arith}
-use Rattle.std.specs.Prelude.{ℤ, ◌-◌, ◌||◌, Option}
+use Rattle.std.proofs.Common.{◌≡◌, ◌∙◌, ℕ, suc, ◌+◌, ◌≤◌, List, [], ◌∷◌, ◌++◌, length, refl, ap, sym, subst, append_assoc, arith}
+use Rattle.std.specs.Prelude.{ℤ, ◌-◌}
 use Rattle.walk_theory.specs.Syntax.{Parts, end_parts, value, act, enter, either}
 use Rattle.code_heights.specs.MadeHeights.{after, Balanced}
 use Rattle.object_rules.specs.Cells.{Declared}
 use Rattle.image_acts.specs.Acts as a
 use Rattle.image_acts.specs.Acts.{Act, allocation, ask}
-use Rattle.image_acts.specs.Core.{Core, Own, with_values}
+use Rattle.image_acts.specs.Core.{Core, with_values}
 use Rattle.image_acts.specs.Operate.Allocating.{bounds_size, cobounds_size}
 use Rattle.image_acts.specs.Meaning.{effect_of}
 use Rattle.image_code.specs.Levels.{of_numbers, tested_of, taken_of, left_of}

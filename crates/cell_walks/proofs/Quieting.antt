@@ -1,5 +1,5 @@
 -- Parts that ask for no lock and for no event, as they are put together.
-use Rattle.std.proofs.Common.{ℕ, ◌+◌, Bool, true, false, cond, refl}
+use Rattle.std.proofs.Common.{ℕ, ◌+◌, Bool, true, false, cond}
 use Rattle.walk_theory.specs.Syntax.{Parts, end_parts, value, act, enter, either}
 use Rattle.image_acts.specs.Acts as a
 use Rattle.image_acts.specs.Acts.{Act, allocation, ask}

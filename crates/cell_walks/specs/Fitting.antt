@@ -1,5 +1,5 @@
 -- Which asks for one cell of a memory fit (ISO/IEC 1539-1:2018, 9.6, 11.6.7, 11.6.8, 11.6.10, 16.10.2), along the walk of a program.
-use Rattle.std.specs.Prelude.{ℕ, ◌≡◌, ◌≤◌, ◌<◌, ℤ, Bool, true, map, slice_get, List, [], ◌∷◌, Option, Some, None}
+use Rattle.std.specs.Prelude.{ℕ, ◌≡◌, ◌≤◌, ◌<◌, ℤ, true, map, slice_get, List, [], ◌∷◌, Option, Some, None}
 use Rattle.trace_theory.specs.Entries.{Each}
 use Rattle.trace_theory.specs.Machines.{Said}
 use Rattle.coarray_types.specs.Places.{size_of}
