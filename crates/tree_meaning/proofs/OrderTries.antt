@@ -83,9 +83,10 @@ deallocated : said (summing (function_of [] (scalar int âˆ· []) 0 ((6, frees) âˆ
 unfolding allocatable upto frees function_of summed f_of summing gathers_five
 deallocated = refl
 
--- The event of an EVENT WAIT is allocated anew while its count is evaluated: the ask is for its cell as it is then, and where there is none it is a fault.
--- `type(event_type), allocatable :: e(:)[:]`, `allocate (e(3)[*])`, `event wait (e(3), until_count=f())`, `contains`, `integer function f()`,
--- `deallocate (e)`, `allocate (e(n)[*])`, `f = 1`, `end`, `end`, with n = 3 and n = 1.
+-- The event of an EVENT WAIT is allocated anew while its count is evaluated: the ask is for its cell as it is then, and
+-- where there is none it is a fault. `type(event_type), allocatable :: e(:)[:]`, `allocate (e(3)[*])`,
+-- `event wait (e(3), until_count=f())`, `contains`, `integer function f()`, `deallocate (e)`, `allocate (e(n)[*])`,
+-- `f = 1`, `end`, `end`, with n = 3 and n = 1.
 events : Variable
 events = record { name = []; of_type = types.Event; dimensions = dimensions.Deferred 1; codimensions = codimensions.Deferred 1; is_allocatable = true; initial = initials.Unstated }
 
