@@ -741,7 +741,8 @@ fn push_intrinsic(
         }
         Intrinsic::TeamNumber { team } => {
             push_team_of(draft, env, team, line)?;
-            draft.push(Step::TeamNumber, line)
+            draft.push(Step::TeamNumber, line)?;
+            draft.push(Step::Fits(kind, 0), line)
         }
         Intrinsic::GetTeam { level } => push_team_of_level(draft, env, level, line),
     }

@@ -188,7 +188,6 @@ pub fn push_query(
 {
     let coarray = coarray_of(env, event);
     push_evaluating(draft, env, arguments, dummies, line)?;
-    draft.push(Step::NeedsOwn(coarray), line)?;
     push_fetching(draft, env, arguments, dummies, 0, 0, 2, line)?;
     push_drop(draft, 1, line)?;
     draft.push(Step::Ask(AskStep::Query(coarray)), line)?;

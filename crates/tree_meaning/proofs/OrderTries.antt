@@ -1,11 +1,13 @@
 -- Which of two faults comes first, and when the argument of a collective is read: what the walks of small programs ask, worked out by hand.
-use Rattle.std.proofs.Common.{◌≡◌, refl, ℕ, pos, true, List, [], ◌∷◌, codes, Some}
+use Rattle.std.proofs.Common.{◌≡◌, refl, ℕ, pos, true, List, [], ◌∷◌, ◌++◌, codes, Some}
 use Rattle.std.specs.Fmt.{digits}
 use Rattle.caf_base.specs.declared.value.Kind.TheVariants as kinds
 use Rattle.caf_base.specs.declared.value.Value.TheVariants as values
 use Rattle.caf_events.specs.declared.ask.Ask.{Ask}
 use Rattle.caf_events.specs.declared.ask.Ask.TheVariants as asks
 use Rattle.caf_events.specs.declared.fault.FaultKind.TheVariants as faulty
+use Rattle.caf_events.specs.declared.reply.Reply.{Reply}
+use Rattle.caf_events.specs.declared.round.Arriving.TheVariants as arrivals
 use Rattle.caf_events.specs.declared.round.GatherOp.TheVariants as gathers
 use Rattle.walk_theory.specs.Language as language
 use Rattle.checked_tree.specs.declared.action.Combination.TheVariants as combinations
@@ -15,6 +17,7 @@ use Rattle.checked_tree.specs.declared.data.Dimensions.TheVariants as dimensions
 use Rattle.checked_tree.specs.declared.data.Initial.TheVariants as initials
 use Rattle.checked_tree.specs.declared.data.Object.TheVariants as objects
 use Rattle.checked_tree.specs.declared.data.Variable.{Variable}
+use Rattle.checked_tree.specs.declared.expr.WrittenOrder.TheVariants as orders
 use Rattle.checked_tree.specs.declared.program.Dummy.{Dummy}
 use Rattle.checked_tree.specs.Expressions as t
 use Rattle.checked_tree.specs.Statements as s
@@ -24,7 +27,7 @@ use Rattle.image_acts.specs.Faults.{shape_fault, not_allocated}
 use Rattle.image_acts.specs.Operate.Variables.{variable_effect}
 use Rattle.tree_meaning.specs.Start.{first_core}
 use Rattle.tree_meaning.proofs.SmallTrees.{int, var, scalar, array, own, of_host, num, v, target, el, one, set, print, unit, program}
-use Rattle.tree_meaning.proofs.SmallAsks.{ints, prints, stops, faults, done, round, took}
+use Rattle.tree_meaning.proofs.SmallAsks.{ints, at, arrives, leaves, prints, stops, faults, done, round, left, took}
 use Rattle.tree_meaning.proofs.Trying.{said, values_there}
 
 allocatable : Variable
@@ -79,6 +82,40 @@ deallocated : said (summing (function_of [] (scalar int ∷ []) 0 ((6, frees) �
     ≡ (gathers_five, 3) ∷ (asks.Take (record { 0 = 1 }) 1, 3) ∷ (faults faulty.NotAllocated, 3) ∷ []
 unfolding allocatable upto frees function_of summed f_of summing gathers_five
 deallocated = refl
+
+-- The event of an EVENT WAIT is allocated anew while its count is evaluated: the ask is for its cell as it is then, and
+-- where there is none it is a fault. `type(event_type), allocatable :: e(:)[:]`, `allocate (e(3)[*])`,
+-- `event wait (e(3), until_count=f())`, `contains`, `integer function f()`, `deallocate (e)`, `allocate (e(n)[*])`,
+-- `f = 1`, `end`, `end`, with n = 3 and n = 1.
+events : Variable
+events = record { name = []; of_type = types.Event; dimensions = dimensions.Deferred 1; codimensions = codimensions.Deferred 1; is_allocatable = true; initial = initials.Unstated }
+
+makes_events : ℕ → s.StatementForm
+makes_events n = s.allocate (s.allocate_coarray 0 (upto n ∷ []) [] t.missing ∷ []) t.no_result
+
+waiting : ℕ → s.Program
+waiting n = record (program (events ∷ []) (0 ∷ []) 0
+    ((2, makes_events 3) ∷ (3, s.event_wait (t.part (objects.Coarray 0) (t.more_subscripts (t.element (num (pos 3))) t.no_subscripts) t.no_selector) (t.given (f_of t.no_arguments)) t.no_result orders.Same) ∷ []) 10) {
+      procedures = function_of [] (scalar int ∷ []) 0 ((6, s.deallocate (objects.Coarray 0 ∷ []) t.no_result) ∷ (7, makes_events n) ∷ (8, set 0 (num (pos 1))) ∷ []) ∷ [];
+    }
+
+-- what n events say that are allocated by round r on line l
+made : (n r l : ℕ) → List (Ask × ℕ)
+made n r l = (asks.Create (record { 0 = 1 }) 0 n, l) ∷ (arrives 1 (arrivals.Allocate (record { coarray = 0; dims = (pos 1, pos n) ∷ []; codims = []; last = pos 1 } ∷ [])), l) ∷ (leaves 1 r, l) ∷ []
+
+freed : List (Ask × ℕ)
+freed = (arrives 1 (arrivals.Deallocate (0 ∷ [])), 6) ∷ (leaves 1 2, 6) ∷ (asks.Delete (record { 0 = 1 }) 0, 6) ∷ []
+
+all_made : List Reply
+all_made = done ∷ round 1 ∷ left 0 ∷ round 2 ∷ left 0 ∷ done ∷ done ∷ round 3 ∷ left 0 ∷ []
+
+event_anew : said (waiting 3) 100 1 1 all_made ≡ made 3 1 2 ++ (freed ++ (made 3 3 7 ++ (asks.Wait (record { 0 = 1 }) (at 0 2) 1, 3) ∷ []))
+unfolding events upto makes_events function_of f_of waiting made freed all_made
+event_anew = refl
+
+event_gone : said (waiting 1) 100 1 1 all_made ≡ made 3 1 2 ++ (freed ++ (made 1 3 7 ++ (faults faulty.NotAllocated, 3) ∷ []))
+unfolding events upto makes_events function_of f_of waiting made freed all_made
+event_gone = refl
 
 -- A scalar argument that the other one changes: `integer :: a = 1`, `call co_sum(a, f(a))`, `print *, a`, where f has `x = 5`, `f = 1`, gathers and prints 1.
 changed : s.Program

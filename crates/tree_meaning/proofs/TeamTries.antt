@@ -59,6 +59,15 @@ fails_inside : said two_teams 100 2 6 (round 1 ∷ formed ∷ round 1 ∷ left 0
 unfolding two_teams formed to team_var both
 fails_inside = refl
 
+-- TEAM_NUMBER is of kind 4, whatever FORM TEAM's number is: of a team with number 3000000000 it is Overflow
+wide_number : said (program (scalar types.Team ∷ []) [] 0
+    ((4, s.form_team (t.typed (t.number (pos 3000000000)) (types.Intrinsic kinds.I8) 0) (own 0) t.missing t.no_result orders.Same)
+    ∷ (5, s.change_team (team_var 0) t.no_result (block ((6, print (s.value (t.typed (t.intrinsic (t.number_of_team t.missing)) int 0) ∷ [])) ∷ [])) t.no_result 7) ∷ []) 8) 100 1 1
+    (round 1 ∷ replies.Left (pos 0) (record { team = record { 0 = 2 }; number = pos 3000000000; members = record { 0 = 1 } ∷ [] } ∷ []) ∷ round 1 ∷ left 0 ∷ [])
+    ≡ (arrives 1 (arrivals.Form (pos 3000000000) (pos 0)), 4) ∷ (leaves 1 1, 4) ∷ (arrives 2 arrivals.Change, 5) ∷ (leaves 2 1, 5) ∷ (faults faulty.Overflow, 6) ∷ []
+unfolding team_var
+wide_number = refl
+
 -- CHANGE TEAM of a team variable that was never set
 no_team : said (program (scalar types.Team ∷ []) [] 0 ((1, s.change_team (team_var 0) t.no_result s.no_statements t.no_result 2) ∷ []) 3) 100 1 2 [] ≡ (faults faulty.NoTeam, 1) ∷ []
 unfolding team_var

@@ -410,6 +410,6 @@ module _ (e : Environment) where
     intrinsic (t.image_status i which o) k = as_written o (expression i) (team_of which) ▸ doing (selector a.team_value ∷ ask a.status ∷ [])
     intrinsic (t.failed_images which) k = team_of which ▸ doing (ask a.failed ∷ stack a.take_cells ∷ [])
     intrinsic (t.stopped_images which) k = team_of which ▸ doing (ask a.stopped ∷ stack a.take_cells ∷ [])
-    intrinsic (t.number_of_team which) k = team_of which ▸ doing (selector a.team_number ∷ [])
+    intrinsic (t.number_of_team which) k = team_of which ▸ doing (selector a.team_number ∷ operator (a.fits k 0) ∷ [])
     intrinsic (t.get_team t.missing) k = doing (selector a.this_team ∷ [])
     intrinsic (t.get_team (t.given level)) k = expression level ▸ doing (selector a.get_team ∷ [])

@@ -78,7 +78,7 @@ module _ (e : Environment) where
   -- EVENT_QUERY (16.9.72) of this image's event
   abbrev pub query : List Piece → List ℕ → t.Designator → t.ResultVariable → t.OptionalResult → Parts Act
   query ps ds d count stat =
-      evaluating ps ds ▸ doing (bounded (a.needs_own (cell_coarray e d)) ∷ []) ▸ fetching ps ds 0 0 2 ▸ dropping 1 ▸ doing (ask (a.query (cell_coarray e d)) ∷ [])
+      evaluating ps ds ▸ fetching ps ds 0 0 2 ▸ dropping 1 ▸ doing (ask (a.query (cell_coarray e d)) ∷ [])
       ▸ storing (depth ps ds 1 + 1) count ▸ pushing (pos 0) ▸ settling stat (depth ps ds 2 + 1) [] ▸ dropping (sizes ps ds)
 
   -- an array takes its evaluation cells; a scalar becomes an array of one element
