@@ -1,5 +1,4 @@
 pub mod SameNames
-pub mod SameTrees
 pub mod OwnTree
 pub mod Trees
 mod RuleTries

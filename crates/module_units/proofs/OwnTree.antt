@@ -5,12 +5,12 @@ use Rattle.fortran_tree.specs.declared.name.Name.{Name}
 use Rattle.fortran_tree.specs.declared.statement.End.{End}
 use Rattle.fortran_tree.specs.Units as u
 use Rattle.fortran_tree.specs.Units.{Body, Heading, Procedure, Program}
-use Rattle.module_units.specs.Renamed as v
+use Rattle.unit_references.specs.Renamed as v
 use Rattle.module_units.specs.Visible.{Scope, procedure_scope, scope_of, main_placed, locals_of, heading_of}
 use Rattle.module_units.specs.Flat.{spelled, flat_body, flat_end, flat_heading, flat_procedure, owned_name, first_use}
 use Rattle.module_units.specs.Laws.{use_of, file_of, OwnTree}
 use Rattle.module_units.proofs.SameNames.{plain_uses, spelled_same}
-use Rattle.module_units.proofs.SameTrees.{Same, two, three, same_list, same_option, same_name, same_prefix, same_body}
+use Rattle.unit_references.proofs.SameTrees.{Same, two, three, same_list, same_option, same_name, same_prefix, same_body}
 
 same_end : (x : End) → flat_end None x ≡ x
 same_end x = ap (λ n. record { name = n; at = x.at }) (same_option (owned_name None) (λ n. refl) x.name)

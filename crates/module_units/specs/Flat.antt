@@ -9,7 +9,7 @@ use Rattle.fortran_tree.specs.Units as u
 use Rattle.fortran_tree.specs.Units.{Procedure, Program}
 use Rattle.unit_tree.specs.Files.{Use, Module, UnitFile}
 use Rattle.rule_definitions.specs.Units.{is_module}
-use Rattle.module_units.specs.Renamed as r
+use Rattle.unit_references.specs.Renamed as r
 use Rattle.module_units.specs.Visible.{Entity, of_module, of_main, of_procedure, of_environment, intrinsic, Denoted, one, Scope, denoted, procedure_scope, Placed, scope_of, placed_modules, main_placed}
 
 -- the name of a module's entity

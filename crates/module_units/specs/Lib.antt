@@ -1,5 +1,3 @@
-pub mod References
-pub mod Renamed
 pub mod Visible
 pub mod UnitRules
 pub mod Flat

@@ -10,7 +10,7 @@ use Rattle.rule_definitions.specs.Judgements.{breaks, unless}
 use Rattle.rule_definitions.specs.Names.{is_among}
 use Rattle.rule_definitions.specs.Statements.{end_breaks}
 use Rattle.rule_definitions.specs.Units.{text_of}
-use Rattle.module_units.specs.References as r
+use Rattle.unit_references.specs.References as r
 use Rattle.module_units.specs.Visible.{Entity, Denoted, nothing, one, several, of_environment, intrinsic, Given, ProgramUnit, declared, Known, found_module, has_name, Scope, denoted, procedure_scope, Placed, scope_of, placed_modules, main_placed}
 
 -- Rule 20 (14.2.2): a module that is neither ISO_FORTRAN_ENV nor earlier in the file; a name in ONLY or behind `=>`
