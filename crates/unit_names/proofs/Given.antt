@@ -55,7 +55,7 @@ as_cond : (b : Bool) (new x : List ℕ) (e : Entity) (rest gs : List Given) (n :
 as_cond true new x e rest gs n i = as_new (bytes_eq new x) new x e rest gs n refl i
 as_cond false new x e rest gs n i = i
 
-none_cond : (b : Bool) → nothing ≡ cond b nothing nothing
+pub none_cond : (b : Bool) → nothing ≡ cond b nothing nothing
 none_cond true = refl
 none_cond false = refl
 

@@ -4,7 +4,7 @@ ghost use Rattle.std.specs.Prelude.{◌≡◌, ◌++◌, ◌∷◌, OnOk, map};
 ghost use Rattle.fortran_tree.specs.ActionViews as view;
 ghost use Rattle.fortran_tree.specs.ExpressionViews as exprs;
 ghost use Rattle.unit_references.specs.References as names;
-ghost use Rattle.unit_references.specs.Written.{control_names};
+ghost use Rattle.unit_references.specs.Written.{control_names, event_names};
 
 use crate::declaration::{add_dimensions, add_maybe, add_maybe_coshape};
 use crate::expr::{add_arguments, add_designator, add_expr, add_specifiers};
@@ -32,10 +32,7 @@ fn add_items<'a>(refs: &mut References<'a>, items: &'a [Item]) -> Result<(), NoM
     Ok(())
 }
 
-fn add_allocation<'a>(
-    refs: &mut References<'a>,
-    allocation: &'a Allocation,
-) -> Result<(), NoMemory>
+fn add_allocation<'a>(refs: &mut References<'a>, allocation: &'a Allocation) -> Result<(), NoMemory>
     ensures { OnOk result (refs.new ≡ refs.old ++ names.allocation (view.allocation allocation.now)) }
 {
     refs.add_name(&allocation.name)?;
@@ -43,10 +40,7 @@ fn add_allocation<'a>(
     add_maybe_coshape(refs, &allocation.cobounds)
 }
 
-fn add_allocations<'a>(
-    refs: &mut References<'a>,
-    objects: &'a [Allocation],
-) -> Result<(), NoMemory>
+fn add_allocations<'a>(refs: &mut References<'a>, objects: &'a [Allocation]) -> Result<(), NoMemory>
     ensures { OnOk result (refs.new ≡ refs.old ++ names.each names.allocation (map view.allocation objects.now)) }
 {
     for object in objects {
@@ -88,13 +82,37 @@ fn add_maybe_specifiers<'a>(
     }
 }
 
-fn add_images<'a>(refs: &mut References<'a>, images: &'a ImageSet) -> Result<(), NoMemory>
+fn add_set<'a>(refs: &mut References<'a>, images: &'a ImageSet) -> Result<(), NoMemory>
     ensures { OnOk result (refs.new ≡ refs.old ++ names.image_set (view.image_set images.now)) }
 {
     match images {
         ImageSet::All => Ok(()),
         ImageSet::Images(expr) => add_expr(refs, expr),
     }
+}
+
+// The names of SYNC IMAGES.
+fn add_images<'a>(
+    refs: &mut References<'a>,
+    images: &'a ImageSet,
+    specifiers: &'a [Specifier],
+) -> Result<(), NoMemory>
+    ensures { OnOk result (refs.new ≡ refs.old ++ (names.image_set (view.image_set images.now) ++ names.specifiers (exprs.specifiers specifiers.now))) }
+{
+    add_set(refs, images)?;
+    add_specifiers(refs, specifiers)
+}
+
+// The names of SYNC TEAM.
+fn add_sync_team<'a>(
+    refs: &mut References<'a>,
+    team: &'a Expr,
+    specifiers: &'a [Specifier],
+) -> Result<(), NoMemory>
+    ensures { OnOk result (refs.new ≡ refs.old ++ (names.expression (exprs.expression team.now) ++ names.specifiers (exprs.specifiers specifiers.now))) }
+{
+    add_expr(refs, team)?;
+    add_specifiers(refs, specifiers)
 }
 
 // The names of ALLOCATE.
@@ -221,19 +239,38 @@ fn add_control<'a>(refs: &mut References<'a>, action: &'a ActionForm) -> Result<
     match action {
         ActionForm::SyncAll { specifiers } => add_maybe_specifiers(refs, specifiers),
         ActionForm::SyncMemory { specifiers } => add_maybe_specifiers(refs, specifiers),
-        ActionForm::SyncImages { images, specifiers } => {
-            add_images(refs, images)?;
-            add_specifiers(refs, specifiers)
-        }
-        ActionForm::SyncTeam { team, specifiers } => {
-            add_expr(refs, team)?;
-            add_specifiers(refs, specifiers)
-        }
+        ActionForm::SyncImages { images, specifiers } => add_images(refs, images, specifiers),
+        ActionForm::SyncTeam { team, specifiers } => add_sync_team(refs, team, specifiers),
         ActionForm::FormTeam {
             number,
             team,
             specifiers,
         } => add_team(refs, number, team, specifiers),
+        ActionForm::Lock { .. }
+        | ActionForm::Unlock { .. }
+        | ActionForm::EventPost { .. }
+        | ActionForm::EventWait { .. } => add_event(refs, action),
+        ActionForm::Assignment { .. }
+        | ActionForm::Call { .. }
+        | ActionForm::Print { .. }
+        | ActionForm::Exit { .. }
+        | ActionForm::Cycle { .. }
+        | ActionForm::Return
+        | ActionForm::Stop { .. }
+        | ActionForm::ErrorStop { .. }
+        | ActionForm::FailImage
+        | ActionForm::Allocate { .. }
+        | ActionForm::Deallocate { .. }
+        | ActionForm::If { .. } => Ok(()),
+    }
+}
+
+// The names in a statement of a lock or an event.
+#[tactic(auto, using(crate::proofs::Behind::action_laws))]
+fn add_event<'a>(refs: &mut References<'a>, action: &'a ActionForm) -> Result<(), NoMemory>
+    ensures { OnOk result (refs.new ≡ refs.old ++ event_names (view.action_statement action.now)) }
+{
+    match action {
         ActionForm::Lock {
             variable,
             specifiers,
@@ -250,6 +287,22 @@ fn add_control<'a>(refs: &mut References<'a>, action: &'a ActionForm) -> Result<
             variable,
             specifiers,
         } => add_variable(refs, variable, specifiers),
-        _ => Ok(()),
+        ActionForm::Assignment { .. }
+        | ActionForm::Call { .. }
+        | ActionForm::Print { .. }
+        | ActionForm::Exit { .. }
+        | ActionForm::Cycle { .. }
+        | ActionForm::Return
+        | ActionForm::Stop { .. }
+        | ActionForm::ErrorStop { .. }
+        | ActionForm::FailImage
+        | ActionForm::Allocate { .. }
+        | ActionForm::Deallocate { .. }
+        | ActionForm::SyncAll { .. }
+        | ActionForm::SyncMemory { .. }
+        | ActionForm::SyncImages { .. }
+        | ActionForm::SyncTeam { .. }
+        | ActionForm::FormTeam { .. }
+        | ActionForm::If { .. } => Ok(()),
     }
 }

@@ -106,10 +106,8 @@ fn add_attribute<'a>(refs: &mut References<'a>, attribute: &'a Attribute) -> Res
     match attribute {
         Attribute::Dimension(dimensions) => add_dimensions(refs, dimensions),
         Attribute::Codimension(coshape) => add_coshape(refs, coshape),
-        Attribute::Parameter
-        | Attribute::Allocatable
-        | Attribute::Save
-        | Attribute::Intent(_) => Ok(()),
+        Attribute::Parameter | Attribute::Allocatable | Attribute::Save | Attribute::Intent(_) =>
+            Ok(()),
     }
 }
 

@@ -30,7 +30,10 @@ pub fn add_expr<'a>(refs: &mut References<'a>, expr: &'a Expr) -> Result<(), NoM
         Expr::ArrayConstructor { values, .. } => add_exprs(refs, values),
         Expr::Prefix { operand, .. } => add_expr(refs, operand),
         Expr::Binary {
-            left, right, links, ..
+            left,
+            right,
+            links,
+            ..
         } => {
             add_expr(refs, left)?;
             add_expr(refs, right)?;

@@ -104,13 +104,17 @@ fn add_statement<'a>(refs: &mut References<'a>, statement: &'a Statement) -> Res
             add_statements(refs, body)
         }
         Statement::SelectCase {
-            expression, cases, ..
+            expression,
+            cases,
+            ..
         } => {
             add_expr(refs, expression)?;
             add_cases(refs, cases)
         }
         Statement::Critical {
-            specifier, body, ..
+            specifier,
+            body,
+            ..
         } => {
             add_bracketed(refs, specifier)?;
             add_statements(refs, body)
@@ -156,10 +160,7 @@ fn add_else_ifs<'a>(refs: &mut References<'a>, else_ifs: &'a [ElseIf]) -> Result
 }
 
 #[cycle(statements)]
-fn add_else<'a>(
-    refs: &mut References<'a>,
-    otherwise: &'a Option<Otherwise>,
-) -> Result<(), NoMemory>
+fn add_else<'a>(refs: &mut References<'a>, otherwise: &'a Option<Otherwise>) -> Result<(), NoMemory>
     ensures { OnOk result (refs.new ≡ refs.old ++ names.else_block (view.else_block otherwise.now)) }
 {
     match otherwise {
