@@ -101,3 +101,5 @@ pub joined_twice : (a : Denoted) → joined a a ≡ a
 joined_twice nothing = refl
 joined_twice several = refl
 joined_twice (one x) = ap (λ k. cond k (one x) several) (same_self x)
+
+pub ruleset joined_laws = (joined_three, nothing_before)

@@ -40,3 +40,8 @@ row p = record { name = p.0.items; denoted = found p.1 }
 -- the bytes of slices
 abbrev pub texts : List (Bor (List ℕ)) → List (List ℕ)
 texts xs = map (λ x. x.now) xs
+
+-- what a map has under a name
+abbrev pub found_in : Option Found → Denoted
+found_in None = nothing
+found_in (Some f) = found f

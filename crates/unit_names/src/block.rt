@@ -3,7 +3,8 @@
 ghost use Rattle.std.specs.Prelude.{◌≡◌, ◌+◌, ℕ, List, [], cond, false, bytes_eq, length, OnOk};
 ghost use Rattle.rule_definitions.specs.Names.{is_among};
 ghost use Rattle.module_units.specs.Visible.{nothing};
-ghost use Rattle.unit_names.specs.Found.{found, joined as joined_seen, under, texts};
+ghost use Rattle.std.specs.Option.{option_copied};
+ghost use Rattle.unit_names.specs.Found.{found, found_in, joined as joined_seen, under, texts};
 
 use crate::entity::{Found, joined};
 use caf_base::refusal::NoMemory;
@@ -46,10 +47,7 @@ impl<'a> Block<'a> {
     pub fn find(&self, name: &[u8]) -> Found<'a>
         ensures { found result ≡ under self.now name.now }
     {
-        match self.map.get(name) {
-            Some(here) => *here,
-            None => Found::Nothing,
-        }
+        given(self.map.get(name))
     }
 
     /// The names, under no other of which anything is given.
@@ -68,5 +66,15 @@ impl<'a> Block<'a> {
         self.names.push(name)?;
         self.map.insert(key, all)?;
         Ok(())
+    }
+}
+
+// What a map has under a name.
+fn given<'a>(here: Option<&Found<'a>>) -> Found<'a>
+    ensures { found result ≡ found_in (option_copied here.entry) }
+{
+    match here {
+        Some(here) => *here,
+        None => Found::Nothing,
     }
 }

@@ -42,7 +42,7 @@ fn counted<S: Spells>(
     bounds: (&Expr, &Expr),
     step: &Option<Expr>,
 ) -> Result<LoopControl, NoMemory>
-    ensures { IfOk result (λ c. view.loop_control c ≡ tree.counted (renamed.name (S.spelling names.now) variable.now) (renamed.expression (S.spelling names.now) (exprs.expression bounds.0.now)) (renamed.expression (S.spelling names.now) (exprs.expression bounds.1.now)) (option_map (renamed.expression (S.spelling names.now)) (maybe_expression step.now))) }
+    ensures { IfOk result (λ c. view.loop_control c ≡ tree.counted (renamed.name (S.spelling names.now) variable.now) (renamed.expression (S.spelling names.now) (exprs.expression bounds.entry.0.now)) (renamed.expression (S.spelling names.now) (exprs.expression bounds.entry.1.now)) (option_map (renamed.expression (S.spelling names.now)) (maybe_expression step.now))) }
 {
     let (first, last) = bounds;
     let variable = spelled_name(names, variable)?;
@@ -178,7 +178,7 @@ fn do_of<S: Spells>(
     at: Pos,
     end: &End,
 ) -> Result<Statement, NoMemory>
-    ensures { IfOk result (λ s. view.statement s ≡ tree.do_construct head.0.now (renamed.loop_control (S.spelling names.now) (view.loop_control head.1.now)) (statement_list body.items) at end.now) }
+    ensures { IfOk result (λ s. view.statement s ≡ tree.do_construct head.entry.0.now (renamed.loop_control (S.spelling names.now) (view.loop_control head.entry.1.now)) (statement_list body.items) at end.now) }
 {
     let (construct, control) = head;
     let control = spelled_control(alloc, names, control)?;
@@ -265,7 +265,7 @@ fn team_of<S: Spells>(
     at: Pos,
     end: Pos,
 ) -> Result<Statement, NoMemory>
-    ensures { IfOk result (λ s. view.statement s ≡ tree.change_team_construct (renamed.expression (S.spelling names.now) (exprs.expression head.0.now)) (renamed.specifiers (S.spelling names.now) (exprs.specifiers head.1.now)) (statement_list body.items) (renamed.bracketed_specifier (S.spelling names.now) (view.bracketed_specifier head.2.now)) at end) }
+    ensures { IfOk result (λ s. view.statement s ≡ tree.change_team_construct (renamed.expression (S.spelling names.now) (exprs.expression head.entry.0.now)) (renamed.specifiers (S.spelling names.now) (exprs.specifiers head.entry.1.now)) (statement_list body.items) (renamed.bracketed_specifier (S.spelling names.now) (view.bracketed_specifier head.entry.2.now)) at end) }
 {
     let (team, specifiers, last) = head;
     let team = spelled_expr(alloc, names, team)?;

@@ -1,0 +1,5 @@
+pub mod Accessible
+pub mod Found
+pub mod Known
+pub mod Levels
+pub mod Places

@@ -1,0 +1,168 @@
+//! What the USE statements of a unit make accessible.
+
+ghost use Rattle.std.specs.Prelude.{◌≡◌, ℕ, List, map, OnOk};
+ghost use Rattle.unit_tree.specs.FileViews as view;
+ghost use Rattle.module_units.specs.Visible.{Known, found_given, found_module, uses_given};
+ghost use Rattle.unit_names.specs.Accessible.{accessible, is_renamed, under_items, under_own, under_renames};
+ghost use Rattle.unit_names.specs.Found.{Row, joined as joined_seen, under};
+ghost use Rattle.unit_names.specs.Known.{given_by, Knows};
+ghost use Rattle.unit_names.specs.Levels.{reached, block_at, under_listed};
+
+use crate::block::Block;
+use crate::entity::Found;
+use crate::levels::{find_in, join_levels};
+use crate::modules::Modules;
+use caf_base::refusal::NoMemory;
+use fortran_tree::name::Name;
+use scope_table::item::item;
+use std::alloc::Global;
+use unit_tree::file::{OnlyItem, Rename, Use, UseList};
+
+/// What USE statements give: levels, and names of their own.
+#[derive(Drop)]
+pub struct Reach<'a> {
+    pub levels: Vec<usize>,
+    pub listed: Block<'a>,
+}
+
+/// Whether a name has a new one.
+pub fn has_new_name(renames: &[Rename], name: &[u8]) -> bool
+    ensures { result ≡ is_renamed (map view.rename renames.now) name.now }
+{
+    for rename in renames {
+        if rename.entity.text.as_slice() == name {
+            return true;
+        }
+    }
+    false
+}
+
+// Puts what levels give under one name into a block, under another one.
+fn add_new<'a>(
+    alloc: Global,
+    into: &mut Block<'a>,
+    source: (&[Block<'a>], &[usize]),
+    new: &'a Name,
+    old: &Name,
+) -> Result<(), NoMemory>
+    ensures { OnOk result ((n : List ℕ) → under into.new n ≡ joined_seen (under into.old n) (under_new (reached source.entry.0.now source.entry.1.now) new.now.text old.now.text n)) }
+{
+    let (blocks, levels) = source;
+    let found = find_in(blocks, levels, old.text.as_slice());
+    into.add(alloc, new.text.as_slice(), found)
+}
+
+// What is listed behind ONLY.
+fn add_items<'a>(
+    alloc: Global,
+    into: &mut Block<'a>,
+    source: (&[Block<'a>], &[usize]),
+    items: &'a [OnlyItem],
+) -> Result<(), NoMemory>
+    ensures { OnOk result ((n : List ℕ) → under into.new n ≡ joined_seen (under into.old n) (under_items (reached source.entry.0.now source.entry.1.now) (map view.only_item items.now) n)) }
+{
+    for one in items {
+        match one {
+            OnlyItem::Named(name) => add_new(alloc, into, source, name, name)?,
+            OnlyItem::Renamed(rename) => {
+                add_new(alloc, into, source, &rename.local, &rename.entity)?
+            }
+        }
+    }
+    Ok(())
+}
+
+// What has new names.
+fn add_renames<'a>(
+    alloc: Global,
+    into: &mut Block<'a>,
+    source: (&[Block<'a>], &[usize]),
+    renames: &'a [Rename],
+) -> Result<(), NoMemory>
+    ensures { OnOk result ((n : List ℕ) → under into.new n ≡ joined_seen (under into.old n) (under_renames (reached source.entry.0.now source.entry.1.now) (map view.rename renames.now) n)) }
+{
+    for rename in renames {
+        add_new(alloc, into, source, &rename.local, &rename.entity)?;
+    }
+    Ok(())
+}
+
+// What a block gives under names that have no new ones.
+fn add_own<'a>(
+    alloc: Global,
+    into: &mut Block<'a>,
+    from: &Block<'a>,
+    names: &[&'a [u8]],
+    renames: &[Rename],
+) -> Result<(), NoMemory>
+    ensures { OnOk result ((n : List ℕ) → under into.new n ≡ joined_seen (under into.old n) (under_own (under_listed names.now from.now) (map view.rename renames.now) n)) }
+{
+    for name in names {
+        if !has_new_name(renames, *name) {
+            let given = from.find(*name);
+            into.add(alloc, *name, given)?;
+        }
+    }
+    Ok(())
+}
+
+// What the blocks of levels give under names that have no new ones.
+fn add_kept<'a>(
+    alloc: Global,
+    into: &mut Block<'a>,
+    source: (&[Block<'a>], &[usize]),
+    renames: &[Rename],
+) -> Result<(), NoMemory>
+    ensures { OnOk result ((n : List ℕ) → under into.new n ≡ joined_seen (under into.old n) (under_own (reached source.entry.0.now source.entry.1.now) (map view.rename renames.now) n)) }
+{
+    let (blocks, levels) = source;
+    for level in levels {
+        if let Some(block) = item(blocks, *level) {
+            add_own(alloc, into, block, block.names(), renames)?;
+        }
+    }
+    Ok(())
+}
+
+/// What a USE statement gives besides.
+pub fn add_use<'a>(
+    alloc: Global,
+    modules: &Modules<'a>,
+    reach: &mut Reach<'a>,
+    statement: &'a Use,
+) -> Result<(), NoMemory>
+    ensures { OnOk result ((ks : List Known) → Knows modules.now ks → (n : List ℕ) → given_by modules.now.blocks.items reach.new n ≡ joined_seen (given_by modules.now.blocks.items reach.old n) (accessible (found_given (found_module ks statement.now.module.text) (view.use_list statement.now.list)) n)) }
+{
+    let Some(levels) = modules.find(statement.module.text.as_slice()) else {
+        return Ok(());
+    };
+    let source = (modules.blocks.as_slice(), levels);
+    match &statement.list {
+        UseList::Only { items } => add_items(alloc, &mut reach.listed, source, items),
+        UseList::All { renames } => {
+            if renames.is_empty() {
+                return join_levels(&mut reach.levels, levels);
+            }
+            add_kept(alloc, &mut reach.listed, source, renames)?;
+            add_renames(alloc, &mut reach.listed, source, renames)
+        }
+    }
+}
+
+/// What USE statements give.
+pub fn reach<'a>(
+    alloc: Global,
+    modules: &Modules<'a>,
+    uses: &'a [Use],
+) -> Result<Reach<'a>, NoMemory>
+    ensures { IfOk result (λ r. (ks : List Known) → Knows modules.now ks → (n : List ℕ) → given_by modules.now.blocks.items r n ≡ accessible (uses_given ks (map view.use_statement uses.now)) n) }
+{
+    let mut all = Reach {
+        levels: Vec::new(alloc),
+        listed: Block::new(alloc),
+    };
+    for statement in uses {
+        add_use(alloc, modules, &mut all, statement)?;
+    }
+    Ok(all)
+}
