@@ -75,6 +75,13 @@ impl<'a> Place<'a> {
         self.outside(name)
     }
 
+    /// Whether the procedure that the scope is declares a name.
+    pub fn is_local(&self, name: &[u8]) -> bool
+        ensures { result ≡ is_among (local_names self.now.locals) name.now }
+    {
+        is_local(self.locals, name)
+    }
+
     // What a name denotes that is declared neither in the procedure nor in its unit.
     fn outside(&self, name: &[u8]) -> Meant<'a>
         ensures { meant (unit_name self.now.unit) name.now result ≡ or_by_default (reached self.now.blocks.now self.now.levels.now name.now) name.now }

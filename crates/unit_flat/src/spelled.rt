@@ -1,0 +1,75 @@
+//! Names spelled as the entities that they denote.
+
+ghost use Rattle.std.specs.Prelude.{◌≡◌, IfOk};
+ghost use Rattle.module_units.specs.Flat.{flat_end, owned_name, qualified};
+ghost use Rattle.unit_names.specs.Places.{spelled_at, unit_name};
+
+use caf_base::listing::Text;
+use caf_base::refusal::NoMemory;
+use fortran_tree::name::Name;
+use fortran_tree::statement::End;
+use std::alloc::Global;
+use unit_names::entity::Found;
+use unit_names::place::{Meant, Place};
+use unit_spelling::spelling::{Spells, copied, copied_name};
+
+/// The name of a module's entity: `m.x`, which no source has.
+fn qualified_text(module: &[u8], name: &[u8]) -> Result<Text, NoMemory>
+    ensures { IfOk result (λ t. t ≡ qualified module.now name.now) }
+{
+    let mut bytes = Vec::from_slice(Global, module)?;
+    bytes.push(b'.')?;
+    bytes.extend_from_slice(name)?;
+    Ok(Text::from_vec(bytes))
+}
+
+/// A procedure's name in its heading and behind its END: with its module's, where its unit is one.
+pub fn owned(unit: Option<&[u8]>, name: &Name) -> Result<Name, NoMemory>
+    ensures { IfOk result (λ n. n ≡ owned_name (unit_name unit.entry) name.now) }
+{
+    match unit {
+        None => copied_name(name),
+        Some(module) => Ok(Name {
+            text: qualified_text(module, name.text.as_slice())?,
+            at: name.at,
+        }),
+    }
+}
+
+/// The END of a procedure.
+pub fn owned_end(unit: Option<&[u8]>, end: &End) -> Result<End, NoMemory>
+    ensures { IfOk result (λ e. e ≡ flat_end (unit_name unit.entry) end.now) }
+{
+    match &end.name {
+        None => Ok(End {
+            name: None,
+            at: end.at,
+        }),
+        Some(name) => Ok(End {
+            name: Some(owned(unit, name)?),
+            at: end.at,
+        }),
+    }
+}
+
+impl<'a> Spells for Place<'a> {
+    ghost spelling = { spelled_at };
+
+    /// A text spelled as the entity that it denotes.
+    fn spelled(&self, text: &Text) -> Result<Text, NoMemory>
+        ensures { IfOk result (λ t. t ≡ spelled_at self.now text.now) }
+    {
+        match self.denoted(text.as_slice()) {
+            Meant::Own => match self.unit {
+                Some(module) => qualified_text(module, text.as_slice()),
+                None => text.copy(),
+            },
+            Meant::Given(Found::One(entity)) => match entity.module {
+                Some(module) => qualified_text(module, entity.name),
+                None => Text::from_slice(Global, entity.name),
+            },
+            Meant::Given(Found::Several) | Meant::Given(Found::Nothing) => text.copy(),
+            Meant::Local | Meant::Intrinsic | Meant::Nothing => text.copy(),
+        }
+    }
+}
