@@ -1,9 +1,11 @@
 -- What levels give together.
-use Rattle.std.proofs.Common.{◌≡◌, ℕ, ◌+◌, ◌<◌, ◌≤◌, Bool, true, false, List, [], ◌∷◌, ◌++◌, ◌||◌, length, drop, slice_index_or, Bor, refl, sym, ap, ◌∙◌, subst, arith, nat_tests}
+use Rattle.std.proofs.Common.{◌≡◌, ℕ, ◌+◌, ◌<◌, ◌≤◌, Bool, true, false, List, [], ◌∷◌, ◌++◌, ◌||◌, length, drop, take, slice_index_or, Bor, refl, sym, ap, ◌∙◌, subst, arith}
+use Rattle.std.proofs.lemmas.Bool.Decides.{nat_tests}
 use Rattle.std.specs.Prelude.{cond, bytes_eq, nat_eq}
 use Rattle.std.proofs.lemmas.Slice.Eq.{bytes_eq-Decides}
 use Rattle.std.proofs.lemmas.Option.{unwrap_or-slice_get}
-use Rattle.std.proofs.lemmas.List.{get_or_append_left}
+use Rattle.std.proofs.lemmas.List.{get_or_append_left, take-append-drop}
+use Rattle.std.proofs.Math.Seq.{get_or-append_seam}
 use Rattle.rule_definitions.specs.Names.{is_among}
 use Rattle.scope_table.proofs.Orders.{item_drop}
 use Rattle.module_units.specs.Visible.{Denoted, nothing}
@@ -93,3 +95,24 @@ block_kept bs more i lt = unwrap_or-slice_get (bs ++ more) i [] ∙ (get_or_appe
 pub reached_kept : (bs more : List (List Row)) (ls : List ℕ) (n : List ℕ) → AreWithin (length bs) ls → reached (bs ++ more) ls n ≡ reached bs ls n
 reached_kept bs more [] n w = refl
 reached_kept bs more (i ∷ is) n w = ap (λ r. joined (under r n) (reached (bs ++ more) is n)) (block_kept bs more i w.0) ∙ ap (joined (under (block_at bs i) n)) (reached_kept bs more is n w.1)
+
+within_front : (k : ℕ) (xs ys : List ℕ) → AreWithin k (xs ++ ys) → AreWithin k xs
+within_front k [] ys w = tt
+within_front k (x ∷ xs) ys w = (w.0, within_front k xs ys w.1)
+
+pub within_take : (k c : ℕ) (ls : List ℕ) → AreWithin k ls → AreWithin k (take c ls)
+within_take k c ls w = within_front k (take c ls) (drop c ls) (subst (AreWithin k) (sym (take-append-drop c ls)) w)
+
+-- levels of which the last are merged with a block more
+pub settled : (bs : List (List Row)) (ls : List ℕ) (c : ℕ) (b merged : List Row) (n : List ℕ) → AreWithin (length bs) ls
+    → under merged n ≡ joined (under b n) (reached bs (drop c ls) n)
+    → reached (bs ++ merged ∷ []) (take c ls ++ length bs ∷ []) n ≡ joined (reached bs ls n) (under b n)
+settled bs ls c b merged n w m =
+    let front = reached bs (take c ls) n in
+    let back = reached bs (drop c ls) n in
+    reached_more (bs ++ merged ∷ []) (take c ls) (length bs) n
+    ∙ (ap (λ d. joined d (under (block_at (bs ++ merged ∷ []) (length bs)) n)) (reached_kept bs (merged ∷ []) (take c ls) n (within_take (length bs) c ls w))
+    ∙ (ap (λ r. joined front (under r n)) (unwrap_or-slice_get (bs ++ merged ∷ []) (length bs) [] ∙ get_or-append_seam bs merged [] [])
+    ∙ (ap (joined front) (m ∙ joined_turned (under b n) back)
+    ∙ (sym (joined_three front back (under b n))
+    ∙ ap (λ d. joined d (under b n)) (sym (reached_both bs (take c ls) (drop c ls) n) ∙ ap (λ z. reached bs z n) (take-append-drop c ls))))))

@@ -1,8 +1,10 @@
 -- What a table of names gives, by the map that it stands for.
 use Rattle.std.proofs.Common.{◌≡◌, ℕ, Bool, true, false, List, [], ◌∷◌, ◌++◌, ◌||◌, refl, sym, ap, ◌∙◌, map}
-use Rattle.std.specs.Prelude.{cond, bytes_eq, Option, Some, None, Bor, Vec}
+use Rattle.std.specs.Prelude.{cond, bytes_eq, Option, Some, None}
+use Rattle.std.specs.Borrow.{Bor}
+use Rattle.std.specs.declared.vec.Vec.{Vec}
 use Rattle.std.specs.declared.alloc.Global.{Global}
-use Rattle.std_collections.specs.Map.{lookup}
+use Rattle.std.specs.Map.{lookup}
 use Rattle.std.proofs.lemmas.Slice.Eq.{bytes_eq-Decides}
 use Rattle.indexmap.specs.IndexMap.{insert_entry}
 use Rattle.rule_definitions.specs.Names.{is_among}

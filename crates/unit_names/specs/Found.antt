@@ -1,5 +1,7 @@
 -- What USE gives under names, as it stands in memory.
-use Rattle.std.specs.Prelude.{ℕ, cond, bytes_eq, List, [], ◌∷◌, Option, Some, None, map, Bor, Vec}
+use Rattle.std.specs.Prelude.{ℕ, cond, bytes_eq, List, [], ◌∷◌, Option, Some, None, map}
+use Rattle.std.specs.Borrow.{Bor}
+use Rattle.std.specs.declared.vec.Vec.{Vec}
 use Rattle.std.specs.declared.alloc.Global.{Global}
 use Rattle.module_units.specs.Visible as v
 use Rattle.module_units.specs.Visible.{Denoted, nothing, one, several, agreed}

@@ -1,5 +1,6 @@
 -- The modules that stand before a unit, as they are known in memory: each by its levels.
-use Rattle.std.specs.Prelude.{ℕ, ◌≡◌, cond, bytes_eq, length, map, List, [], ◌∷◌, Option, Some, None, Unit, Empty, Vec}
+use Rattle.std.specs.Prelude.{ℕ, ◌≡◌, cond, bytes_eq, length, List, [], ◌∷◌, Option, Some, None, true, false}
+use Rattle.std.specs.declared.vec.Vec.{Vec}
 use Rattle.std.specs.declared.alloc.Global.{Global}
 use Rattle.module_units.specs.Visible.{Given, Known, found_module}
 use Rattle.unit_names.specs.declared.modules.Modules.{Modules}
@@ -21,8 +22,8 @@ Gives bs ls gs = AreWithin (length bs) ls × ((n : List ℕ) → reached bs ls n
 abbrev pub Matches : List (List Row) → Option (List ℕ) → Option (List Given) → Type 0
 Matches bs None None = Unit {0}
 Matches bs (Some ls) (Some gs) = Gives bs ls gs
-Matches bs None (Some gs) = Empty {0}
-Matches bs (Some ls) None = Empty {0}
+Matches bs None (Some gs) = true ≡ false
+Matches bs (Some ls) None = true ≡ false
 
 -- the modules are known as they stand in the file, ISO_FORTRAN_ENV among them
 abbrev pub Knows : Modules → List Known → Type 0

@@ -1,5 +1,6 @@
 -- Blocks of names, and levels: the numbers of some of them.
-use Rattle.std.specs.Prelude.{ℕ, ◌<◌, ◌≡◌, Bool, true, false, cond, nat_eq, List, [], ◌∷◌, ◌++◌, Bor, Unit, slice_get, unwrap_or}
+use Rattle.std.specs.Prelude.{ℕ, ◌<◌, ◌≡◌, Bool, true, false, cond, nat_eq, List, [], ◌∷◌, ◌++◌, slice_get, unwrap_or}
+use Rattle.std.specs.Borrow.{Bor}
 use Rattle.rule_definitions.specs.Names.{is_among}
 use Rattle.module_units.specs.Visible.{Denoted, nothing}
 use Rattle.unit_names.specs.Found.{Row, under, joined, texts}

@@ -1,5 +1,6 @@
 -- What names denote in a scope as it stands in memory.
-use Rattle.std.specs.Prelude.{ℕ, cond, List, [], Option, Some, None, Bor}
+use Rattle.std.specs.Prelude.{ℕ, cond, List, [], Option, Some, None}
+use Rattle.std.specs.Borrow.{Bor}
 use Rattle.rule_definitions.specs.Names.{is_among}
 use Rattle.module_units.specs.Flat.{name_of_denoted}
 use Rattle.module_units.specs.Visible.{Denoted, nothing, one, of_procedure, intrinsic, own_entity, or_by_default}

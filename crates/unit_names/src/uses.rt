@@ -1,10 +1,10 @@
 //! What the USE statements of a unit make accessible.
 
-ghost use Rattle.std.specs.Prelude.{◌≡◌, ℕ, List, map, OnOk};
+ghost use Rattle.std.specs.Prelude.{◌≡◌, ℕ, List, bytes_eq, cond, map, IfOk, OnOk};
 ghost use Rattle.unit_tree.specs.FileViews as view;
 ghost use Rattle.module_units.specs.Visible.{Known, found_given, found_module, uses_given};
-ghost use Rattle.unit_names.specs.Accessible.{accessible, is_renamed, under_items, under_own, under_renames};
-ghost use Rattle.unit_names.specs.Found.{Row, joined as joined_seen, under};
+ghost use Rattle.unit_names.specs.Accessible.{accessible, is_renamed, under_item, under_items, under_new, under_own, under_renames};
+ghost use Rattle.unit_names.specs.Found.{joined as joined_seen, under};
 ghost use Rattle.unit_names.specs.Known.{given_by, Knows};
 ghost use Rattle.unit_names.specs.Levels.{reached, block_at, under_listed};
 
@@ -52,6 +52,21 @@ fn add_new<'a>(
     into.add(alloc, new.text.as_slice(), found)
 }
 
+// What an item behind ONLY gives.
+fn add_item<'a>(
+    alloc: Global,
+    into: &mut Block<'a>,
+    source: (&[Block<'a>], &[usize]),
+    one: &'a OnlyItem,
+) -> Result<(), NoMemory>
+    ensures { OnOk result ((n : List ℕ) → under into.new n ≡ joined_seen (under into.old n) (under_item (reached source.entry.0.now source.entry.1.now) (view.only_item one.now) n)) }
+{
+    match one {
+        OnlyItem::Named(name) => add_new(alloc, into, source, name, name),
+        OnlyItem::Renamed(rename) => add_new(alloc, into, source, &rename.local, &rename.entity),
+    }
+}
+
 // What is listed behind ONLY.
 fn add_items<'a>(
     alloc: Global,
@@ -62,12 +77,7 @@ fn add_items<'a>(
     ensures { OnOk result ((n : List ℕ) → under into.new n ≡ joined_seen (under into.old n) (under_items (reached source.entry.0.now source.entry.1.now) (map view.only_item items.now) n)) }
 {
     for one in items {
-        match one {
-            OnlyItem::Named(name) => add_new(alloc, into, source, name, name)?,
-            OnlyItem::Renamed(rename) => {
-                add_new(alloc, into, source, &rename.local, &rename.entity)?
-            }
-        }
+        add_item(alloc, into, source, one)?;
     }
     Ok(())
 }
@@ -87,6 +97,23 @@ fn add_renames<'a>(
     Ok(())
 }
 
+// What a block gives under a name, unless the name has a new one.
+fn add_unless<'a>(
+    alloc: Global,
+    into: &mut Block<'a>,
+    from: &Block<'a>,
+    name: &'a [u8],
+    renames: &[Rename],
+) -> Result<(), NoMemory>
+    ensures { OnOk result ((n : List ℕ) → under into.new n ≡ cond (bytes_eq name.now n) (joined_seen (under into.old n) (under_own (under from.now) (map view.rename renames.now) n)) (under into.old n)) }
+{
+    if has_new_name(renames, name) {
+        return Ok(());
+    }
+    let given = from.find(name);
+    into.add(alloc, name, given)
+}
+
 // What a block gives under names that have no new ones.
 fn add_own<'a>(
     alloc: Global,
@@ -98,28 +125,42 @@ fn add_own<'a>(
     ensures { OnOk result ((n : List ℕ) → under into.new n ≡ joined_seen (under into.old n) (under_own (under_listed names.now from.now) (map view.rename renames.now) n)) }
 {
     for name in names {
-        if !has_new_name(renames, *name) {
-            let given = from.find(*name);
-            into.add(alloc, *name, given)?;
-        }
+        add_unless(alloc, into, from, *name, renames)?;
     }
     Ok(())
+}
+
+// The same of the block of a level.
+fn add_level_own<'a>(
+    alloc: Global,
+    into: &mut Block<'a>,
+    blocks: &[Block<'a>],
+    level: usize,
+    renames: &[Rename],
+) -> Result<(), NoMemory>
+    ensures { OnOk result ((n : List ℕ) → under into.new n ≡ joined_seen (under into.old n) (under_own (under (block_at blocks.now level)) (map view.rename renames.now) n)) }
+{
+    match item(blocks, level) {
+        Some(block) => {
+            let names = block.names();
+            add_own(alloc, into, block, names, renames)
+        }
+        None => Ok(()),
+    }
 }
 
 // What the blocks of levels give under names that have no new ones.
 fn add_kept<'a>(
     alloc: Global,
     into: &mut Block<'a>,
-    source: (&[Block<'a>], &[usize]),
+    blocks: &[Block<'a>],
+    levels: &[usize],
     renames: &[Rename],
 ) -> Result<(), NoMemory>
-    ensures { OnOk result ((n : List ℕ) → under into.new n ≡ joined_seen (under into.old n) (under_own (reached source.entry.0.now source.entry.1.now) (map view.rename renames.now) n)) }
+    ensures { OnOk result ((n : List ℕ) → under into.new n ≡ joined_seen (under into.old n) (under_own (reached blocks.now levels.now) (map view.rename renames.now) n)) }
 {
-    let (blocks, levels) = source;
     for level in levels {
-        if let Some(block) = item(blocks, *level) {
-            add_own(alloc, into, block, block.names(), renames)?;
-        }
+        add_level_own(alloc, into, blocks, *level, renames)?;
     }
     Ok(())
 }
@@ -143,7 +184,7 @@ pub fn add_use<'a>(
             if renames.is_empty() {
                 return join_levels(&mut reach.levels, levels);
             }
-            add_kept(alloc, &mut reach.listed, source, renames)?;
+            add_kept(alloc, &mut reach.listed, source.0, source.1, renames)?;
             add_renames(alloc, &mut reach.listed, source, renames)
         }
     }
