@@ -288,7 +288,22 @@ fn spelled_sync<S: Spells>(
             team,
             specifiers,
         } => spelled_form_team(alloc, names, number, team, specifiers),
-        _ => Ok(ActionForm::Return),
+        ActionForm::Assignment { .. }
+        | ActionForm::Call { .. }
+        | ActionForm::Print { .. }
+        | ActionForm::Exit { .. }
+        | ActionForm::Cycle { .. }
+        | ActionForm::Return
+        | ActionForm::Stop { .. }
+        | ActionForm::ErrorStop { .. }
+        | ActionForm::FailImage
+        | ActionForm::Allocate { .. }
+        | ActionForm::Deallocate { .. }
+        | ActionForm::Lock { .. }
+        | ActionForm::Unlock { .. }
+        | ActionForm::EventPost { .. }
+        | ActionForm::EventWait { .. }
+        | ActionForm::If { .. } => Ok(ActionForm::Return),
     }
 }
 
@@ -321,7 +336,25 @@ fn spelled_lock<S: Spells>(
                 specifiers,
             })
         }
-        _ => Ok(ActionForm::Return),
+        ActionForm::Assignment { .. }
+        | ActionForm::Call { .. }
+        | ActionForm::Print { .. }
+        | ActionForm::Exit { .. }
+        | ActionForm::Cycle { .. }
+        | ActionForm::Return
+        | ActionForm::Stop { .. }
+        | ActionForm::ErrorStop { .. }
+        | ActionForm::FailImage
+        | ActionForm::Allocate { .. }
+        | ActionForm::Deallocate { .. }
+        | ActionForm::SyncAll { .. }
+        | ActionForm::SyncMemory { .. }
+        | ActionForm::SyncImages { .. }
+        | ActionForm::SyncTeam { .. }
+        | ActionForm::FormTeam { .. }
+        | ActionForm::EventPost { .. }
+        | ActionForm::EventWait { .. }
+        | ActionForm::If { .. } => Ok(ActionForm::Return),
     }
 }
 
@@ -354,7 +387,25 @@ fn spelled_event<S: Spells>(
                 specifiers,
             })
         }
-        _ => Ok(ActionForm::Return),
+        ActionForm::Assignment { .. }
+        | ActionForm::Call { .. }
+        | ActionForm::Print { .. }
+        | ActionForm::Exit { .. }
+        | ActionForm::Cycle { .. }
+        | ActionForm::Return
+        | ActionForm::Stop { .. }
+        | ActionForm::ErrorStop { .. }
+        | ActionForm::FailImage
+        | ActionForm::Allocate { .. }
+        | ActionForm::Deallocate { .. }
+        | ActionForm::SyncAll { .. }
+        | ActionForm::SyncMemory { .. }
+        | ActionForm::SyncImages { .. }
+        | ActionForm::SyncTeam { .. }
+        | ActionForm::FormTeam { .. }
+        | ActionForm::Lock { .. }
+        | ActionForm::Unlock { .. }
+        | ActionForm::If { .. } => Ok(ActionForm::Return),
     }
 }
 
@@ -380,7 +431,22 @@ fn spelled_plain<S: Spells>(
             construct: copied(construct)?,
         }),
         ActionForm::FailImage => Ok(ActionForm::FailImage),
-        _ => Ok(ActionForm::Return),
+        ActionForm::Assignment { .. }
+        | ActionForm::Call { .. }
+        | ActionForm::Print { .. }
+        | ActionForm::Return
+        | ActionForm::Allocate { .. }
+        | ActionForm::Deallocate { .. }
+        | ActionForm::SyncAll { .. }
+        | ActionForm::SyncMemory { .. }
+        | ActionForm::SyncImages { .. }
+        | ActionForm::SyncTeam { .. }
+        | ActionForm::FormTeam { .. }
+        | ActionForm::Lock { .. }
+        | ActionForm::Unlock { .. }
+        | ActionForm::EventPost { .. }
+        | ActionForm::EventWait { .. }
+        | ActionForm::If { .. } => Ok(ActionForm::Return),
     }
 }
 

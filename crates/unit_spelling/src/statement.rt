@@ -283,7 +283,6 @@ fn team_of<S: Spells>(
 
 /// A statement or construct spelled.
 #[cycle(statements)]
-#[tactic(auto, using(fortran_tree::specs::StatementViews::statement_forms))]
 fn spelled_statement<S: Spells>(
     alloc: Global,
     names: &S,
@@ -302,23 +301,9 @@ fn spelled_statement<S: Spells>(
             end,
         } => {
             let body = spelled_statements(alloc, names, body)?;
-            let else_ifs = match spelled_else_ifs(alloc, names, else_ifs) {
-                Ok(else_ifs) => else_ifs,
-                Err(e) => {
-                    drop(body);
-                    return Err(e);
-                }
-            };
-            match spelled_else(alloc, names, otherwise) {
-                Ok(otherwise) => {
-                    if_of(alloc, names, condition, (body, else_ifs, otherwise), *at, *end)
-                }
-                Err(e) => {
-                    drop(else_ifs);
-                    drop(body);
-                    Err(e)
-                }
-            }
+            let else_ifs = spelled_else_ifs(alloc, names, else_ifs)?;
+            let otherwise = spelled_else(alloc, names, otherwise)?;
+            if_of(alloc, names, condition, (body, else_ifs, otherwise), *at, *end)
         }
         Statement::Do {
             construct,

@@ -1,4 +1,6 @@
-use Rattle.std.proofs.Common.{◌≡◌, sym, ap, ◌∙◌, drop}
+use Rattle.std.proofs.Common.{rules}
+use Rattle.std.proofs.lemmas.Result.{IfOk-equal}
+use Rattle.fortran_tree.specs.StatementViews.{statement_action, statement_if, statement_do, statement_select, statement_critical, statement_change_team}
 use Rattle.std.proofs.lemmas.List.{drop_all}
 use Rattle.unit_spelling.proofs.Behind.{item_drop}
 use Rattle.unit_spelling.proofs.Blocks.{statements_step, statements_over, else_ifs_step, else_ifs_over, cases_step, cases_over}
@@ -27,3 +29,21 @@ spelled_cases-loop-case-preserved g t c =
 
 pub spelled_cases-returns : goal.spelled_cases-returns
 spelled_cases-returns g t c = cases_over (g.S.Spells.spelling c.args.names.now) c.loop-case.all.items _ _ (drop_all c.loop-case.case-index c.args.cases.now c.loop-case-test.false) c.loop-case.invariant
+
+pub spelled_statement-returns-in-Action : goal.spelled_statement-returns-in-Action
+spelled_statement-returns-in-Action g t c = rw (c.in-Action.is, statement_action) (search (rules, IfOk-equal))
+
+pub spelled_statement-returns-in_ok-otherwise-in-If : goal.spelled_statement-returns-in_ok-otherwise-in-If
+spelled_statement-returns-in_ok-otherwise-in-If g t c = rw (c.in-If.is, statement_if) (search (rules, IfOk-equal))
+
+pub spelled_statement-returns-in_ok-body-in-Do : goal.spelled_statement-returns-in_ok-body-in-Do
+spelled_statement-returns-in_ok-body-in-Do g t c = rw (c.in-Do.is, statement_do) (search (rules, IfOk-equal))
+
+pub spelled_statement-returns-in_ok-cases-in-SelectCase : goal.spelled_statement-returns-in_ok-cases-in-SelectCase
+spelled_statement-returns-in_ok-cases-in-SelectCase g t c = rw (c.in-SelectCase.is, statement_select) (search (rules, IfOk-equal))
+
+pub spelled_statement-returns-in_ok-body-in-Critical : goal.spelled_statement-returns-in_ok-body-in-Critical
+spelled_statement-returns-in_ok-body-in-Critical g t c = rw (c.in-Critical.is, statement_critical) (search (rules, IfOk-equal))
+
+pub spelled_statement-returns-in_ok-body-in-ChangeTeam : goal.spelled_statement-returns-in_ok-body-in-ChangeTeam
+spelled_statement-returns-in_ok-body-in-ChangeTeam g t c = rw (c.in-ChangeTeam.is, statement_change_team) (search (rules, IfOk-equal))
