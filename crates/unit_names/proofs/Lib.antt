@@ -1,5 +1,5 @@
 pub mod Joins
 pub mod Given
-pub mod Levels
+pub mod Reached
 pub mod Renames
 pub mod Tables

@@ -119,4 +119,4 @@ all_are rs (g ∷ gs) x =
     ∙ (joined_four (cond (is_renamed rs x) nothing (alone g.name g.entity x)) (under_renames (alone g.name g.entity) rs x) (under_own (accessible gs) rs x) (under_renames (accessible gs) rs x)
     ∙ (ap (λ d. joined d (joined (under_renames (alone g.name g.entity) rs x) (under_renames (accessible gs) rs x))) (sym (not_cond_joined (is_renamed rs x) (alone g.name g.entity x) (accessible gs x)) ∙ ap (cond (is_renamed rs x) nothing) (more_given g gs x))
     ∙ ap (joined (under_own (accessible (g ∷ gs)) rs x))
-        (sym (renames_joined (alone g.name g.entity) (accessible gs) rs x) ∙ renames_same (λ n. joined (alone g.name g.entity n) (accessible gs n)) (accessible (g ∷ gs)) rs x (more_given g gs))))))
+    (sym (renames_joined (alone g.name g.entity) (accessible gs) rs x) ∙ renames_same (λ n. joined (alone g.name g.entity n) (accessible gs n)) (accessible (g ∷ gs)) rs x (more_given g gs))))))

@@ -77,6 +77,9 @@ neither : (a b : Bool) → (a || b) ≡ false → (a ≡ false) × (b ≡ false)
 neither true b e = absurd (cc e)
 neither false b e = (refl, e)
 
+pub front_listed : (xs : List (Bor (List ℕ))) (y : Bor (List ℕ)) (n : List ℕ) → is_among (texts (xs ++ y ∷ [])) n ≡ false → is_among (texts xs) n ≡ false
+front_listed xs y n e = (neither (is_among (texts xs) n) (bytes_eq y.now n) (sym (among_more xs y n) ∙ e)).0
+
 -- a name that isn't listed has nothing
 pub still_listed : (xs : List (Bor (List ℕ))) (y : Bor (List ℕ)) (old new : List Row) (d : Denoted)
     → ((n : List ℕ) → is_among (texts xs) n ≡ false → under old n ≡ nothing)

@@ -16,7 +16,7 @@ use std::marker::Model;
 #[derive(Drop)]
 pub struct Block<'a> {
     names: Vec<&'a [u8]>,
-    map: IndexMap<Vec<u8>, Found<'a>>,
+    table: IndexMap<Vec<u8>, Found<'a>>,
 }
 
 impl<'a> Model for Block<'a> {
@@ -27,9 +27,9 @@ impl<'a> Model for Block<'a> {
 
     ghost Value = { List Row };
 
-    ghost view = { λ b. map row b.map.entries };
+    ghost view = { λ b. map row b.table.entries };
 
-    ghost invariant = { λ b. (n : List ℕ) → is_among (texts b.names.items) n ≡ false → under (map row b.map.entries) n ≡ nothing };
+    ghost invariant = { λ b. (n : List ℕ) → is_among (texts b.names.items) n ≡ false → under (map row b.table.entries) n ≡ nothing };
 }
 
 impl<'a> Block<'a> {
@@ -39,7 +39,7 @@ impl<'a> Block<'a> {
     {
         Block {
             names: Vec::new(alloc),
-            map: IndexMap::new(alloc),
+            table: IndexMap::new(alloc),
         }
     }
 
@@ -47,7 +47,7 @@ impl<'a> Block<'a> {
     pub fn find(&self, name: &[u8]) -> Found<'a>
         ensures { found result ≡ under self.now name.now }
     {
-        given(self.map.get(name))
+        given(self.table.get(name))
     }
 
     /// The names, under no other of which anything is given.
@@ -59,12 +59,12 @@ impl<'a> Block<'a> {
 
     /// What is given under a name besides.
     pub fn add(&mut self, alloc: Global, name: &'a [u8], more: Found<'a>) -> Result<(), NoMemory>
-        ensures { OnOk result ((n : List ℕ) → under self.new n ≡ cond (bytes_eq name.now n) (joined_seen (under self.old n) (found more)) (under self.old n)) }
+        ensures { OnOk result ((n : List ℕ) → under self.new n ≡ cond (bytes_eq name.now n) (joined_seen (under self.old n) (found more.entry)) (under self.old n)) }
     {
         let all = joined(self.find(name), more);
         let key = Vec::from_slice(alloc, name)?;
         self.names.push(name)?;
-        self.map.insert(key, all)?;
+        self.table.insert(key, all)?;
         Ok(())
     }
 }

@@ -20,7 +20,7 @@ pub enum Found<'a> {
 }
 
 fn is_same(one: Entity<'_>, other: Entity<'_>) -> bool
-    ensures { result ≡ same_entity (entity one) (entity other) }
+    ensures { result ≡ same_entity (entity one.entry) (entity other.entry) }
 {
     match one.module {
         None => match other.module {
@@ -36,7 +36,7 @@ fn is_same(one: Entity<'_>, other: Entity<'_>) -> bool
 
 /// What two USE statements together give under a name.
 pub fn joined<'a>(first: Found<'a>, second: Found<'a>) -> Found<'a>
-    ensures { found result ≡ joined_seen (found first) (found second) }
+    ensures { found result ≡ joined_seen (found first.entry) (found second.entry) }
 {
     match second {
         Found::Nothing => first,

@@ -49,11 +49,7 @@ fn add_names<'a>(
 }
 
 /// Puts what a block gives into another one.
-pub fn add_block<'a>(
-    alloc: Global,
-    into: &mut Block<'a>,
-    from: &Block<'a>,
-) -> Result<(), NoMemory>
+pub fn add_block<'a>(alloc: Global, into: &mut Block<'a>, from: &Block<'a>) -> Result<(), NoMemory>
     ensures { OnOk result ((n : List ℕ) → under into.new n ≡ joined_seen (under into.old n) (under from.now n)) }
 {
     let names = from.names();
@@ -164,14 +160,16 @@ pub fn settle<'a>(
     requires { AreWithin (length blocks.old.items) levels.old.items }
     ensures blocks { OnOk result (Extends blocks.old.items blocks.new.items) }
     ensures within { OnOk result (AreWithin (length blocks.new.items) levels.new.items) }
-    ensures reached { OnOk result ((n : List ℕ) → reached blocks.new.items levels.new.items n ≡ joined_seen (reached blocks.old.items levels.old.items n) (under block n)) }
+    ensures reached { OnOk result ((n : List ℕ) → reached blocks.new.items levels.new.items n ≡ joined_seen (reached blocks.old.items levels.old.items n) (under block.entry n)) }
 {
     let mut block = block;
     let count = staying(blocks.as_slice(), levels.as_slice(), block.names().len());
+    let here = blocks.as_slice();
+    let number = here.len();
     let taken = &levels.as_slice()[count..];
-    add_levels(alloc, &mut block, blocks.as_slice(), taken)?;
+    add_levels(alloc, &mut block, here, taken)?;
     levels.truncate(count);
-    levels.push(blocks.len())?;
+    levels.push(number)?;
     blocks.push(block)?;
     Ok(())
 }

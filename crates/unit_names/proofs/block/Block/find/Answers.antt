@@ -4,4 +4,4 @@ use Rattle.unit_names.proofs.Tables.{looked_up}
 use Rattle.unit_names.proofs.block.Block.find.Goals as goal
 
 pub returns : goal.returns
-returns c = c.given.ensures ∙ (ap found_in c.get.ensures.value ∙ (looked_up c.args.name.now c.self.inside.map.entries ∙ ap (λ rs. under rs c.args.name.now) c.self.view_is))
+returns c = c.given.ensures ∙ (ap found_in c.get.ensures.value ∙ (looked_up c.args.name.now c.self.inside.table.entries ∙ ap (λ rs. under rs c.args.name.now) c.self.view_is))

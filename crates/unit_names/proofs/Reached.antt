@@ -7,7 +7,6 @@ use Rattle.std.proofs.lemmas.Option.{unwrap_or-slice_get}
 use Rattle.std.proofs.lemmas.List.{get_or_append_left, take-append-drop}
 use Rattle.std.proofs.Math.Seq.{get_or-append_seam}
 use Rattle.rule_definitions.specs.Names.{is_among}
-use Rattle.scope_table.proofs.Orders.{item_drop}
 use Rattle.module_units.specs.Visible.{Denoted, nothing}
 use Rattle.unit_names.specs.declared.entity.Found.{Found}
 use Rattle.unit_names.specs.Found.{Row, found, under, joined, texts}
@@ -15,13 +14,12 @@ use Rattle.unit_names.specs.Levels.{block_at, reached, under_listed, is_level, A
 use Rattle.unit_names.proofs.Joins.{joined_three, joined_turned, joined_twice, nothing_before}
 
 -- one level more
-pub reached_step : (bs : List (List Row)) (ls : List ℕ) (i l : ℕ) (old new : List Row) (g : Denoted) (n : List ℕ) → l ≡ slice_index_or ls i l → i < length ls
-    → ((x : List ℕ) → under new x ≡ joined (under old x) (under (block_at bs l) x))
-    → joined (under old n) (reached bs (drop i ls) n) ≡ g → joined (under new n) (reached bs (drop (i + 1) ls) n) ≡ g
-reached_step bs ls i l old new g n is lt s h =
-    ap (λ d. joined d (reached bs (drop (i + 1) ls) n)) (s n)
-    ∙ (joined_three (under old n) (under (block_at bs l) n) (reached bs (drop (i + 1) ls) n)
-    ∙ (ap (λ z. joined (under old n) (reached bs z n)) (sym (item_drop ls i l is lt)) ∙ h))
+pub level_step : (bs : List (List Row)) (ls rest : List ℕ) (l : ℕ) (old new f g : Denoted) (n : List ℕ) → ls ≡ l ∷ rest → new ≡ joined old f → f ≡ under (block_at bs l) n
+    → joined old (reached bs ls n) ≡ g → joined new (reached bs rest n) ≡ g
+level_step bs ls rest l old new f g n e s p h =
+    ap (λ d. joined d (reached bs rest n)) (s ∙ ap (joined old) p)
+    ∙ (joined_three old (under (block_at bs l) n) (reached bs rest n)
+    ∙ (ap (λ z. joined old (reached bs z n)) (sym e) ∙ h))
 
 listed_cond : (b a : Bool) (i f : Denoted) → joined (cond b (joined i f) i) (cond a f nothing) ≡ joined i (cond (b || a) f nothing)
 listed_cond true true i f = joined_three i f f ∙ ap (joined i) (joined_twice f)
@@ -33,14 +31,14 @@ own_cond true m n rs i p = ap (λ z. joined i (under rs z)) ((bytes_eq-Decides m
 own_cond false m n rs i p = refl
 
 -- one name more
-pub listed_step : (xs : List (Bor (List ℕ))) (i : ℕ) (x : Bor (List ℕ)) (from old new : List Row) {f : Found} (g : Denoted) (n : List ℕ) → x ≡ slice_index_or xs i x → i < length xs
+pub listed_step : (xs rest : List (Bor (List ℕ))) (x : Bor (List ℕ)) (from old new : List Row) (f : Found) (g : Denoted) (n : List ℕ) → xs ≡ x ∷ rest
     → found f ≡ under from x.now
     → ((m : List ℕ) → under new m ≡ cond (bytes_eq x.now m) (joined (under old m) (found f)) (under old m))
-    → joined (under old n) (under_listed (drop i xs) from n) ≡ g → joined (under new n) (under_listed (drop (i + 1) xs) from n) ≡ g
-listed_step xs i x from old new {f} g n is lt e s h =
-    ap (λ d. joined d (under_listed (drop (i + 1) xs) from n)) (s n ∙ (ap (λ d. cond (bytes_eq x.now n) (joined (under old n) d) (under old n)) e ∙ own_cond (bytes_eq x.now n) x.now n from (under old n) refl))
-    ∙ (listed_cond (bytes_eq x.now n) (is_among (texts (drop (i + 1) xs)) n) (under old n) (under from n)
-    ∙ (ap (λ z. joined (under old n) (under_listed z from n)) (sym (item_drop xs i x is lt)) ∙ h))
+    → joined (under old n) (under_listed xs from n) ≡ g → joined (under new n) (under_listed rest from n) ≡ g
+listed_step xs rest x from old new f g n is e s h =
+    ap (λ d. joined d (under_listed rest from n)) (s n ∙ (ap (λ d. cond (bytes_eq x.now n) (joined (under old n) d) (under old n)) e ∙ own_cond (bytes_eq x.now n) x.now n from (under old n) refl))
+    ∙ (listed_cond (bytes_eq x.now n) (is_among (texts rest) n) (under old n) (under from n)
+    ∙ (ap (λ z. joined (under old n) (under_listed z from n)) (sym is) ∙ h))
 
 all_cond : (b : Bool) (xs : List (Bor (List ℕ))) (rs : List Row) (n : List ℕ) → is_among (texts xs) n ≡ b → (is_among (texts xs) n ≡ false → under rs n ≡ nothing) → cond b (under rs n) nothing ≡ under rs n
 all_cond true xs rs n p h = refl
@@ -116,3 +114,18 @@ settled bs ls c b merged n w m =
     ∙ (ap (joined front) (m ∙ joined_turned (under b n) back)
     ∙ (sym (joined_three front back (under b n))
     ∙ ap (λ d. joined d (under b n)) (sym (reached_both bs (take c ls) (drop c ls) n) ∙ ap (λ z. reached bs z n) (take-append-drop c ls))))))
+
+length_more : (bs : List (List Row)) (b : List Row) → length bs < length (bs ++ b ∷ [])
+length_more [] b = omega arith
+length_more (x ∷ bs) b = let h = length_more bs b in omega arith
+
+less_before : (k j : ℕ) → k < j → k ≤ j
+less_before k j h = omega arith
+
+-- the levels behind it are of blocks that are there
+pub settled_within : (bs new : List (List Row)) (b : List Row) (ls more : List ℕ) (c : ℕ) → AreWithin (length bs) ls → new ≡ bs ++ b ∷ [] → more ≡ take c ls ++ length bs ∷ []
+    → AreWithin (length new) more
+settled_within bs new b ls more c w e f =
+    subst (λ k. AreWithin (length k) more) (sym e) (subst (AreWithin (length (bs ++ b ∷ []))) (sym f)
+    (within_more (length (bs ++ b ∷ [])) (take c ls) (length bs)
+    (within_wider (length bs) (length (bs ++ b ∷ [])) (take c ls) (less_before (length bs) (length (bs ++ b ∷ [])) (length_more bs b)) (within_take (length bs) c ls w)) (length_more bs b)))
