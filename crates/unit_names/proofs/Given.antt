@@ -1,13 +1,12 @@
 -- What lists of entities give under a name.
 use Rattle.std.proofs.Common.{◌≡◌, ℕ, Bool, true, false, List, [], ◌∷◌, ◌++◌, refl, sym, ap, ◌∙◌}
 use Rattle.std.specs.Prelude.{cond, bytes_eq}
-use Rattle.module_units.specs.Visible as v
 use Rattle.module_units.specs.Visible.{Entity, Denoted, nothing, one, several, agreed, same_entity, Given, given, given_under, given_as, has_name, items_given, item_given}
 use Rattle.unit_tree.specs.Files as f
 use Rattle.unit_tree.specs.Files.{OnlyItem}
 use Rattle.unit_names.specs.Found.{joined}
 use Rattle.unit_names.specs.Accessible.{accessible, is_given, under_item, under_items}
-use Rattle.unit_names.proofs.Joins.{nothing_before, joined_three}
+use Rattle.unit_names.proofs.Joins.{joined_three}
 
 from_cond : (b : Bool) (d : Denoted) (e : Entity) (gs : List Given) (n : List ℕ) → ((x : Denoted) → given_under x gs n ≡ joined x (accessible gs n))
     → given_under (cond b (agreed d e) d) gs n ≡ joined d (given_under (cond b (agreed nothing e) nothing) gs n)

@@ -1,9 +1,9 @@
 -- What USE gives without ONLY, some of it under new names.
-use Rattle.std.proofs.Common.{◌≡◌, ℕ, Bool, true, false, not, List, [], ◌∷◌, ◌++◌, ◌||◌, refl, sym, ap, ◌∙◌}
+use Rattle.std.proofs.Common.{◌≡◌, ℕ, Bool, true, false, not, List, [], ◌∷◌, ◌||◌, refl, sym, ap, ◌∙◌}
 use Rattle.std.specs.Prelude.{cond, bytes_eq}
 use Rattle.std.proofs.lemmas.Slice.Eq.{bytes_eq-Decides}
 use Rattle.scope_table.proofs.Places.{either_way}
-use Rattle.module_units.specs.Visible.{Entity, Denoted, nothing, one, Given, given, given_under, new_names, under_each, renamed_given, all_given}
+use Rattle.module_units.specs.Visible.{Entity, Denoted, nothing, one, Given, given_under, new_names, under_each, renamed_given, all_given}
 use Rattle.unit_tree.specs.Files.{Rename}
 use Rattle.unit_names.specs.Found.{joined}
 use Rattle.unit_names.specs.Accessible.{Accessible, accessible, under_new, under_renames, under_own, is_renamed}

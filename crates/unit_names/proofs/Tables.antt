@@ -1,6 +1,6 @@
 -- What a table of names gives, by the map that it stands for.
 use Rattle.std.proofs.Common.{◌≡◌, ℕ, Bool, true, false, List, [], ◌∷◌, ◌++◌, ◌||◌, refl, sym, ap, ◌∙◌, map}
-use Rattle.std.specs.Prelude.{cond, bytes_eq, Option, Some, None}
+use Rattle.std.specs.Prelude.{cond, bytes_eq, Option, Some}
 use Rattle.std.specs.Borrow.{Bor}
 use Rattle.std.specs.declared.vec.Vec.{Vec}
 use Rattle.std.specs.declared.alloc.Global.{Global}

@@ -1,6 +1,6 @@
 -- What lists of entities give under a name, as a function of the name.
 use Rattle.std.specs.Prelude.{ℕ, Bool, true, false, cond, bytes_eq, List, [], ◌∷◌, ◌||◌}
-use Rattle.module_units.specs.Visible.{Denoted, nothing, one, several, Given, given_under}
+use Rattle.module_units.specs.Visible.{Denoted, nothing, Given, given_under}
 use Rattle.unit_tree.specs.Files as f
 use Rattle.unit_tree.specs.Files.{Rename, OnlyItem}
 use Rattle.unit_names.specs.Found.{joined}

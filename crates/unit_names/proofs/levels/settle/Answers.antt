@@ -1,4 +1,4 @@
-use Rattle.std.proofs.Common.{ap, sym, ◌∙◌, drop, take, ◌++◌, ◌∷◌, [], length}
+use Rattle.std.proofs.Common.{ap, ◌∙◌, drop, take, ◌++◌, ◌∷◌, [], length}
 use Rattle.std.proofs.lemmas.List.{take_rest}
 use Rattle.unit_names.specs.Found.{joined, under}
 use Rattle.unit_names.specs.Levels.{reached}
