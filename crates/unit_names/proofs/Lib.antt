@@ -3,3 +3,4 @@ pub mod Given
 pub mod Reached
 pub mod Renames
 pub mod Tables
+pub mod Kept

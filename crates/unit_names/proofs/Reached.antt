@@ -21,7 +21,7 @@ level_step bs ls rest l old new f g n e s p h =
     ∙ (joined_three old (under (block_at bs l) n) (reached bs rest n)
     ∙ (ap (λ z. joined old (reached bs z n)) (sym e) ∙ h))
 
-listed_cond : (b a : Bool) (i f : Denoted) → joined (cond b (joined i f) i) (cond a f nothing) ≡ joined i (cond (b || a) f nothing)
+pub listed_cond : (b a : Bool) (i f : Denoted) → joined (cond b (joined i f) i) (cond a f nothing) ≡ joined i (cond (b || a) f nothing)
 listed_cond true true i f = joined_three i f f ∙ ap (joined i) (joined_twice f)
 listed_cond true false i f = refl
 listed_cond false a i f = refl

@@ -21,7 +21,7 @@ cond_joined : (b : Bool) (c d : Denoted) → cond b (joined c d) nothing ≡ joi
 cond_joined true c d = refl
 cond_joined false c d = refl
 
-not_cond_joined : (b : Bool) (c d : Denoted) → cond b nothing (joined c d) ≡ joined (cond b nothing c) (cond b nothing d)
+pub not_cond_joined : (b : Bool) (c d : Denoted) → cond b nothing (joined c d) ≡ joined (cond b nothing c) (cond b nothing d)
 not_cond_joined true c d = refl
 not_cond_joined false c d = refl
 
