@@ -8,8 +8,8 @@ use Rattle.unit_references.specs.Renamed as r
 use Rattle.unit_references.specs.Renamed.{Spelling}
 use Rattle.module_units.specs.Flat.{flat_end, owned_name}
 use Rattle.module_units.specs.Visible.{heading_of, locals_of}
-use Rattle.unit_names.specs.declared.place.Place.{Place}
-use Rattle.unit_names.specs.Places.{spelled_at, unit_name}
+use Rattle.unit_places.specs.declared.place.Place.{Place}
+use Rattle.unit_places.specs.Places.{spelled_at, unit_name}
 
 -- with the names of the unit, and of the procedure, spelled so
 abbrev pub heading_by : Option (List ℕ) → Spelling → Spelling → u.Heading → u.Heading

@@ -10,7 +10,7 @@ use fortran_tree::name::Name;
 use fortran_tree::unit::{Heading, Procedure};
 use std::alloc::Global;
 use unit_locals::locals::Locals;
-use unit_names::place::Place;
+use unit_places::place::Place;
 use unit_spelling::action::spelled_names;
 use unit_spelling::spelling::spelled_name;
 use unit_spelling::unit::{spelled_body, spelled_prefixes};

@@ -2,7 +2,7 @@
 
 ghost use Rattle.std.specs.Prelude.{◌≡◌, IfOk};
 ghost use Rattle.module_units.specs.Flat.{flat_end, owned_name, qualified};
-ghost use Rattle.unit_names.specs.Places.{spelled_at, unit_name};
+ghost use Rattle.unit_places.specs.Places.{spelled_at, unit_name};
 
 use caf_base::listing::Text;
 use caf_base::refusal::NoMemory;
@@ -10,7 +10,7 @@ use fortran_tree::name::Name;
 use fortran_tree::statement::End;
 use std::alloc::Global;
 use unit_names::entity::Found;
-use unit_names::place::{Meant, Place};
+use unit_places::place::{Meant, Place};
 use unit_spelling::spelling::{Spells, copied, copied_name};
 
 /// The name of a module's entity: `m.x`, which no source has.

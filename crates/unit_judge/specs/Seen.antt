@@ -7,9 +7,9 @@ use Rattle.unit_tree.specs.Files as f
 use Rattle.unit_tree.specs.Files.{Rename, OnlyItem}
 use Rattle.module_units.specs.Visible.{Scope}
 use Rattle.module_units.specs.UnitRules.{denoted_breaks}
-use Rattle.unit_names.specs.declared.place.Place.{Place}
+use Rattle.unit_places.specs.declared.place.Place.{Place}
 use Rattle.unit_names.specs.Accessible.{Accessible, is_given}
-use Rattle.unit_names.specs.Places.{denoted_at, local_names, unit_name}
+use Rattle.unit_places.specs.Places.{denoted_at, local_names, unit_name}
 
 -- a scope as the rules of references see it: they ask for its locals alone
 abbrev pub scope_at : Place → Scope

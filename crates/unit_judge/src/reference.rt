@@ -3,7 +3,7 @@
 ghost use Rattle.std.specs.Prelude.{◌≡◌, OnOk};
 ghost use Rattle.rule_definitions.specs.Judgements.{first_of};
 ghost use Rattle.module_units.specs.UnitRules.{denoted_breaks, hidden_breaks};
-ghost use Rattle.unit_names.specs.Places.{denoted_at};
+ghost use Rattle.unit_places.specs.Places.{denoted_at};
 ghost use Rattle.unit_references.specs.Written.{reference as reference_seen, written};
 ghost use Rattle.unit_judge.specs.Seen.{references_breaks, scope_at};
 
@@ -11,7 +11,7 @@ use rule_definitions::broken::Broken;
 use scope_table::broken::note;
 use scope_table::names::Names;
 use unit_names::entity::Found;
-use unit_names::place::{Meant, Place};
+use unit_places::place::{Meant, Place};
 use unit_references::references::Reference;
 
 // A name of ISO_FORTRAN_ENV that stands under a new name where its own is declared.

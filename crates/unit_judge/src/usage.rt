@@ -12,7 +12,7 @@ use scope_table::broken::note;
 use unit_names::block::Block;
 use unit_names::entity::Found;
 use unit_names::levels::find_in;
-use unit_names::modules::Modules;
+use unit_places::modules::Modules;
 use unit_tree::file::{OnlyItem, Rename, Use, UseList};
 
 fn is_given(blocks: &[Block<'_>], levels: &[usize], name: &[u8]) -> bool {
