@@ -70,7 +70,7 @@ PART_OF_SENTENCE = (
 
 FRONTS = {
     TESTED: "# What is tested\n\nWhat tests show and no contract says, and what else was tried. Which wrong bodies the"
-    " contracts refuse is in docs/record/PLANTED.md.\n\n## Tests alone\n",
+    " contracts refuse is in docs/record/PLANTED.md.\n\n## What tests alone show\n",
     TRUSTED: "# What is trusted\n\nWhat is proved (docs/trust/CLAIMS.md) rests on this:\n",
     PLANTED: "# Wrong bodies\n\nWhat was planted in the code so as to see whether its contract refuses it: edits that"
     " are kept, bodies written by rule, and bugs planted by hand.\n\n## Edits that are kept\n",
