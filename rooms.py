@@ -550,8 +550,7 @@ def faults_before() -> List[str]:
 def texts() -> List[str]:
     """The files of the repository that have text, but for the pages in parts and for what isn't of the project."""
     paths = git("ls-files", "-z").split("\0")[:-1]
-    own = os.path.relpath(os.path.realpath(__file__))
-    kept = [it for it in paths if not it.startswith("release/") and it not in (PROOFS, CLAIMS, own)]
+    kept = [it for it in paths if not it.startswith("release/") and it not in (PROOFS, CLAIMS, "rooms.py")]
     return [it for it in kept if os.path.isfile(it) and not os.path.islink(it)]
 
 
