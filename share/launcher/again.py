@@ -16,14 +16,14 @@ def calls_again(caller: Caller, words: Sequence[str], code: str) -> List[str]:
     if not is_on_workers(words) or code in ("statements", "words"):
         return []
     say = read_sentences(caller.home).say
-    left = _without(words, ("--trace", "--vars", "-w"))
+    left = _without(words, ("--trace", "--vars", "--why", "-w"))
     helps = [f"{say('Workers', 'again')}\n{_call(caller, 'explore', left)}"]
     if "--made" in left:
         return helps
     replay = _call(caller, "replay", [*left[:-1], KEPT, left[-1]])
     if "--trace" in options_of(words):
         return [*helps, f"{say('Workers', 'kept')}\n{replay}"]
-    run = _call(caller, "run", ["--trace", *_without(words, ("--vars",))])
+    run = _call(caller, "run", ["--trace", *_without(words, ("--vars", "--why"))])
     return [*helps, f"{say('Workers', 'keep')}\n{run} >{KEPT}\n{replay}"]
 
 

@@ -95,18 +95,18 @@ def _answer_command(caller: Caller, way: str, words: List[str]) -> int:
 
 
 def _explain(caller: Caller, words: List[str]) -> int:
-    """Prints what docs/REFUSALS.md says of a word."""
+    """Prints what docs/use/REFUSALS.md says of a word."""
     from explain import KINDS, explain
     from sentences import read_sentences
     from tables import read_tables, tables_path
 
     if len(words) != 1:
-        text = f"--explain takes one word of docs/REFUSALS.md: {KINDS}"
+        text = f"--explain takes one word of docs/use/REFUSALS.md: {KINDS}"
         report(caller, [Message(text, "Usage", status=USAGE)], USAGE)
         return USAGE
     said = explain(words[0], read_tables(tables_path(caller.home)), read_sentences(caller.home))
     if said is None:
-        text = f"docs/REFUSALS.md has no {words[0]}; it has {KINDS}"
+        text = f"docs/use/REFUSALS.md has no {words[0]}; it has {KINDS}"
         report(caller, [Message(text, "Usage", status=USAGE)], USAGE)
         return USAGE
     answer(said)

@@ -1,4 +1,4 @@
-"""The completions of bash, zsh and fish, made from the help text and from the tables of docs/REFUSALS.md.
+"""The completions of bash, zsh and fish, made from the help text and from the tables of docs/use/REFUSALS.md.
 
 What is offered: in the first place the commands and the launcher's own words, behind `run` its options and files,
 behind `--explain` what there is an entry of.

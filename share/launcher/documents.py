@@ -2,8 +2,8 @@
 
     python3 share/launcher/documents.py man | bash | zsh | fish | program
 
-the man page and the completions, which are made from share/help.txt and docs/REFUSALS.md, and the program of release/,
-held to its sum.
+the man page and the completions, which are made from share/help.txt and docs/use/REFUSALS.md, and the program of
+release/, held to its sum.
 """
 
 from __future__ import annotations

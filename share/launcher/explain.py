@@ -1,5 +1,5 @@
-"""What `caf --explain WORD` says: the entries of docs/REFUSALS.md with a number or a name, each with the sentences that
-its messages have, or what there is in the place of a form of Fortran."""
+"""What `caf --explain WORD` says: the entries of docs/use/REFUSALS.md with a number or a name, each with the sentences
+that its messages have, or what there is in the place of a form of Fortran."""
 
 import re
 from typing import List, Optional

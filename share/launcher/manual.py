@@ -1,4 +1,4 @@
-"""The man page, made from the help text and from the tables of docs/REFUSALS.md.
+"""The man page, made from the help text and from the tables of docs/use/REFUSALS.md.
 
 share/help.txt is the one text that says what the words are. Here it is read with each term on one line (help_words): a
 paragraph begins at the margin, and a line of a list is indented by four blanks, a term and what it means, in two

@@ -1,5 +1,5 @@
-"""Refusal 7 by pattern of line and token. Each pattern is a case of 7 in docs/REFUSALS.md; where none fits the sentence
-says no more than where the reading ends."""
+"""Refusal 7 by pattern of line and token. Each pattern is a case of 7 in docs/use/REFUSALS.md; where none fits the
+sentence says no more than where the reading ends."""
 
 from typing import Dict, Optional
 

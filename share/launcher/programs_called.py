@@ -6,7 +6,7 @@ from typing import List, Optional, Sequence, Tuple
 import programs
 from children import Interrupted
 from ending import DONE, NO_PROGRAM, READ_FAULT, Caller, end_by
-from ends import read_ends
+from ends import End, read_ends
 from given_file import Asked
 from message import Message
 from messages import TRACED, Answered, messages_of
@@ -101,21 +101,28 @@ def closing(program: programs.Program) -> List[Message]:
 
 
 def _answered(path: str, asked: Asked) -> Answered:
-    """Runs the program. A run on workers is asked for its trace, which is cut off where the call didn't ask for it: no
-    other run is the same one. One in a stated order is run again for it, where its end is told by it, and so is a
-    replay; a judged trace stands in its file."""
+    """Runs the program. A run on workers is asked for its trace and for why it is stuck, which are cut off where the
+    call didn't ask for them: no other run is the same one. One in a stated order is run again for them, where its end
+    is told by them, and so is a replay; a judged trace stands in its file."""
     words = asked.words_for_program()
     kept = KeptTrace()
     has_trace = is_on_workers(words)
-    cut = Cut(kept, "--vars" in asked.options(), "--trace" in asked.options()) if has_trace else None
-    outcome = run(path, _traced(asked, words, ["--trace"]) if has_trace else words, asked.standard_input(), cut)
+    cut = Cut(kept, *(it in asked.options() for it in ("--vars", "--trace", "--why"))) if has_trace else None
+    of_run = _traced(asked, words, ["--trace", "--why"]) if has_trace else words
+    outcome = run(path, of_run, asked.standard_input(), cut)
     if words[0] == "judge":
         return Answered(outcome.status, outcome.lines, TraceFile(asked.trace_file()))
     if not has_trace and any(it.kind in TRACED for it in read_ends(outcome.lines)):
-        again = run_again(path, _traced(asked, words, ["--trace", "--vars"]), asked.standard_input(), kept)
-        if again != outcome:
-            kept = KeptTrace()
+        again = run_again(path, _traced(asked, words, ["--trace", "--vars", "--why"]), asked.standard_input(), kept)
+        if again.status == outcome.status and _but_why(again.lines) == _but_why(outcome.lines):
+            return Answered(again.status, again.lines, kept)
+        kept = KeptTrace()
     return Answered(outcome.status, outcome.lines, kept)
+
+
+def _but_why(lines: Sequence[str]) -> List[End]:
+    """Returns the ends that lines tell, without those that tell why a run is stuck."""
+    return read_ends([it for it in lines if not it.startswith("why ")])
 
 
 def _traced(asked: Asked, words: Sequence[str], options: Sequence[str]) -> List[str]:

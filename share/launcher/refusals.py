@@ -1,4 +1,4 @@
-"""What is said of a refused place: the sentence of its case in docs/REFUSALS.md, with its helps and notes."""
+"""What is said of a refused place: the sentence of its case in docs/use/REFUSALS.md, with its helps and notes."""
 
 import importlib
 import re

@@ -79,6 +79,10 @@ class Outlet:
             return piece
         return self._cut.take(piece) if piece else self._cut.rest()
 
+    def why(self) -> List[str]:
+        """Returns the lines that tell why the run is stuck, where they were cut off."""
+        return self._cut.why() if self._cut else []
+
     def put(self, piece: bytes) -> None:
         """Writes a piece."""
         self.left = memoryview(piece)
@@ -111,7 +115,7 @@ class Nowhere(Outlet):
 
 
 def run_again(program: str, words: Sequence[str], standard_input: Optional[int], kept: KeptTrace) -> Outcome:
-    """Runs the program for the lines of its --vars and --trace, which are kept, and shows nothing of it."""
+    """Runs the program for the lines of its --vars, --trace and --why, which are kept, and shows nothing of it."""
     outlet = Nowhere(Cut(kept, False, False))
     return _run(program, words, standard_input, outlet, "the program runs again, to tell more")
 
@@ -144,7 +148,7 @@ def _run(program: str, words: Sequence[str], standard_input: Optional[int], outl
         finally:
             child.kill()
             child.wait()
-    return Outcome(status if status >= 0 else 128 - status, lines.all())
+    return Outcome(status if status >= 0 else 128 - status, lines.all() + outlet.why())
 
 
 def _begin(program: str, words: Sequence[str], standard_input: Optional[int]) -> "subprocess.Popen[bytes]":

@@ -1,5 +1,5 @@
-"""Segment order of a run, read off its trace (ISO/IEC 1539-1:2018, 11.6.2), for the pictures: docs/ORDER.md has the
-rules. It is told of here without proof; what the program tells of races is proved.
+"""Segment order of a run, read off its trace (ISO/IEC 1539-1:2018, 11.6.2), for the pictures: docs/build/ORDER.md has
+the rules. It is told of here without proof; what the program tells of races is proved.
 
 A segment's clock counts, for each image, how many of its segments precede it.
 """

@@ -1,5 +1,5 @@
-"""The sentences of docs/REFUSALS.md that tell how a run ended: one for each case of an end, with names in braces for
-what the launcher finds in the source and in the trace."""
+"""The sentences of docs/use/REFUSALS.md that tell how a run ended: one for each case of an end, with names in braces
+for what the launcher finds in the source and in the trace."""
 
 import re
 from typing import Dict, List, NamedTuple, Tuple
@@ -9,11 +9,18 @@ from texts import read_file
 
 SECTION = "## How an end is told"
 _NAME = re.compile(r"\{([a-z]+)\}")
-# The cases that tell of an image which waits for what a word of docs/REFUSALS.md says.
+# The cases that tell of an image which waits for what a word of docs/use/REFUSALS.md says.
 _WAITS = {"leave": "round", "take": "round", "unpair": "pair", "wait": "event"}
 _OF_CODE = re.compile(r"[0-9]{4}\b")
 # The cases that stand as a help, but for those whose name ends so, and those that stand at a further place.
-_HELPS = (("Race", "sync"), ("Race", "critical"), ("Stuck", "cycle"), ("Limit", "statements most"))
+_HELPS = (
+    ("Race", "sync"),
+    ("Race", "critical"),
+    ("Stuck", "cycle"),
+    ("Stuck", "stopped"),
+    ("Stuck", "post"),
+    ("Limit", "statements most"),
+)
 _NOTES = (("Race", "second"), ("Stuck", "posted"), ("Clash", "there"), ("NotARun", "there"))
 
 

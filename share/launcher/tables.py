@@ -1,4 +1,4 @@
-"""The tables of docs/REFUSALS.md, as data."""
+"""The tables of docs/use/REFUSALS.md, as data."""
 
 import enum
 import os
@@ -90,7 +90,7 @@ _LEFT = "What of Fortran isn't read"
 
 def tables_path(home: str) -> str:
     """Returns the file of the tables."""
-    return os.path.join(home, "docs", "REFUSALS.md")
+    return os.path.join(home, "docs", "use", "REFUSALS.md")
 
 
 def _plain(text: str) -> str:

@@ -2,6 +2,7 @@
 
 from typing import List, Optional, Sequence, Tuple, Union
 
+from chains import chain_of
 from ends import End
 from given_file import Asked
 from scene import Scene, Told
@@ -44,7 +45,7 @@ def _told(scene: Scene, ends: Sequence[End]) -> Told:
     if end.kind == "stuck":
         from told_stuck import told_stuck
 
-        return told_stuck(scene, _waits(ends))
+        return told_stuck(scene, _waits(ends), chain_of(ends))
     if end.kind == "fault":
         from told_fault import told_fault
 

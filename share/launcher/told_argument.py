@@ -7,7 +7,7 @@ from scene import Scene, images_said
 from source_text import references, split_list
 from values import Where, bounds_of, value_of
 
-# A case of docs/REFUSALS.md, and what stands in the place of its names.
+# A case of docs/use/REFUSALS.md, and what stands in the place of its names.
 Bad = Tuple[str, Dict[str, object]]
 
 

@@ -1,15 +1,16 @@
-"""What is said of a stuck run: whom each image waits for, and which of them wait for each other."""
+"""What is said of a stuck run: whom each image waits for, and the chain of waits that the program tells."""
 
-from typing import Dict, List, Sequence, Tuple
+from typing import Dict, List, Optional, Sequence, Tuple
 
+from chains import Chain
 from message import Note
 from scene import Scene, Told, images_said, joined, lines_said
 from tables import Kind
 from trace import Wait
-from waits import Held, Waiting, cycle_of, waits_after
+from waits import Held, Waiting, waits_after
 
 
-def told_stuck(scene: Scene, waits: Sequence[Wait]) -> Told:
+def told_stuck(scene: Scene, waits: Sequence[Wait], chain: Optional[Chain] = None) -> Told:
     """Returns what is said: the images that wait at one line for one thing stand together, each such group at a place
     of its own, and behind it where it got what is waited for."""
     if scene.survey.has_steps:
@@ -22,8 +23,8 @@ def told_stuck(scene: Scene, waits: Sequence[Wait]) -> Told:
     notes: List[Note] = []
     for (line, said), group in groups.items():
         notes += [scene.note(line, f"{_who(group)} {said}"), *_notes(scene, group)]
-    helps = _cycle(scene, cycle_of(found))
-    return Told(notes[0].line, notes[0].text, "Stuck", notes=tuple(notes[1:]), helps=tuple(helps), hint="Stuck")
+    helps = tuple(_chain(scene, chain)) if chain else ()
+    return Told(notes[0].line, notes[0].text, "Stuck", notes=tuple(notes[1:]), helps=helps, hint="Stuck")
 
 
 def _who(group: Sequence[Waiting]) -> str:
@@ -74,11 +75,14 @@ def _event(scene: Scene, waiting: Waiting) -> str:
     return scene.say("Stuck", case, thing=waiting.thing, posts=posts, has=waiting.has)
 
 
-def _cycle(scene: Scene, images: Sequence[int]) -> List[str]:
-    """Returns which images wait for each other, if some do."""
-    if not images:
+def _chain(scene: Scene, chain: Chain) -> List[str]:
+    """Returns the images that wait for each other, or the chain of more than one that leads to an image that has
+    stopped or that waits for a post."""
+    images = chain.cycle or chain.images
+    waiting = len(images) - (chain.close == "stopped")
+    if waiting < 2:
         return []
-    chain = f"image {images[0]} waits for image {images[1]}"
-    for it in [*images[2:], images[0]]:
-        chain += f", which waits for image {it}"
-    return [scene.say("Stuck", "cycle", chain=chain)]
+    said = f"image {images[0]} waits for image {images[1]}"
+    for it in images[2:]:
+        said += f", which waits for image {it}"
+    return [scene.say("Stuck", chain.close, chain=said)]

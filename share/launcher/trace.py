@@ -1,8 +1,8 @@
 """The text of a run as typed entries: what the images printed, the steps of the trace, and how the run ended.
 
-A step is a line `STAMP IMAGE LINE OBJECT ASK > REPLY`; docs/RUN.md has the asks. A step's number is its place among
-its image's steps, from 1: the one that `--fail I@K` counts. A trace of form 2 begins with a line `trace 2 images N`,
-and a team in an ask has its team number behind it; one of form 1, from an earlier caf, has neither.
+A step is a line `STAMP IMAGE LINE OBJECT ASK > REPLY`; docs/build/RUN.md has the asks. A step's number is its place
+among its image's steps, from 1: the one that `--fail I@K` counts. A trace of form 2 begins with a line
+`trace 2 images N`, and a team in an ask has its team number behind it; one of form 1, from an earlier caf, has neither.
 """
 
 import enum

@@ -2,11 +2,14 @@
 apart, in memory where it is short, and in a temporary file where it is long.
 
 The text is laid out in this order: the printed lines, `IMAGE: TEXT`; with --vars the lines `var ..`; with --trace a
-line `trace 2 images N` and those of the steps, which begin with a number and a blank; and the lines of the end.
+line `trace 2 images N` and those of the steps, which begin with a number and a blank; the lines of the end; and with
+--why the lines that tell why a run is stuck.
 """
 
 import re
 from typing import IO, Iterator, List, Optional
+
+from tail import Tail
 
 # So many bytes are kept in memory.
 MOST_IN_MEMORY = 1 << 20
@@ -66,11 +69,12 @@ class KeptTrace:
 class Cut:
     """Parts a text that comes in pieces: what is passed on, and what is kept."""
 
-    def __init__(self, kept: KeptTrace, has_variables: bool, has_steps: bool) -> None:
-        """The lines of --vars and of --trace are passed on too where they were asked for."""
+    def __init__(self, kept: KeptTrace, has_variables: bool, has_steps: bool, has_why: bool = False) -> None:
+        """The lines of --vars, of --trace and of --why are passed on too where they were asked for."""
         self._kept = kept
         self._is_passed = {_VARIABLES: has_variables, _STEPS: has_steps}
         self._block = _PRINTED
+        self._tail = Tail(has_why)
         self._held = b""
         self._is_line_start = True
 
@@ -90,13 +94,17 @@ class Cut:
                 return b"".join(passed)
             text = text[found.start() :]
             self._block = self._next_block(text)
-        passed.append(text)
+        passed.append(self._tail.take(text))
         return b"".join(passed)
 
     def rest(self) -> bytes:
         """Returns what was held back, at the end of the text."""
         held, self._held = self._held, b""
-        return held
+        return held + self._tail.rest()
+
+    def why(self) -> List[str]:
+        """Returns the lines that tell why the run is stuck, where they weren't passed on."""
+        return self._tail.lines()
 
     def _boundary(self, text: bytes, start: int) -> "Optional[re.Match[bytes]]":
         """Finds the line with which the block ends, from a line's start on."""

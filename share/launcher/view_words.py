@@ -18,9 +18,9 @@ OWN: Dict[str, Dict[str, int]] = {
 }
 # The options of a run that each of them has no use for, since it is set by the command.
 _SET: Dict[str, Tuple[str, ...]] = {
-    "show": ("--trace", "--vars"),
-    "picture": ("--trace", "--vars"),
-    "explore": ("--trace", "--vars"),
+    "show": ("--trace", "--vars", "--why"),
+    "picture": ("--trace", "--vars", "--why"),
+    "explore": ("--trace", "--vars", "--why"),
 }
 _WITH_VALUE = ("-n", "-w", "--order", "--steps", "--fail")
 

@@ -4,7 +4,7 @@ The step for which an image waits isn't in the trace, for it isn't made. What is
 ended are. The line of the source tells which lock or event is meant, where there is more than one.
 """
 
-from typing import Dict, Iterable, List, NamedTuple, Optional, Sequence, Tuple
+from typing import Dict, List, NamedTuple, Optional, Sequence, Tuple
 
 from source_text import Reference, Source, references
 from trace import Run, Step, Wait
@@ -251,23 +251,3 @@ def _event_waiting(standing: Standing, wait: Wait, where: Where) -> Waiting:
         wants = value_of(wanted.rpartition(")")[0].split(", stat")[0], where)
     posters = tuple(standing.posted[it] for it in cells if it in standing.posted)
     return Waiting(*wait, name, posters, has, wants)
-
-
-def cycle_of(waits: Iterable[Waiting]) -> List[int]:
-    """Returns images each of which waits for the next one, and the last one for the first; none where there are no
-    such ones. An image that waits for an event waits for no image that is known."""
-    edges = {it.image: [other.image for other in it.others] for it in waits if it.word != "wait"}
-    for start in edges:
-        path = [start]
-        seen = {start}
-        while path:
-            ahead = [it for it in edges.get(path[-1], []) if it in edges]
-            if start in ahead and len(path) > 1:
-                return path
-            further = [it for it in ahead if it not in seen]
-            if further:
-                path.append(further[0])
-                seen.add(further[0])
-            else:
-                path.pop()
-    return []

@@ -5,7 +5,7 @@ import sys
 
 from checks.comparing import HOME, LAUNCHER, Checks, call, folder, read, started, with_status, write
 
-HELP_WORDS = """run judge replay check make -n -w --order --steps --fail --trace --vars --made FILE TRACE
+HELP_WORDS = """run judge replay check make -n -w --order --steps --fail --trace --vars --why --made FILE TRACE
 --try --prove --which --explain --version --message-format Statuses"""
 NEIGHBOUR = ["run", "-n", "4", "--order", "0", "examples/neighbour.f90"]
 # A program whose trace is long, and which ends by a fault in its last statement.
@@ -190,9 +190,9 @@ def _check_home(checks: Checks) -> None:
     """The launcher finds its home by links, in a folder with blanks, from elsewhere, and without a checkout."""
     with folder() as work:
         home = f"{work}/a tree/share/caf"
-        os.makedirs(f"{home}/docs")
+        os.makedirs(f"{home}/docs/use")
         os.makedirs(f"{work}/a tree/bin")
-        for name in ("caf", "share", "docs/REFUSALS.md"):
+        for name in ("caf", "share", "docs/use/REFUSALS.md"):
             call(["cp", "-r", f"{HOME}/{name}", f"{home}/{name}"])
         os.symlink("../share/caf/caf", f"{work}/a tree/bin/caf")
         os.symlink(f"{work}/a tree/bin/caf", f"{work}/linked")

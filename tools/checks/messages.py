@@ -1,4 +1,4 @@
-"""What is said of an answer: tools/messages.cases, tools/uses.cases, and the tables of docs/REFUSALS.md."""
+"""What is said of an answer: tools/messages.cases, tools/uses.cases, and the tables of docs/use/REFUSALS.md."""
 
 import os
 import re

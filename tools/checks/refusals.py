@@ -1,4 +1,4 @@
-"""What is said of refused places: the cases of docs/REFUSALS.md by their examples, and tools/refusals.cases."""
+"""What is said of refused places: the cases of docs/use/REFUSALS.md by their examples, and tools/refusals.cases."""
 
 import re
 from typing import Dict, Iterator, List, NamedTuple, Set

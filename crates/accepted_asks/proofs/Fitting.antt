@@ -15,7 +15,6 @@ use Rattle.core_runs.specs.CoreRuns.{IsCoreRun}
 use Rattle.program_walks.specs.Runs.{program_rules, program_begins}
 use Rattle.wait_reason.specs.WaitsFor.{is_fit_after}
 use Rattle.walk_laws.specs.Fits.{StandsAt, AreDeclaredBy}
-use Rattle.cell_statements.specs.Typed.{IsSteadyProgram}
 use Rattle.accepted_cells.specs.Contents.{HoldWhatIsDeclared}
 use Rattle.accepted_cells.proofs.Programs.{program_typed}
 use Rattle.accepted_cells.proofs.OwnCells.{all_small}
@@ -29,7 +28,7 @@ module _ (x : u.Program) (p : s.Program) (accepts : Accepts x p) (limit : ℕ) (
       named_fits p limit coarrays n fails_at words t valued core ((program_means x).means accepts.unbroken p accepts.meaning) ((program_typed coarrays x).means accepts.unbroken p accepts.meaning declared)
       (all_small p.main.variables p.coarrays 0 fit) i a h e
 
-  pub accepted_own : AreDeclaredBy p coarrays → IsSteadyProgram p → (i : ℕ) (a : Ask) → StandsAt p limit coarrays n fails_at words t i a → is_of_own_event a ≡ true → is_fit_after coarrays n t i a ≡ true
-  accepted_own own quiet i a h e =
+  pub accepted_own : AreDeclaredBy p coarrays → (i : ℕ) (a : Ask) → StandsAt p limit coarrays n fails_at words t i a → is_of_own_event a ≡ true → is_fit_after coarrays n t i a ≡ true
+  accepted_own own i a h e =
       own_fits p limit coarrays n fails_at words t valued core ((program_means x).means accepts.unbroken p accepts.meaning) ((program_typed coarrays x).means accepts.unbroken p accepts.meaning declared)
-      (all_small p.main.variables p.coarrays 0 fit) quiet own i a h e
+      (all_small p.main.variables p.coarrays 0 fit) own i a h e

@@ -15,7 +15,6 @@ ghost use Rattle.wait_reason.specs.WaitsFor.{is_fit_after};
 ghost use Rattle.told_walks.specs.Asked.{most_team};
 ghost use Rattle.walk_laws.specs.Fits.{StandsAt, AreDeclaredBy};
 ghost use Rattle.fit_laws.specs.Asks.{AllocatesAllocatable};
-ghost use Rattle.cell_statements.specs.Typed.{IsSteadyProgram};
 ghost use Rattle.next_fits.specs.Known.{IsSound, is_known};
 ghost use Rattle.checked_run.specs.Coarrays.{coarrays_of};
 
@@ -27,10 +26,9 @@ pub fn law_accepted_allocates()
         → AllocatesAllocatable coarrays p }
 {}
 
-/// An accepted program is sound over its own coarrays, where no procedure is called between the event of an EVENT WAIT
-/// or EVENT_QUERY and the ask.
+/// An accepted program is sound over its own coarrays.
 pub fn law_accepted_own_is_sound()
-    ensures { (x : units.Program) (p : checked.Program) → Accepts x p → IsSteadyProgram p → IsSound (coarrays_of p) p }
+    ensures { (x : units.Program) (p : checked.Program) → Accepts x p → IsSound (coarrays_of p) p }
 {}
 
 /// A core run of a checked program has fewer than 2 to the 32nd teams where its images times twice its limit of
@@ -46,7 +44,7 @@ pub fn law_run_has_few_teams()
 /// So in a core run of an accepted program over its own coarrays, with such numbers, the next ask of each image fits,
 /// but for a read, a write, an atomic action and an arrival at a collective, of which nothing is said.
 pub fn law_accepted_next_ask_fits()
-    ensures { (x : units.Program) (p : checked.Program) → Accepts x p → IsSteadyProgram p
+    ensures { (x : units.Program) (p : checked.Program) → Accepts x p
         → (limit n : ℕ) (fails_at : ℕ → ℕ) (words : ℕ) (t : List Entry) → n * (2 * words + 4) < most_team
         → IsCoreRun (program_rules p limit) (program_begins p (coarrays_of p) n fails_at words) t
         → (i : ℕ) (a : Ask) → StandsAt p limit (coarrays_of p) n fails_at words t i a → is_known a ≡ true
@@ -55,7 +53,7 @@ pub fn law_accepted_next_ask_fits()
 
 /// So does the ask with which an image waits.
 pub fn law_accepted_next_wait_fits()
-    ensures { (x : units.Program) (p : checked.Program) → Accepts x p → IsSteadyProgram p
+    ensures { (x : units.Program) (p : checked.Program) → Accepts x p
         → (limit n : ℕ) (fails_at : ℕ → ℕ) (words : ℕ) (t : List Entry) → n * (2 * words + 4) < most_team
         → IsCoreRun (program_rules p limit) (program_begins p (coarrays_of p) n fails_at words) t
         → (i line : ℕ) (a : Ask)

@@ -1,4 +1,5 @@
--- What declarations that break nothing declare has at most rank 3, keeps locks and events in coarrays, and is numbered in order in a procedure.
+-- What declarations that break nothing declare has at most rank 3, keeps locks and events in coarrays, and is numbered
+-- in order in a procedure.
 use Rattle.std.proofs.Common.{◌≡◌, ◌∙◌, ℕ, suc, ◌+◌, Bool, true, false, List, [], ◌∷◌, ◌++◌, length, refl, sym, ap, subst, arith}
 use Rattle.std.proofs.lemmas.List.{length-map}
 use Rattle.std.specs.Prelude.{cond, not, nat_eq, nat_le, ◌&&◌, ◌||◌, Option, Some, None}

@@ -1,4 +1,5 @@
--- The scopes of a program that breaks nothing have the ranks of its variables and procedures, and so the program has its ranks.
+-- The scopes of a program that breaks nothing have the ranks of its variables and procedures, and so the program has
+-- its ranks.
 use Rattle.std.proofs.Common.{◌≡◌, ◌∙◌, ℕ, zero, suc, ◌+◌, Bool, true, false, List, [], ◌∷◌, ◌++◌, length, refl, sym, ap, subst, arith}
 use Rattle.std.proofs.lemmas.Bool.{leb-true}
 use Rattle.std.specs.Prelude.{cond, not, map, nat_le, ◌&&◌, Option, Some, None}

@@ -1,5 +1,5 @@
--- The ranks and the kinds that a checked program has (ISO/IEC 1539-1:2018): the ranks that its code wants (`made_code` says which), and a kind of integers where an
--- operation or a DO variable takes integers alone.
+-- The ranks and the kinds that a checked program has (ISO/IEC 1539-1:2018): the ranks that its code wants (`made_code`
+-- says which), and a kind of integers where an operation or a DO variable takes integers alone.
 use Rattle.std.specs.Prelude.{ℕ, ◌≤◌, ◌≡◌, List, [], ◌∷◌}
 use Rattle.checked_tree.specs.declared.data.DataType.{DataType}
 use Rattle.checked_tree.specs.declared.data.Object.TheVariants as objects

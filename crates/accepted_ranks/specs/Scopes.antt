@@ -40,7 +40,8 @@ abbrev pub IsKeptIfTyped : Option DataType → Object → Type 0
 IsKeptIfTyped None o = Unit {0}
 IsKeptIfTyped (Some y) o = IsKept y o
 
--- no variable and no constant has a rank above 3; the object of a constant is no variable's; locks and events are coarrays; a subroutine has no result
+-- no variable and no constant has a rank above 3; the object of a constant is no variable's; locks and events are
+-- coarrays; a subroutine has no result
 pub record AreRanks (procedures : List Procedure) (s : Scope) : Type 0 where
   pub variables : (n : List ℕ) (x : Symbol) → denotes s n ≡ Some (Names.variable x) → length x.bounds ≤ 3
   pub constants : (n : List ℕ) (x : ConstantSymbol) → denotes s n ≡ Some (Names.constant x) → length x.bounds ≤ 3

@@ -278,7 +278,7 @@ module _ (e : Environment) where
   pub wait_does : (d : t.Designator) (until : t.OptionalExpression) (stat : t.OptionalResult) (o : WrittenOrder) → kinded.IsOwnCell procedures d → kinded.IsOptionalScalar procedures until → kinded.IsOptionalResult procedures stat → PartsDo (control.event_wait e d until stat o)
   wait_does d until stat o h i k =
       let size = expressions.optional_size stat in
-      (cell_does d (own_cell d h), (dropping_does 1, (put_down_does o _ _ 1 size (number_does until _ i (tt, tt)) (optional_place_does e stat k), ((tt, tt), (copying_does size 2, ((tt, tt), (settling_does stat 1 [], dropping_does (size + 2))))))))
+      (cell_does d (own_cell d h), (dropping_does 1, (put_down_does o _ _ 1 size (number_does until _ i (tt, tt)) (optional_place_does e stat k), (copying_does size 2, ((tt, tt), (settling_does stat 1 [], dropping_does (size + 2)))))))
 
   pub critical_does : (n : ℕ) (stat : t.OptionalResult) → kinded.IsOptionalResult procedures stat → PartsDo (control.critical e n stat)
   critical_does n stat k = (optional_place_does e stat k, ((tt, tt), (settling_does stat 1 (failed_image ∷ []), dropping_does (expressions.optional_size stat))))

@@ -1,4 +1,5 @@
--- What holds of a scope, and is kept by each entity that breaks nothing, holds behind all declarations that break nothing. And what such an entity has.
+-- What holds of a scope, and is kept by each entity that breaks nothing, holds behind all declarations that break
+-- nothing. And what such an entity has.
 use Rattle.std.proofs.Common.{◌≡◌, ◌∙◌, Bool, true, false, List, [], ◌∷◌, ◌++◌, length, ap}
 use Rattle.std.specs.Prelude.{cond, nat_le, ◌&&◌, Option}
 use Rattle.caf_base.specs.declared.place.Pos.{Pos}

@@ -309,6 +309,6 @@ module _ (e : Environment) where
     intrinsic_does (t.image_status i which o) y r h = (as_written_does o _ _ (scalar_does i 0 h.1) (team_does which h.2), (tt, (tt, tt)))
     intrinsic_does (t.failed_images which) y r h = (team_does which h.1, (tt, (tt, tt)))
     intrinsic_does (t.stopped_images which) y r h = (team_does which h.1, (tt, (tt, tt)))
-    intrinsic_does (t.number_of_team which) y r h = (team_does which h.1, (tt, tt))
+    intrinsic_does (t.number_of_team which) y r h = (team_does which h.1, (tt, (tt, tt)))
     intrinsic_does (t.get_team t.missing) y r h = (tt, tt)
     intrinsic_does (t.get_team (t.given level)) y r h = (scalar_does level 0 h.1, (tt, tt))

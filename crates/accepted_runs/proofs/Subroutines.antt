@@ -71,7 +71,7 @@ module _ (e : Environment) where
   atomic_does ps ds atom d op k x y old rd stat sd h i j = (evaluating_does ps ds h, (cell_there_does e d, (fetching_does ps ds atom 0 2, (i, (j, ((tt, (tt, tt)), (selector_settled (control.cell_stat e d) (pieces.depth ps ds atom + 5), (fetched_does old (pieces.depth ps ds rd + 3), (settling_does stat (pieces.depth ps ds sd + 2) [], dropping_does (pieces.sizes ps ds + 1))))))))))
 
   query_does : (ps : List Piece) (ds : List ℕ) (d : t.Designator) (count : t.ResultVariable) (stat : t.OptionalResult) → AllDo ps → PartsDo (view.query e ps ds d count stat)
-  query_does ps ds d count stat h = (evaluating_does ps ds h, ((tt, tt), (fetching_does ps ds 0 0 2, (dropping_does 1, ((tt, tt), (storing_does (pieces.depth ps ds 1 + 1) count, ((tt, tt), (settling_does stat (pieces.depth ps ds 2 + 1) [], dropping_does (pieces.sizes ps ds)))))))))
+  query_does ps ds d count stat h = (evaluating_does ps ds h, (fetching_does ps ds 0 0 2, (dropping_does 1, ((tt, tt), (storing_does (pieces.depth ps ds 1 + 1) count, ((tt, tt), (settling_does stat (pieces.depth ps ds 2 + 1) [], dropping_does (pieces.sizes ps ds))))))))
 
   -- ---- collectives
   as_array_does : (r : ℕ) (p : Parts Act) → PartsDo p → PartsDo (view.as_array e r p)

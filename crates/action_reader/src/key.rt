@@ -1,4 +1,5 @@
-//! Readers of keywords, of brackets and of the end of a statement. Each takes the words from its place on, and gives the words behind what it reads.
+//! Readers of keywords, of brackets and of the end of a statement. Each takes the words from its place on, and gives
+//! the words behind what it reads.
 
 ghost use Rattle.std.specs.Prelude.{◌≡◌, ◌++◌, IfOk};
 ghost use Rattle.expr_reader.specs.Openings.{opens};

@@ -62,7 +62,8 @@ fn fail_image() -> StatementForm
     StatementForm::FailImage
 }
 
-/// An action statement at this place. A program with more literals or more enclosing loops than 32 bits count is answered as want of memory.
+/// An action statement at this place. A program with more literals or more enclosing loops than 32 bits count is
+/// answered as want of memory.
 #[tactic(auto, using(fortran_tree::specs::ActionViews::action_forms))]
 pub fn judge_action(
     alloc: Global,

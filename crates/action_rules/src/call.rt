@@ -26,6 +26,7 @@ use fortran_tree::expr::Argument;
 use fortran_tree::name::Name;
 use part_rules::bracket::Actual;
 use part_rules::judged::{Judged, are_none, note_unless, refused, unknown};
+use rule_definitions::rule;
 use scope_table::scope::{Denoted, Scope};
 use scope_table::symbol::Interface;
 use std::alloc::Global;
@@ -84,7 +85,7 @@ fn refused_call(
 {
     let mut breaks = breaks_in_all(alloc, actuals)?;
     let is_broken = !are_none(breaks.as_slice());
-    note_unless(&mut breaks, is_broken, 47, at)?;
+    note_unless(&mut breaks, is_broken, rule::PROCEDURE_NAME, at)?;
     Ok(Judged {
         breaks,
         meaning: None,
@@ -104,7 +105,7 @@ fn called(
 {
     let Some(denoted) = denoted else {
         drop(actuals);
-        return refused(alloc, 20, at);
+        return refused(alloc, rule::UNKNOWN_NAME, at);
     };
     match denoted {
         Denoted::Subroutine(number) => {

@@ -1,4 +1,5 @@
-//! Statements that may not stand in a CRITICAL block (11.1.6): image control statements (11.6.1), RETURN and STOP; rule 43.
+//! Statements that may not stand in a CRITICAL block (11.1.6): image control statements (11.6.1), RETURN and STOP;
+//! rule 43.
 
 ghost use Rattle.std.specs.Prelude.{◌≡◌, IfOk, map};
 ghost use Rattle.std.specs.Option.{option_map};

@@ -165,7 +165,8 @@ fn push_planning_one(
     }
 }
 
-// Those of objects whose bounds stand beneath so many numbers: `left` numbers are the bounds of those that aren't tested yet.
+// Those of objects whose bounds stand beneath so many numbers: `left` numbers are the bounds of those that aren't
+// tested yet.
 fn push_planning(
     draft: &mut Draft,
     objects: &[Allocation],

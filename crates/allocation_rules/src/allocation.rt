@@ -29,6 +29,7 @@ use fortran_tree::expr::Specifier;
 use fortran_tree::name::Name;
 use part_rules::judged::{Judged, are_none, fine, joined, keep, note_unless, refused, ruled};
 use rule_definitions::broken::Broken;
+use rule_definitions::rule;
 use scope_table::object::object_from;
 use scope_table::scope::{Denoted, Scope, Visible};
 use shared_rules::stat::stat_of;
@@ -54,18 +55,22 @@ fn has_colon(dimensions: &[Dimension]) -> bool
     false
 }
 
-// The rule that bounds break at an object of this rank: 55 where there are none for an array, or a colon, 33 where there is another number of them.
+// The rule that bounds break at an object of this rank: 55 where there are none for an array, or a colon, 33 where
+// there is another number of them.
 #[tactic(auto, using(crate::proofs::Shapes::shape_by))]
 fn shape_rule(rank: usize, dimensions: &[Dimension], at: Pos) -> Option<Broken>
     ensures { noted result ≡ rules.shape_breaks rank (map dimension_written dimensions.now) at }
 {
     let [_, ..] = dimensions else {
-        return rule_unless(rank == 0, 55, at);
+        return rule_unless(rank == 0, rule::ALLOCATE, at);
     };
     if has_colon(dimensions) {
-        return Some(Broken { rule: 55, at });
+        return Some(Broken {
+            rule: rule::ALLOCATE,
+            at,
+        });
     }
-    rule_unless(dimensions.len() == rank, 33, at)
+    rule_unless(dimensions.len() == rank, rule::SUBSCRIPT_COUNT, at)
 }
 
 fn rule_unless(holds: bool, rule: u8, at: Pos) -> Option<Broken>
@@ -83,8 +88,15 @@ fn coshape_rule(corank: usize, coshape: &Coshape, at: Pos) -> Option<Broken>
     ensures { noted result ≡ explicit_said corank (coarray_spec coshape.now) at }
 {
     match coshape {
-        Coshape::Explicit { cobounds, .. } => rule_unless(cobounds.len() + 1 == corank, 33, at),
-        Coshape::Deferred { .. } => Some(Broken { rule: 55, at }),
+        Coshape::Explicit { cobounds, .. } => rule_unless(
+            cobounds.len() + 1 == corank,
+            rule::SUBSCRIPT_COUNT,
+            at,
+        ),
+        Coshape::Deferred { .. } => Some(Broken {
+            rule: rule::ALLOCATE,
+            at,
+        }),
     }
 }
 
@@ -94,10 +106,13 @@ fn cobounds_rule(corank: usize, coshape: &Option<Coshape>, at: Pos) -> Option<Br
     ensures { noted result ≡ rules.cobounds_breaks corank (maybe_coarray_spec coshape.now) at }
 {
     let Some(coshape) = coshape else {
-        return rule_unless(corank == 0, 55, at);
+        return rule_unless(corank == 0, rule::ALLOCATE, at);
     };
     if corank == 0 {
-        return Some(Broken { rule: 34, at });
+        return Some(Broken {
+            rule: rule::NO_COARRAY,
+            at,
+        });
     }
     coshape_rule(corank, coshape, at)
 }
@@ -123,7 +138,7 @@ fn note_variable(
     let symbol = visible.symbol;
     let shape = shape_rule(symbol.bounds.len(), object.bounds.as_slice(), at);
     let cobounds = cobounds_rule(symbol.corank, &object.cobounds, at);
-    note_unless(breaks, symbol.is_allocatable, 55, at)?;
+    note_unless(breaks, symbol.is_allocatable, rule::ALLOCATE, at)?;
     note(breaks, shape)?;
     note(breaks, cobounds)
 }
@@ -245,7 +260,7 @@ fn judge_undeclared(
     let Judged {
         breaks: before,
         meaning,
-    } = refused(alloc, 20, at)?;
+    } = refused(alloc, rule::UNKNOWN_NAME, at)?;
     joined(before, breaks, meaning)
 }
 
@@ -260,7 +275,7 @@ fn judge_other(shape: Judged<Shape>, at: Pos) -> Result<Judged<TypedAllocation>,
     } = shape;
     drop(meaning);
     let is_broken = !are_none(breaks.as_slice());
-    note_unless(&mut breaks, is_broken, 55, at)?;
+    note_unless(&mut breaks, is_broken, rule::ALLOCATE, at)?;
     Ok(Judged {
         breaks,
         meaning: None,
@@ -385,12 +400,17 @@ fn deallocated_as(
     ensures meaning { IfOk result (λ j. j.meaning ≡ (object_of (rules.allocatable (option_map meaning_of denoted.entry) at)).meaning) }
 {
     let Some(denoted) = denoted else {
-        return refused(alloc, 20, at);
+        return refused(alloc, rule::UNKNOWN_NAME, at);
     };
     match denoted {
         Denoted::Variable(visible) => {
             let object = object_from(visible.home, visible.symbol.object);
-            ruled(fine(alloc, object), visible.symbol.is_allocatable, 55, at)
+            ruled(
+                fine(alloc, object),
+                visible.symbol.is_allocatable,
+                rule::ALLOCATE,
+                at,
+            )
         }
         Denoted::Constant(_)
         | Denoted::Subroutine(_)
@@ -398,7 +418,7 @@ fn deallocated_as(
         | Denoted::ModuleConstant(_)
         | Denoted::ModuleType(_)
         | Denoted::IntrinsicFunction(_)
-        | Denoted::IntrinsicSubroutine(_) => refused(alloc, 55, at),
+        | Denoted::IntrinsicSubroutine(_) => refused(alloc, rule::ALLOCATE, at),
     }
 }
 

@@ -1,4 +1,5 @@
--- What the members of a closed collective subroutine brought: one part each, with as many values as the round says, all of its kind.
+-- What the members of a closed collective subroutine brought: one part each, with as many values as the round says, all
+-- of its kind.
 use Rattle.std.proofs.Common.{◌≡◌, ℕ, suc, ◌≤◌, true, false, ◌&&◌, ◌||◌, IsTrue, List, [], ◌∷◌, ◌++◌, inl, inr, length, refl, ap, sym, ◌∙◌, subst, append_assoc}
 use Rattle.std.specs.Prelude.{nat_eq, Option, Some}
 use Rattle.std.specs.List.{list_any, list_all, cons_option}

@@ -1,4 +1,5 @@
--- What is known of an entry of a lawful trace: it was ready after those before it at its object, and has the reply that was due there.
+-- What is known of an entry of a lawful trace: it was ready after those before it at its object, and has the reply that
+-- was due there.
 use Rattle.std.proofs.Common.{◌≡◌, ℕ, suc, Bool, IsTrue, List, [], ◌∷◌, ◌++◌, ap, sym, ◌∙◌, subst, append_assoc}
 use Rattle.std.proofs.lemmas.List.{append-nil}
 use Rattle.caf_base.specs.declared.place.ImageNo.{ImageNo}

@@ -35,6 +35,7 @@ said a r = record { ask = a; reply = r; line = 0 }
 told : (board_reply 2 history 2 failed ≡ replies.Indices (1 ∷ [])) × (answers [] 2 (said form (replies.Round 1) ∷ said leave (board_reply 2 history 2 leave) ∷ []) failed (replies.Indices (1 ∷ [])) ≡ true)
 told = (refl, refl)
 
--- before its departure it knows nothing of the members, so that the same reply answers nothing, though the board is ready to give it
+-- before its departure it knows nothing of the members, so that the same reply answers nothing, though the board is
+-- ready to give it
 untold : (board_ready 2 history 2 failed ≡ true) × (answers [] 2 (said form (replies.Round 1) ∷ []) failed (replies.Indices (1 ∷ [])) ≡ false)
 untold = (refl, refl)

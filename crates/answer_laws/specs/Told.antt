@@ -1,4 +1,5 @@
--- Which teams an image was told of (ISO/IEC 1539-1:2018, 5.3.4, 11.6.9): the initial team, and those that its departures from FORM TEAM named.
+-- Which teams an image was told of (ISO/IEC 1539-1:2018, 5.3.4, 11.6.9): the initial team, and those that its
+-- departures from FORM TEAM named.
 use Rattle.std.specs.Prelude.{ℕ, Bool, true, false, ◌||◌, IsTrue, nat_eq, List, [], ◌∷◌, ◌++◌}
 use Rattle.std.specs.List.{list_any}
 use Rattle.caf_events.specs.declared.ask.Ask.{Ask}

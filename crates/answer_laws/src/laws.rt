@@ -11,8 +11,8 @@ ghost use Rattle.core_runs.specs.CoreRuns.{said_by};
 ghost use Rattle.core_runs.specs.Lawful.{IsLawfulTrace};
 ghost use Rattle.answer_laws.specs.Told.{IsTold, AllTold};
 
-/// In a lawful trace each reply to an image answers its ask, after what the image said and heard before, where the ask names no team but one that the image was
-/// told.
+/// In a lawful trace each reply to an image answers its ask, after what the image said and heard before, where the ask
+/// names no team but one that the image was told.
 pub fn law_replies_answer()
     ensures { (coarrays : List Declared) (n : ℕ) (t : List Entry) → IsLawfulTrace coarrays n t
         → (i : ℕ) (before after : List (Said Ask Reply)) (e : Said Ask Reply) → said_by i t ≡ before ++ e ∷ after

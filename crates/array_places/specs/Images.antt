@@ -7,7 +7,8 @@ use Rattle.image_acts.specs.Faults.{bounds_fault}
 use Rattle.image_acts.specs.Teams.{are_within_cobounds}
 use Rattle.array_places.specs.Bounds.{in_kind_4}
 
--- the place from 0 of the image that cosubscripts name, behind so many images and so many apart, as far as 64 bits hold it; nothing where they aren't within cobounds
+-- the place from 0 of the image that cosubscripts name, behind so many images and so many apart, as far as 64 bits hold
+-- it; nothing where they aren't within cobounds
 abbrev pub order_found : (order weight : ℕ) → List ℤ → List ℤ → List ℤ → Option ℕ
 order_found order weight ls es ss = cond (are_within_cobounds ls es ss) (Some (min (order + weight * image_order ls es ss) (2 ^ 64 - 1))) None
 

@@ -1,4 +1,5 @@
-//! Sizes, extents and bounds of arrays (ISO/IEC 1539-1:2018, 5.4.6; LBOUND, SIZE and UBOUND in 16.9). Bounds stand as a lower and an upper one for each dimension.
+//! Sizes, extents and bounds of arrays (ISO/IEC 1539-1:2018, 5.4.6; LBOUND, SIZE and UBOUND in 16.9). Bounds stand as a
+//! lower and an upper one for each dimension.
 
 ghost use Rattle.std.specs.Prelude.{◌≡◌, ◌-◌, ◌^◌, min, slice_get};
 ghost use Rattle.caf_base.specs.Arithmetic.{natural};
@@ -7,12 +8,7 @@ ghost use Rattle.image_acts.specs.Frames.{pairs_in};
 ghost use Rattle.array_places.specs.Bounds.{as_found, in_kind_4, size_found, along, numbered, length_of, lower_of, upper_of};
 
 use crate::place::{first_pair, natural};
-
-/// The number of the run fault Overflow.
-const OVERFLOW: u32 = 1;
-
-/// The number of the run fault Bounds.
-pub(crate) const BOUNDS: u32 = 3;
+use caf_events::fault::{BOUNDS, OVERFLOW};
 
 /// How many values a subscript has between its bounds (5.4.6).
 pub(crate) fn extent(lower: &i64, upper: &i64) -> u128

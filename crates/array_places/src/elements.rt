@@ -53,7 +53,8 @@ pub fn element_at(elements: &[i64], place: &[i64], k: u32) -> i64
     element(elements, &offset_at(place, k)).unwrap_or(0)
 }
 
-/// Gives the cells of a place these elements, in array element order, as far as there are both. A cell that isn't there is passed over.
+/// Gives the cells of a place these elements, in array element order, as far as there are both. A cell that isn't there
+/// is passed over.
 pub fn put(elements: &mut [i64], place: &[i64], values: &[i64])
     requires { cells_of (place_in place.now) < 2 ^ 32 }
     ensures { elements.new ≡ with_elements_at (offsets (place_in place.now)) values.now elements.old }

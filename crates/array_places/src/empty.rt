@@ -1,4 +1,5 @@
-//! The place of a section of an array without elements (ISO/IEC 1539-1:2018, 9.5.3.3), however large its other extents are.
+//! The place of a section of an array without elements (ISO/IEC 1539-1:2018, 9.5.3.3), however large its other extents
+//! are.
 
 ghost use Rattle.std.specs.Prelude.{◌≡◌, ◌<◌, ◌≤◌, ◌+◌, ◌^◌, ◌∷◌, ◌++◌, [], pos, ℕ, List, cond, length, true, IfOk, IfErr};
 ghost use Rattle.coarray_types.specs.Places.{extent_of};
@@ -7,13 +8,11 @@ ghost use Rattle.image_acts.specs.Frames.{pairs_in};
 ghost use Rattle.image_acts.specs.Places.{digits, with_digit, subscripts_in, are_small, empty_place, place_within, spread_of};
 ghost use Rattle.array_places.specs.Sections.{Lies, numbers_of, rested_from};
 
-use crate::bounds::{BOUNDS, cells_between, extent};
+use crate::bounds::{cells_between, extent};
 use crate::list::PlaceNumbers;
 use crate::place::first_pair;
 use crate::triplet::{Subscripts, behind, dimension};
-
-/// The number of the run fault Room.
-const ROOM: u32 = 11;
+use caf_events::fault::{BOUNDS, ROOM};
 
 /// Whether each extent between these bounds is of 63 bits.
 pub fn are_small(bounds: &[i64]) -> bool
@@ -79,8 +78,8 @@ fn end(place: PlaceNumbers, bounds: &[i64]) -> Result<PlaceNumbers, u32>
     Ok(place)
 }
 
-/// The numbers of a place without cells, by a form and the numbers of its subscripts in the order in which they were put down; or the run fault ZeroStep or Bounds that
-/// is found first.
+/// The numbers of a place without cells, by a form and the numbers of its subscripts in the order in which they were
+/// put down; or the run fault ZeroStep or Bounds that is found first.
 fn empty_place(bounds: &[i64], form: u32, numbers: &[i64]) -> Result<PlaceNumbers, u32>
     requires { are_small (pairs_in bounds.now) ≡ true }
     ensures found { IfOk result (λ p. numbers_of (empty_place (pairs_in bounds.now) (subscripts_in (digits form) numbers.now)) ≡ found p) }
@@ -93,8 +92,9 @@ fn empty_place(bounds: &[i64], form: u32, numbers: &[i64]) -> Result<PlaceNumber
     end(place, bounds)
 }
 
-/// The numbers of the place of a section of an array whose cells, an empty dimension counting as one, are 2 ** 63 and more: so of one without elements, where a program
-/// has it; or the run fault Room, where it has elements or an extent of more than 63 bits, ZeroStep or Bounds.
+/// The numbers of the place of a section of an array whose cells, an empty dimension counting as one, are 2 ** 63 and
+/// more: so of one without elements, where a program has it; or the run fault Room, where it has elements or an extent
+/// of more than 63 bits, ZeroStep or Bounds.
 pub fn wide_place(bounds: &[i64], form: u32, numbers: &[i64]) -> Result<PlaceNumbers, u32>
     requires { 2 ^ 63 ≤ spread_of (pairs_in bounds.now) }
     ensures found { IfOk result (λ p. numbers_of (place_within (pairs_in bounds.now) (subscripts_in (digits form) numbers.now)) ≡ found p) }

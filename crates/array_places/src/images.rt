@@ -7,8 +7,9 @@ ghost use Rattle.image_acts.specs.Teams.{cosubscripts_behind, index_in, index_of
 ghost use Rattle.array_places.specs.Bounds.{as_found};
 ghost use Rattle.array_places.specs.Images.{cosubscript_found, order_found};
 
-use crate::bounds::{BOUNDS, in_kind};
+use crate::bounds::in_kind;
 use crate::place::natural;
+use caf_events::fault::BOUNDS;
 
 /// A place among images with a digit more, or the largest number of 64 bits where it is larger.
 fn order_behind(order: u64, weight: u64, digit: u64) -> u64
@@ -35,7 +36,8 @@ fn digit_of(lower: &i64, subscript: &i64, width: u64) -> Option<u64>
     if digit < width { Some(digit) } else { None }
 }
 
-/// The place from 0 of the image that cosubscripts name, or the largest number of 64 bits where it is larger; nothing where they aren't within their cobounds.
+/// The place from 0 of the image that cosubscripts name, or the largest number of 64 bits where it is larger; nothing
+/// where they aren't within their cobounds.
 fn order_of(lowers: &[i64], extents: &[i64], subscripts: &[i64]) -> Option<u64>
     ensures { result ≡ order_found 0 1 lowers.now extents.now subscripts.now }
 {
@@ -124,7 +126,8 @@ fn last_cosubscript(lower: &i64, images: u64, number: u64) -> Option<i128>
     Some(i128::from(*lower) + i128::from(images))
 }
 
-/// The cosubscript with this number from 1 of the image that is so many images behind the first, or the run fault Bounds or Overflow (THIS_IMAGE, 16.9.190).
+/// The cosubscript with this number from 1 of the image that is so many images behind the first, or the run fault
+/// Bounds or Overflow (THIS_IMAGE, 16.9.190).
 pub fn cosubscript(lowers: &[i64], extents: &[i64], images: u64, dim: &i64) -> Result<i64, u32>
     ensures { as_found result ≡ cosubscript_found (cosubscripts_behind lowers.now extents.now images) dim.now }
 {

@@ -4,7 +4,8 @@ ghost use Rattle.std.specs.Prelude.{◌≡◌, ◌<◌, ◌++◌, ◌∷◌, [],
 
 use std::marker::Model;
 
-/// The numbers of a place of at most three dimensions: the offset of the first cell, and a count and a step for each dimension.
+/// The numbers of a place of at most three dimensions: the offset of the first cell, and a count and a step for each
+/// dimension.
 #[derive(Drop)]
 pub struct PlaceNumbers {
     numbers: [i64; 7],

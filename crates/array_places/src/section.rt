@@ -8,13 +8,14 @@ ghost use Rattle.image_acts.specs.Frames.{pairs_in};
 ghost use Rattle.image_acts.specs.Places.{digits, with_digit, subscripts_in, place_of as place_found, spread_of};
 ghost use Rattle.array_places.specs.Sections.{Fine, Lies, numbers_from, numbers_of};
 
-use crate::bounds::{BOUNDS, extent};
+use crate::bounds::extent;
 use crate::list::PlaceNumbers;
 use crate::place::first_pair;
 use crate::triplet::{Subscripts, behind, dimension};
+use caf_events::fault::BOUNDS;
 
-/// What is found of a place: how far apart, in cells, neighbours of the next dimension are; the offset of the first cell in the dimensions so far; and their
-/// counts and steps, behind a first number that waits for the offset.
+/// What is found of a place: how far apart, in cells, neighbours of the next dimension are; the offset of the first
+/// cell in the dimensions so far; and their counts and steps, behind a first number that waits for the offset.
 #[derive(Drop)]
 struct Way {
     apart: u64,
@@ -134,9 +135,9 @@ fn place_of_scalar(bounds: &[i64]) -> Result<PlaceNumbers, u32>
     }
 }
 
-/// The numbers of the place of an element or a section of an array with these bounds, by a form and the numbers of its subscripts in the order in which they
-/// were put down; or the run fault ZeroStep or Bounds that is found first. An array whose cells, an empty dimension counting as one, are 2 ** 63 and more has
-/// places that 64 bits can't hold.
+/// The numbers of the place of an element or a section of an array with these bounds, by a form and the numbers of its
+/// subscripts in the order in which they were put down; or the run fault ZeroStep or Bounds that is found first. An
+/// array whose cells, an empty dimension counting as one, are 2 ** 63 and more has places that 64 bits can't hold.
 pub fn place_of(bounds: &[i64], form: u32, numbers: &[i64]) -> Result<PlaceNumbers, u32>
     requires { spread_of (pairs_in bounds.now) < 2 ^ 63 }
     ensures found { IfOk result (λ p. numbers_of (place_found (pairs_in bounds.now) (subscripts_in (digits form) numbers.now)) ≡ found p) }
@@ -156,7 +157,8 @@ pub fn place_of(bounds: &[i64], form: u32, numbers: &[i64]) -> Result<PlaceNumbe
     way.end(bounds)
 }
 
-/// How many cells there are between these bounds, an empty dimension counting as one, or the largest number of 128 bits where there are more.
+/// How many cells there are between these bounds, an empty dimension counting as one, or the largest number of 128 bits
+/// where there are more.
 fn spread_between(bounds: &[i64]) -> u128
     ensures { result ≡ min (spread_of (pairs_in bounds.now)) (2 ^ 128 - 1) }
 {

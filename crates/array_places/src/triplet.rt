@@ -7,10 +7,7 @@ ghost use Rattle.coarray_types.specs.Places.{extent_of};
 ghost use Rattle.image_acts.specs.Places.{single, apart_by, triplet as triplet_of, dimension as dimension_of, numbers_in};
 ghost use Rattle.array_places.specs.Sections.{Lies, found_dimension, seen, subscript_in};
 
-use crate::bounds::BOUNDS;
-
-/// The number of the run fault ZeroStep.
-const ZERO_STEP: u32 = 4;
+use caf_events::fault::{BOUNDS, ZERO_STEP};
 
 /// The subscripts of a dimension: the first, how many, how far apart; and whether it is a dimension of the section.
 #[derive(Clone, Copy)]
@@ -170,7 +167,8 @@ fn part<'a>(there: bool, numbers: &'a [i64], missing: &'a i64) -> (&'a i64, &'a 
     }
 }
 
-/// The subscripts of a dimension with these bounds, by a digit of a form and the numbers that stand for it; or the run fault that is found.
+/// The subscripts of a dimension with these bounds, by a digit of a form and the numbers that stand for it; or the run
+/// fault that is found.
 pub(crate) fn dimension(
     lower: &i64,
     upper: &i64,

@@ -1,4 +1,5 @@
-//! Plans of allocations, and local arrays that are allocated, deallocated or laid out (ISO/IEC 1539-1:2018, 9.7.1, 9.7.3).
+//! Plans of allocations, and local arrays that are allocated, deallocated or laid out (ISO/IEC 1539-1:2018, 9.7.1,
+//! 9.7.3).
 
 ghost use Rattle.std.specs.Prelude.{◌≡◌, ◌<◌, ◌≤◌, ◌+◌, ◌-◌, ◌*◌, ◌^◌, ◌∷◌, ◌&&◌, [], Bool, length, drop, min, IfSome, IfNone};
 ghost use Rattle.caf_base.specs.Arithmetic.{is_true, truth};
@@ -12,17 +13,18 @@ ghost use Rattle.image_state.specs.Acting.{Acts};
 
 use crate::few::FewNumbers;
 use crate::locals::{elements, is_there};
-use crate::sections::ROOM;
 use crate::values::MOST_CELLS;
 use array_places::bounds::cells_between;
+use caf_base::limits::COARRAY_CELLS;
 use caf_base::value::Kind;
+use caf_events::fault::ROOM;
 use image_code::step::Scope;
 use image_state::state::{Acting, ImageState};
 use number_operators::arithmetic::is_of_kind;
 use number_operators::operators::truth;
 
 /// The most cells of a plan that is well, as a number of the stack.
-const MOST: i64 = 65_536;
+const MOST: i64 = COARRAY_CELLS as i64;
 
 /// A plan: whether all is well so far, and the coarray cells and the local cells that are then in use.
 #[derive(Clone, Copy)]

@@ -11,16 +11,14 @@ ghost use Rattle.array_steps.specs.Arguments.{has_shape};
 
 use crate::extents::{agree, extents_between};
 use crate::locals::{bounds, elements};
-use crate::sections::ROOM;
 use array_places::empty::are_small;
 use array_values::extents::Extents;
+use caf_events::fault::{ROOM, SHAPE};
 use image_code::step::Scope;
 use image_state::state::{Acting, ImageState};
 
-/// The number of the run fault Shape.
-const SHAPE: u32 = 12;
-
-/// Whether an array of the frame has these extents, and as many elements as the top array value; nothing where it isn't there.
+/// Whether an array of the frame has these extents, and as many elements as the top array value; nothing where it isn't
+/// there.
 #[tactic(auto, using(crate::proofs::ArgumentLaws::shape_is, crate::proofs::ArgumentLaws::shape_there))]
 fn has_shape(image: &ImageState, x: u32, extents: Extents) -> Option<bool>
     ensures some { IfSome result (λ b. b ≡ has_shape (listed extents) (length (elements_on_top image.now.core.arrays)) (array_in acts.here x image.now.core)) }

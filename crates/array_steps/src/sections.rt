@@ -1,4 +1,5 @@
-//! Elements and sections of local arrays, and their bounds (ISO/IEC 1539-1:2018, 9.5.3; ALLOCATED, LBOUND and UBOUND in 16.9).
+//! Elements and sections of local arrays, and their bounds (ISO/IEC 1539-1:2018, 9.5.3; ALLOCATED, LBOUND and UBOUND in
+//! 16.9).
 
 ghost use Rattle.std.specs.Prelude.{◌≡◌, ◌<◌, ◌≤◌, ◌+◌, ◌∷◌, [], length, take, reverse, IfSome};
 ghost use Rattle.walk_theory.specs.Terms.{found};
@@ -17,14 +18,10 @@ use crate::few::FewNumbers;
 use crate::forms::numbers_of_form;
 use crate::locals;
 use crate::offsets::offset_between;
+use caf_events::fault::{NOT_ALLOCATED, ROOM};
 use image_code::step::Scope;
 use image_state::state::{Acting, ImageState};
 use number_operators::operators::truth;
-
-/// The numbers of the run faults NotAllocated and Room.
-const NOT_ALLOCATED: u32 = 6;
-
-pub(crate) const ROOM: u32 = 11;
 
 /// Does the step `Section`.
 #[tactic(auto, using(crate::proofs::SectionLaws::element_placed))]

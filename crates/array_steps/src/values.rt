@@ -13,13 +13,14 @@ ghost use Rattle.local_arrays.specs.Arrays.{has_length, HasCells};
 
 use crate::few::FewNumbers;
 use crate::locals::{check, element, elements, place_on_top, place_over_number};
-use crate::sections::ROOM;
 use array_places::place::cells_in;
+use caf_base::limits::LOCAL_CELLS;
+use caf_events::fault::ROOM;
 use image_code::step::Scope;
 use image_state::state::{Acting, ImageState};
 
 /// The most local cells.
-pub(crate) const MOST_CELLS: u64 = 65_536;
+pub(crate) const MOST_CELLS: u64 = LOCAL_CELLS as u64;
 
 /// Does the step `Load`.
 #[tactic(auto, using(crate::proofs::LoadLaws::one_array))]
@@ -187,7 +188,8 @@ pub fn put_images(image: &mut ImageState, scope: Scope, x: u32) -> Acting
     Acting::Done
 }
 
-/// How many local cells are in use with as many for an array as the top array value has elements, where there may be so many.
+/// How many local cells are in use with as many for an array as the top array value has elements, where there may be so
+/// many.
 #[tactic(auto, using(crate::proofs::ImageLaws::none_left, crate::proofs::ImageLaws::size_left))]
 fn cells_with_top(image: &ImageState, scope: Scope, x: u32) -> Option<u64>
     ensures some { IfSome result (λ n. n ≡ (image.now.core.local_cells - local_size (array_in (scope_of scope) x image.now.core)) + length (elements_on_top image.now.core.arrays)) }

@@ -97,7 +97,8 @@ fn counts_of(dims: &[i64]) -> Extents
     Extents::Three(first, second, third)
 }
 
-/// The extents of a place of at most three dimensions (9.5.3.3), which is the offset of its first cell and a count and a step for each dimension.
+/// The extents of a place of at most three dimensions (9.5.3.3), which is the offset of its first cell and a count and
+/// a step for each dimension.
 #[tactic(auto, using(crate::proofs::ExtentLaws::extents_are, crate::proofs::ExtentLaws::fewer))]
 pub fn extents_of(place: &[i64]) -> Extents
     requires { length place.now ≤ 7 }

@@ -158,7 +158,8 @@ impl ArrayValues {
         put_all(&mut self.piles, numbers);
     }
 
-    /// Begins an array value with the bounds of these extents, a lower and an upper one for each; the lower ones are 1 (16.9.109, 16.9.196).
+    /// Begins an array value with the bounds of these extents, a lower and an upper one for each; the lower ones are 1
+    /// (16.9.109, 16.9.196).
     #[tactic(auto, using(crate::proofs::ValueLaws::arrays_long, crate::proofs::ValueLaws::elements_many))]
     pub fn begin_bounds(&mut self, extents: Extents)
         requires place { length self.old.arrays < self.old.most }

@@ -1,4 +1,5 @@
-//! Assignment (ISO/IEC 1539-1:2018, 10.2.1): the right side comes first, then the subscripts and the selector of the left side, then the store or the write.
+//! Assignment (ISO/IEC 1539-1:2018, 10.2.1): the right side comes first, then the subscripts and the selector of the
+//! left side, then the store or the write.
 
 ghost use Rattle.std.specs.Prelude.{◌≡◌, ◌≤◌, [], ◌∷◌, IfOk, OnOk};
 ghost use Rattle.checked_tree.specs.Expressions as t;
@@ -206,7 +207,8 @@ fn push_dropping_value(draft: &mut Draft, value_rank: u32, line: u32) -> Result<
     }
 }
 
-/// A value of this rank is written to the section at the place and owner on top: where it has no cells no access is made, and the status is 0.
+/// A value of this rank is written to the section at the place and owner on top: where it has no cells no access is
+/// made, and the status is 0.
 #[tactic(auto, using(crate::proofs::Assigning::of_sizes))]
 pub fn push_writing(
     draft: &mut Draft,

@@ -28,6 +28,7 @@ use checked_tree::statement::StatementForm;
 use part_rules::judged::{Judged, refused};
 use part_rules::types::{is_integer_type, is_logical_type, is_team_type};
 use rule_definitions::broken::Broken;
+use rule_definitions::rule;
 use scope_table::scope::Scope;
 use shared_rules::form::{is_listed, is_plain};
 use specifier_rules::variable::as_designator;
@@ -81,23 +82,31 @@ fn is_assigned_whole(rank: u32, value: &TypedExpr) -> bool
     is_plain_array(value)
 }
 
-// The rule that a value breaks: 32 where it is of another type, 37 for an array in a scalar, 38 for an array of another rank or one that is computed.
+// The rule that a value breaks: 32 where it is of another type, 37 for an array in a scalar, 38 for an array of another
+// rank or one that is computed.
 fn kindred_rule(target: &TypedExpr, value: &TypedExpr, at: Pos, value_at: Pos) -> Option<Broken>
     ensures { noted result ≡ rules.kindred_breaks at value_at (expression target.now) (expression value.now) }
 {
     if !is_alike(target.of_type, value.of_type) {
-        return Some(Broken { rule: 32, at });
+        return Some(Broken {
+            rule: rule::ASSIGNMENT,
+            at,
+        });
     }
     if value.rank == 0 {
         return None;
     }
     if target.rank == 0 {
         return Some(Broken {
-            rule: 37,
+            rule: rule::ARRAY_FOR_SCALAR,
             at: value_at,
         });
     }
-    rule_unless(is_assigned_whole(target.rank, value), 38, value_at)
+    rule_unless(
+        is_assigned_whole(target.rank, value),
+        rule::ARRAY_ASSIGNMENT,
+        value_at,
+    )
 }
 
 // The object of a designator with these subscripts and this selector, where it has neither.
@@ -206,9 +215,9 @@ fn list_rule(site: Site<'_>, target: &TypedExpr, value_at: Pos) -> Option<Broken
 {
     let takes_list = is_list_target(site, target);
     if is_whole_array(target) {
-        rule_unless(takes_list, 38, value_at)
+        rule_unless(takes_list, rule::ARRAY_ASSIGNMENT, value_at)
     } else {
-        rule_unless(takes_list, 56, value_at)
+        rule_unless(takes_list, rule::IMAGE_LIST, value_at)
     }
 }
 

@@ -24,6 +24,7 @@ use expr_rules::expr::judge_part;
 use fortran_tree::expr::{Designator, Expr};
 use part_rules::judged::{Judged, are_none, joined, ruled};
 use part_rules::part::Part;
+use rule_definitions::rule;
 use shared_rules::form::is_listed;
 use std::alloc::Global;
 
@@ -144,7 +145,7 @@ fn judge_defined(
 {
     let is_unsaid = is_unsaid(site, &target.meaning, &value.judged);
     let judged = judge_sides(alloc, site, target, value, at)?;
-    ruled(judged, is_unsaid, 32, at)
+    ruled(judged, is_unsaid, rule::ASSIGNMENT, at)
 }
 
 // An assignment by what was found of its two sides.

@@ -1,5 +1,5 @@
-//! What may be defined (10.2.1.2, 8.5.10, 11.1.7.4.3): no constant, no dummy argument with INTENT(IN), no variable of an enclosing loop, no lock and no
-//! event.
+//! What may be defined (10.2.1.2, 8.5.10, 11.1.7.4.3): no constant, no dummy argument with INTENT(IN), no variable of
+//! an enclosing loop, no lock and no event.
 
 ghost use Rattle.std.specs.Prelude.{◌≡◌, map};
 ghost use Rattle.std.specs.Option.{option_map};

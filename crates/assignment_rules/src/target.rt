@@ -18,6 +18,7 @@ use fortran_tree::expr::{Designator, Selector};
 use part_rules::designator::Selection;
 use part_rules::judged::{Judged, add_all, are_none, note_unless};
 use rule_definitions::broken::Broken;
+use rule_definitions::rule;
 use scope_table::scope::Scope;
 use std::alloc::Global;
 
@@ -48,8 +49,8 @@ fn procedure_rule(selector: &Option<Selector>) -> u8
     ensures { result ≡ cond (rules.is_selected (maybe_image_selector selector.now)) 34 47 }
 {
     match selector {
-        Some(_) => 34,
-        None => 47,
+        Some(_) => rule::NO_COARRAY,
+        None => rule::PROCEDURE_NAME,
     }
 }
 

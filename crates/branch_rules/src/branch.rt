@@ -1,4 +1,5 @@
-//! EXIT, CYCLE and RETURN (11.1.7.4.4, 11.1.12, 15.6.2.7): rules 41 and 42; and rule 43 (11.1.6) on a statement in a CRITICAL block.
+//! EXIT, CYCLE and RETURN (11.1.7.4.4, 11.1.12, 15.6.2.7): rules 41 and 42; and rule 43 (11.1.6) on a statement in a
+//! CRITICAL block.
 
 ghost use Rattle.std.specs.Prelude.{◌≡◌, ◌+◌, ◌++◌, IfOk, None, cond, map, nat_eq, not};
 ghost use Rattle.std.specs.Option.{option_map};
@@ -15,9 +16,11 @@ use caf_base::refusal::NoMemory;
 use checked_tree::statement::StatementForm;
 use fortran_tree::name::Name;
 use part_rules::judged::{Judged, fine, refused, ruled};
+use rule_definitions::rule;
 use std::alloc::Global;
 
-/// The loop that a branch means: how many loops out it is, and whether a construct that no branch may leave stands between.
+/// The loop that a branch means: how many loops out it is, and whether a construct that no branch may leave stands
+/// between.
 #[derive(Clone, Copy)]
 pub struct Target {
     pub loops: u32,
@@ -154,13 +157,18 @@ fn judge_target(
     ensures meaning { IfOk result (λ j. j.meaning ≡ (sought.target_judged target absent at).meaning) }
 {
     match target {
-        Some(target) => ruled(fine(alloc, target.loops), !target.crosses, 42, at),
-        None => refused(alloc, 41, absent),
+        Some(target) => ruled(
+            fine(alloc, target.loops),
+            !target.crosses,
+            rule::LEAVES_CONSTRUCT,
+            at,
+        ),
+        None => refused(alloc, rule::CONSTRUCT_NAME, absent),
     }
 }
 
-// How many loops out the loop is that EXIT or CYCLE means: rule 41 where there is none, rule 42 for a branch out of a CRITICAL or
-// CHANGE TEAM construct (11.1.5, 11.1.6).
+// How many loops out the loop is that EXIT or CYCLE means: rule 41 where there is none, rule 42 for a branch out of a
+// CRITICAL or CHANGE TEAM construct (11.1.5, 11.1.6).
 fn judge_depth(
     alloc: Global,
     construct: &Option<Name>,
@@ -226,7 +234,8 @@ fn is_in_critical(around: &[Around<'_>]) -> bool
     false
 }
 
-/// EXIT of a loop of this name, or of the innermost one, at this place. More loops around it than 32 bits count are answered as want of memory.
+/// EXIT of a loop of this name, or of the innermost one, at this place. More loops around it than 32 bits count are
+/// answered as want of memory.
 pub fn judge_exit(
     alloc: Global,
     construct: &Option<Name>,
@@ -243,7 +252,8 @@ pub fn judge_exit(
     })
 }
 
-/// CYCLE of a loop of this name, or of the innermost one, at this place. More loops around it than 32 bits count are answered as want of memory.
+/// CYCLE of a loop of this name, or of the innermost one, at this place. More loops around it than 32 bits count are
+/// answered as want of memory.
 pub fn judge_cycle(
     alloc: Global,
     construct: &Option<Name>,
@@ -271,7 +281,7 @@ pub fn judge_return(
     ensures meaning { IfOk result (λ j. option_map statement_form j.meaning ≡ (rules.returning (map construct_seen around.now) at).meaning) }
 {
     let form = fine(alloc, StatementForm::Return);
-    ruled(form, !has_boundary(around), 42, at)
+    ruled(form, !has_boundary(around), rule::LEAVES_CONSTRUCT, at)
 }
 
 /// A statement that may not stand in a CRITICAL block: rule 43 at its place.
@@ -283,5 +293,5 @@ pub fn control(
     ensures breaks { IfOk result (λ j. j.breaks.items ≡ statement.breaks.items ++ unless (not (rules.is_in_critical (map construct_seen around.now))) 43 at) }
     ensures meaning { IfOk result (λ j. j.meaning ≡ cond (not (rules.is_in_critical (map construct_seen around.now))) statement.meaning None) }
 {
-    ruled(statement, !is_in_critical(around), 43, at)
+    ruled(statement, !is_in_critical(around), rule::IN_CRITICAL, at)
 }

@@ -4,7 +4,8 @@ use checked_tree::data::Local;
 use fortran_tree::name::Name;
 use scope_table::scope::Scope;
 
-/// A construct around a statement (11.1): a loop with its name and its variable, a SELECT, or one that no branch may leave.
+/// A construct around a statement (11.1): a loop with its name and its variable, a SELECT, or one that no branch may
+/// leave.
 #[derive(Clone, Copy)]
 pub enum Around<'a> {
     Loop {
@@ -16,7 +17,8 @@ pub enum Around<'a> {
     TeamChange,
 }
 
-/// The scope of a statement, the constructs around it, outermost first, and how many literals stand before it in the program.
+/// The scope of a statement, the constructs around it, outermost first, and how many literals stand before it in the
+/// program.
 #[derive(Clone, Copy)]
 pub struct Site<'a> {
     pub scope: &'a Scope<'a>,

@@ -1,4 +1,5 @@
-//! The program `caf`: it checks a Coarray Fortran program, or runs it, on workers or in a stated order, and says exactly what happened.
+//! The program `caf`: it checks a Coarray Fortran program, or runs it, on workers or in a stated order, and says
+//! exactly what happened.
 //! It stands on `caf_run`, whose top call does all of it, and on `caf_io` for the real file and standard output.
 //! Nothing stands on it.
 //! Its main contract is that of `caf_run::top::caf`; these lines hand over the words behind the program's name.

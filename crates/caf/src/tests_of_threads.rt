@@ -1,8 +1,8 @@
 //! Runs on workers, through the top call: that images run at once and that each memory has a gate of its own, which no
 //! contract says. Rows on workers that end alike in every order are run on the built program (tools/answers.cases).
-//! A hook waits for what another worker does at most so long; what didn't come in that time is a miss. Each test asks too
-//! that every moment of both memories came, from two workers: a run by rotation alone, and gates that never call the hook,
-//! fail it.
+//! A hook waits for what another worker does at most so long; what didn't come in that time is a miss. Each test asks
+//! too that every moment of both memories came, from two workers: a run by rotation alone, and gates that never call
+//! the hook, fail it.
 
 ghost use Rattle.std.specs.Prelude.{◌≤◌};
 
@@ -241,8 +241,8 @@ fn no_lock_round_both_memories(rt: HostRuntime) {
     );
 }
 
-// A worker that waits 20 ms for another one keeps its image: each defines its coarray in all eight segments, which takes a
-// turn that is never refused.
+// A worker that waits 20 ms for another one keeps its image: each defines its coarray in all eight segments, which
+// takes a turn that is never refused.
 #[test]
 fn workers_outlast_long_waits(rt: HostRuntime) {
     let alloc = rt.alloc();

@@ -1,5 +1,5 @@
--- Values of operators and functions of integers and logicals (ISO/IEC 1539-1:2018, 10.1.5 and 16.9). They are exact; `fits_kind` says where a
--- result is one of its kind.
+-- Values of operators and functions of integers and logicals (ISO/IEC 1539-1:2018, 10.1.5 and 16.9). They are exact;
+-- `fits_kind` says where a result is one of its kind.
 use Rattle.std.specs.Prelude.{ℕ, zero, suc, ℤ, pos, negsuc, ◌+ℤ◌, ◌-ℤ◌, ◌*ℤ◌, nat_abs, Bool, true, not, ◌&&◌, cond, int_lt, int_le, int_div}
 use Rattle.std.specs.Ordering.{int_eq}
 use Rattle.caf_base.specs.declared.value.Kind.{Kind}
@@ -60,8 +60,8 @@ lesser v w = cond (int_le v w) v w
 abbrev pub greater_of : ℤ → ℤ → ℤ
 greater_of v w = cond (int_le v w) w v
 
--- How many steps lead from the first to the last (11.1.7.4.1): the iteration count of a DO construct and the number of subscripts of a triplet
--- (9.5.3.3.2); none where it would be negative. The step isn't 0.
+-- How many steps lead from the first to the last (11.1.7.4.1): the iteration count of a DO construct and the number of
+-- subscripts of a triplet (9.5.3.3.2); none where it would be negative. The step isn't 0.
 abbrev pub natural : ℤ → ℕ
 natural (pos n) = n
 natural (negsuc n) = 0

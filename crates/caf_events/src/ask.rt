@@ -13,8 +13,8 @@ use caf_base::refusal::NoMemory;
 use caf_base::span::Span;
 use caf_base::value::{AtomicOp, Kind, Value};
 
-/// An ask: an access to a memory, a control action, or a step of the image alone. Those at a memory name its owner first. Sections are
-/// those of ISO/IEC 1539-1:2018.
+/// An ask: an access to a memory, a control action, or a step of the image alone. Those at a memory name its owner
+/// first. Sections are those of ISO/IEC 1539-1:2018.
 #[derive(Drop, Debug)]
 pub enum Ask {
     /// Reference of the cells of a span.
@@ -87,8 +87,8 @@ pub enum Ask {
         owner: ImageNo,
         span: Span,
     },
-    /// The arrival at a round of a team: its image has come to SYNC ALL, SYNC TEAM, FORM TEAM, CHANGE TEAM, END TEAM, or ALLOCATE or DEALLOCATE
-    /// of coarrays (11.6.3, 11.6.6, 11.6.9, 11.1.5, 9.7).
+    /// The arrival at a round of a team: its image has come to SYNC ALL, SYNC TEAM, FORM TEAM, CHANGE TEAM, END TEAM,
+    /// or ALLOCATE or DEALLOCATE of coarrays (11.6.3, 11.6.6, 11.6.9, 11.1.5, 9.7).
     Arrive {
         team: TeamNo,
         arriving: Arriving,
@@ -98,7 +98,8 @@ pub enum Ask {
         team: TeamNo,
         round: u64,
     },
-    /// The arrival at a collective subroutine (16.6): the index of the root in the team, 0 for none, and the values to be combined.
+    /// The arrival at a collective subroutine (16.6): the index of the root in the team, 0 for none, and the values to
+    /// be combined.
     Gather {
         team: TeamNo,
         op: GatherOp,

@@ -16,7 +16,8 @@ use std::borrow::Cow;
 use std::marker::Model;
 use std::mem::size_of;
 
-/// One step of an image: what it asked, the reply, its stamp from 1, and the line of its statement. In a contract it is these four.
+/// One step of an image: what it asked, the reply, its stamp from 1, and the line of its statement. In a contract it is
+/// these four.
 #[derive(Drop)]
 pub struct Event {
     told: Exchange,

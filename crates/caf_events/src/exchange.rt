@@ -40,9 +40,10 @@ pub(crate) enum Signal {
     Post,
 }
 
-// These stand in place: a read or a write of one cell that found it, an arrival at SYNC ALL or SYNC TEAM that joined its round, a departure that brings no teams, a step at a lock or an
-// event variable that has a status for its reply, a collective subroutine over one integer, the end of SYNC IMAGES, and CRITICAL and END CRITICAL. The others are shared by all that keep
-// the same one.
+// These stand in place: a read or a write of one cell that found it, an arrival at SYNC ALL or SYNC TEAM that joined
+// its round, a departure that brings no teams, a step at a lock or an event variable that has a status for its reply, a
+// collective subroutine over one integer, the end of SYNC IMAGES, and CRITICAL and END CRITICAL. The others are shared
+// by all that keep the same one.
 #[derive(Drop)]
 pub(crate) enum Kept {
     ReadCell {
@@ -473,7 +474,8 @@ impl Exchange {
         }
     }
 
-    /// The recorded words of the step, where it records some and asks nothing of a lock, and that is seen without its ask. None says nothing.
+    /// The recorded words of the step, where it records some and asks nothing of a lock, and that is seen without its
+    /// ask. None says nothing.
     pub fn plain_words(&self) -> Option<u32>
         ensures recorded { IfSome result (λ _. counts_words self.now.ask ≡ true) }
         ensures lock { IfSome result (λ _. is_of_lock self.now.ask ≡ false) }
@@ -494,7 +496,8 @@ impl Exchange {
         }
     }
 
-    /// The team and the round, where the step is an arrival at SYNC ALL or SYNC TEAM that joined the round, and is kept in place. None says nothing.
+    /// The team and the round, where the step is an arrival at SYNC ALL or SYNC TEAM that joined the round, and is kept
+    /// in place. None says nothing.
     pub fn joined(&self) -> Option<(TeamNo, u64)>
         ensures { IfSome result (λ j. self.now ≡ record { ask = asks.Arrive j.0 arrivings.Sync; reply = replies.Round j.1 }) }
     {

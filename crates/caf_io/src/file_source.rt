@@ -49,7 +49,8 @@ pub struct OpenerSource<O: Opener> {
     faults: u64,
 }
 
-/// A source over the files of the system, of whose content nothing is told; that what it gives stands in them is trusted.
+/// A source over the files of the system, of whose content nothing is told; that what it gives stands in them is
+/// trusted.
 pub type FileSource<'a, R> = OpenerSource<SystemFiles<'a, R>>;
 
 impl<O: Opener> Model for OpenerSource<O> {

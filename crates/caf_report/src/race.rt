@@ -11,8 +11,8 @@ use caf_base::refusal::NoMemory;
 use caf_events::event::Trace;
 use std::alloc::Global;
 
-/// The line of a race of a trace, as a report that tells it has it, with these names of the coarrays. Condition: its two entries stand in the trace, the first
-/// before the second.
+/// The line of a race of a trace, as a report that tells it has it, with these names of the coarrays. Condition: its
+/// two entries stand in the trace, the first before the second.
 pub fn race_text(
     alloc: Global,
     names: &[Text],

@@ -27,8 +27,8 @@ pub struct Waiting {
     pub ask: Ask,
 }
 
-/// Two entries that are a race: their places in the trace from 0, the earlier one first, and a cell that both touch, by the number of its coarray in declared
-/// order from 0 and its offset in the memory of its owner.
+/// Two entries that are a race: their places in the trace from 0, the earlier one first, and a cell that both touch, by
+/// the number of its coarray in declared order from 0 and its offset in the memory of its owner.
 #[derive(Clone, Copy)]
 pub struct Race {
     pub first: usize,
@@ -41,7 +41,8 @@ pub struct Race {
 /// How a run ended; `at` is a place in the trace, from 0.
 #[derive(Drop)]
 pub enum End {
-    /// A race: two entries conflict whose segments are unordered (ISO/IEC 1539-1:2018, 11.6.2). It comes before all other ends.
+    /// A race: two entries conflict whose segments are unordered (ISO/IEC 1539-1:2018, 11.6.2). It comes before all
+    /// other ends.
     Raced { race: Race },
     /// Normal termination (ISO/IEC 1539-1:2018, 5.3.7): every image has stopped or failed (5.3.6).
     Finished,
@@ -57,7 +58,8 @@ pub enum End {
     Stuck { waits: Listing<Waiting> },
 }
 
-/// What a variable of the main program holds at the end on an image: its values in array element order, none where it isn't allocated.
+/// What a variable of the main program holds at the end on an image: its values in array element order, none where it
+/// isn't allocated.
 #[derive(Drop)]
 pub struct Final {
     pub image: ImageNo,
@@ -66,7 +68,8 @@ pub struct Final {
     pub values: Listing<Value>,
 }
 
-/// What a report's text shows beside the printed lines and the end: the final values of variables, the trace, and the line that sums the run up.
+/// What a report's text shows beside the printed lines and the end: the final values of variables, the trace, and the
+/// line that sums the run up.
 #[derive(Clone, Copy)]
 pub struct Shown {
     pub vars: bool,
@@ -74,8 +77,8 @@ pub struct Shown {
     pub summary: bool,
 }
 
-/// A run that is over: its number of images, its trace, its end, the names of the coarrays in declared order, and the final values
-/// of the images that haven't failed, by image in rising order and by variable in declared order.
+/// A run that is over: its number of images, its trace, its end, the names of the coarrays in declared order, and the
+/// final values of the images that haven't failed, by image in rising order and by variable in declared order.
 #[derive(Drop)]
 pub struct Report {
     pub images: u32,
@@ -164,8 +167,8 @@ impl Report {
         }
     }
 
-    /// The report of a run in whose trace this race was found, if any was: it is the end then, and else the end is as that of `new`. Condition: the places of
-    /// the race are in the trace. It takes no memory.
+    /// The report of a run in whose trace this race was found, if any was: it is the end then, and else the end is as
+    /// that of `new`. Condition: the places of the race are in the trace. It takes no memory.
     pub fn with_race(
         images: u32,
         trace: Trace,
@@ -214,8 +217,9 @@ impl Report {
         }
     }
 
-    /// What each image printed, by image in rising order; then the final values and the trace, where they are to be shown; the line
-    /// of the end; and the line that sums the run up, where it is to be shown. Condition: the end's event stands in the trace, as in each report that `new` makes.
+    /// What each image printed, by image in rising order; then the final values and the trace, where they are to be
+    /// shown; the line of the end; and the line that sums the run up, where it is to be shown. Condition: the end's
+    /// event stands in the trace, as in each report that `new` makes.
     pub fn text(&self, alloc: Global, shown: Shown) -> Result<Vec<u8>, NoMemory>
         requires { HasEnd self.now }
         ensures { IfOk result (λ bytes. bytes.items ≡ report_text shown self.now) }

@@ -8,7 +8,6 @@ use Rattle.caf_events.specs.declared.event.Trace.{Trace}
 use Rattle.caf_report.specs.declared.report.Race.{Race}
 use Rattle.caf_report.specs.declared.report.Report.{Report}
 use Rattle.caf_report.specs.Ends.{status_of}
-use Rattle.caf_report.specs.ReportText.{report_text}
 use Rattle.lane_parts.specs.FirstLanes.{fails_at}
 use Rattle.trace_replay.specs.Judging.{IsRaceOf}
 use Rattle.checked_run.specs.Coarrays.{names_of}
@@ -28,7 +27,8 @@ use Rattle.caf_run.specs.declared.task.Task.TheVariants.{Traced}
 use Rattle.caf_run.specs.Dues.{IsDoneStatus, IsNoRunStatus, IsSaidStatus, IsTold, RanAs, TreeDue}
 use Rattle.caf_run.specs.Failures.{first_failure}
 use Rattle.caf_run.specs.Tasks.{told_of}
-use Rattle.caf_run.specs.Traces.{core_run_status, core_run_text, shown_of, IsAnsweredAs, IsTraceAnswer, IsNoRunSaid, IsOfBytes}
+use Rattle.caf_run.specs.RunTexts.{IsRunText}
+use Rattle.caf_run.specs.Traces.{core_run_status, core_run_text, IsAnsweredAs, IsTraceAnswer, IsNoRunSaid, IsOfBytes}
 use Rattle.caf_run.proofs.Settled.{not_done}
 
 -- failures that are kept by image are those of the words
@@ -59,7 +59,7 @@ judged_answer p o fails events traced trace names race status text report same c
     (core_run trace, subst (λ f. ComesTo p (told_of o) f traced (core_run trace)) (all_failures events fails same) comes, (race, is, s, t ∙ ap (λ n. core_run_text n trace race) named, r))
 
 pub replayed_answer : (p : typed.Program) (o : Options) (fails : List FailAt) (events : List ℕ) (traced : List ℕ) (made : Report) (status : ℕ) (text : List ℕ) (report : Option Report)
-    → ((i : ℕ) → fails_at events i ≡ first_failure fails i) → IsReplayOfBytes p (told_of o) (fails_at events) traced made → report ≡ Some made → status ≡ status_of made.end → text ≡ report_text (shown_of o) made
+    → ((i : ℕ) → fails_at events i ≡ first_failure fails i) → IsReplayOfBytes p (told_of o) (fails_at events) traced made → report ≡ Some made → status ≡ status_of made.end → IsRunText o made text
     → IsTraceAnswer Replay p o fails traced status text report
 replayed_answer p o fails events traced made status text report same replay r s t =
     let (trace, comes, is) = subst (λ f. IsReplayOfBytes p (told_of o) f traced made) (all_failures events fails same) replay in

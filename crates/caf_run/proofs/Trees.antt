@@ -7,7 +7,6 @@ use Rattle.rule_definitions.specs.Judgements.{first_of}
 use Rattle.rule_definitions.specs.Acceptance.{Accepts, first_break}
 use Rattle.caf_report.specs.declared.report.Report.{Report}
 use Rattle.caf_report.specs.Ends.{status_of}
-use Rattle.caf_report.specs.ReportText.{report_text}
 use Rattle.lane_parts.specs.FirstLanes.{fails_at}
 use Rattle.checked_run.specs.Reports.{IsRunOf, IsRunStatus}
 use Rattle.caf_words.specs.declared.command.FailAt.{FailAt}
@@ -15,7 +14,7 @@ use Rattle.caf_words.specs.declared.command.Options.{Options}
 use Rattle.caf_run.specs.Dues.{IsTold, RanAs, TreeDue}
 use Rattle.caf_run.specs.Failures.{first_failure}
 use Rattle.caf_run.specs.Tasks.{told_of}
-use Rattle.caf_run.specs.Traces.{shown_of}
+use Rattle.caf_run.specs.RunTexts.{IsRunText}
 use Rattle.caf_run.proofs.Settled.{not_run}
 use Rattle.caf_run.specs.declared.task.Task.TheVariants.{Run}
 use Rattle.caf_run.specs.Sources.{BreaksNone, BreaksFirst}
@@ -28,7 +27,7 @@ none_first x r at none first =
 
 -- an accepted program that was run, with failures that are kept by image
 pub run_tree : (x : Program) (p : typed.Program) (o : Options) (fails : List FailAt) (events traced : List ℕ) (r : Report) (status : ℕ) (text : List ℕ) (report : Option Report) → Accepts x p
-    → ((i : ℕ) → fails_at events i ≡ first_failure fails i) → IsRunOf p (told_of o) (fails_at events) r → IsRunStatus (status_of r.end) → report ≡ Some r → status ≡ status_of r.end → text ≡ report_text (shown_of o) r
+    → ((i : ℕ) → fails_at events i ≡ first_failure fails i) → IsRunOf p (told_of o) (fails_at events) r → IsRunStatus (status_of r.end) → report ≡ Some r → status ≡ status_of r.end → IsRunText o r text
     → TreeDue x (Run o fails) traced status text report
 run_tree x p o fails events traced r status text report accepts same of run is s t = record {
   known = inl ends;

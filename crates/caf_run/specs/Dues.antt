@@ -6,7 +6,6 @@ use Rattle.std.specs.Io.KnownBytes.{Appends, Keeps}
 use Rattle.caf_base.specs.Outside.{Files, Rose, HaveNot, MayNotBegin}
 use Rattle.caf_report.specs.declared.report.Report.{Report}
 use Rattle.caf_report.specs.Ends.{status_of}
-use Rattle.caf_report.specs.ReportText.{report_text}
 use Rattle.fortran_tree.specs.Units.{Program}
 use Rattle.checked_tree.specs.Statements as typed
 use Rattle.rule_definitions.specs.Acceptance.{Accepts}
@@ -22,7 +21,8 @@ use Rattle.caf_words.specs.declared.command.Verb.{Verb}
 use Rattle.caf_run.specs.declared.task.Task.{Task}
 use Rattle.caf_run.specs.declared.task.Task.TheVariants.{Check, Run, Traced}
 use Rattle.caf_run.specs.Tasks.{Asks, NamesSource, NamesFile, NamesTrace, NamesInput, IsTrace, told_of}
-use Rattle.caf_run.specs.Traces.{IsTraceAnswer, shown_of}
+use Rattle.caf_run.specs.RunTexts.{IsRunText}
+use Rattle.caf_run.specs.Traces.{IsTraceAnswer}
 use Rattle.caf_run.specs.Reading.{HasBytesIfTold, IsSourceIfTold, IsSource, IsLonger, IsLongTold, IsLongSource, HasNothingLeft}
 use Rattle.work_maker.specs.MadeSource.{made_source}
 use Rattle.checked_run.specs.Reports.{IsRunOf, IsRunStatus}
@@ -163,9 +163,11 @@ pub record ExactClause (words : List Word) (files : Option Files) (faults faults
 abbrev pub MakingClause : List Word → ℕ → List ℕ → Type 0
 MakingClause words status text = (seed : ℕ) (size : ℕ) → IsMake words seed size → (status ≡ 0) × (text ≡ made_source seed size)
 
--- the text of a report is the one that the words ask for, which run a source or replay a trace
+-- Why: the text of a report is the one that the words ask for, which run a source or replay a trace. Where they ask why
+-- and the run is stuck, the lines of the chain of waits that its trace tells stand behind the report's text; else it is
+-- that alone (`IsRunText`).
 abbrev pub IsTextOf : List Word → Report → List ℕ → Type 0
-IsTextOf words r text = (verb : Verb) × (o : Options) × (fails : List FailAt) × (operands : Operands) × MayShow verb × IsCommand verb words o fails operands × (text ≡ report_text (shown_of o) r)
+IsTextOf words r text = (verb : Verb) × (o : Options) × (fails : List FailAt) × (operands : Operands) × MayShow verb × IsCommand verb words o fails operands × IsRunText o r text
 
 -- what is said where no run is asked for: `ok` of a check, or the source that the words make
 abbrev pub IsSaid : List Word → List ℕ → Type 0
@@ -181,7 +183,8 @@ abbrev pub IsSaidOfTrace : List Word → ℕ → Type 0
 IsSaidOfTrace words status = (goal : Goal) × (o : Options) × (fails : List FailAt) × (trace : Word) × (file : Word) × IsTraced goal words o fails trace file × IsSaidStatus goal status
 
 -- Report: one is there exactly where the status of a run or of a replay is due, which is that of its end, and the text
--- due is its text, with the final values, the trace and the summary exactly where the words ask for them; without one
+-- due is its text, with the final values, the trace, the summary and why the run is stuck exactly where the words ask
+-- for them; without one
 -- 0 is due of a check, whose text is `ok`, of words that make a source, and of a judge; 14 and 15 are due of a judge
 -- and of a replay, and 5 of a judge.
 abbrev pub ReportClause : List Word → Option Report → ℕ → List ℕ → Type 0
@@ -263,9 +266,9 @@ IsOk (Traced goal o fails) status text = IsSaidStatus goal status
 
 abbrev pub IsShown : Task → Report → List ℕ → Type 0
 IsShown Check r text = ⊥
-IsShown (Run o fails) r text = text ≡ report_text (shown_of o) r
+IsShown (Run o fails) r text = IsRunText o r text
 IsShown (Traced Judge o fails) r text = ⊥
-IsShown (Traced Replay o fails) r text = text ≡ report_text (shown_of o) r
+IsShown (Traced Replay o fails) r text = IsRunText o r text
 
 abbrev pub IsTold : Task → Option Report → ℕ → List ℕ → Type 0
 IsTold task None status text = (status ≡ 2) ⊎ (status ≡ 3) ⊎ (status ≡ 10) ⊎ (status ≡ 13) ⊎ IsOk task status text

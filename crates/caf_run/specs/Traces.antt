@@ -5,9 +5,8 @@ use Rattle.std.specs.Fmt.{decimal}
 use Rattle.caf_events.specs.declared.event.Trace.{Trace}
 use Rattle.caf_report.specs.declared.report.Race.{Race}
 use Rattle.caf_report.specs.declared.report.Report.{Report}
-use Rattle.caf_report.specs.declared.report.Shown.{Shown}
 use Rattle.caf_report.specs.Ends.{status_of}
-use Rattle.caf_report.specs.ReportText.{race_line, report_text}
+use Rattle.caf_report.specs.ReportText.{race_line}
 use Rattle.caf_words.specs.declared.command.FailAt.{FailAt}
 use Rattle.caf_words.specs.declared.command.Goal.{Goal}
 use Rattle.caf_words.specs.declared.command.Goal.TheVariants.{Judge, Replay}
@@ -20,6 +19,7 @@ use Rattle.checked_traces.specs.declared.no_run.NoRun.{NoRun}
 use Rattle.checked_traces.specs.declared.no_run.NoRun.TheVariants as no_runs
 use Rattle.trace_replay.specs.Judging.{IsRaceOf}
 use Rattle.caf_run.specs.Failures.{first_failure}
+use Rattle.caf_run.specs.RunTexts.{IsRunText}
 use Rattle.caf_run.specs.Tasks.{told_of}
 
 -- the texts of what is said of a trace
@@ -41,10 +41,6 @@ abbrev pub core_run_status : Option Race → ℕ
 core_run_status None = 0
 core_run_status (Some race) = 5
 
--- what a run shows beside what was printed and the end: its final values, its trace and its summary where it is told to
-abbrev pub shown_of : Options → Shown
-shown_of o = record { vars = o.vars; trace = o.trace; summary = o.summary }
-
 -- a bad line, or the first step that is none of a run, is told; without a report
 abbrev pub IsBadSaid : (line status : ℕ) (text : List ℕ) → Option Report → Type 0
 IsBadSaid line status text report = (status ≡ 15) × (text ≡ bad_trace_text line) × (report ≡ None)
@@ -59,7 +55,7 @@ IsJudgedAs p o t status text report = (race : Option Race) × IsRaceOf o.images 
 -- what a replay of it comes to: the report of the run that goes on behind it
 abbrev pub IsReplayedAs : Program → Options → List FailAt → Trace → (status : ℕ) (text : List ℕ) → Option Report → Type 0
 IsReplayedAs p o fails t status text report =
-    (r : Report) × (report ≡ Some r) × IsReplayOf p (told_of o) (first_failure fails) t.entries r × (status ≡ status_of r.end) × (text ≡ report_text (shown_of o) r)
+    (r : Report) × (report ≡ Some r) × IsReplayOf p (told_of o) (first_failure fails) t.entries r × (status ≡ status_of r.end) × IsRunText o r text
 
 -- how what the bytes come to is answered
 abbrev pub IsAnsweredAs : Goal → Program → Options → List FailAt → TraceEnd → (status : ℕ) (text : List ℕ) → Option Report → Type 0

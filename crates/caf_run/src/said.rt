@@ -3,17 +3,20 @@
 ghost use Rattle.std.specs.Prelude.{◌≡◌, ◌++◌, IfOk, Some, None, codes};
 ghost use Rattle.std.specs.Fmt.{decimal};
 ghost use Rattle.caf_report.specs.Ends.{HasEnd, status_of};
-ghost use Rattle.caf_report.specs.ReportText.{report_text};
+ghost use Rattle.caf_run.specs.RunTexts as spec;
+ghost use Rattle.caf_run.specs.RunTexts.{IsChainText, TellsWhy, IsRunText};
 ghost use Rattle.caf_run.specs.Sources.{refusal_text};
-ghost use Rattle.caf_run.specs.Traces as spec;
 
 use caf_base::place::Pos;
 use caf_base::refusal::NoMemory;
-use caf_report::report::{Report, Shown};
+use caf_events::event::Trace;
+use caf_report::report::{End, Report, Shown, Waiting};
 use caf_text::push_number;
 use caf_words::command::Options;
 use std::alloc::Global;
 use trace_text::piece::push_count;
+use wait_chain::chain::why;
+use wait_lines::why_text;
 
 /// The status and the text that are due, and the report where a run was made.
 #[derive(Drop)]
@@ -59,13 +62,46 @@ fn shown_of(options: Options) -> Shown
     }
 }
 
+// The lines of the chain of waits that the trace of a run of n images tells.
+fn chain_text(alloc: Global, n: u32, trace: &Trace, waits: &[Waiting]) -> Result<Vec<u8>, NoMemory>
+    ensures { IfOk result (λ text. IsChainText n trace.now.entries waits.now text.items) }
+{
+    let chain = why(alloc, trace.entries.as_slice(), n, waits)?;
+    let text = why_text(alloc, &chain);
+    drop(chain);
+    text
+}
+
+// The lines that tell why a run is stuck; none where it isn't, or isn't to be told.
+fn why_lines(alloc: Global, report: &Report, is_asked: bool) -> Result<Vec<u8>, NoMemory>
+    ensures { IfOk result (λ text. TellsWhy is_asked report.now.images report.now.trace.entries report.now.end text.items) }
+{
+    match &report.end {
+        End::Stuck { waits } if is_asked => {
+            chain_text(alloc, report.images, &report.trace, waits.as_slice())
+        }
+        _ => Ok(Vec::new(alloc)),
+    }
+}
+
+// The text of a run with what the options show.
+fn run_text(alloc: Global, report: &Report, options: Options) -> Result<Vec<u8>, NoMemory>
+    requires { HasEnd report.now }
+    ensures { IfOk result (λ text. IsRunText options report.now text.items) }
+{
+    let mut text = report.text(alloc, shown_of(options))?;
+    let why = why_lines(alloc, report, options.why)?;
+    text.extend_from_slice(why.as_slice())?;
+    Ok(text)
+}
+
 /// What is due for a run that was made, or that went on behind a trace: the status of its report, and the text of that
 /// with what the options show.
 pub(crate) fn report_due(alloc: Global, report: Report, options: Options) -> Result<Due, NoMemory>
     requires { HasEnd report }
-    ensures { IfOk result (λ d. (d.report ≡ Some report) × (d.status ≡ status_of report.end) × (d.text.items ≡ report_text (spec.shown_of options) report)) }
+    ensures { IfOk result (λ d. (d.report ≡ Some report) × (d.status ≡ status_of report.end) × IsRunText options report d.text.items) }
 {
-    let text = report.text(alloc, shown_of(options))?;
+    let text = run_text(alloc, &report, options)?;
     Ok(Due {
         status: report.status(),
         text,

@@ -5,7 +5,7 @@ use Rattle.std.specs.List.{AllByRecursion}
 use Rattle.caf_words.specs.Usages.{Word}
 use Rattle.caf_words.specs.Words.{Origin, Operands, IsOption, AreSeedAndSize, IsOrigin, AreOperands, IsRest, IsCommand, IsRun, IsCheck, IsMake, IsInput, ArePlaces, Means, verb_word, nothing, told, is_summed, given_or}
 use Rattle.caf_words.specs.Words.Origin.{from_file, from_made}
-use Rattle.caf_words.specs.Words.IsOption.{images, workers, order, steps, fail, show_trace, show_vars}
+use Rattle.caf_words.specs.Words.IsOption.{images, workers, order, steps, fail, show_trace, show_vars, show_why}
 use Rattle.caf_words.specs.Words.IsRest.{operands_last, option_next}
 use Rattle.caf_words.specs.Words.Operands.{of_source, of_trace}
 use Rattle.caf_words.specs.declared.options.Given.{Given}
@@ -84,7 +84,8 @@ one_run words o fails origin o' fails' origin' first second =
     let same = one_command verbs.Run verbs.Run words o fails (of_source origin) o' fails' (of_source origin') first second in
     record { options = same.options; failures = same.failures; source = cc (same.operands) }
 
--- no words are a command with options and a check, such a command and a make, or a check and a make; nor a run and a command with a trace
+-- no words are a command with options and a check, such a command and a make, or a check and a make; nor a run and a
+-- command with a trace
 pub not_command_and_check : (v : Verb) (words : List Word) (o : Options) (fails : List FailAt) (x : Operands) (file : Word) → IsCommand v words o fails x → IsCheck words file → ⊥
 not_command_and_check v words o fails x file command check = verb_no_check v (cc (command.form, check.form))
 
@@ -182,6 +183,7 @@ option_within v g _ _ _ (steps n free low high) w = record { least_images = w.le
 option_within v g _ _ _ (fail word f is) w = w
 option_within v g _ _ _ (show_trace may free) w = w
 option_within v g _ _ _ (show_vars may free) w = w
+option_within v g _ _ _ (show_why may free) w = w
 
 rest_within : (v : Verb) (g : Given) (words : List Word) (o : Options) (fails : List FailAt) (x : Operands) → IsRest v g words o fails x → AreWithin g → IsWithin o.images o.steps
 rest_within v _ _ _ _ _ (operands_last g words x is) w = w
@@ -206,6 +208,7 @@ option_images v g _ _ _ more (steps n free low high) all = all
 option_images v g _ _ _ more (fail word f is) all = ((is.least_image, is.most_image), all)
 option_images v g _ _ _ more (show_trace may free) all = all
 option_images v g _ _ _ more (show_vars may free) all = all
+option_images v g _ _ _ more (show_why may free) all = all
 
 rest_images : (v : Verb) (g : Given) (words : List Word) (o : Options) (fails : List FailAt) (x : Operands) → IsRest v g words o fails x → AllByRecursion IsOfImage fails
 rest_images v _ _ _ _ _ (operands_last g words x is) = tt

@@ -32,7 +32,8 @@ pub keyed_next : (v : Verb) (g : Given) (t : Taken) (k : Key) (words behind rest
 keyed_next v g t k words behind rest first second e f is two gives =
     rw (e, f, two) (omega arith, omega arith, keyed_option v g t.given k (string_bytes first) (string_bytes second) (listed t.fail) is gives)
 
--- The words so far are options: what is given by them, and what holds of the rest holds of the whole. They name failures, which are kept.
+-- The words so far are options: what is given by them, and what holds of the rest holds of the whole. They name
+-- failures, which are kept.
 pub record HasTaken (v : Verb) (words rest : List Word) (g : Given) (place : ℕ) (kept : Option (List FailAt)) : Type 0 where
   pub some : List FailAt
   pub onward : (o : Options) (fails : List FailAt) (x : Operands) → IsRest v g rest o fails x → IsRest v nothing words o (some ++ fails) x

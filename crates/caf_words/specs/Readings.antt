@@ -72,7 +72,9 @@ IsNextKey v g word k = (word ≡ key_word k) × IsFree v g k
 -- a word is an option without a value that may come next, and these options are given then
 abbrev pub Flags : Verb → Given → Word → Given → Type 0
 Flags v g word h =
-    ((word ≡ codes "--trace") × MayShow v × (g.trace ≡ false) × (h ≡ record g { trace = true })) ⊎ ((word ≡ codes "--vars") × MayShow v × (g.vars ≡ false) × (h ≡ record g { vars = true }))
+    ((word ≡ codes "--trace") × MayShow v × (g.trace ≡ false) × (h ≡ record g { trace = true }))
+    ⊎ ((word ≡ codes "--vars") × MayShow v × (g.vars ≡ false) × (h ≡ record g { vars = true }))
+    ⊎ ((word ≡ codes "--why") × MayShow v × (g.why ≡ false) × (h ≡ record g { why = true }))
 
 -- a word is no option that may come next
 pub record IsNoOption (v : Verb) (g : Given) (word : Word) : Type 0 where

@@ -94,6 +94,8 @@ pub struct Options {
     pub trace: bool,
     /// Whether the final values of variables are shown.
     pub vars: bool,
+    /// Whether a run that is stuck is told why.
+    pub why: bool,
     /// Whether the line that sums the run up is shown, as of a made source.
     pub summary: bool,
 }

@@ -34,6 +34,7 @@ pub(crate) struct Given {
     pub steps: Option<u32>,
     pub trace: bool,
     pub vars: bool,
+    pub why: bool,
 }
 
 /// An option with a value that may come next.
@@ -79,6 +80,7 @@ impl Given {
             steps: None,
             trace: false,
             vars: false,
+            why: false,
         }
     }
 
@@ -92,6 +94,7 @@ impl Given {
             steps: u64::from(or_default(self.steps, DEFAULT_STATEMENTS as u32)),
             trace: self.trace,
             vars: self.vars,
+            why: self.why,
             summary,
         }
     }
@@ -167,6 +170,7 @@ fn flagged_with(verb: Verb, word: &str, given: Given) -> Option<Given>
             vars: true,
             ..given
         }),
+        "--why" if may_show(verb) && !given.why => Some(Given { why: true, ..given }),
         _ => None,
     }
 }

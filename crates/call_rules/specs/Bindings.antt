@@ -46,7 +46,8 @@ abbrev pub without : List a.Binding → ℕ → List a.Binding
 without [] i = []
 without (b ∷ rest) i = cond (is_the_number i b.index) rest (b ∷ without rest i)
 
--- the place of the argument of the dummy with this number, where the first has the place k; behind all of them where it has none
+-- the place of the argument of the dummy with this number, where the first has the place k; behind all of them where it
+-- has none
 abbrev pub place_from : ℕ → List a.Binding → ℕ → ℕ
 place_from k [] i = k
 place_from k (b ∷ rest) i = cond (is_the_number i b.index) k (place_from (k + 1) rest i)

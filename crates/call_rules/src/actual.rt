@@ -22,6 +22,7 @@ use part_rules::bracket::{Actual, Item};
 use part_rules::judged::{Judged, are_none, fine, keep, refused, ruled};
 use part_rules::part::{Part, is_plain, plain};
 use part_rules::types::is_same_type;
+use rule_definitions::rule;
 use scope_table::scope::Scope;
 use scope_table::symbol::{Role, Symbol};
 use std::alloc::Global;
@@ -157,7 +158,8 @@ fn may_stand(dummy: &Symbol, value: &TypedExpr) -> bool
     takes_value(dummy) || is_local_variable(value)
 }
 
-/// A value for a dummy at this place: rule 45 where it doesn't match, rule 46 where the dummy may define it and it is no variable.
+/// A value for a dummy at this place: rule 45 where it doesn't match, rule 46 where the dummy may define it and it is
+/// no variable.
 fn matched(
     alloc: Global,
     scope: &Scope<'_>,
@@ -173,8 +175,8 @@ fn matched(
     };
     let matches = matches_dummy(alloc, scope, dummy, found)?;
     let may_stand = may_stand(dummy, found);
-    let value = ruled(value, matches, 45, at)?;
-    ruled(value, may_stand, 46, at)
+    let value = ruled(value, matches, rule::ARGUMENT, at)?;
+    ruled(value, may_stand, rule::OUT_ARGUMENT, at)
 }
 
 /// The argument that a value is for a dummy: a variable where the dummy may define it.
@@ -231,7 +233,7 @@ fn paired_value(
     if part.is_procedure && !takes_value(dummy) {
         let at = part.at;
         drop(part);
-        return refused(alloc, 46, at);
+        return refused(alloc, rule::OUT_ARGUMENT, at);
     }
     value_paired(alloc, scope, dummy, part)
 }
@@ -251,7 +253,7 @@ fn paired_part(
         Item::Value(part) => paired_value(alloc, scope, dummy, part),
         Item::Triplet(judged) => {
             drop(judged);
-            refused(alloc, 45, at)
+            refused(alloc, rule::ARGUMENT, at)
         }
     }
 }
@@ -280,7 +282,7 @@ fn paired(
     let holds = stands_by_place(&actual);
     let at = actual.at;
     let judged = paired_part(alloc, scope, dummy, actual)?;
-    ruled(judged, holds, 45, at)
+    ruled(judged, holds, rule::ARGUMENT, at)
 }
 
 /// An argument without a dummy: rule 45 for the first of them.
@@ -297,7 +299,7 @@ fn surplus(alloc: Global, over: bool, actual: Actual) -> Result<Judged<Argument>
         });
     }
     if are_none(breaks.as_slice()) {
-        return refused(alloc, 45, at);
+        return refused(alloc, rule::ARGUMENT, at);
     }
     Ok(Judged {
         breaks,
@@ -385,5 +387,5 @@ pub fn arguments(
 {
     let holds = are_enough(dummies, actuals.as_slice());
     let list = paired_all(alloc, scope, dummies, actuals)?;
-    ruled(list, holds, 45, at)
+    ruled(list, holds, rule::ARGUMENT, at)
 }

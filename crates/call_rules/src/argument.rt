@@ -23,6 +23,7 @@ use part_rules::operand::{integer, team_of};
 use part_rules::part::{Part, plain};
 use part_rules::types::{is_integer_type, is_team_type};
 use rule_definitions::broken::Broken;
+use rule_definitions::rule;
 use std::alloc::Global;
 
 /// Puts what breaks in a part behind the earlier breaks, and gives what the part stands for.
@@ -65,7 +66,11 @@ fn given(
 pub fn unlike(rule: u8, of_type: DataType) -> u8
     ensures { result ≡ cond (is_team of_type) 51 rule }
 {
-    if is_team_type(of_type) { 51 } else { rule }
+    if is_team_type(of_type) {
+        rule::TEAM
+    } else {
+        rule
+    }
 }
 
 /// An integer, scalar or array.
@@ -81,7 +86,7 @@ pub fn of_integer_type(part: Part) -> Result<Judged<TypedExpr>, NoMemory>
     if is_integer_type(found.of_type) {
         return Ok(value);
     }
-    let rule = unlike(59, found.of_type);
+    let rule = unlike(rule::INTRINSIC_ARGUMENT, found.of_type);
     breaking(value, rule, at)
 }
 
@@ -96,7 +101,7 @@ pub fn an_array(value: Judged<TypedExpr>, at: Pos) -> Result<Judged<TypedExpr>, 
     if found.rank != 0 {
         return Ok(value);
     }
-    let rule = unlike(59, found.of_type);
+    let rule = unlike(rule::INTRINSIC_ARGUMENT, found.of_type);
     breaking(value, rule, at)
 }
 
@@ -120,7 +125,7 @@ pub fn an_integer_list(part: Part) -> Result<Judged<TypedExpr>, NoMemory>
     if is_integer_list(found) {
         return Ok(value);
     }
-    let rule = unlike(59, found.of_type);
+    let rule = unlike(rule::INTRINSIC_ARGUMENT, found.of_type);
     breaking(value, rule, at)
 }
 
@@ -138,7 +143,7 @@ pub fn integer_at(
     let Some(part) = take(bindings, number) else {
         return Ok(None);
     };
-    let judged = integer(59, part)?;
+    let judged = integer(rule::INTRINSIC_ARGUMENT, part)?;
     let value = noted(breaks, judged)?;
     in_box(alloc, value)
 }
@@ -156,7 +161,7 @@ pub fn maybe_integer_at(
     let Some(part) = take(bindings, number) else {
         return Ok(Some(None));
     };
-    let judged = integer(59, part)?;
+    let judged = integer(rule::INTRINSIC_ARGUMENT, part)?;
     let value = noted(breaks, judged)?;
     given(alloc, value)
 }

@@ -17,9 +17,11 @@ use part_rules::bracket::{Actual, Item, is_triplet};
 use part_rules::judged::{Judged, add_all, are_none, note_unless};
 use part_rules::part::{Part, plain};
 use rule_definitions::broken::Broken;
+use rule_definitions::rule;
 use std::alloc::Global;
 
-/// A dummy argument of an intrinsic procedure: its name, whether it must have an argument, and whether a list of images may stand for it.
+/// A dummy argument of an intrinsic procedure: its name, whether it must have an argument, and whether a list of images
+/// may stand for it.
 #[derive(Clone, Copy)]
 pub struct Dummy {
     pub name: &'static [u8],
@@ -68,7 +70,8 @@ fn named_dummy(dummies: &[Dummy], name: &[u8]) -> Option<usize>
     None
 }
 
-/// The number of the dummy of an argument with this keyword: by it, or by the argument's place where no keyword stands before it.
+/// The number of the dummy of an argument with this keyword: by it, or by the argument's place where no keyword stands
+/// before it.
 #[tactic(auto, using(crate::proofs::Bindings::named))]
 fn dummy_of(dummies: &[Dummy], place: usize, behind: bool, keyword: &Option<Name>) -> Option<usize>
     ensures { result ≡ dummy_by (map dummy_seen dummies.now) place behind keyword.now }
@@ -159,7 +162,8 @@ fn take_number(numbers: &mut Vec<usize>, index: Option<usize>) -> Result<(), NoM
     Ok(())
 }
 
-/// Whether an argument has a dummy that no argument before it has: the dummies with these numbers have one. A triplet has none.
+/// Whether an argument has a dummy that no argument before it has: the dummies with these numbers have one. A triplet
+/// has none.
 fn is_bound(taken: &[usize], binding: &Binding) -> bool
     ensures { result ≡ rules.is_bound taken.now (binding_seen binding.now) }
 {
@@ -312,7 +316,7 @@ fn argument_breaks(
     let is_bound = is_bound(taken, &binding);
     let own = bound_breaks_in(alloc, dummies, is_bound, binding)?;
     if are_none(own.as_slice()) {
-        note_unless(breaks, is_bound, 59, at)
+        note_unless(breaks, is_bound, rule::INTRINSIC_ARGUMENT, at)
     } else {
         add_all(breaks, own)
     }
@@ -336,7 +340,8 @@ pub fn binding_breaks(
     Ok(breaks)
 }
 
-/// A reference whose arguments aren't bound: what breaks in them, or rule 59 at the procedure's name where a needed one is missing.
+/// A reference whose arguments aren't bound: what breaks in them, or rule 59 at the procedure's name where a needed one
+/// is missing.
 pub fn unbound<T: Drop>(
     alloc: Global,
     dummies: &[Dummy],
@@ -349,7 +354,7 @@ pub fn unbound<T: Drop>(
     let is_whole = has_needed(dummies, bindings.as_slice());
     let mut breaks = binding_breaks(alloc, dummies, bindings)?;
     if are_none(breaks.as_slice()) {
-        note_unless(&mut breaks, is_whole, 59, at)?;
+        note_unless(&mut breaks, is_whole, rule::INTRINSIC_ARGUMENT, at)?;
     }
     Ok(Judged {
         breaks,

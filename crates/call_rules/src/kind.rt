@@ -19,6 +19,7 @@ use part_rules::judged::{Judged, add_all, note_unless};
 use part_rules::part::{Part, plain};
 use part_rules::types::is_logical_type;
 use rule_definitions::broken::Broken;
+use rule_definitions::rule;
 use scope_table::scope::Scope;
 use std::alloc::Global;
 
@@ -41,12 +42,16 @@ fn supported(breaks: &mut Vec<Broken>, number: i64, at: Pos) -> Result<Option<Ki
     let kind = integer_kind(number);
     match kind {
         Some(_) => {}
-        None => breaks.push(Broken { rule: 23, at })?,
+        None => breaks.push(Broken {
+            rule: rule::KIND,
+            at,
+        })?,
     }
     Ok(kind)
 }
 
-/// The integer kind that a value of this type gives: rule 22 where it isn't constant, rule 23 for a logical one and for another number, rule 37 for an array.
+/// The integer kind that a value of this type gives: rule 22 where it isn't constant, rule 23 for a logical one and for
+/// another number, rule 37 for an array.
 fn kind_of(
     breaks: &mut Vec<Broken>,
     of_type: DataType,
@@ -59,16 +64,25 @@ fn kind_of(
     match constancy {
         Constancy::Value(Value::Int(number)) => supported(breaks, *number, at),
         Constancy::Value(Value::Bool(_)) => {
-            breaks.push(Broken { rule: 23, at })?;
+            breaks.push(Broken {
+                rule: rule::KIND,
+                at,
+            })?;
             Ok(None)
         }
         Constancy::Values { .. } => {
-            breaks.push(Broken { rule: 37, at })?;
-            note_unless(breaks, !is_logical_type(of_type), 23, at)?;
+            breaks.push(Broken {
+                rule: rule::ARRAY_FOR_SCALAR,
+                at,
+            })?;
+            note_unless(breaks, !is_logical_type(of_type), rule::KIND, at)?;
             Ok(None)
         }
         Constancy::NoConstant => {
-            breaks.push(Broken { rule: 22, at })?;
+            breaks.push(Broken {
+                rule: rule::INITIAL_VALUE,
+                at,
+            })?;
             Ok(None)
         }
     }

@@ -21,6 +21,7 @@ use checked_tree::expr::{Designator, ExprForm, Selector, Subscript, TypedExpr};
 use part_rules::judged::{Judged, add_all};
 use part_rules::part::{Part, plain};
 use rule_definitions::broken::Broken;
+use rule_definitions::rule;
 use scope_table::scope::Scope;
 
 /// The object of a designator with these subscripts and this selector, where it has neither.
@@ -143,7 +144,7 @@ fn note_found(
     ensures { OnOk result (breaks.new.items ≡ breaks.old.items ++ cond is_found [] (unlike_breaks 59 of_type at)) }
 {
     if !is_found {
-        let rule = unlike(59, of_type);
+        let rule = unlike(rule::INTRINSIC_ARGUMENT, of_type);
         breaks.push(Broken { rule, at })?;
     }
     Ok(())

@@ -1,4 +1,5 @@
--- Blocks that were judged: what the lists of ELSE IFs and CASEs stand for, and what is made of the CASEs so far with those that follow.
+-- Blocks that were judged: what the lists of ELSE IFs and CASEs stand for, and what is made of the CASEs so far with
+-- those that follow.
 use Rattle.std.specs.Prelude.{List, [], ◌∷◌, ◌++◌, Option, Some, None}
 use Rattle.std.specs.Option.{option_map}
 use Rattle.std.specs.declared.alloc.Global.{Global}

@@ -32,6 +32,7 @@ use fortran_tree::statement::CaseRange;
 use part_rules::judged::{Judged, breaking, fine, joined, keep, refused, ruled, unknown};
 use part_rules::part::{Part, is_plain, plain};
 use part_rules::types::{is_integer_type, is_logical_type, is_team_type, takes};
+use rule_definitions::rule;
 use rule_definitions::taken::Taken;
 use scope_table::scope::Scope;
 use std::alloc::Global;
@@ -50,14 +51,14 @@ fn select(part: Part) -> Result<Judged<TypedExpr>, NoMemory>
     let value = if takes(Taken::IntegersOrLogicals, found.of_type) {
         value
     } else if is_team_type(found.of_type) {
-        breaking(value, 51, at)?
+        breaking(value, rule::TEAM, at)?
     } else {
-        breaking(value, 44, at)?
+        breaking(value, rule::CASE_VALUE, at)?
     };
     if is_scalar {
         Ok(value)
     } else {
-        breaking(value, 37, at)
+        breaking(value, rule::ARRAY_FOR_SCALAR, at)
     }
 }
 
@@ -106,8 +107,8 @@ fn select_value(selector: &Option<TypedExpr>, part: Part) -> Result<Judged<Typed
     };
     let is_scalar = found.rank == 0;
     let is_selected = is_selected_type(selector, found.of_type);
-    let value = ruled(value, is_selected, 44, at)?;
-    ruled(value, is_scalar, 37, at)
+    let value = ruled(value, is_selected, rule::CASE_VALUE, at)?;
+    ruled(value, is_scalar, rule::ARRAY_FOR_SCALAR, at)
 }
 
 fn number_of(value: Value) -> i64
@@ -132,7 +133,7 @@ fn constant_number(alloc: Global, found: Constancy, at: Pos) -> Result<Judged<i6
             drop(values);
             Ok(unknown(alloc))
         }
-        Constancy::NoConstant => refused(alloc, 44, at),
+        Constancy::NoConstant => refused(alloc, rule::CASE_VALUE, at),
     }
 }
 
@@ -222,7 +223,7 @@ fn unless_logical(
         return Ok(range);
     }
     let holds = !is_logical_selector(selector);
-    ruled(range, holds, 44, at)
+    ruled(range, holds, rule::CASE_VALUE, at)
 }
 
 fn single(value: Option<i64>) -> Option<TypedRange>
@@ -402,7 +403,7 @@ fn judge_range(
     };
     let is_new = !before.overlaps_one(found);
     before.add(found)?;
-    ruled(range, is_new, 44, at)
+    ruled(range, is_new, rule::CASE_VALUE, at)
 }
 
 /// The ranges of a CASE statement behind earlier ones, which they are put to.

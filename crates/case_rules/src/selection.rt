@@ -18,6 +18,7 @@ use checked_tree::statement::{Case, CaseRange as TypedRange, TypedStatement};
 use fortran_tree::statement::{CaseRange, CaseSelector};
 use part_rules::judged::{Judged, add_all};
 use rule_definitions::broken::Broken;
+use rule_definitions::rule;
 use scope_table::scope::Scope;
 use std::alloc::Global;
 
@@ -161,7 +162,10 @@ impl CaseList {
         if is_some(&self.otherwise) {
             drop(meaning);
             self.cases = None;
-            self.repeated.push(Broken { rule: 44, at })?;
+            self.repeated.push(Broken {
+                rule: rule::CASE_VALUE,
+                at,
+            })?;
             return Ok(());
         }
         self.otherwise = Some(meaning);

@@ -1,5 +1,5 @@
 -- The blocks of a program fit.
-use Rattle.std.proofs.Common.{◌≡◌, ℕ, zero, suc, Bool, true, false, List, [], ◌∷◌}
+use Rattle.std.proofs.Common.{ℕ, zero, suc, List, [], ◌∷◌}
 use Rattle.std.specs.Prelude.{pos}
 use Rattle.walk_theory.specs.Syntax.{Parts, Steps, body_of}
 use Rattle.code_heights.specs.MadeHeights.{Leaves, IsEvenForm, AreEven}
@@ -15,7 +15,7 @@ use Rattle.image_acts.specs.Acts as a
 use Rattle.image_acts.specs.Acts.{Act, here, host}
 use Rattle.image_code.specs.Levels.{of_numbers, tested_of, taken_of, left_of}
 use Rattle.tree_meaning.specs.Environment.{Environment, scope_of, kind_of, procedure_in, hidden_cell}
-use Rattle.tree_meaning.specs.Sequences.{pushing, released}
+use Rattle.tree_meaning.specs.Sequences.{released}
 use Rattle.tree_meaning.specs.Expressions as view
 use Rattle.tree_meaning.specs.Assignments as assignments
 use Rattle.tree_meaning.specs.ImageControl as control
@@ -25,145 +25,142 @@ use Rattle.tree_meaning.specs.Pieces.{written_dummies}
 use Rattle.tree_meaning.specs.Forms.{called, do_start, form, steps, else_ifs, cases, environment_of, procedure_bodies, bodies}
 use Rattle.made_code.specs.Ranks as ranks
 use Rattle.made_code.proofs.Blocks.{steps_even}
-use Rattle.cell_walks.specs.Calls.{calls}
 use Rattle.cell_walks.specs.Fitting.{Leave, FormFits, BranchesFit, StepsFit}
 use Rattle.cell_walks.proofs.Quieting.{Safe, no_parts, one, both}
-use Rattle.cell_statements.specs.Typed.{IsCellOf, IsTyped, IsTypedCall, AreTyped, AreTypedElseIfs, AreTypedCases, AreTypedProcedures, IsTypedProgram, IsSteady, IsSteadyCall, AreSteady, AreSteadyElseIfs, AreSteadyCases, AreSteadyProcedures, IsSteadyProgram}
+use Rattle.cell_statements.specs.Typed.{IsCellOf, IsTyped, IsTypedCall, AreTyped, AreTypedElseIfs, AreTypedCases, AreTypedProcedures, IsTypedProgram}
 use Rattle.cell_statements.proofs.Quiet.{quiet_expression, quiet_place, quiet_calling, quiet_arguments}
 use Rattle.cell_statements.proofs.QuietStatements.{free_again, settled, quiet_assigned, quiet_listed_team, quiet_listing, quiet_beginning, quiet_items, sync_all_quiet, sync_images_quiet, sync_team_quiet, form_team_quiet, quiet_critical, change_team_quiet, end_team_quiet, allocate_quiet, deallocate_quiet, condition, start_quiet, quiet_ranges, stop_quiet, IsNoQuery, subroutine_quiet}
 use Rattle.cell_statements.proofs.Cells.{leaves, freed}
 use Rattle.cell_statements.proofs.Locks.{lock_fits, unlock_fits, post_fits, wait_fits}
 use Rattle.cell_statements.proofs.Queries.{query_fits}
 
-module _ (n me : ℕ) (coarrays : List Declared) (steady : Bool) (there : IsOneOf n me) (e : Environment) where
+module _ (n me : ℕ) (coarrays : List Declared) (there : IsOneOf n me) (e : Environment) where
   abbrev Even : ℕ → Parts Act → Type 0
   Even m p = Leaves (tested_of of_numbers) (taken_of of_numbers) (left_of of_numbers) m p
 
   abbrev Fits : ℕ → Parts Act → Type 0
-  Fits m p = Leave n me coarrays steady m p
+  Fits m p = Leave n me coarrays m p
 
   even : (l : ℕ) (f : s.StatementForm) → ranks.IsStatement e.program.procedures f → IsEvenForm (tested_of of_numbers) (taken_of of_numbers) (left_of of_numbers) (form e l f)
   even l f h = (steps_even e of_numbers (s.more_statements (s.on_line f l) s.no_statements) (h, tt)).0
 
-  fit : {p : Parts Act} (m : ℕ) → Even m p → Safe false p → Fits m p
-  fit m l q = leaves n me coarrays steady m q l
+  fit : {p : Parts Act} (m : ℕ) → Even m p → Safe p → Fits m p
+  fit m l q = leaves n me coarrays m q l
 
   -- ---- statements on one cell
   locks : (d : t.Designator) (acquired stat : t.OptionalResult) (order : WrittenOrder) → IsCellOf coarrays is_lock d → ranks.IsCell e.program.procedures d → ranks.IsOptionalResult e.program.procedures acquired
       → ranks.IsOptionalResult e.program.procedures stat → Fits 0 (control.lock e d acquired stat order)
-  locks (t.part (objects.Coarray k) ss sel) acquired stat order y h f g = lock_fits n me coarrays steady there e k ss sel acquired stat order y h f g
+  locks (t.part (objects.Coarray k) ss sel) acquired stat order y h f g = lock_fits n me coarrays there e k ss sel acquired stat order y h f g
   locks (t.part (objects.Local v) ss sel) acquired stat order y h f g = absurd h
   locks (t.part (objects.Constant k) ss sel) acquired stat order y h f g = absurd h
 
   unlocks : (d : t.Designator) (stat : t.OptionalResult) → IsCellOf coarrays is_lock d → ranks.IsCell e.program.procedures d → ranks.IsOptionalResult e.program.procedures stat → Fits 0 (control.unlock e d stat)
-  unlocks (t.part (objects.Coarray k) ss sel) stat y h g = unlock_fits n me coarrays steady there e k ss sel stat y h g
+  unlocks (t.part (objects.Coarray k) ss sel) stat y h g = unlock_fits n me coarrays there e k ss sel stat y h g
   unlocks (t.part (objects.Local v) ss sel) stat y h g = absurd h
   unlocks (t.part (objects.Constant k) ss sel) stat y h g = absurd h
 
   posts : (d : t.Designator) (stat : t.OptionalResult) → IsCellOf coarrays is_event d → ranks.IsCell e.program.procedures d → ranks.IsOptionalResult e.program.procedures stat → Fits 0 (control.event_post e d stat)
-  posts (t.part (objects.Coarray k) ss sel) stat y h g = post_fits n me coarrays steady there e k ss sel stat y h g
+  posts (t.part (objects.Coarray k) ss sel) stat y h g = post_fits n me coarrays there e k ss sel stat y h g
   posts (t.part (objects.Local v) ss sel) stat y h g = absurd h
   posts (t.part (objects.Constant k) ss sel) stat y h g = absurd h
 
   waits : (d : t.Designator) (until : t.OptionalExpression) (stat : t.OptionalResult) (order : WrittenOrder) → IsCellOf coarrays is_event d → ranks.IsOwnCell e.program.procedures d
       → ranks.IsOptionalScalar e.program.procedures until → ranks.IsOptionalResult e.program.procedures stat
-      → (steady ≡ true → calls (control.put_down_as_written order (control.or_number e until (pushing (pos 1))) 1 (view.optional_place e stat) (view.optional_size stat)) ≡ false)
       → Fits 0 (control.event_wait e d until stat order)
-  waits (t.part (objects.Coarray k) ss t.no_selector) until stat order y h f g alone = wait_fits n me coarrays steady there e k ss until stat order y h f g alone
-  waits (t.part (objects.Coarray k) ss (t.selector cs which st)) until stat order y h f g alone = absurd h
-  waits (t.part (objects.Local v) ss sel) until stat order y h f g alone = absurd h
-  waits (t.part (objects.Constant k) ss sel) until stat order y h f g alone = absurd h
+  waits (t.part (objects.Coarray k) ss t.no_selector) until stat order y h f g = wait_fits n me coarrays there e k ss until stat order y h f g
+  waits (t.part (objects.Coarray k) ss (t.selector cs which st)) until stat order y h f g = absurd h
+  waits (t.part (objects.Local v) ss sel) until stat order y h f g = absurd h
+  waits (t.part (objects.Constant k) ss sel) until stat order y h f g = absurd h
 
   quiet_call : (i : s.IntrinsicSubroutine) (w : WrittenArguments) → IsNoQuery e i → Even 0 (released (sub.intrinsic_call e i w)) → Fits 0 (released (sub.intrinsic_call e i w))
   quiet_call i w f l = fit 0 l (free_again (sub.intrinsic_call e i w) (subroutine_quiet e i (written_dummies w) f))
 
-  subroutines : (i : s.IntrinsicSubroutine) (w : WrittenArguments) → Even 0 (released (sub.intrinsic_call e i w)) → ranks.IsSubroutine e.program.procedures i (written_dummies w) → IsTypedCall coarrays i
-      → (steady ≡ true → IsSteadyCall e i (written_dummies w)) → Fits 0 (released (sub.intrinsic_call e i w))
-  subroutines (s.event_query d count stat) w l h y u = freed n me coarrays steady (sub.intrinsic_call e (s.event_query d count stat) w) (query_fits n me coarrays steady there e d count stat (written_dummies w) h y u)
-  subroutines (s.atomic_define d k x stat) w l h y u = quiet_call (s.atomic_define d k x stat) w tt l
-  subroutines (s.atomic_ref r d k stat) w l h y u = quiet_call (s.atomic_ref r d k stat) w tt l
-  subroutines (s.atomic_change c d x stat) w l h y u = quiet_call (s.atomic_change c d x stat) w tt l
-  subroutines (s.atomic_fetch c d x old stat) w l h y u = quiet_call (s.atomic_fetch c d x old stat) w tt l
-  subroutines (s.atomic_cas d k old x z stat) w l h y u = quiet_call (s.atomic_cas d k old x z stat) w tt l
-  subroutines (s.combine c x root stat) w l h y u = quiet_call (s.combine c x root stat) w tt l
-  subroutines (s.broadcast x root stat) w l h y u = quiet_call (s.broadcast x root stat) w tt l
+  subroutines : (i : s.IntrinsicSubroutine) (w : WrittenArguments) → Even 0 (released (sub.intrinsic_call e i w)) → ranks.IsSubroutine e.program.procedures i (written_dummies w) → IsTypedCall coarrays i → Fits 0 (released (sub.intrinsic_call e i w))
+  subroutines (s.event_query d count stat) w l h y = freed n me coarrays (sub.intrinsic_call e (s.event_query d count stat) w) (query_fits n me coarrays there e d count stat (written_dummies w) h y)
+  subroutines (s.atomic_define d k x stat) w l h y = quiet_call (s.atomic_define d k x stat) w tt l
+  subroutines (s.atomic_ref r d k stat) w l h y = quiet_call (s.atomic_ref r d k stat) w tt l
+  subroutines (s.atomic_change c d x stat) w l h y = quiet_call (s.atomic_change c d x stat) w tt l
+  subroutines (s.atomic_fetch c d x old stat) w l h y = quiet_call (s.atomic_fetch c d x old stat) w tt l
+  subroutines (s.atomic_cas d k old x z stat) w l h y = quiet_call (s.atomic_cas d k old x z stat) w tt l
+  subroutines (s.combine c x root stat) w l h y = quiet_call (s.combine c x root stat) w tt l
+  subroutines (s.broadcast x root stat) w l h y = quiet_call (s.broadcast x root stat) w tt l
 
   mutual
-    form_fits : (l : ℕ) (f : s.StatementForm) → ranks.IsStatement e.program.procedures f → IsTyped coarrays f → (steady ≡ true → IsSteady e f) → FormFits n me coarrays steady (form e l f)
-    form_fits l (s.assign d type rank x) h y u =
+    form_fits : (l : ℕ) (f : s.StatementForm) → ranks.IsStatement e.program.procedures f → IsTyped coarrays f → FormFits n me coarrays (form e l f)
+    form_fits l (s.assign d type rank x) h y =
         fit 0 (even l (s.assign d type rank x) h)
         (free_again (assignments.assignment e d type rank x) (both (quiet_expression e x) (quiet_assigned e d (kind_of type) rank (assignments.kind_in x) (assignments.rank_in x))))
-    form_fits l (s.assign_images v k images which) h y u =
+    form_fits l (s.assign_images v k images which) h y =
         fit 0 (even l (s.assign_images v k images which) h) (free_again (assignments.images_assignment e v images which) (both (quiet_listed_team e which) (both (quiet_listing e images) (one tt))))
-    form_fits l (s.call m es) h y u =
+    form_fits l (s.call m es) h y =
         fit 0 (even l (s.call m es) h) (free_again (called e m (procedure_in e m) es)
         (both (quiet_arguments e (procedure_in e m).unit.variables (procedure_in e m).dummies es) (quiet_calling m (procedure_in e m) (view.passed (procedure_in e m).unit.variables (procedure_in e m).dummies es))))
-    form_fits l (s.call_intrinsic i w) h y u = subroutines i w (even l (s.call_intrinsic i w) h) h y u
-    form_fits l (s.print f items) h y u = fit 0 (even l (s.print f items) h) (free_again (assignments.output e f items) (both (quiet_beginning e f) (both (quiet_items e items) (one tt))))
-    form_fits l (s.exit m) h y u = tt
-    form_fits l (s.cycle m) h y u = tt
-    form_fits l s.return h y u = tt
-    form_fits l (s.stop code) h y u = fit 0 (even l (s.stop code) h) (stop_quiet e code a.stop tt)
-    form_fits l (s.error_stop code) h y u = fit 0 (even l (s.error_stop code) h) (stop_quiet e code a.error_stop tt)
-    form_fits l s.fail_image h y u = fit 0 (even l s.fail_image h) (one {x = a.ask a.fail} tt)
-    form_fits l (s.allocate xs stat) h y u = fit 0 (even l (s.allocate xs stat) h) (free_again (alloc.allocate e xs stat) (allocate_quiet e xs stat))
-    form_fits l (s.deallocate xs stat) h y u = fit 0 (even l (s.deallocate xs stat) h) (free_again (alloc.deallocate e xs stat) (deallocate_quiet e xs stat))
-    form_fits l (s.sync_all stat) h y u = fit 0 (even l (s.sync_all stat) h) (free_again (control.sync_all e stat) (sync_all_quiet e stat))
-    form_fits l (s.sync_memory stat) h y u =
+    form_fits l (s.call_intrinsic i w) h y = subroutines i w (even l (s.call_intrinsic i w) h) h y
+    form_fits l (s.print f items) h y = fit 0 (even l (s.print f items) h) (free_again (assignments.output e f items) (both (quiet_beginning e f) (both (quiet_items e items) (one tt))))
+    form_fits l (s.exit m) h y = tt
+    form_fits l (s.cycle m) h y = tt
+    form_fits l s.return h y = tt
+    form_fits l (s.stop code) h y = fit 0 (even l (s.stop code) h) (stop_quiet e code a.stop tt)
+    form_fits l (s.error_stop code) h y = fit 0 (even l (s.error_stop code) h) (stop_quiet e code a.error_stop tt)
+    form_fits l s.fail_image h y = fit 0 (even l s.fail_image h) (one {x = a.ask a.fail} tt)
+    form_fits l (s.allocate xs stat) h y = fit 0 (even l (s.allocate xs stat) h) (free_again (alloc.allocate e xs stat) (allocate_quiet e xs stat))
+    form_fits l (s.deallocate xs stat) h y = fit 0 (even l (s.deallocate xs stat) h) (free_again (alloc.deallocate e xs stat) (deallocate_quiet e xs stat))
+    form_fits l (s.sync_all stat) h y = fit 0 (even l (s.sync_all stat) h) (free_again (control.sync_all e stat) (sync_all_quiet e stat))
+    form_fits l (s.sync_memory stat) h y =
         fit 0 (even l (s.sync_memory stat) h) (free_again (control.sync_memory e stat) (both (quiet_place e stat) (both (one tt) (both (one tt) (settled stat 1 [] (view.optional_size stat))))))
-    form_fits l (s.sync_images is stat) h y u = fit 0 (even l (s.sync_images is stat) h) (free_again (control.sync_images e is stat) (sync_images_quiet e is stat))
-    form_fits l (s.sync_team x stat) h y u = fit 0 (even l (s.sync_team x stat) h) (free_again (control.sync_team e x stat) (sync_team_quiet e x stat))
-    form_fits l (s.form_team x v index stat order) h y u =
+    form_fits l (s.sync_images is stat) h y = fit 0 (even l (s.sync_images is stat) h) (free_again (control.sync_images e is stat) (sync_images_quiet e is stat))
+    form_fits l (s.sync_team x stat) h y = fit 0 (even l (s.sync_team x stat) h) (free_again (control.sync_team e x stat) (sync_team_quiet e x stat))
+    form_fits l (s.form_team x v index stat order) h y =
         fit 0 (even l (s.form_team x v index stat order) h) (free_again (control.form_team e x v index stat order) (form_team_quiet e x v index stat order))
-    form_fits l (s.lock d acquired stat order) h y u = freed n me coarrays steady (control.lock e d acquired stat order) (locks d acquired stat order y h.0 h.1 h.2)
-    form_fits l (s.unlock d stat) h y u = freed n me coarrays steady (control.unlock e d stat) (unlocks d stat y h.0 h.1)
-    form_fits l (s.event_post d stat) h y u = freed n me coarrays steady (control.event_post e d stat) (posts d stat y h.0 h.1)
-    form_fits l (s.event_wait d until stat order) h y u = freed n me coarrays steady (control.event_wait e d until stat order) (waits d until stat order y h.0 h.1 h.2 u)
-    form_fits l (s.if x body others none') h y u =
+    form_fits l (s.lock d acquired stat order) h y = freed n me coarrays (control.lock e d acquired stat order) (locks d acquired stat order y h.0 h.1 h.2)
+    form_fits l (s.unlock d stat) h y = freed n me coarrays (control.unlock e d stat) (unlocks d stat y h.0 h.1)
+    form_fits l (s.event_post d stat) h y = freed n me coarrays (control.event_post e d stat) (posts d stat y h.0 h.1)
+    form_fits l (s.event_wait d until stat order) h y = freed n me coarrays (control.event_wait e d until stat order) (waits d until stat order y h.0 h.1 h.2)
+    form_fits l (s.if x body others none') h y =
         let v = even l (s.if x body others none') h in (
           fit 0 v.0 no_parts,
           (
             fit 1 v.1.0 (condition e x),
-            steps_fit body h.1 y.0 (λ q. (u q).0),
-            else_ifs_fit others (steps e none') h.2 y.1 (λ q. (u q).1) v.1.2 (steps_fit none' h.3 y.2 (λ q. (u q).2)),
+            steps_fit body h.1 y.0,
+            else_ifs_fit others (steps e none') h.2 y.1 v.1.2 (steps_fit none' h.3 y.2),
           ),
         )
-    form_fits l (s.do_counted v k first last step m body) h y u =
+    form_fits l (s.do_counted v k first last step m body) h y =
         let w = even l (s.do_counted v k first last step m body) h in
         let x = hidden_cell e m in
-        (fit 0 w.0 (free_again (do_start e v k first last step x) (start_quiet e v k first last step x)), fit 0 w.1 (one {x = a.variable (a.next_iteration (scope_of v.home) v.variable x k)} tt), fit 1 w.2 (one {x = a.variable (a.more_iterations x)} tt), steps_fit body h.3 y u)
-    form_fits l (s.do_while x body) h y u = (let w = even l (s.do_while x body) h in (fit 0 w.0 no_parts, fit 0 w.1 no_parts, fit 1 w.2 (condition e x), steps_fit body h.1 y u))
-    form_fits l (s.do_forever body) h y u = (let w = even l (s.do_forever body) h in (fit 0 w.0 no_parts, fit 0 w.1 no_parts, fit 1 w.2 (one {x = a.constant (pos 1)} tt), steps_fit body h y u))
-    form_fits l (s.select x m cs none') h y u =
+        (fit 0 w.0 (free_again (do_start e v k first last step x) (start_quiet e v k first last step x)), fit 0 w.1 (one {x = a.variable (a.next_iteration (scope_of v.home) v.variable x k)} tt), fit 1 w.2 (one {x = a.variable (a.more_iterations x)} tt), steps_fit body h.3 y)
+    form_fits l (s.do_while x body) h y = (let w = even l (s.do_while x body) h in (fit 0 w.0 no_parts, fit 0 w.1 no_parts, fit 1 w.2 (condition e x), steps_fit body h.1 y))
+    form_fits l (s.do_forever body) h y = (let w = even l (s.do_forever body) h in (fit 0 w.0 no_parts, fit 0 w.1 no_parts, fit 1 w.2 (one {x = a.constant (pos 1)} tt), steps_fit body h y))
+    form_fits l (s.select x m cs none') h y =
         let w = even l (s.select x m cs none') h in
-        (fit 0 w.0 (both (condition e x) (one {x = a.variable (a.store here (hidden_cell e m))} tt)), cases_fit (hidden_cell e m) cs (steps e none') h.1 y.0 (λ q. (u q).0) w.1 (steps_fit none' h.2 y.1 (λ q. (u q).1)))
-    form_fits l (s.critical m stat body k) h y u =
-        (let w = even l (s.critical m stat body k) h in (fit 0 w.0 (free_again (control.critical e m stat) (quiet_critical e m stat)), steps_fit body h.1 y u, fit 0 w.2 (one {x = a.ask (a.exit_critical m)} tt)))
-    form_fits l (s.change_team x stat body end_stat k) h y u =
+        (fit 0 w.0 (both (condition e x) (one {x = a.variable (a.store here (hidden_cell e m))} tt)), cases_fit (hidden_cell e m) cs (steps e none') h.1 y.0 w.1 (steps_fit none' h.2 y.1))
+    form_fits l (s.critical m stat body k) h y =
+        (let w = even l (s.critical m stat body k) h in (fit 0 w.0 (free_again (control.critical e m stat) (quiet_critical e m stat)), steps_fit body h.1 y, fit 0 w.2 (one {x = a.ask (a.exit_critical m)} tt)))
+    form_fits l (s.change_team x stat body end_stat k) h y =
         let w = even l (s.change_team x stat body end_stat k) h in
-        (fit 0 w.0 (free_again (control.change_team e x stat) (change_team_quiet e x stat)), steps_fit body h.2 y u, fit 0 w.2 (free_again (control.end_team e end_stat) (end_team_quiet e end_stat)))
+        (fit 0 w.0 (free_again (control.change_team e x stat) (change_team_quiet e x stat)), steps_fit body h.2 y, fit 0 w.2 (free_again (control.end_team e end_stat) (end_team_quiet e end_stat)))
 
-    pub steps_fit : (ss : s.Statements) → ranks.AreStatements e.program.procedures ss → AreTyped coarrays ss → (steady ≡ true → AreSteady e ss) → StepsFit n me coarrays steady (steps e ss)
-    steps_fit s.no_statements h y u = tt
-    steps_fit (s.more_statements (s.on_line f l) ss) h y u = (form_fits l f h.0 y.0 (λ q. (u q).0), steps_fit ss h.1 y.1 (λ q. (u q).1))
+    pub steps_fit : (ss : s.Statements) → ranks.AreStatements e.program.procedures ss → AreTyped coarrays ss → StepsFit n me coarrays (steps e ss)
+    steps_fit s.no_statements h y = tt
+    steps_fit (s.more_statements (s.on_line f l) ss) h y = (form_fits l f h.0 y.0, steps_fit ss h.1 y.1)
 
-    else_ifs_fit : (os : s.ElseIfs) (rest : Steps Act) → ranks.AreElseIfs e.program.procedures os → AreTypedElseIfs coarrays os → (steady ≡ true → AreSteadyElseIfs e os)
-        → AreEven (tested_of of_numbers) (taken_of of_numbers) (left_of of_numbers) (else_ifs e os rest) → StepsFit n me coarrays steady rest → BranchesFit n me coarrays steady (else_ifs e os rest)
-    else_ifs_fit s.no_else_ifs rest h y u v r = r
-    else_ifs_fit (s.more_else_ifs x body l others) rest h y u v r = (fit 1 v.0 (condition e x), steps_fit body h.1 y.0 (λ q. (u q).0), else_ifs_fit others rest h.2 y.1 (λ q. (u q).1) v.2 r)
+    else_ifs_fit : (os : s.ElseIfs) (rest : Steps Act) → ranks.AreElseIfs e.program.procedures os → AreTypedElseIfs coarrays os
+        → AreEven (tested_of of_numbers) (taken_of of_numbers) (left_of of_numbers) (else_ifs e os rest) → StepsFit n me coarrays rest → BranchesFit n me coarrays (else_ifs e os rest)
+    else_ifs_fit s.no_else_ifs rest h y v r = r
+    else_ifs_fit (s.more_else_ifs x body l others) rest h y v r = (fit 1 v.0 (condition e x), steps_fit body h.1 y.0, else_ifs_fit others rest h.2 y.1 v.2 r)
 
-    cases_fit : (x : ℕ) (cs : s.Cases) (rest : Steps Act) → ranks.AreCases e.program.procedures cs → AreTypedCases coarrays cs → (steady ≡ true → AreSteadyCases e cs)
-        → AreEven (tested_of of_numbers) (taken_of of_numbers) (left_of of_numbers) (cases e x cs rest) → StepsFit n me coarrays steady rest → BranchesFit n me coarrays steady (cases e x cs rest)
-    cases_fit x s.no_cases rest h y u v r = r
-    cases_fit x (s.more_cases rs body l others) rest h y u v r = (fit 1 v.0 (quiet_ranges e x rs), steps_fit body h.0 y.0 (λ q. (u q).0), cases_fit x others rest h.1 y.1 (λ q. (u q).1) v.2 r)
+    cases_fit : (x : ℕ) (cs : s.Cases) (rest : Steps Act) → ranks.AreCases e.program.procedures cs → AreTypedCases coarrays cs
+        → AreEven (tested_of of_numbers) (taken_of of_numbers) (left_of of_numbers) (cases e x cs rest) → StepsFit n me coarrays rest → BranchesFit n me coarrays (cases e x cs rest)
+    cases_fit x s.no_cases rest h y v r = r
+    cases_fit x (s.more_cases rs body l others) rest h y v r = (fit 1 v.0 (quiet_ranges e x rs), steps_fit body h.0 y.0, cases_fit x others rest h.1 y.1 v.2 r)
 
 -- ---- the bodies of a program
-module _ (n me : ℕ) (coarrays : List Declared) (steady : Bool) (there : IsOneOf n me) (p : s.Program) where
-  procedure_fits : (qs : List s.Procedure) → ranks.AreProcedures p.procedures qs → AreTypedProcedures coarrays qs → (steady ≡ true → AreSteadyProcedures p qs) → (k : ℕ) → StepsFit n me coarrays steady (body_of (procedure_bodies p qs) k)
-  procedure_fits [] h y u k = tt
-  procedure_fits (q ∷ qs) h y u zero = steps_fit n me coarrays steady there (environment_of p host q.unit) q.unit.statements h.0 y.0 (λ x. (u x).0)
-  procedure_fits (q ∷ qs) h y u (suc k) = procedure_fits qs h.1 y.1 (λ x. (u x).1) k
+module _ (n me : ℕ) (coarrays : List Declared) (there : IsOneOf n me) (p : s.Program) where
+  procedure_fits : (qs : List s.Procedure) → ranks.AreProcedures p.procedures qs → AreTypedProcedures coarrays qs → (k : ℕ) → StepsFit n me coarrays (body_of (procedure_bodies p qs) k)
+  procedure_fits [] h y k = tt
+  procedure_fits (q ∷ qs) h y zero = steps_fit n me coarrays there (environment_of p host q.unit) q.unit.statements h.0 y.0
+  procedure_fits (q ∷ qs) h y (suc k) = procedure_fits qs h.1 y.1 k
 
-  pub bodies_fit : ranks.IsRankedProgram p → IsTypedProgram coarrays p → (steady ≡ true → IsSteadyProgram p) → (k : ℕ) → StepsFit n me coarrays steady (body_of (bodies p) k)
-  bodies_fit h y u zero = steps_fit n me coarrays steady there (environment_of p here p.main) p.main.statements h.0 y.0 (λ x. (u x).0)
-  bodies_fit h y u (suc k) = procedure_fits p.procedures h.1 y.1 (λ x. (u x).1) k
+  pub bodies_fit : ranks.IsRankedProgram p → IsTypedProgram coarrays p → (k : ℕ) → StepsFit n me coarrays (body_of (bodies p) k)
+  bodies_fit h y zero = steps_fit n me coarrays there (environment_of p here p.main) p.main.statements h.0 y.0
+  bodies_fit h y (suc k) = procedure_fits p.procedures h.1 y.1 k

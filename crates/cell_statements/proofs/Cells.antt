@@ -29,16 +29,10 @@ use Rattle.stack_laws.specs.Exact.{Stand}
 use Rattle.stack_laws.proofs.Standing.{stand_apart, stand_of}
 use Rattle.cell_walks.specs.Fitting.{Sizes, IsSound, EffectFits, PartsFit, Leave}
 use Rattle.cell_walks.proofs.Parts.{parts_more}
-use Rattle.cell_walks.proofs.Acts.{Holds}
-use Rattle.cell_walks.specs.Calls.{calls}
-use Rattle.cell_walks.proofs.Levels.{IsQuiet, alone_too, rise, quiet_fits}
+use Rattle.cell_walks.proofs.Levels.{rise, quiet_fits}
 use Rattle.cell_walks.proofs.Quieting.{Safe, one}
-use Rattle.cell_statements.proofs.Points.{IsPoint, pointed, own_imaged, imaged, two_copied, brought_up}
+use Rattle.cell_statements.proofs.Points.{pointed, own_imaged, imaged, two_copied, brought_up}
 use Rattle.cell_statements.proofs.Quiet.{quiet_expressions, quiet_subscripts, quiet_place, quiet_selected}
-
-quieted : (b : Bool) (p : Parts Act) → IsQuiet b false p → (b ≡ true → calls p ≡ false) → IsQuiet b b p
-quieted true p q alone = alone_too p q (alone refl)
-quieted false p q alone = q
 
 no_numbers : (xs : List ℤ) → length xs ≡ 0 → xs ≡ []
 no_numbers [] e = refl
@@ -53,70 +47,62 @@ long : (xs ys : List ℤ) → length (xs ++ ys) ≡ length xs + length ys
 long [] ys = omega arith
 long (x ∷ xs) ys = (let h = long xs ys in omega arith)
 
-not_so : {A : Type 0} → false ≡ true → A
-not_so e = absurd (cc)
-
-module _ (n me : ℕ) (coarrays : List Declared) (steady : Bool) where
+module _ (n me : ℕ) (coarrays : List Declared) where
   abbrev pub Sound : Sizes → Core → Type 0
   Sound z c = IsSound n me z c
 
   abbrev pub Fit : Parts Act → (Sizes → Core → Type 0) → Sizes → Core → Type 0
-  Fit p After z c = PartsFit n me coarrays steady p After z c
+  Fit p After z c = PartsFit n me coarrays p After z c
 
   abbrev pub Done : List ℤ → Sizes → Core → Type 0
   Done vs y d = Sound y d × Stand 0 vs d.values
 
-  -- ---- parts of a size over numbers that stand there; where b is true they leave the coarrays
-  pub turned : (b : Bool) {z : Size} {p : Parts Act} → Turns z p → Safe b p → (b ≡ true → calls p ≡ false) → (vs : List ℤ) (After : Sizes → Core → Type 0) (y : Sizes) (c : Core) → Sound y c → Stand z.takes.numbers vs c.values
-      → ((u : Sizes) (d : Core) (xs : List ℤ) → Sound u d → (b ≡ true → d.coarrays ≡ c.coarrays) → length xs ≡ z.leaves.numbers → d.values ≡ xs ++ vs → After u d) → Fit p After y c
-  turned b {z} {p} t q alone vs After y c i s more =
+  -- ---- parts of a size over numbers that stand there
+  pub passed : {z : Size} {p : Parts Act} → Turns z p → Safe p → (vs : List ℤ) (After : Sizes → Core → Type 0) (y : Sizes) (c : Core) → Sound y c → Stand z.takes.numbers vs c.values
+      → ((u : Sizes) (d : Core) (xs : List ℤ) → Sound u d → length xs ≡ z.leaves.numbers → d.values ≡ xs ++ vs → After u d) → Fit p After y c
+  passed {z} {p} t q vs After y c i s more =
       let from_none : 0 + z.takes.numbers ≡ z.takes.numbers = omega arith in
       let to_none : 0 + z.leaves.numbers ≡ z.leaves.numbers = omega arith in
       let r = subst (λ k. Runs of_numbers k (0 + z.leaves.numbers) p) from_none (t.runs of_numbers 0) in
-      let w : Holds n me coarrays steady b c.coarrays y c = (i, λ u. refl) in
-      parts_more n me coarrays steady p (λ u d. Holds n me coarrays steady b c.coarrays u d × Stand (rise z.takes.numbers p) vs d.values) After
-      (λ u d v. (let x = stand_apart z.leaves.numbers vs d.values (subst (λ k. Stand k vs d.values) (r.1 ∙ to_none) v.1) in more u d x.0 v.0.0 v.0.1 x.1 x.2)) y c
-      (quiet_fits n me coarrays steady b c.coarrays p (quieted b p q.quiet alone) z.takes.numbers r.0 vs y c w s)
-
-  pub passed : {z : Size} {p : Parts Act} → Turns z p → Safe false p → (vs : List ℤ) (After : Sizes → Core → Type 0) (y : Sizes) (c : Core) → Sound y c → Stand z.takes.numbers vs c.values
-      → ((u : Sizes) (d : Core) (xs : List ℤ) → Sound u d → length xs ≡ z.leaves.numbers → d.values ≡ xs ++ vs → After u d) → Fit p After y c
-  passed t q vs After y c i s more = turned false t q not_so vs After y c i s (λ u d xs j w l e. more u d xs j l e)
+      parts_more n me coarrays p (λ u d. Sound u d × Stand (rise z.takes.numbers p) vs d.values) After
+      (λ u d v. (let x = stand_apart z.leaves.numbers vs d.values (subst (λ k. Stand k vs d.values) (r.1 ∙ to_none) v.1) in more u d x.0 v.0 x.1 x.2)) y c
+      (quiet_fits n me coarrays p q.quiet z.takes.numbers r.0 vs y c i s)
 
   -- parts that leave nothing on numbers that stay
-  pub ending : {m : ℕ} {p : Parts Act} → Turns (numbers m 0) p → Safe false p → (vs : List ℤ) (y : Sizes) (c : Core) → Sound y c → Stand m vs c.values → Fit p (Done vs) y c
+  pub ending : {m : ℕ} {p : Parts Act} → Turns (numbers m 0) p → Safe p → (vs : List ℤ) (y : Sizes) (c : Core) → Sound y c → Stand m vs c.values → Fit p (Done vs) y c
   ending t q vs y c i s = passed t q vs (Done vs) y c i s (λ u d xs j l e. (j, e ∙ ap (λ z. z ++ vs) (no_numbers xs l)))
 
-  pub leaves : {p : Parts Act} (m : ℕ) → Safe false p → Leaves (tested_of of_numbers) (taken_of of_numbers) (left_of of_numbers) m p → Leave n me coarrays steady m p
+  pub leaves : {p : Parts Act} (m : ℕ) → Safe p → Leaves (tested_of of_numbers) (taken_of of_numbers) (left_of of_numbers) m p → Leave n me coarrays m p
   leaves {p} m q l vs y c i e =
-      parts_more n me coarrays steady p (λ u d. Holds n me coarrays steady false [] u d × Stand (rise 0 p) vs d.values) (λ u d. Sound u d × Stand m vs d.values) (λ u d v. (v.0.0, subst (λ k. Stand k vs d.values) l.1 v.1)) y c
-      (quiet_fits n me coarrays steady false [] p q.quiet 0 l.0 vs y c (i, not_so) e)
+      parts_more n me coarrays p (λ u d. Sound u d × Stand (rise 0 p) vs d.values) (λ u d. Sound u d × Stand m vs d.values) (λ u d v. (v.0, subst (λ k. Stand k vs d.values) l.1 v.1)) y c
+      (quiet_fits n me coarrays p q.quiet 0 l.0 vs y c i e)
 
-  pub freed : (p : Parts Act) → Leave n me coarrays steady 0 p → Leave n me coarrays steady 0 (released p)
+  pub freed : (p : Parts Act) → Leave n me coarrays 0 p → Leave n me coarrays 0 (released p)
   freed p h = by_takes (takes p)
     where
-      by_takes : (b : Bool) → Leave n me coarrays steady 0 (cond b (p ▸ doing (stack a.release ∷ [])) p)
+      by_takes : (b : Bool) → Leave n me coarrays 0 (cond b (p ▸ doing (stack a.release ∷ [])) p)
       by_takes true vs y c i e =
-          parts_more n me coarrays steady p (Done vs) (Fit (doing (stack a.release ∷ [])) (Done vs)) (λ u d v. ending (one_act {b = stack a.release}) (one tt) vs u d v.0 v.1) y c (h vs y c i e)
+          parts_more n me coarrays p (Done vs) (Fit (doing (stack a.release ∷ [])) (Done vs)) (λ u d v. ending (one_act {b = stack a.release}) (one tt) vs u d v.0 v.1) y c (h vs y c i e)
       by_takes false vs y c i e = h vs y c i e
 
   -- ---- the place of the cell
   pub placed_cell : (e : Environment) (k : ℕ) (ss : t.Subscripts) (q : Parts Act) → ranks.AreSubscripts e.program.procedures ss → ranks.IsSection ss 0 → (vs : List ℤ) (After : Sizes → Core → Type 0) (y : Sizes) (c : Core) → Sound y c
-      → c.values ≡ vs → ((u : Sizes) (d : Core) (s : ℕ) → Sound u d → IsPoint d k s → d.values ≡ pos s ∷ vs → Fit q After u d) → Fit (view.subscripts e ss ▸ doing (bounded (a.co_section k (view.form_of ss 0)) ∷ []) ▸ q) After y c
+      → c.values ≡ vs → ((u : Sizes) (d : Core) (s : ℕ) → Sound u d → s < most_cells → d.values ≡ pos s ∷ vs → Fit q After u d) → Fit (view.subscripts e ss ▸ doing (bounded (a.co_section k (view.form_of ss 0)) ∷ []) ▸ q) After y c
   placed_cell e k ss q h g vs After y c i v more =
       let form = view.form_of ss 0 in
       let x = bounded (a.co_section k form) in
       passed (subscripts_turns e ss h) (quiet_subscripts e ss) vs (Fit (doing (x ∷ []) ▸ q) After) y c i v
-      (λ u d xs j l w. subst (λ z. EffectFits n me coarrays steady (effect_of x (with_values d z)) (Fit q After) u) (sym w)
-      (pointed n me coarrays steady k form u d xs vs (l ∙ sym (section_numbers ss 0 g)) (section_rank ss 0 g) j (Fit q After) (λ s p. more u (with_values d (pos s ∷ vs)) s j p refl)))
+      (λ u d xs j l w. subst (λ z. EffectFits n me coarrays (effect_of x (with_values d z)) (Fit q After) u) (sym w)
+      (pointed n me coarrays k form u d xs vs (l ∙ sym (section_numbers ss 0 g)) (section_rank ss 0 g) j (Fit q After) (λ s p. more u (with_values d (pos s ∷ vs)) s j p refl)))
 
   -- this image's cell
   pub own_celled : IsOneOf n me → (e : Environment) (k : ℕ) (ss : t.Subscripts) → ranks.AreSubscripts e.program.procedures ss → ranks.IsSection ss 0 → (vs : List ℤ) (After : Sizes → Core → Type 0) (y : Sizes) (c : Core) → Sound y c
-      → c.values ≡ vs → ((u : Sizes) (d : Core) (o s : ℕ) → Sound u d → IsOneOf n o → IsPoint d k s → d.values ≡ pos o ∷ pos s ∷ vs → After u d) → Fit (control.cell e (t.part (objects.Coarray k) ss t.no_selector)) After y c
+      → c.values ≡ vs → ((u : Sizes) (d : Core) (o s : ℕ) → Sound u d → IsOneOf n o → s < most_cells → d.values ≡ pos o ∷ pos s ∷ vs → After u d) → Fit (control.cell e (t.part (objects.Coarray k) ss t.no_selector)) After y c
   own_celled there e k ss h g vs After y c i v more =
       let x = selector (a.own_image 0) in
       placed_cell e k ss (doing (x ∷ [])) h g vs After y c i v
-      (λ u d s j p w. subst (λ z. EffectFits n me coarrays steady (effect_of x (with_values d z)) After u) (sym w)
-      (own_imaged n me coarrays steady u d (pos s) vs After (more u (with_values d (pos d.me ∷ pos s ∷ vs)) d.me s j (subst (IsOneOf n) (sym j.own) there) p refl)))
+      (λ u d s j p w. subst (λ z. EffectFits n me coarrays (effect_of x (with_values d z)) After u) (sym w)
+      (own_imaged n me coarrays u d (pos s) vs After (more u (with_values d (pos d.me ∷ pos s ∷ vs)) d.me s j (subst (IsOneOf n) (sym j.own) there) p refl)))
 
   -- ---- the owner by an image selector
   selected_turns : (e : Environment) (w : t.SelectedTeam) → ranks.IsTeam e.program.procedures w → Turns (numbers 0 1) (view.selected_team e w)
@@ -131,8 +117,8 @@ module _ (n me : ℕ) (coarrays : List Declared) (steady : Bool) where
     where
       moved : Fit (doing (stack (a.bring o m) ∷ [])) After y c
       moved =
-          subst (λ z. EffectFits n me coarrays steady (effect_of (stack (a.bring o m)) (with_values c z)) After y) (sym v)
-          (brought_up n me coarrays steady o m y c ps bs us l k After (more (with_values c (bs ++ (ps ++ us))) i refl))
+          subst (λ z. EffectFits n me coarrays (effect_of (stack (a.bring o m)) (with_values c z)) After y) (sym v)
+          (brought_up n me coarrays o m y c ps bs us l k After (more (with_values c (bs ++ (ps ++ us))) i refl))
 
       by_none : (w x : Bool) → (o == 0) ≡ w → (m == 0) ≡ x → Fit (cond (w || x) end_parts (doing (stack (a.bring o m) ∷ []))) After y c
       by_none true x e f = more c i (let z = no_numbers ps (l ∙ eqb-true o 0 e) in v ∙ (ap (λ q. q ++ (bs ++ us)) z ∙ ap (λ q. bs ++ (q ++ us)) (sym z)))
@@ -154,7 +140,7 @@ module _ (n me : ℕ) (coarrays : List Declared) (steady : Bool) where
       (λ u d s i1 p v1. passed (expressions_turns e cs h.2.0) (quiet_expressions e cs) (pos s ∷ vs) (Fit first After) u d i1 v1
       (λ u2 d2 ys i2 l2 v2. passed (selected_turns e which h.2.1) (quiet_selected e which) (ys ++ (pos s ∷ vs)) (Fit second After) u2 d2 i2 v2
       (λ u3 d3 ts i3 l3 v3. passed (place_turns e stat h.2.2) (quiet_place e stat) (ts ++ (ys ++ (pos s ∷ vs))) (Fit third After) u3 d3 i3 v3
-      (λ u4 d4 ps i4 l4 v4. owned s p.0 u4 d4 ys ts ps i4 l2 l3 l4 v4))))
+      (λ u4 d4 ps i4 l4 v4. owned s p u4 d4 ys ts ps i4 l2 l3 l4 v4))))
     where
       owned : (s : ℕ) → s < most_cells → (u : Sizes) (d : Core) (ys ts ps : List ℤ) → Sound u d → length ys ≡ view.count_of cs → length ts ≡ 1 → length ps ≡ view.optional_size stat → d.values ≡ ps ++ (ts ++ (ys ++ (pos s ∷ vs)))
           → Fit (bringing (view.optional_size stat) (place_size 0 + (view.count_of cs + 1)) ▸ doing (selector (a.owner k 0 (view.count_of cs)) ∷ [])) After u d
@@ -168,19 +154,19 @@ module _ (n me : ℕ) (coarrays : List Declared) (steady : Bool) where
           let here : d.values ≡ ps ++ (bs ++ vs) = v ∙ (ap (λ z. ps ++ (z ++ (ys ++ (pos s ∷ vs)))) w.1 ∙ ap (λ z. ps ++ z) (sym (back vs))) in
           let many : length bs ≡ place_size 0 + (j + 1) = (let q = long ys (pos s ∷ []) in omega arith) in
           lifted m (place_size 0 + (j + 1)) u d ps bs vs lp many i here (Fit (doing (x ∷ [])) After)
-          (λ f g r. subst (λ z. EffectFits n me coarrays steady (effect_of x (with_values f z)) After u) (sym (r ∙ back (ps ++ vs)))
-          (imaged n me coarrays steady k j u f w.0 (pos s) ys (ps ++ vs) ly g After (λ o one'. more u (with_values f (pos o ∷ pos s ∷ (ps ++ vs))) o s ps g one' small lp refl)))
+          (λ f g r. subst (λ z. EffectFits n me coarrays (effect_of x (with_values f z)) After u) (sym (r ∙ back (ps ++ vs)))
+          (imaged n me coarrays k j u f w.0 (pos s) ys (ps ++ vs) ly g After (λ o one'. more u (with_values f (pos o ∷ pos s ∷ (ps ++ vs))) o s ps g one' small lp refl)))
 
   -- ---- an ask of the cell
   -- it takes the owner and the place, and leaves m numbers
   abbrev pub IsAsked : a.AskAct → ℕ → Type 1
   IsAsked x m = (y : Sizes) (c : Core) (o s : ℕ) (us : List ℤ) (After : Sizes → Core → Type 0) → IsOneOf n o → s < most_cells → Sound y c → ((d : Core) (xs : List ℤ) → Sound y d → length xs ≡ m → d.values ≡ xs ++ us → After y d)
-      → EffectFits n me coarrays steady (effect_of (ask x) (with_values c (pos o ∷ pos s ∷ us))) After y
+      → EffectFits n me coarrays (effect_of (ask x) (with_values c (pos o ∷ pos s ∷ us))) After y
 
   -- result places are put down, the coarray is there, and the place and the owner once more: then comes the ask, and
   -- behind it parts that take all
-  pub asked : (x : a.AskAct) (m : ℕ) → IsAsked x m → (tail : List Act) {q k : ℕ} {place there more : Parts Act} → Turns (numbers 0 q) place → Safe false place → Turns none there → Safe false there
-      → Turns (numbers (m + (q + (k + 2))) 0) (doing tail ▸ more) → Safe false (doing tail ▸ more) → (vs ps : List ℤ) (y : Sizes) (c : Core) (o s : ℕ) → Sound y c → IsOneOf n o → s < most_cells → length ps ≡ k
+  pub asked : (x : a.AskAct) (m : ℕ) → IsAsked x m → (tail : List Act) {q k : ℕ} {place there more : Parts Act} → Turns (numbers 0 q) place → Safe place → Turns none there → Safe there
+      → Turns (numbers (m + (q + (k + 2))) 0) (doing tail ▸ more) → Safe (doing tail ▸ more) → (vs ps : List ℤ) (y : Sizes) (c : Core) (o s : ℕ) → Sound y c → IsOneOf n o → s < most_cells → length ps ≡ k
       → c.values ≡ pos o ∷ pos s ∷ (ps ++ vs) → Fit (place ▸ there ▸ copying q 2 ▸ doing (ask x ∷ tail) ▸ more) (Done vs) y c
   asked x m asks tail {q} {k} {place} {there} {more} tp sp th sh te se vs ps y c o s i one' small lp v =
       let us = pos o ∷ pos s ∷ (ps ++ vs) in
@@ -203,6 +189,6 @@ module _ (n me : ℕ) (coarrays : List Declared) (steady : Bool) where
 
       copied : (u : Sizes) (f : Core) (qs : List ℤ) → Sound u f → length qs ≡ q → f.values ≡ qs ++ us → Fit (copying q 2 ▸ doing (ask x ∷ tail) ▸ more) (Done vs) u f
       copied u f qs g lq r =
-          subst (λ z. EffectFits n me coarrays steady (effect_of (stack (a.copy q 2)) (with_values f z)) (Fit (doing (ask x ∷ tail) ▸ more) (Done vs)) u) (sym r)
-          (two_copied n me coarrays steady q u f qs (pos o) (pos s) (ps ++ vs) lq (Fit (doing (ask x ∷ tail) ▸ more) (Done vs))
+          subst (λ z. EffectFits n me coarrays (effect_of (stack (a.copy q 2)) (with_values f z)) (Fit (doing (ask x ∷ tail) ▸ more) (Done vs)) u) (sym r)
+          (two_copied n me coarrays q u f qs (pos o) (pos s) (ps ++ vs) lq (Fit (doing (ask x ∷ tail) ▸ more) (Done vs))
           (asks u f o s (qs ++ us) (Fit (doing tail) (Fit more (Done vs))) one' small g (λ d xs j lx w. ends xs qs u d j lx lq w)))

@@ -1,12 +1,14 @@
--- What the place and the owner of one cell come to: the cell is within its coarray, and the owner is an image of the
--- run.
+-- What the place and the owner of one cell come to: the cell is one that a coarray can have, and the owner is an image
+-- of the run.
 use Rattle.std.proofs.Common.{◌≡◌, ◌∙◌, ℕ, zero, suc, ◌+◌, ◌≤◌, ◌<◌, Bool, true, false, cond, List, [], ◌∷◌, ◌++◌, length, refl, ap, ap₂, sym, subst, arith}
 use Rattle.std.specs.Prelude.{map, ℤ, pos, ◌==◌, ◌||◌, not, min, drop, nat_eq, nat_lt, nat_le, slice_get, slice_index_or, Option, None, Some}
-use Rattle.std.proofs.lemmas.Bool.{leb-true, lt-ltb, and_from}
+use Rattle.std.proofs.lemmas.Bool.{leb-true, ltb-true, lt-ltb, and_from}
 use Rattle.trace_theory.specs.Entries.{Each}
 use Rattle.coarray_types.specs.Places.{size_of}
 use Rattle.coarray_types.specs.Coplaces.{image_order}
 use Rattle.caf_base.specs.Arithmetic.{natural}
+use Rattle.caf_events.specs.declared.ask.Ask.{Ask}
+use Rattle.caf_events.specs.declared.reply.Reply.{Reply}
 use Rattle.walk_theory.specs.Language as language
 use Rattle.walk_theory.specs.Terms.{Found, found, at_fault}
 use Rattle.object_rules.specs.Cells.{Content, Declared}
@@ -14,26 +16,22 @@ use Rattle.object_rules.specs.MemoryRules.{holds, is_cell_of}
 use Rattle.core_runs.specs.Beginnings.{IsOneOf}
 use Rattle.core_runs.specs.Lawful.{made_memory}
 use Rattle.image_acts.specs.Statuses.{most_cells, most_access_cells}
-use Rattle.image_acts.specs.Faults.{cobounds_fault, not_established, cells_fault}
+use Rattle.image_acts.specs.Faults.{cobounds_fault, not_allocated, not_established, cells_fault}
 use Rattle.image_acts.specs.Words.{word}
 use Rattle.image_acts.specs.Acts as a
-use Rattle.image_acts.specs.Acts.{Act, stack, bounded, selector}
+use Rattle.image_acts.specs.Acts.{Act, stack, bounded, selector, ask}
 use Rattle.image_acts.specs.Core.{Core, Own, Team, with_values}
 use Rattle.image_acts.specs.Owning.{own_in}
 use Rattle.image_acts.specs.Frames.{joined}
 use Rattle.image_acts.specs.Places.{Place, place_in, place_size, cells_of, digits, numbers_of_form, triplets, subscripts_in, place_within, no_place, place_numbers, dims_numbers}
 use Rattle.image_acts.specs.Teams.{team_in, members_of, members, index_of, is_established, member_at, are_within_cobounds}
 use Rattle.image_acts.specs.Taking.{Acted, giving, given, found_in, unless, taken, put_down, seeing}
-use Rattle.image_acts.specs.Operate.Asking.{cell_span}
+use Rattle.image_acts.specs.Operate.Asking.{cell_span, has_cell}
 use Rattle.image_acts.specs.Meaning.{settled, effect_of}
 use Rattle.stack_laws.proofs.Standing.{taken_of}
 use Rattle.told_walks.specs.Asked.{own_cells}
 use Rattle.stack_laws.proofs.Places.{element_inside}
-use Rattle.cell_walks.specs.Fitting.{Sizes, IsSmall, IsSound, EffectFits}
-
--- the cell with this offset is one that a coarray can have, and is there where coarray k is allocated here
-abbrev pub IsPoint : Core → ℕ → ℕ → Type 0
-IsPoint c k s = (s < most_cells) × ((o : Own) → own_in c k ≡ Some o → s < size_of o.bounds)
+use Rattle.cell_walks.specs.Fitting.{Sizes, IsSmall, IsSound, HasCell, EffectFits}
 
 -- ---- the asks
 capped : (k : ℕ) → min k 4294967295 ≤ k
@@ -47,9 +45,6 @@ word_image n j h = (let a' = h.0 in let b = h.1 in (omega arith, omega arith))
 
 pub cell_fits : (coarrays : List Declared) (i : ℕ) (test : Content → Bool) (k s : ℕ) → s < most_cells → holds test (slice_get coarrays k) ≡ true → is_cell_of (made_memory coarrays i) test (cell_span k (pos s)) ≡ true
 cell_fits coarrays i test k s h t = and_from (nat_lt (word (pos s)) 65536) (holds test (slice_get coarrays k)) (lt-ltb (word (pos s)) 65536 (word_below s most_cells h)) t
-
-pub start_within : (s m : ℕ) → s < m → word (pos s) < m
-start_within s m h = word_below s m h
 
 -- ---- coarrays that are allocated here
 small_in : (os : List (Option Own)) (k : ℕ) (o : Own) → Each IsSmall os → joined (slice_get os k) ≡ Some o → size_of o.bounds ≤ most_cells
@@ -96,9 +91,22 @@ index_within false i m = omega arith
 index_in_team : (o : Own) (ss : List ℤ) (m : ℕ) → index_of o ss m ≤ m
 index_in_team o ss m = index_within (are_within_cobounds o.lowers o.extents ss) (image_order o.lowers o.extents ss + 1) m
 
-module _ (n me : ℕ) (coarrays : List Declared) (steady : Bool) where
+module _ (n me : ℕ) (coarrays : List Declared) where
+  -- an ask that is made where the cell is there
+  pub asked_there : (x : a.AskAct) (k s : ℕ) (q : Ask) (f : Reply → Core) (After : Sizes → Core → Type 0) (y : Sizes) (c : Core) → IsSound n me y c → (HasCell y (cell_span k (pos s)) → EffectFits n me coarrays (language.asking q f) After y)
+      → EffectFits n me coarrays (settled (ask x) (unless not_allocated (has_cell (own_in c k) (word (pos s))) (language.asking q f))) After y
+  asked_there x k s q f After y c i more = by_own (own_in c k) refl
+    where
+      by_size : (w : Own) → own_in c k ≡ Some w → (b : Bool) → nat_lt (word (pos s)) (size_of w.bounds) ≡ b → EffectFits n me coarrays (settled (ask x) (unless not_allocated b (language.asking q f))) After y
+      by_size w e true t = more (size_of w.bounds, told_size n me y c k w i e, ltb-true (word (pos s)) (size_of w.bounds) t)
+      by_size w e false t = tt
+
+      by_own : (o : Option Own) → own_in c k ≡ o → EffectFits n me coarrays (settled (ask x) (unless not_allocated (has_cell o (word (pos s))) (language.asking q f))) After y
+      by_own None e = tt
+      by_own (Some w) e = by_size w e (nat_lt (word (pos s)) (size_of w.bounds)) refl
+
   abbrev Comes : Sizes → Acted → (Sizes → Core → Type 0) → Type 0
-  Comes z e After = EffectFits n me coarrays steady e After z
+  Comes z e After = EffectFits n me coarrays e After z
 
   -- ---- the place of one cell
   abbrev co_placing : Option Own → List ℕ → List ℤ → Core → Acted
@@ -109,7 +117,7 @@ module _ (n me : ℕ) (coarrays : List Declared) (steady : Bool) where
   point_numbers p k d s = ap₂ (λ x y. x ∷ dims_numbers y) s d
 
   pub pointed : (k form : ℕ) (z : Sizes) (c : Core) (xs vs : List ℤ) → length xs ≡ numbers_of_form (digits form) → triplets (digits form) ≡ 0 → IsSound n me z c → (After : Sizes → Core → Type 0)
-      → ((s : ℕ) → IsPoint c k s → After z (with_values c (pos s ∷ vs))) → Comes z (effect_of (bounded (a.co_section k form)) (with_values c (xs ++ vs))) After
+      → ((s : ℕ) → s < most_cells → After z (with_values c (pos s ∷ vs))) → Comes z (effect_of (bounded (a.co_section k form)) (with_values c (xs ++ vs))) After
   pointed k form z c xs vs h t i After more =
       subst (λ o. Comes z (settled x (given o (λ p. co_placing (own_in c k) ds p.0 (with_values c p.1)))) After) (sym (taken_of (numbers_of_form ds) xs vs h)) (by_own (own_in c k) refl)
     where
@@ -127,12 +135,12 @@ module _ (n me : ℕ) (coarrays : List Declared) (steady : Bool) where
       by_found o e (found p) q =
           let r = element_inside o.bounds ds ys p q t in
           subst (λ ns. After z (with_values c (put_down ns vs))) (sym (point_numbers p r.1 r.0 r.2))
-          (more r.1 (let l = r.3 in let m = small_in c.coarrays k o i.coarrays e in omega arith, λ o' e'. (let w : o ≡ o' = (let v : Some o ≡ Some o' = sym e ∙ e' in cc) in subst (λ (u : Own). r.1 < size_of u.bounds) w r.3)))
+          (more r.1 (let l = r.3 in let m = small_in c.coarrays k o i.coarrays e in omega arith))
       by_found o e (at_fault j) q = tt
 
       by_own : (o : Option Own) → own_in c k ≡ o → Comes z (settled x (co_placing o ds ys (with_values c vs))) After
       by_own None e =
-          subst (λ m. After z (with_values c (put_down (place_numbers (no_place m)) vs))) (sym t) (more 0 (omega arith, λ o' e'. absurd (let v : None ≡ Some o' = sym e ∙ e' in cc)))
+          subst (λ m. After z (with_values c (put_down (place_numbers (no_place m)) vs))) (sym t) (more 0 (omega arith))
       by_own (Some o) e = by_found o e (place_within o.bounds (subscripts_in ds ys)) refl
 
   -- ---- the owner

@@ -19,247 +19,246 @@ use Rattle.tree_meaning.specs.Expressions as view
 use Rattle.cell_walks.proofs.Acts.{IsFree}
 use Rattle.cell_walks.proofs.Quieting.{Safe, no_parts, one, acts, both, fork, entering, either_way}
 
-module _ {b : Bool} where
-  -- ---- small parts
-  pub quiet_dropping : (n : ℕ) → Safe b (dropping n)
-  quiet_dropping n = either_way _ end_parts (doing (a.stack (a.drop n) ∷ [])) no_parts (one tt)
+-- ---- small parts
+pub quiet_dropping : (n : ℕ) → Safe (dropping n)
+quiet_dropping n = either_way _ end_parts (doing (a.stack (a.drop n) ∷ [])) no_parts (one tt)
 
-  pub quiet_copying : (depth n : ℕ) → Safe b (copying depth n)
-  quiet_copying depth n = either_way _ end_parts (doing (a.stack (a.copy depth n) ∷ [])) no_parts (one tt)
+pub quiet_copying : (depth n : ℕ) → Safe (copying depth n)
+quiet_copying depth n = either_way _ end_parts (doing (a.stack (a.copy depth n) ∷ [])) no_parts (one tt)
 
-  pub quiet_bringing : (depth n : ℕ) → Safe b (bringing depth n)
-  quiet_bringing depth n = either_way _ end_parts (doing (a.stack (a.bring depth n) ∷ [])) no_parts (one tt)
+pub quiet_bringing : (depth n : ℕ) → Safe (bringing depth n)
+quiet_bringing depth n = either_way _ end_parts (doing (a.stack (a.bring depth n) ∷ [])) no_parts (one tt)
 
-  pub quiet_as_written : (o : WrittenOrder) (p q : Parts Act) → Safe b p → Safe b q → Safe b (view.as_written o p q)
-  quiet_as_written orders.Same p q h k = both h k
-  quiet_as_written orders.Reversed p q h k = both k (both h (quiet_bringing 1 1))
+pub quiet_as_written : (o : WrittenOrder) (p q : Parts Act) → Safe p → Safe q → Safe (view.as_written o p q)
+quiet_as_written orders.Same p q h k = both h k
+quiet_as_written orders.Reversed p q h k = both k (both h (quiet_bringing 1 1))
 
-  pub quiet_beside : (o : WrittenOrder) (p q : Parts Act) → Safe b p → Safe b q → Safe b (view.beside_as_written o p q)
-  quiet_beside orders.Same p q h k = both h k
-  quiet_beside orders.Reversed p q h k = both k h
+pub quiet_beside : (o : WrittenOrder) (p q : Parts Act) → Safe p → Safe q → Safe (view.beside_as_written o p q)
+quiet_beside orders.Same p q h k = both h k
+quiet_beside orders.Reversed p q h k = both k h
 
-  pub quiet_storing : (depth : ℕ) (r : t.ResultVariable) → Safe b (view.storing depth r)
-  quiet_storing depth (t.result_variable v t.no_expressions k) = one tt
-  quiet_storing depth (t.result_variable v (t.more_expressions x es) k) = both (quiet_copying depth 1) (one tt)
+pub quiet_storing : (depth : ℕ) (r : t.ResultVariable) → Safe (view.storing depth r)
+quiet_storing depth (t.result_variable v t.no_expressions k) = one tt
+quiet_storing depth (t.result_variable v (t.more_expressions x es) k) = both (quiet_copying depth 1) (one tt)
 
-  pub quiet_status : (depth : ℕ) (r : t.OptionalResult) → Safe b (view.storing_status depth r)
-  quiet_status depth t.no_result = quiet_dropping 1
-  quiet_status depth (t.result r) = quiet_storing depth r
+pub quiet_status : (depth : ℕ) (r : t.OptionalResult) → Safe (view.storing_status depth r)
+quiet_status depth t.no_result = quiet_dropping 1
+quiet_status depth (t.result r) = quiet_storing depth r
 
-  pub quiet_own : (c : ℕ) (is_scalar : Bool) (sel : t.Selector) → Safe b (view.needing_own c is_scalar sel)
-  quiet_own c is_scalar sel = either_way _ (doing (a.bounded (a.needs_own c) ∷ [])) end_parts (one tt) no_parts
+pub quiet_own : (c : ℕ) (is_scalar : Bool) (sel : t.Selector) → Safe (view.needing_own c is_scalar sel)
+quiet_own c is_scalar sel = either_way _ (doing (a.bounded (a.needs_own c) ∷ [])) end_parts (one tt) no_parts
 
-  pub quiet_reading : (c rank : ℕ) → Safe b (view.reading c rank)
-  quiet_reading c zero = one tt
-  quiet_reading c (suc r) = both (one tt) (fork (one tt) (one tt) no_parts)
+pub quiet_reading : (c rank : ℕ) → Safe (view.reading c rank)
+quiet_reading c zero = one tt
+quiet_reading c (suc r) = both (one tt) (fork (one tt) (one tt) no_parts)
 
-  quiet_as_value : (rank : ℕ) → Safe b (view.as_value rank)
-  quiet_as_value zero = one tt
-  quiet_as_value (suc r) = one tt
+quiet_as_value : (rank : ℕ) → Safe (view.as_value rank)
+quiet_as_value zero = one tt
+quiet_as_value (suc r) = one tt
 
-  pub quiet_cells : (rank : ℕ) → Safe b (view.taking_cells rank)
-  quiet_cells zero = no_parts
-  quiet_cells (suc r) = one tt
+pub quiet_cells : (rank : ℕ) → Safe (view.taking_cells rank)
+quiet_cells zero = no_parts
+quiet_cells (suc r) = one tt
 
-  -- ---- calls
-  quiet_in_one : (p : view.Passed) (n : ℕ) → Safe b (view.copying_in_one p n)
-  quiet_in_one p n =
-      either_way (p.rank == 0) (copying n 1 ▸ doing (a.variable (a.store a.here p.dummy) ∷ [])) (doing (a.call (a.copy_in p.dummy) ∷ [])) (both (quiet_copying n 1) (one tt)) (one tt)
+-- ---- calls
+quiet_in_one : (p : view.Passed) (n : ℕ) → Safe (view.copying_in_one p n)
+quiet_in_one p n =
+    either_way (p.rank == 0) (copying n 1 ▸ doing (a.variable (a.store a.here p.dummy) ∷ [])) (doing (a.call (a.copy_in p.dummy) ∷ [])) (both (quiet_copying n 1) (one tt)) (one tt)
 
-  quiet_in : (ps : List view.Passed) → Safe b (view.copying_in ps)
-  quiet_in [] = no_parts
-  quiet_in (p ∷ ps) = both (quiet_in ps) (quiet_in_one p (view.passed_sizes ps))
+quiet_in : (ps : List view.Passed) → Safe (view.copying_in ps)
+quiet_in [] = no_parts
+quiet_in (p ∷ ps) = both (quiet_in ps) (quiet_in_one p (view.passed_sizes ps))
 
-  quiet_out_one : (rank x : ℕ) → Safe b (view.copying_out_one rank x)
-  quiet_out_one zero x = one tt
-  quiet_out_one (suc r) x = one tt
+quiet_out_one : (rank x : ℕ) → Safe (view.copying_out_one rank x)
+quiet_out_one zero x = one tt
+quiet_out_one (suc r) x = one tt
 
-  quiet_out : (ps : List view.Passed) → Safe b (view.copying_out ps)
-  quiet_out [] = no_parts
-  quiet_out (p ∷ ps) = both (quiet_out ps) (either_way p.goes_back (view.copying_out_one p.rank p.dummy) end_parts (quiet_out_one p.rank p.dummy) no_parts)
+quiet_out : (ps : List view.Passed) → Safe (view.copying_out ps)
+quiet_out [] = no_parts
+quiet_out (p ∷ ps) = both (quiet_out ps) (either_way p.goes_back (view.copying_out_one p.rank p.dummy) end_parts (quiet_out_one p.rank p.dummy) no_parts)
 
-  quiet_going_back : (p : view.Passed) (depth : ℕ) → Safe b (view.going_back p depth)
-  quiet_going_back p depth =
-      let scalar = doing (a.variable (a.put p.scope p.actual 0) ∷ []) in
-      let array = doing (a.variable (a.put_array p.scope p.actual p.rank) ∷ []) in
-      either_way (p.place == 0) (doing (a.variable (a.store p.scope p.actual) ∷ [])) (copying depth p.place ▸ cond (p.rank == 0) scalar array) (one tt) (both (quiet_copying depth p.place)
-      (either_way (p.rank == 0) scalar array (one tt) (one tt)))
+quiet_going_back : (p : view.Passed) (depth : ℕ) → Safe (view.going_back p depth)
+quiet_going_back p depth =
+    let scalar = doing (a.variable (a.put p.scope p.actual 0) ∷ []) in
+    let array = doing (a.variable (a.put_array p.scope p.actual p.rank) ∷ []) in
+    either_way (p.place == 0) (doing (a.variable (a.store p.scope p.actual) ∷ [])) (copying depth p.place ▸ cond (p.rank == 0) scalar array) (one tt) (both (quiet_copying depth p.place)
+    (either_way (p.rank == 0) scalar array (one tt) (one tt)))
 
-  quiet_back : (ps : List view.Passed) (n : ℕ) → Safe b (view.putting_back ps n)
-  quiet_back [] n = no_parts
-  quiet_back (p ∷ ps) n =
-      let depth = view.out_sizes (p ∷ ps) + (n + (view.passed_sizes ps + view.value_size p.rank)) in
-      (both (either_way p.goes_back (view.going_back p depth) end_parts (quiet_going_back p depth) no_parts) (quiet_back ps n))
+quiet_back : (ps : List view.Passed) (n : ℕ) → Safe (view.putting_back ps n)
+quiet_back [] n = no_parts
+quiet_back (p ∷ ps) n =
+    let depth = view.out_sizes (p ∷ ps) + (n + (view.passed_sizes ps + view.value_size p.rank)) in
+    (both (either_way p.goes_back (view.going_back p depth) end_parts (quiet_going_back p depth) no_parts) (quiet_back ps n))
 
-  quiet_bounds_acts : (bs : List (ℤ × ℤ)) (x : Act) → IsFree x → Safe b (doing (view.bounds_acts bs ++ x ∷ []))
-  quiet_bounds_acts [] x h = acts h no_parts
-  quiet_bounds_acts (y ∷ bs) x h = acts tt (acts tt (quiet_bounds_acts bs x h))
+quiet_bounds_acts : (bs : List (ℤ × ℤ)) (x : Act) → IsFree x → Safe (doing (view.bounds_acts bs ++ x ∷ []))
+quiet_bounds_acts [] x h = acts h no_parts
+quiet_bounds_acts (y ∷ bs) x h = acts tt (acts tt (quiet_bounds_acts bs x h))
 
-  quiet_laying_one : (o : Option (List (ℤ × ℤ))) (x : ℕ) → Safe b (view.laying_out_one o x)
-  quiet_laying_one None x = no_parts
-  quiet_laying_one (Some []) x = no_parts
-  quiet_laying_one (Some (y ∷ bs)) x = quiet_bounds_acts (y ∷ bs) (a.allocation (a.lay_out x (length (y ∷ bs)))) tt
+quiet_laying_one : (o : Option (List (ℤ × ℤ))) (x : ℕ) → Safe (view.laying_out_one o x)
+quiet_laying_one None x = no_parts
+quiet_laying_one (Some []) x = no_parts
+quiet_laying_one (Some (y ∷ bs)) x = quiet_bounds_acts (y ∷ bs) (a.allocation (a.lay_out x (length (y ∷ bs)))) tt
 
-  quiet_laying : (vs : List Variable) (x : ℕ) → Safe b (view.laying_out vs x)
-  quiet_laying [] x = no_parts
-  quiet_laying (v ∷ vs) x = both (quiet_laying_one (declared_bounds v.dimensions) x) (quiet_laying vs (suc x))
+quiet_laying : (vs : List Variable) (x : ℕ) → Safe (view.laying_out vs x)
+quiet_laying [] x = no_parts
+quiet_laying (v ∷ vs) x = both (quiet_laying_one (declared_bounds v.dimensions) x) (quiet_laying vs (suc x))
 
-  quiet_resulting : (u : Unit') (o : Option ℕ) → Safe b (view.resulting u o)
-  quiet_resulting u None = no_parts
-  quiet_resulting u (Some x) = quiet_out_one (rank_in u.variables x) x
+quiet_resulting : (u : Unit') (o : Option ℕ) → Safe (view.resulting u o)
+quiet_resulting u None = no_parts
+quiet_resulting u (Some x) = quiet_out_one (rank_in u.variables x) x
 
-  pub quiet_calling : (k : ℕ) (p : Procedure) (ps : List view.Passed) → Safe b (view.calling k p ps)
-  quiet_calling k p ps =
-      let n = view.result_numbers p.unit p.answer in
-      both (both (one tt) (both (quiet_laying p.unit.variables 0) (quiet_in ps)))
-      (entering (suc k) (both (quiet_resulting p.unit p.answer) (both (quiet_out ps) (both (one tt)
-      (both (quiet_back ps n) (both (quiet_bringing n (view.passed_sizes ps)) (both (quiet_dropping (view.passed_sizes ps)) (quiet_cells (view.result_rank p.unit p.answer)))))))))
+pub quiet_calling : (k : ℕ) (p : Procedure) (ps : List view.Passed) → Safe (view.calling k p ps)
+quiet_calling k p ps =
+    let n = view.result_numbers p.unit p.answer in
+    both (both (one tt) (both (quiet_laying p.unit.variables 0) (quiet_in ps)))
+    (entering (suc k) (both (quiet_resulting p.unit p.answer) (both (quiet_out ps) (both (one tt)
+    (both (quiet_back ps n) (both (quiet_bringing n (view.passed_sizes ps)) (both (quiet_dropping (view.passed_sizes ps)) (quiet_cells (view.result_rank p.unit p.answer)))))))))
 
-  module _ (e : Environment) where
-    mutual
-      pub quiet_expression : (x : t.Expression) → Safe b (view.expression e x)
-      quiet_expression (t.typed f type rank) = quiet_form f (kind_of type) rank
+module _ (e : Environment) where
+  mutual
+    pub quiet_expression : (x : t.Expression) → Safe (view.expression e x)
+    quiet_expression (t.typed f type rank) = quiet_form f (kind_of type) rank
 
-      quiet_form : (f : t.Form) (k : Kind) (rank : ℕ) → Safe b (view.form e f k rank)
-      quiet_form (t.number z) k rank = one tt
-      quiet_form (t.logical b) k rank = one tt
-      quiet_form (t.designator d) k rank = quiet_designator d rank
-      quiet_form (t.call n es) k rank =
-          both (quiet_arguments (procedure_in e n).unit.variables (procedure_in e n).dummies es) (quiet_calling n (procedure_in e n) (view.passed (procedure_in e n).unit.variables (procedure_in e n).dummies es))
-      quiet_form (t.intrinsic i) k rank = quiet_intrinsic i k
-      quiet_form (t.parenthesized x) k rank = quiet_expression x
-      quiet_form (t.array_constructor es) k rank = both (one tt) (quiet_items es)
-      quiet_form (t.plus x) k rank = quiet_expression x
-      quiet_form (t.minus x) k rank = both (quiet_expression x) (one tt)
-      quiet_form (t.not x) k rank = both (quiet_expression x) (one tt)
-      quiet_form (t.arithmetic o x y) k rank = both (quiet_expression x) (both (quiet_expression y) (one tt))
-      quiet_form (t.relation o x y) k rank = both (quiet_expression x) (both (quiet_expression y) (one tt))
-      quiet_form (t.logic o x y) k rank = both (quiet_expression x) (both (quiet_expression y) (one tt))
+    quiet_form : (f : t.Form) (k : Kind) (rank : ℕ) → Safe (view.form e f k rank)
+    quiet_form (t.number z) k rank = one tt
+    quiet_form (t.logical b) k rank = one tt
+    quiet_form (t.designator d) k rank = quiet_designator d rank
+    quiet_form (t.call n es) k rank =
+        both (quiet_arguments (procedure_in e n).unit.variables (procedure_in e n).dummies es) (quiet_calling n (procedure_in e n) (view.passed (procedure_in e n).unit.variables (procedure_in e n).dummies es))
+    quiet_form (t.intrinsic i) k rank = quiet_intrinsic i k
+    quiet_form (t.parenthesized x) k rank = quiet_expression x
+    quiet_form (t.array_constructor es) k rank = both (one tt) (quiet_items es)
+    quiet_form (t.plus x) k rank = quiet_expression x
+    quiet_form (t.minus x) k rank = both (quiet_expression x) (one tt)
+    quiet_form (t.not x) k rank = both (quiet_expression x) (one tt)
+    quiet_form (t.arithmetic o x y) k rank = both (quiet_expression x) (both (quiet_expression y) (one tt))
+    quiet_form (t.relation o x y) k rank = both (quiet_expression x) (both (quiet_expression y) (one tt))
+    quiet_form (t.logic o x y) k rank = both (quiet_expression x) (both (quiet_expression y) (one tt))
 
-      pub quiet_expressions : (es : t.Expressions) → Safe b (view.expressions e es)
-      quiet_expressions t.no_expressions = no_parts
-      quiet_expressions (t.more_expressions x es) = both (quiet_expression x) (quiet_expressions es)
+    pub quiet_expressions : (es : t.Expressions) → Safe (view.expressions e es)
+    quiet_expressions t.no_expressions = no_parts
+    quiet_expressions (t.more_expressions x es) = both (quiet_expression x) (quiet_expressions es)
 
-      quiet_items : (es : t.Expressions) → Safe b (view.items e es)
-      quiet_items t.no_expressions = no_parts
-      quiet_items (t.more_expressions (t.typed f type zero) es) = both (quiet_form f (kind_of type) 0) (both (acts tt (one tt)) (quiet_items es))
-      quiet_items (t.more_expressions (t.typed f type (suc r)) es) = both (quiet_form f (kind_of type) (suc r)) (both (acts tt (one tt)) (quiet_items es))
+    quiet_items : (es : t.Expressions) → Safe (view.items e es)
+    quiet_items t.no_expressions = no_parts
+    quiet_items (t.more_expressions (t.typed f type zero) es) = both (quiet_form f (kind_of type) 0) (both (acts tt (one tt)) (quiet_items es))
+    quiet_items (t.more_expressions (t.typed f type (suc r)) es) = both (quiet_form f (kind_of type) (suc r)) (both (acts tt (one tt)) (quiet_items es))
 
-      quiet_folded : (o : a.OperatorAct) (es : t.Expressions) → Safe b (view.folded e o es)
-      quiet_folded o t.no_expressions = no_parts
-      quiet_folded o (t.more_expressions x es) = both (quiet_expression x) (both (one tt) (quiet_folded o es))
+    quiet_folded : (o : a.OperatorAct) (es : t.Expressions) → Safe (view.folded e o es)
+    quiet_folded o t.no_expressions = no_parts
+    quiet_folded o (t.more_expressions x es) = both (quiet_expression x) (both (one tt) (quiet_folded o es))
 
-      quiet_first : (o : a.OperatorAct) (es : t.Expressions) → Safe b (view.first_and_folded e o es)
-      quiet_first o t.no_expressions = no_parts
-      quiet_first o (t.more_expressions x es) = both (quiet_expression x) (quiet_folded o es)
+    quiet_first : (o : a.OperatorAct) (es : t.Expressions) → Safe (view.first_and_folded e o es)
+    quiet_first o t.no_expressions = no_parts
+    quiet_first o (t.more_expressions x es) = both (quiet_expression x) (quiet_folded o es)
 
-      quiet_optional : (x : t.OptionalExpression) → Safe b (view.optional e x)
-      quiet_optional t.missing = no_parts
-      quiet_optional (t.given x) = quiet_expression x
+    quiet_optional : (x : t.OptionalExpression) → Safe (view.optional e x)
+    quiet_optional t.missing = no_parts
+    quiet_optional (t.given x) = quiet_expression x
 
-      pub quiet_subscripts : (ss : t.Subscripts) → Safe b (view.subscripts e ss)
-      quiet_subscripts t.no_subscripts = no_parts
-      quiet_subscripts (t.more_subscripts s ss) = both (quiet_subscript s) (quiet_subscripts ss)
+    pub quiet_subscripts : (ss : t.Subscripts) → Safe (view.subscripts e ss)
+    quiet_subscripts t.no_subscripts = no_parts
+    quiet_subscripts (t.more_subscripts s ss) = both (quiet_subscript s) (quiet_subscripts ss)
 
-      quiet_subscript : (s : t.Subscript) → Safe b (view.subscript e s)
-      quiet_subscript (t.element x) = quiet_expression x
-      quiet_subscript (t.triplet l u s) = both (quiet_optional l) (both (quiet_optional u) (quiet_optional s))
+    quiet_subscript : (s : t.Subscript) → Safe (view.subscript e s)
+    quiet_subscript (t.element x) = quiet_expression x
+    quiet_subscript (t.triplet l u s) = both (quiet_optional l) (both (quiet_optional u) (quiet_optional s))
 
-      pub quiet_result : (r : t.ResultVariable) → Safe b (view.result_place e r)
-      quiet_result (t.result_variable v t.no_expressions k) = no_parts
-      quiet_result (t.result_variable v (t.more_expressions x es) k) = both (quiet_expression x) (both (quiet_expressions es) (one tt))
+    pub quiet_result : (r : t.ResultVariable) → Safe (view.result_place e r)
+    quiet_result (t.result_variable v t.no_expressions k) = no_parts
+    quiet_result (t.result_variable v (t.more_expressions x es) k) = both (quiet_expression x) (both (quiet_expressions es) (one tt))
 
-      pub quiet_place : (r : t.OptionalResult) → Safe b (view.optional_place e r)
-      quiet_place t.no_result = no_parts
-      quiet_place (t.result r) = quiet_result r
+    pub quiet_place : (r : t.OptionalResult) → Safe (view.optional_place e r)
+    quiet_place t.no_result = no_parts
+    quiet_place (t.result r) = quiet_result r
 
-      pub quiet_selected : (w : t.SelectedTeam) → Safe b (view.selected_team e w)
-      quiet_selected t.current = one tt
-      quiet_selected (t.team x) = both (quiet_expression x) (one tt)
-      quiet_selected (t.team_number x) = both (quiet_expression x) (one tt)
+    pub quiet_selected : (w : t.SelectedTeam) → Safe (view.selected_team e w)
+    quiet_selected t.current = one tt
+    quiet_selected (t.team x) = both (quiet_expression x) (one tt)
+    quiet_selected (t.team_number x) = both (quiet_expression x) (one tt)
 
-      pub quiet_owner : (c rank : ℕ) (sel : t.Selector) → Safe b (view.owner e c rank sel)
-      quiet_owner c rank t.no_selector = one tt
-      quiet_owner c rank (t.selector cs which stat) =
-          both (quiet_expressions cs) (both (quiet_selected which) (both (quiet_place stat) (both (quiet_bringing (view.optional_size stat) (place_size rank + (view.count_of cs + 1))) (one tt))))
+    pub quiet_owner : (c rank : ℕ) (sel : t.Selector) → Safe (view.owner e c rank sel)
+    quiet_owner c rank t.no_selector = one tt
+    quiet_owner c rank (t.selector cs which stat) =
+        both (quiet_expressions cs) (both (quiet_selected which) (both (quiet_place stat) (both (quiet_bringing (view.optional_size stat) (place_size rank + (view.count_of cs + 1))) (one tt))))
 
-      quiet_designator : (d : t.Designator) (rank : ℕ) → Safe b (view.designator e d rank)
-      quiet_designator (t.part (objects.Local v) ss sel) rank =
-          either_way (view.is_scalar ss rank) (doing (a.variable (a.cell (scope_of v.home) v.variable) ∷ []))
-          (view.subscripts e ss ▸ view.local_value e (scope_of v.home) v.variable (view.form_of ss rank) rank) (one tt) (both (quiet_subscripts ss) (both
-          (acts tt (one tt)) (quiet_cells rank)))
-      quiet_designator (t.part (objects.Constant n) ss sel) rank = both (quiet_subscripts ss) (both (acts tt (one tt)) (quiet_cells rank))
-      quiet_designator (t.part (objects.Coarray c) ss sel) rank =
-          both (quiet_subscripts ss) (both (one tt) (both (quiet_owner c rank sel) (both (quiet_own c (view.is_scalar ss rank) sel) (both (quiet_reading c rank) (both (one tt)
-          (both (quiet_status 1 (view.stat_of sel)) (both (quiet_dropping (view.optional_size (view.stat_of sel))) (quiet_as_value rank))))))))
+    quiet_designator : (d : t.Designator) (rank : ℕ) → Safe (view.designator e d rank)
+    quiet_designator (t.part (objects.Local v) ss sel) rank =
+        either_way (view.is_scalar ss rank) (doing (a.variable (a.cell (scope_of v.home) v.variable) ∷ []))
+        (view.subscripts e ss ▸ view.local_value e (scope_of v.home) v.variable (view.form_of ss rank) rank) (one tt) (both (quiet_subscripts ss) (both
+        (acts tt (one tt)) (quiet_cells rank)))
+    quiet_designator (t.part (objects.Constant n) ss sel) rank = both (quiet_subscripts ss) (both (acts tt (one tt)) (quiet_cells rank))
+    quiet_designator (t.part (objects.Coarray c) ss sel) rank =
+        both (quiet_subscripts ss) (both (one tt) (both (quiet_owner c rank sel) (both (quiet_own c (view.is_scalar ss rank) sel) (both (quiet_reading c rank) (both (one tt)
+        (both (quiet_status 1 (view.stat_of sel)) (both (quiet_dropping (view.optional_size (view.stat_of sel))) (quiet_as_value rank))))))))
 
-      pub quiet_arguments : (vs : List Variable) (ds : List Dummy) (es : t.Arguments) → Safe b (view.arguments e vs ds es)
-      quiet_arguments vs ds t.no_arguments = no_parts
-      quiet_arguments vs [] (t.more_arguments x es) = no_parts
-      quiet_arguments vs (d ∷ ds) (t.more_arguments x es) = both (quiet_argument x (rank_in vs d.variable)) (quiet_arguments vs ds es)
+    pub quiet_arguments : (vs : List Variable) (ds : List Dummy) (es : t.Arguments) → Safe (view.arguments e vs ds es)
+    quiet_arguments vs ds t.no_arguments = no_parts
+    quiet_arguments vs [] (t.more_arguments x es) = no_parts
+    quiet_arguments vs (d ∷ ds) (t.more_arguments x es) = both (quiet_argument x (rank_in vs d.variable)) (quiet_arguments vs ds es)
 
-      quiet_argument : (x : t.Argument) (rank : ℕ) → Safe b (view.argument e x rank)
-      quiet_argument (t.value x) rank = quiet_expression x
-      quiet_argument (t.variable d) rank = quiet_actual d rank
+    quiet_argument : (x : t.Argument) (rank : ℕ) → Safe (view.argument e x rank)
+    quiet_argument (t.value x) rank = quiet_expression x
+    quiet_argument (t.variable d) rank = quiet_actual d rank
 
-      quiet_actual : (d : t.Designator) (rank : ℕ) → Safe b (view.actual e d rank)
-      quiet_actual (t.part (objects.Local v) ss sel) rank =
-          either_way (view.is_scalar ss rank) (doing (a.variable (a.cell (scope_of v.home) v.variable) ∷ []))
-          (view.subscripts e ss ▸ doing (a.bounded (a.section (scope_of v.home) v.variable (view.form_of ss rank)) ∷ []) ▸ copying 0 (place_size rank) ▸ doing (a.variable (a.load (scope_of v.home) v.variable rank) ∷ []) ▸ view.taking_cells rank) (one tt)
-          (both (quiet_subscripts ss) (both (one tt) (both (quiet_copying 0 (place_size rank)) (both (one tt) (quiet_cells rank)))))
-      quiet_actual (t.part (objects.Constant n) ss sel) rank = no_parts
-      quiet_actual (t.part (objects.Coarray c) ss sel) rank = no_parts
+    quiet_actual : (d : t.Designator) (rank : ℕ) → Safe (view.actual e d rank)
+    quiet_actual (t.part (objects.Local v) ss sel) rank =
+        either_way (view.is_scalar ss rank) (doing (a.variable (a.cell (scope_of v.home) v.variable) ∷ []))
+        (view.subscripts e ss ▸ doing (a.bounded (a.section (scope_of v.home) v.variable (view.form_of ss rank)) ∷ []) ▸ copying 0 (place_size rank) ▸ doing (a.variable (a.load (scope_of v.home) v.variable rank) ∷ []) ▸ view.taking_cells rank) (one tt)
+        (both (quiet_subscripts ss) (both (one tt) (both (quiet_copying 0 (place_size rank)) (both (one tt) (quiet_cells rank)))))
+    quiet_actual (t.part (objects.Constant n) ss sel) rank = no_parts
+    quiet_actual (t.part (objects.Coarray c) ss sel) rank = no_parts
 
-      quiet_team : (w : t.OptionalExpression) → Safe b (view.team_of e w)
-      quiet_team t.missing = one tt
-      quiet_team (t.given x) = both (quiet_expression x) (one tt)
+    quiet_team : (w : t.OptionalExpression) → Safe (view.team_of e w)
+    quiet_team t.missing = one tt
+    quiet_team (t.given x) = both (quiet_expression x) (one tt)
 
-      quiet_bounds : (x : t.Expression) → Safe b (view.bounds_of e x)
-      quiet_bounds (t.typed (t.designator d) type rank) = quiet_part d rank
-      quiet_bounds (t.typed (t.number z) type rank) = no_parts
-      quiet_bounds (t.typed (t.logical b) type rank) = no_parts
-      quiet_bounds (t.typed (t.call n es) type rank) =
-          both
-          (both (quiet_arguments (procedure_in e n).unit.variables (procedure_in e n).dummies es) (quiet_calling n (procedure_in e n) (view.passed (procedure_in e n).unit.variables (procedure_in e n).dummies es))) (one tt)
-      quiet_bounds (t.typed (t.intrinsic i) type rank) = both (quiet_intrinsic i (kind_of type)) (one tt)
-      quiet_bounds (t.typed (t.parenthesized x) type rank) = both (quiet_expression x) (one tt)
-      quiet_bounds (t.typed (t.array_constructor es) type rank) = both (one tt) (both (quiet_items es) (one tt))
-      quiet_bounds (t.typed f type rank) = no_parts
+    quiet_bounds : (x : t.Expression) → Safe (view.bounds_of e x)
+    quiet_bounds (t.typed (t.designator d) type rank) = quiet_part d rank
+    quiet_bounds (t.typed (t.number z) type rank) = no_parts
+    quiet_bounds (t.typed (t.logical b) type rank) = no_parts
+    quiet_bounds (t.typed (t.call n es) type rank) =
+        both
+        (both (quiet_arguments (procedure_in e n).unit.variables (procedure_in e n).dummies es) (quiet_calling n (procedure_in e n) (view.passed (procedure_in e n).unit.variables (procedure_in e n).dummies es))) (one tt)
+    quiet_bounds (t.typed (t.intrinsic i) type rank) = both (quiet_intrinsic i (kind_of type)) (one tt)
+    quiet_bounds (t.typed (t.parenthesized x) type rank) = both (quiet_expression x) (one tt)
+    quiet_bounds (t.typed (t.array_constructor es) type rank) = both (one tt) (both (quiet_items es) (one tt))
+    quiet_bounds (t.typed f type rank) = no_parts
 
-      quiet_part : (d : t.Designator) (rank : ℕ) → Safe b (view.bounds_of_part e d rank)
-      quiet_part (t.part (objects.Local v) t.no_subscripts sel) rank = one tt
-      quiet_part (t.part (objects.Local v) (t.more_subscripts s ss) sel) rank = both (quiet_subscript s) (both (quiet_subscripts ss) (acts tt (one tt)))
-      quiet_part (t.part (objects.Constant n) t.no_subscripts sel) rank = one tt
-      quiet_part (t.part (objects.Constant n) (t.more_subscripts s ss) sel) rank = both (quiet_subscript s) (both (quiet_subscripts ss) (acts tt (one tt)))
-      quiet_part (t.part (objects.Coarray c) t.no_subscripts sel) rank = one tt
-      quiet_part (t.part (objects.Coarray c) (t.more_subscripts s ss) t.no_selector) rank = both (quiet_subscript s) (both (quiet_subscripts ss) (acts tt (acts tt (one tt))))
-      quiet_part (t.part (objects.Coarray c) (t.more_subscripts s ss) (t.selector cs which stat)) rank =
-          both (quiet_subscript s) (both (quiet_subscripts ss) (both (one tt) (both (quiet_owner c rank (t.selector cs which stat)) (both (quiet_dropping 1)
-          (both (one tt) (quiet_dropping (view.optional_size stat)))))))
+    quiet_part : (d : t.Designator) (rank : ℕ) → Safe (view.bounds_of_part e d rank)
+    quiet_part (t.part (objects.Local v) t.no_subscripts sel) rank = one tt
+    quiet_part (t.part (objects.Local v) (t.more_subscripts s ss) sel) rank = both (quiet_subscript s) (both (quiet_subscripts ss) (acts tt (one tt)))
+    quiet_part (t.part (objects.Constant n) t.no_subscripts sel) rank = one tt
+    quiet_part (t.part (objects.Constant n) (t.more_subscripts s ss) sel) rank = both (quiet_subscript s) (both (quiet_subscripts ss) (acts tt (one tt)))
+    quiet_part (t.part (objects.Coarray c) t.no_subscripts sel) rank = one tt
+    quiet_part (t.part (objects.Coarray c) (t.more_subscripts s ss) t.no_selector) rank = both (quiet_subscript s) (both (quiet_subscripts ss) (acts tt (acts tt (one tt))))
+    quiet_part (t.part (objects.Coarray c) (t.more_subscripts s ss) (t.selector cs which stat)) rank =
+        both (quiet_subscript s) (both (quiet_subscripts ss) (both (one tt) (both (quiet_owner c rank (t.selector cs which stat)) (both (quiet_dropping 1)
+        (both (one tt) (quiet_dropping (view.optional_size stat)))))))
 
-      quiet_intrinsic : (i : t.Intrinsic) (k : Kind) → Safe b (view.intrinsic e i k)
-      quiet_intrinsic (t.abs x) k = both (quiet_expression x) (one tt)
-      quiet_intrinsic (t.remainder x p o) k = both (quiet_as_written o (view.expression e x) (view.expression e p) (quiet_expression x) (quiet_expression p)) (one tt)
-      quiet_intrinsic (t.modulo x p o) k = both (quiet_as_written o (view.expression e x) (view.expression e p) (quiet_expression x) (quiet_expression p)) (one tt)
-      quiet_intrinsic (t.min es) k = quiet_first a.least es
-      quiet_intrinsic (t.max es) k = quiet_first a.greatest es
-      quiet_intrinsic t.huge k = one tt
-      quiet_intrinsic (t.int x) k = both (quiet_expression x) (one tt)
-      quiet_intrinsic (t.size x t.missing o) k = both (quiet_bounds x) (one tt)
-      quiet_intrinsic (t.size x (t.given d) o) k = both (quiet_beside o (view.bounds_of e x) (view.expression e d) (quiet_bounds x) (quiet_expression d)) (one tt)
-      quiet_intrinsic (t.lbound x d o) k = both (quiet_beside o (view.bounds_of e x) (view.expression e d) (quiet_bounds x) (quiet_expression d)) (one tt)
-      quiet_intrinsic (t.ubound x d o) k = both (quiet_beside o (view.bounds_of e x) (view.expression e d) (quiet_bounds x) (quiet_expression d)) (one tt)
-      quiet_intrinsic (t.allocated (objects.Local v)) k = one tt
-      quiet_intrinsic (t.allocated (objects.Coarray c)) k = one tt
-      quiet_intrinsic (t.allocated (objects.Constant n)) k = no_parts
-      quiet_intrinsic (t.this_image which) k = both (quiet_team which) (one tt)
-      quiet_intrinsic (t.this_cosubscript c d which o) k = both (quiet_as_written o (view.expression e d) (view.team_of e which) (quiet_expression d) (quiet_team which)) (one tt)
-      quiet_intrinsic (t.num_images which) k = both (quiet_team which) (one tt)
-      quiet_intrinsic (t.num_images_of_number n) k = both (quiet_expression n) (one tt)
-      quiet_intrinsic (t.image_index c sub which o) k = both (quiet_beside o (view.expression e sub) (view.team_of e which) (quiet_expression sub) (quiet_team which)) (one tt)
-      quiet_intrinsic (t.image_status i which o) k = both (quiet_as_written o (view.expression e i) (view.team_of e which) (quiet_expression i) (quiet_team which)) (acts tt (one tt))
-      quiet_intrinsic (t.failed_images which) k = both (quiet_team which) (acts tt (one tt))
-      quiet_intrinsic (t.stopped_images which) k = both (quiet_team which) (acts tt (one tt))
-      quiet_intrinsic (t.number_of_team which) k = both (quiet_team which) (one tt)
-      quiet_intrinsic (t.get_team t.missing) k = one tt
-      quiet_intrinsic (t.get_team (t.given level)) k = both (quiet_expression level) (one tt)
+    quiet_intrinsic : (i : t.Intrinsic) (k : Kind) → Safe (view.intrinsic e i k)
+    quiet_intrinsic (t.abs x) k = both (quiet_expression x) (one tt)
+    quiet_intrinsic (t.remainder x p o) k = both (quiet_as_written o (view.expression e x) (view.expression e p) (quiet_expression x) (quiet_expression p)) (one tt)
+    quiet_intrinsic (t.modulo x p o) k = both (quiet_as_written o (view.expression e x) (view.expression e p) (quiet_expression x) (quiet_expression p)) (one tt)
+    quiet_intrinsic (t.min es) k = quiet_first a.least es
+    quiet_intrinsic (t.max es) k = quiet_first a.greatest es
+    quiet_intrinsic t.huge k = one tt
+    quiet_intrinsic (t.int x) k = both (quiet_expression x) (one tt)
+    quiet_intrinsic (t.size x t.missing o) k = both (quiet_bounds x) (one tt)
+    quiet_intrinsic (t.size x (t.given d) o) k = both (quiet_beside o (view.bounds_of e x) (view.expression e d) (quiet_bounds x) (quiet_expression d)) (one tt)
+    quiet_intrinsic (t.lbound x d o) k = both (quiet_beside o (view.bounds_of e x) (view.expression e d) (quiet_bounds x) (quiet_expression d)) (one tt)
+    quiet_intrinsic (t.ubound x d o) k = both (quiet_beside o (view.bounds_of e x) (view.expression e d) (quiet_bounds x) (quiet_expression d)) (one tt)
+    quiet_intrinsic (t.allocated (objects.Local v)) k = one tt
+    quiet_intrinsic (t.allocated (objects.Coarray c)) k = one tt
+    quiet_intrinsic (t.allocated (objects.Constant n)) k = no_parts
+    quiet_intrinsic (t.this_image which) k = both (quiet_team which) (one tt)
+    quiet_intrinsic (t.this_cosubscript c d which o) k = both (quiet_as_written o (view.expression e d) (view.team_of e which) (quiet_expression d) (quiet_team which)) (one tt)
+    quiet_intrinsic (t.num_images which) k = both (quiet_team which) (one tt)
+    quiet_intrinsic (t.num_images_of_number n) k = both (quiet_expression n) (one tt)
+    quiet_intrinsic (t.image_index c sub which o) k = both (quiet_beside o (view.expression e sub) (view.team_of e which) (quiet_expression sub) (quiet_team which)) (one tt)
+    quiet_intrinsic (t.image_status i which o) k = both (quiet_as_written o (view.expression e i) (view.team_of e which) (quiet_expression i) (quiet_team which)) (acts tt (one tt))
+    quiet_intrinsic (t.failed_images which) k = both (quiet_team which) (acts tt (one tt))
+    quiet_intrinsic (t.stopped_images which) k = both (quiet_team which) (acts tt (one tt))
+    quiet_intrinsic (t.number_of_team which) k = both (quiet_team which) (acts tt (one tt))
+    quiet_intrinsic (t.get_team t.missing) k = one tt
+    quiet_intrinsic (t.get_team (t.given level)) k = both (quiet_expression level) (one tt)

@@ -36,83 +36,83 @@ use Rattle.cell_walks.proofs.Acts.{IsFree}
 use Rattle.cell_walks.proofs.Quieting.{making, freeing, Safe, no_parts, one, acts, both, fork, either_way}
 use Rattle.cell_statements.proofs.Quiet.{quiet_dropping, quiet_copying, quiet_bringing, quiet_storing, quiet_status, quiet_own, quiet_reading, quiet_expression, quiet_subscripts, quiet_result, quiet_place, quiet_owner}
 
-pub free_again : (p : Parts Act) → Safe false p → Safe false (released p)
+pub free_again : (p : Parts Act) → Safe p → Safe (released p)
 free_again p h = either_way (takes p) (p ▸ doing (a.stack a.release ∷ [])) p (both h (one tt)) h
 
 -- ---- rounds, in which an arrival and a departure stand
-rounded : {p : Parts Act} → Safe false p → Safe false (control.round p)
+rounded : {p : Parts Act} → Safe p → Safe (control.round p)
 rounded h = both (one tt) (both h (acts tt (one tt)))
 
-collects : (op : GatherOp) (k : Kind) → Safe false (doing (a.ask (a.gather op k) ∷ a.ask a.take ∷ []))
+collects : (op : GatherOp) (k : Kind) → Safe (doing (a.ask (a.gather op k) ∷ a.ask a.take ∷ []))
 collects op k = acts tt (one tt)
 
-pairs : Safe false (doing (a.ask a.pair ∷ a.ask a.unpair ∷ []))
+pairs : Safe (doing (a.ask a.pair ∷ a.ask a.unpair ∷ []))
 pairs = acts tt (one tt)
 
-quiet_numbers : (ns : List ℕ) (x : Act) → IsFree x → Safe false (doing (alloc.numbers ns ++ x ∷ []))
+quiet_numbers : (ns : List ℕ) (x : Act) → IsFree x → Safe (doing (alloc.numbers ns ++ x ∷ []))
 quiet_numbers [] x f = one f
 quiet_numbers (n ∷ ns) x f = acts tt (quiet_numbers ns x f)
 
 -- ---- statuses
-quiet_one_of : (ss : List ℤ) → Safe false (is_one_of ss)
+quiet_one_of : (ss : List ℤ) → Safe (is_one_of ss)
 quiet_one_of [] = no_parts
 quiet_one_of (z ∷ zs) = both (acts tt (acts tt (acts tt (one tt)))) (quiet_one_of zs)
 
-pub quiet_settling : (stat : t.OptionalResult) (n : ℕ) (ss : List ℤ) → Safe false (settling stat n ss)
+pub quiet_settling : (stat : t.OptionalResult) (n : ℕ) (ss : List ℤ) → Safe (settling stat n ss)
 quiet_settling t.no_result n ss = both (acts tt (acts tt (one tt))) (both (quiet_one_of ss) (fork (one tt) (one tt) no_parts))
 quiet_settling (t.result r) n ss = quiet_storing n r
 
-pub quiet_selector_status : (stat : t.OptionalResult) (n : ℕ) → Safe false (settling_selector stat n)
+pub quiet_selector_status : (stat : t.OptionalResult) (n : ℕ) → Safe (settling_selector stat n)
 quiet_selector_status t.no_result n = no_parts
 quiet_selector_status (t.result r) n = both (one tt) (both (acts tt (one tt)) (both (fork (one tt) (one tt) no_parts) (quiet_storing n r)))
 
 abbrev Settled : t.OptionalResult → ℕ → List ℤ → ℕ → Type 0
-Settled stat n ss m = Safe false (settling stat n ss ▸ dropping m)
+Settled stat n ss m = Safe (settling stat n ss ▸ dropping m)
 
 pub settled : (stat : t.OptionalResult) (n : ℕ) (ss : List ℤ) (m : ℕ) → Settled stat n ss m
 settled stat n ss m = both (quiet_settling stat n ss) (quiet_dropping m)
 
-pub quiet_put_down : (o : WrittenOrder) (p : Parts Act) (m : ℕ) (q : Parts Act) (n : ℕ) → Safe false p → Safe false q → Safe false (control.put_down_as_written o p m q n)
+pub quiet_put_down : (o : WrittenOrder) (p : Parts Act) (m : ℕ) (q : Parts Act) (n : ℕ) → Safe p → Safe q → Safe (control.put_down_as_written o p m q n)
 quiet_put_down orders.Same p m q n h k = both h k
 quiet_put_down orders.Reversed p m q n h k = both k (both h (quiet_bringing m n))
 
 -- ---- assignment and output
-quiet_fitting : (from to : Kind) (rank depth : ℕ) → Safe false (assignments.fitting from to rank depth)
+quiet_fitting : (from to : Kind) (rank depth : ℕ) → Safe (assignments.fitting from to rank depth)
 quiet_fitting from to zero depth = either_way (assignments.narrows from to) (doing (a.operator (a.fits to depth) ∷ [])) end_parts (one tt) no_parts
 quiet_fitting from to (suc r) depth = either_way (assignments.narrows from to) (doing (a.operator (a.fits_each to) ∷ [])) end_parts (one tt) no_parts
 
-quiet_fitting_section : (from to : Kind) (r : ℕ) (x : Scope) (n f rank : ℕ) → Safe false (assignments.fitting_section from to r x n f rank)
+quiet_fitting_section : (from to : Kind) (r : ℕ) (x : Scope) (n f rank : ℕ) → Safe (assignments.fitting_section from to r x n f rank)
 quiet_fitting_section from to r x n f rank =
     either_way (assignments.narrows from to) (doing (a.bounded (a.is_there x n) ∷ []) ▸ choosing (assignments.sectioning x n f ▸ assignments.fitting from to r (place_size rank))
     (assignments.fitting from to r (numbers_of_form (digits f)) ▸ assignments.sectioning x n f)) (assignments.sectioning x n f) (both (one tt) (fork
     (both (one tt) (quiet_fitting from to r (place_size rank))) (both (quiet_fitting from to r (numbers_of_form (digits f))) (one tt)) no_parts)) (one tt)
 
-quiet_agreeing : (r depth rank : ℕ) → Safe false (assignments.agreeing r depth rank)
+quiet_agreeing : (r depth rank : ℕ) → Safe (assignments.agreeing r depth rank)
 quiet_agreeing zero depth rank = no_parts
 quiet_agreeing (suc r) depth rank = one tt
 
-quiet_putting : (r : ℕ) (x : Scope) (n rank : ℕ) → Safe false (assignments.putting r x n rank)
+quiet_putting : (r : ℕ) (x : Scope) (n rank : ℕ) → Safe (assignments.putting r x n rank)
 quiet_putting zero x n rank = one tt
 quiet_putting (suc r) x n rank = one tt
 
-quiet_written : (r c rank : ℕ) (k : Kind) → Safe false (assignments.written r c rank k)
+quiet_written : (r c rank : ℕ) (k : Kind) → Safe (assignments.written r c rank k)
 quiet_written zero c rank k = one tt
 quiet_written (suc r) c rank k = one tt
 
-quiet_dropping_value : (r : ℕ) → Safe false (assignments.dropping_value r)
+quiet_dropping_value : (r : ℕ) → Safe (assignments.dropping_value r)
 quiet_dropping_value zero = one tt
 quiet_dropping_value (suc r) = one tt
 
-quiet_writing : (r c rank : ℕ) (k : Kind) → Safe false (assignments.writing r c rank k)
+quiet_writing : (r c rank : ℕ) (k : Kind) → Safe (assignments.writing r c rank k)
 quiet_writing r c zero k = quiet_written r c 0 k
 quiet_writing r c (suc n) k = both (one tt) (fork (quiet_written r c (suc n) k) (both (quiet_dropping (place_size (suc n) + 1)) (both (quiet_dropping_value r) (one tt))) no_parts)
 
-quiet_lifting : (r size place : ℕ) → Safe false (assignments.lifting r size place)
+quiet_lifting : (r size place : ℕ) → Safe (assignments.lifting r size place)
 quiet_lifting zero size place = either_way (size == 0) end_parts (copying (place + size) 1 ▸ bringing 1 place) no_parts (both (quiet_copying (place + size) 1) (quiet_bringing 1 place))
 quiet_lifting (suc r) size place = no_parts
 
 module _ (e : Environment) where
-  pub quiet_assigned : (d : t.Designator) (k : Kind) (rank : ℕ) (from : Kind) (r : ℕ) → Safe false (assignments.assigned e d k rank from r)
+  pub quiet_assigned : (d : t.Designator) (k : Kind) (rank : ℕ) (from : Kind) (r : ℕ) → Safe (assignments.assigned e d k rank from r)
   quiet_assigned (t.part (objects.Local v) ss sel) k rank from r =
       either_way (view.is_scalar ss rank) (assignments.fitting from k 0 0 ▸ doing (a.variable (a.store (scope_of v.home) v.variable) ∷ []))
       (view.subscripts e ss ▸ assignments.fitting_section from k r (scope_of v.home) v.variable (view.form_of ss rank) rank ▸ assignments.agreeing r 0 rank ▸ assignments.putting r (scope_of v.home) v.variable rank)
@@ -124,15 +124,15 @@ module _ (e : Environment) where
       (both (one tt) (both (quiet_status 1 (view.stat_of sel)) (quiet_dropping (assignments.left_over r (view.optional_size (view.stat_of sel)))))))))))))
   quiet_assigned (t.part (objects.Constant n) ss sel) k rank from r = no_parts
 
-  pub quiet_listing : (l : ListedImages) → Safe false (assignments.listing e l)
+  pub quiet_listing : (l : ListedImages) → Safe (assignments.listing e l)
   quiet_listing lists.Failed = acts tt (one tt)
   quiet_listing lists.Stopped = acts tt (one tt)
 
-  pub quiet_listed_team : (x : t.OptionalExpression) → Safe false (assignments.listed_team e x)
+  pub quiet_listed_team : (x : t.OptionalExpression) → Safe (assignments.listed_team e x)
   quiet_listed_team t.missing = one tt
   quiet_listed_team (t.given x) = both (quiet_expression e x) (one tt)
 
-  quiet_printed : (k : Kind) (r : ℕ) → Safe false (assignments.printed e k r)
+  quiet_printed : (k : Kind) (r : ℕ) → Safe (assignments.printed e k r)
   quiet_printed kinds.L4 zero = one tt
   quiet_printed kinds.I4 zero = one tt
   quiet_printed kinds.I8 zero = one tt
@@ -140,122 +140,122 @@ module _ (e : Environment) where
   quiet_printed kinds.I4 (suc r) = one tt
   quiet_printed kinds.I8 (suc r) = one tt
 
-  quiet_item : (x : s.Item) → Safe false (assignments.item e x)
+  quiet_item : (x : s.Item) → Safe (assignments.item e x)
   quiet_item (s.literal n) = one tt
   quiet_item (s.value x) = both (quiet_expression e x) (quiet_printed (assignments.kind_in x) (assignments.rank_in x))
 
-  pub quiet_items : (xs : List s.Item) → Safe false (assignments.items e xs)
+  pub quiet_items : (xs : List s.Item) → Safe (assignments.items e xs)
   quiet_items [] = no_parts
   quiet_items (x ∷ xs) = both (quiet_item x) (quiet_items xs)
 
-  pub quiet_beginning : (f : s.Format) → Safe false (assignments.beginning e f)
+  pub quiet_beginning : (f : s.Format) → Safe (assignments.beginning e f)
   quiet_beginning s.free = one tt
   quiet_beginning (s.written n ds) = one tt
 
   -- ---- image control
-  pub quiet_or : (x : t.OptionalExpression) (p : Parts Act) → Safe false p → Safe false (control.or_number e x p)
+  pub quiet_or : (x : t.OptionalExpression) (p : Parts Act) → Safe p → Safe (control.or_number e x p)
   quiet_or t.missing p h = h
   quiet_or (t.given x) p h = quiet_expression e x
 
-  quiet_index_set : (r : ℕ) (x : t.Expression) → Safe false (control.index_set e r x)
+  quiet_index_set : (r : ℕ) (x : t.Expression) → Safe (control.index_set e r x)
   quiet_index_set zero x = both (one tt) (both (quiet_expression e x) (one tt))
   quiet_index_set (suc r) x = quiet_expression e x
 
-  quiet_image_set : (is : s.ImageSet) → Safe false (control.image_set e is)
+  quiet_image_set : (is : s.ImageSet) → Safe (control.image_set e is)
   quiet_image_set s.all_images = one tt
   quiet_image_set (s.images x) = quiet_index_set (assignments.rank_in x) x
 
-  pub quiet_cell : (d : t.Designator) → Safe false (control.cell e d)
+  pub quiet_cell : (d : t.Designator) → Safe (control.cell e d)
   quiet_cell (t.part (objects.Coarray c) ss sel) = both (quiet_subscripts e ss) (both (one tt) (quiet_owner e c 0 sel))
   quiet_cell (t.part (objects.Local v) ss sel) = no_parts
   quiet_cell (t.part (objects.Constant n) ss sel) = no_parts
 
-  pub quiet_there : (d : t.Designator) → Safe false (control.cell_there e d)
+  pub quiet_there : (d : t.Designator) → Safe (control.cell_there e d)
   quiet_there (t.part (objects.Coarray c) ss sel) = quiet_own c (view.is_scalar ss 0) sel
   quiet_there (t.part (objects.Local v) ss sel) = no_parts
   quiet_there (t.part (objects.Constant n) ss sel) = no_parts
 
-  pub sync_all_quiet : (stat : t.OptionalResult) → Safe false (control.sync_all e stat)
+  pub sync_all_quiet : (stat : t.OptionalResult) → Safe (control.sync_all e stat)
   sync_all_quiet stat = both (quiet_place e stat) (both (rounded (one tt)) (settled stat 1 [] (view.optional_size stat)))
 
-  pub sync_images_quiet : (is : s.ImageSet) (stat : t.OptionalResult) → Safe false (control.sync_images e is stat)
+  pub sync_images_quiet : (is : s.ImageSet) (stat : t.OptionalResult) → Safe (control.sync_images e is stat)
   sync_images_quiet is stat =
       both (quiet_image_set is) (both (quiet_place e stat) (both (one tt) (both (fork pairs (both (one tt) (one tt)) no_parts) (settled stat 1 [] (view.optional_size stat)))))
 
-  pub sync_team_quiet : (x : t.Expression) (stat : t.OptionalResult) → Safe false (control.sync_team e x stat)
+  pub sync_team_quiet : (x : t.Expression) (stat : t.OptionalResult) → Safe (control.sync_team e x stat)
   sync_team_quiet x stat =
       let k = view.optional_size stat in
       both (quiet_expression e x) (both (one tt) (both (quiet_place e stat) (both (quiet_copying k 1) (both (acts tt (one tt)) (both (quiet_copying k 1) (both (one tt) (settled stat 1 [] (k + 1))))))))
 
-  pub form_team_quiet : (x : t.Expression) (v : Local) (index : t.OptionalExpression) (stat : t.OptionalResult) (order : WrittenOrder) → Safe false (control.form_team e x v index stat order)
+  pub form_team_quiet : (x : t.Expression) (v : Local) (index : t.OptionalExpression) (stat : t.OptionalResult) (order : WrittenOrder) → Safe (control.form_team e x v index stat order)
   form_team_quiet x v index stat order =
       both (quiet_expression e x)
       (both (quiet_put_down order (control.or_number e index (pushing (pos 0))) 1 (view.optional_place e stat) (view.optional_size stat) (quiet_or index (pushing (pos 0)) (one tt)) (quiet_place e stat))
       (both (rounded (both (quiet_copying (view.optional_size stat + 1) 2) (one tt))) (both (one tt) (settled stat 1 [] (view.optional_size stat + 2)))))
 
-  pub quiet_critical : (n : ℕ) (stat : t.OptionalResult) → Safe false (control.critical e n stat)
+  pub quiet_critical : (n : ℕ) (stat : t.OptionalResult) → Safe (control.critical e n stat)
   quiet_critical n stat = both (quiet_place e stat) (both (one tt) (both (quiet_settling stat 1 _) (quiet_dropping (view.optional_size stat))))
 
-  pub change_team_quiet : (x : t.Expression) (stat : t.OptionalResult) → Safe false (control.change_team e x stat)
+  pub change_team_quiet : (x : t.Expression) (stat : t.OptionalResult) → Safe (control.change_team e x stat)
   change_team_quiet x stat =
       let k = view.optional_size stat in
       both (quiet_expression e x) (both (one tt) (both (quiet_place e stat) (both (quiet_copying k 1) (both (acts tt (one tt)) (both (quiet_copying k 1) (both (one tt)
       (both (quiet_copying (k + 1) 1) (both (one tt) (settled stat 1 [] (k + 1))))))))))
 
-  quiet_deleting : (ns : List ℕ) (c : ℕ) → Safe false (control.deleting e ns c)
+  quiet_deleting : (ns : List ℕ) (c : ℕ) → Safe (control.deleting e ns c)
   quiet_deleting [] c = no_parts
   quiet_deleting (n ∷ ns) c =
       both (either_way (control.is_allocatable_in e e.program.main.variables n) (control.deleting_one e c) end_parts (both (one tt) (fork
       (freeing c) no_parts no_parts)) no_parts) (quiet_deleting ns (suc c))
 
-  pub end_team_quiet : (stat : t.OptionalResult) → Safe false (control.end_team e stat)
+  pub end_team_quiet : (stat : t.OptionalResult) → Safe (control.end_team e stat)
   end_team_quiet stat =
       both (quiet_place e stat) (both (rounded (one tt)) (both (quiet_deleting e.program.coarrays 0) (both (one tt) (settled stat 1 [] (view.optional_size stat)))))
 
   -- ---- intrinsic subroutines
   abbrev pub QuietPieces : List Piece → Type 0
   QuietPieces [] = Unit {0}
-  QuietPieces (p ∷ ps) = Safe false p.parts × QuietPieces ps
+  QuietPieces (p ∷ ps) = Safe p.parts × QuietPieces ps
 
-  quiet_piece : (ps : List Piece) (d : ℕ) → QuietPieces ps → Safe false (piece_of ps d).parts
+  quiet_piece : (ps : List Piece) (d : ℕ) → QuietPieces ps → Safe (piece_of ps d).parts
   quiet_piece [] d h = no_parts
   quiet_piece (p ∷ ps) zero h = h.0
   quiet_piece (p ∷ ps) (suc d) h = quiet_piece ps d h.1
 
-  pub quiet_evaluating : (ps : List Piece) (ds : List ℕ) → QuietPieces ps → Safe false (evaluating ps ds)
+  pub quiet_evaluating : (ps : List Piece) (ds : List ℕ) → QuietPieces ps → Safe (evaluating ps ds)
   quiet_evaluating ps [] h = no_parts
   quiet_evaluating ps (d ∷ ds) h = both (quiet_piece ps d h) (quiet_evaluating ps ds h)
 
-  pub quiet_fetching : (ps : List Piece) (ds : List ℕ) (d above n : ℕ) → Safe false (fetching ps ds d above n)
+  pub quiet_fetching : (ps : List Piece) (ds : List ℕ) (d above n : ℕ) → Safe (fetching ps ds d above n)
   quiet_fetching ps ds d above n = quiet_copying (depth ps ds d + above) n
 
-  quiet_succeeded : (n : ℕ) → Safe false (sub.succeeded n)
+  quiet_succeeded : (n : ℕ) → Safe (sub.succeeded n)
   quiet_succeeded n = both (quiet_copying n 1) (acts tt (one tt))
 
-  quiet_fetched : (r : t.OptionalResult) (n : ℕ) → Safe false (sub.fetched e r n)
+  quiet_fetched : (r : t.OptionalResult) (n : ℕ) → Safe (sub.fetched e r n)
   quiet_fetched t.no_result n = no_parts
   quiet_fetched (t.result r) n = both (quiet_succeeded 0) (fork (both (quiet_copying 1 1) (quiet_storing n r)) no_parts no_parts)
 
   quiet_atomic : (ps : List Piece) (ds : List ℕ) (atom : ℕ) (d : t.Designator) (op : AtomicOp) (k : Kind) (x y : Parts Act) (old : t.OptionalResult) (rd : ℕ) (stat : t.OptionalResult) (sd : ℕ)
-      → QuietPieces ps → Safe false x → Safe false y → Safe false (sub.atomic e ps ds atom d op k x y old rd stat sd)
+      → QuietPieces ps → Safe x → Safe y → Safe (sub.atomic e ps ds atom d op k x y old rd stat sd)
   quiet_atomic ps ds atom d op k x y old rd stat sd h hx hy =
       both (quiet_evaluating ps ds h) (both (quiet_there d) (both (quiet_fetching ps ds atom 0 2) (both hx (both hy (both (acts tt (one tt))
       (both (quiet_selector_status (control.cell_stat e d) (depth ps ds atom + 5)) (both (quiet_fetched old (depth ps ds rd + 3))
       (both (quiet_settling stat (depth ps ds sd + 2) []) (quiet_dropping (sizes ps ds + 1))))))))))
 
-  quiet_as_array : (rank : ℕ) (p : Parts Act) → Safe false p → Safe false (sub.as_array e rank p)
+  quiet_as_array : (rank : ℕ) (p : Parts Act) → Safe p → Safe (sub.as_array e rank p)
   quiet_as_array zero p h = both (one tt) (both h (one tt))
   quiet_as_array (suc r) p h = both h (one tt)
 
-  quiet_cells_of : (rank : ℕ) → Safe false (sub.taking_cells e rank)
+  quiet_cells_of : (rank : ℕ) → Safe (sub.taking_cells e rank)
   quiet_cells_of zero = no_parts
   quiet_cells_of (suc r) = one tt
 
-  either_piece : (b : Bool) (p q : Piece) → Safe false p.parts → Safe false q.parts → Safe false (cond b p q).parts
+  either_piece : (b : Bool) (p q : Piece) → Safe p.parts → Safe q.parts → Safe (cond b p q).parts
   either_piece true p q h k = h
   either_piece false p q h k = k
 
-  quiet_collected : (d : t.Designator) (rank : ℕ) → Safe false (sub.collected_piece e d rank).parts
+  quiet_collected : (d : t.Designator) (rank : ℕ) → Safe (sub.collected_piece e d rank).parts
   quiet_collected (t.part (objects.Local v) ss sel) rank =
       let loaded = copying 0 (place_size rank) ▸ doing (a.variable (a.load (scope_of v.home) v.variable rank) ∷ []) in
       either_piece (view.is_scalar ss rank) (record { parts = sub.as_array e 0 (doing (a.variable (a.cell (scope_of v.home) v.variable) ∷ [])); size = 0 })
@@ -265,51 +265,51 @@ module _ (e : Environment) where
   quiet_collected (t.part (objects.Coarray c) ss sel) rank = both (quiet_subscripts e ss) (both (one tt) (quiet_owner e c rank sel))
   quiet_collected (t.part (objects.Constant n) ss sel) rank = no_parts
 
-  quiet_collected_value : (d : t.Designator) (rank : ℕ) (place : Parts Act) → Safe false place → Safe false (sub.collected_value e d rank place)
+  quiet_collected_value : (d : t.Designator) (rank : ℕ) (place : Parts Act) → Safe place → Safe (sub.collected_value e d rank place)
   quiet_collected_value (t.part (objects.Local v) ss sel) rank place h = no_parts
   quiet_collected_value (t.part (objects.Coarray c) ss sel) rank place h =
       both (quiet_own c (view.is_scalar ss rank) sel) (both h (both (quiet_reading c rank) (both (one tt) (both (one tt) (quiet_cells_of rank)))))
   quiet_collected_value (t.part (objects.Constant n) ss sel) rank place h = no_parts
 
-  quiet_dropping_collected : (d : t.Designator) → Safe false (sub.dropping_collected e d)
+  quiet_dropping_collected : (d : t.Designator) → Safe (sub.dropping_collected e d)
   quiet_dropping_collected (t.part (objects.Local v) ss sel) = one tt
   quiet_dropping_collected (t.part (objects.Coarray c) ss sel) = no_parts
   quiet_dropping_collected (t.part (objects.Constant n) ss sel) = no_parts
 
-  quiet_collected_put : (d : t.Designator) (k : Kind) (rank : ℕ) (place : Parts Act) → Safe false place → Safe false (sub.collected_put e d k rank place)
+  quiet_collected_put : (d : t.Designator) (k : Kind) (rank : ℕ) (place : Parts Act) → Safe place → Safe (sub.collected_put e d k rank place)
   quiet_collected_put (t.part (objects.Local v) ss sel) k rank place h =
       either_way (view.is_scalar ss rank) (doing (a.stack a.only_element ∷ a.variable (a.store (scope_of v.home) v.variable) ∷ []))
       (place ▸ doing (a.variable (a.put_array (scope_of v.home) v.variable rank) ∷ [])) (acts tt (one tt)) (both h (one tt))
   quiet_collected_put (t.part (objects.Coarray c) ss sel) k rank place h = both h (both (quiet_writing 1 c rank k) (both (one tt) (one tt)))
   quiet_collected_put (t.part (objects.Constant n) ss sel) k rank place h = no_parts
 
-  combined_quiet : (x : s.Collected) (op : GatherOp) (ps : List Piece) (ds : List ℕ) (root comes : Parts Act) → Safe false root → Safe false comes → Safe false (sub.combined e x op ps ds root comes)
+  combined_quiet : (x : s.Collected) (op : GatherOp) (ps : List Piece) (ds : List ℕ) (root comes : Parts Act) → Safe root → Safe comes → Safe (sub.combined e x op ps ds root comes)
   combined_quiet x op ps ds root comes h k =
       both (quiet_collected_value x.variable x.rank (sub.place_in e x ps ds 0) (quiet_fetching ps ds 0 0 _)) (both h (both (collects op x.kind) (both (quiet_succeeded 0) (fork (both k
       (fork (quiet_collected_put x.variable x.kind x.rank (sub.place_in e x ps ds 1) (quiet_fetching ps ds 0 1 _)) (one tt) no_parts)) (one tt) no_parts))))
 
-  rooted_quiet : (x : s.Collected) (ps : List Piece) (ds : List ℕ) (p : Parts Act) → Safe false p → Safe false (sub.rooted e x ps ds p)
+  rooted_quiet : (x : s.Collected) (ps : List Piece) (ds : List ℕ) (p : Parts Act) → Safe p → Safe (sub.rooted e x ps ds p)
   rooted_quiet x ps ds p h = both (quiet_fetching ps ds 1 0 1) (both (one tt) (fork h (both (quiet_dropping_collected x.variable) (one tt)) no_parts))
 
-  quiet_root_test : (ps : List Piece) (ds : List ℕ) → Safe false (sub.root_test e ps ds)
+  quiet_root_test : (ps : List Piece) (ds : List ℕ) → Safe (sub.root_test e ps ds)
   quiet_root_test ps ds = both (quiet_fetching ps ds 1 1 1) (one tt)
 
-  quiet_settled : (ps : List Piece) (ds : List ℕ) (stat : t.OptionalResult) → Safe false (sub.settled e ps ds stat)
+  quiet_settled : (ps : List Piece) (ds : List ℕ) (stat : t.OptionalResult) → Safe (sub.settled e ps ds stat)
   quiet_settled ps ds stat = settled stat (depth ps ds 2 + 1) [] (sizes ps ds)
 
-  combine_quiet : (ps : List Piece) (ds : List ℕ) (x : s.Collected) (op : GatherOp) (root : t.OptionalExpression) (stat : t.OptionalResult) → QuietPieces ps → Safe false (sub.combine e ps ds x op root stat)
+  combine_quiet : (ps : List Piece) (ds : List ℕ) (x : s.Collected) (op : GatherOp) (root : t.OptionalExpression) (stat : t.OptionalResult) → QuietPieces ps → Safe (sub.combine e ps ds x op root stat)
   combine_quiet ps ds x op t.missing stat h =
       both (quiet_evaluating ps ds h) (both (combined_quiet x op ps ds (pushing (pos 0)) (pushing (pos 1)) (one tt) (one tt)) (quiet_settled ps ds stat))
   combine_quiet ps ds x op (t.given r) stat h =
       both (quiet_evaluating ps ds h)
       (both (rooted_quiet x ps ds (sub.combined e x op ps ds (fetching ps ds 1 0 1) (sub.root_test e ps ds)) (combined_quiet x op ps ds (fetching ps ds 1 0 1) (sub.root_test e ps ds) (quiet_fetching ps ds 1 0 1) (quiet_root_test ps ds))) (quiet_settled ps ds stat))
 
-  broadcast_quiet : (ps : List Piece) (ds : List ℕ) (x : s.Collected) (stat : t.OptionalResult) → QuietPieces ps → Safe false (sub.broadcast e ps ds x stat)
+  broadcast_quiet : (ps : List Piece) (ds : List ℕ) (x : s.Collected) (stat : t.OptionalResult) → QuietPieces ps → Safe (sub.broadcast e ps ds x stat)
   broadcast_quiet ps ds x stat h =
       both (quiet_evaluating ps ds h)
       (both (rooted_quiet x ps ds (sub.combined e x gathers.Broadcast ps ds (fetching ps ds 1 0 1) (pushing (pos 1))) (combined_quiet x gathers.Broadcast ps ds (fetching ps ds 1 0 1) (pushing (pos 1)) (quiet_fetching ps ds 1 0 1) (one tt))) (quiet_settled ps ds stat))
 
-  quiet_optional_piece : (x : t.OptionalExpression) → Safe false (sub.optional_piece e x).parts
+  quiet_optional_piece : (x : t.OptionalExpression) → Safe (sub.optional_piece e x).parts
   quiet_optional_piece t.missing = no_parts
   quiet_optional_piece (t.given x) = quiet_expression e x
 
@@ -318,7 +318,7 @@ module _ (e : Environment) where
   IsNoQuery (s.event_query d count stat) = ⊥
   IsNoQuery i = Unit {0}
 
-  pub subroutine_quiet : (i : s.IntrinsicSubroutine) (ds : List ℕ) → IsNoQuery i → Safe false (sub.subroutine e i (sub.pieces_of e i) ds)
+  pub subroutine_quiet : (i : s.IntrinsicSubroutine) (ds : List ℕ) → IsNoQuery i → Safe (sub.subroutine e i (sub.pieces_of e i) ds)
   subroutine_quiet (s.atomic_define d k x stat) ds f =
       let ps = sub.pieces_of e (s.atomic_define d k x stat) in
       quiet_atomic ps ds 0 d atomics.Define k (fetching ps ds 1 2 1) (sub.no_operand e) t.no_result 0 stat 2 (quiet_cell d, (quiet_expression e x, (quiet_place e stat, tt))) (quiet_fetching ps ds 1 2 1) (one tt)
@@ -340,95 +340,95 @@ module _ (e : Environment) where
   subroutine_quiet (s.broadcast x root stat) ds f = broadcast_quiet (sub.pieces_of e (s.broadcast x root stat)) ds x stat (quiet_collected x.variable x.rank, (quiet_expression e root, (quiet_place e stat, tt)))
 
   -- ---- ALLOCATE and DEALLOCATE
-  quiet_bounds : (bs : List s.AllocatedBounds) → Safe false (alloc.bounds e bs)
+  quiet_bounds : (bs : List s.AllocatedBounds) → Safe (alloc.bounds e bs)
   quiet_bounds [] = no_parts
   quiet_bounds (b ∷ bs) = both (quiet_or b.lower (pushing (pos 1)) (one tt)) (both (quiet_expression e b.upper) (quiet_bounds bs))
 
-  quiet_object_bounds : (x : s.Allocation) → Safe false (alloc.object_bounds e x)
+  quiet_object_bounds : (x : s.Allocation) → Safe (alloc.object_bounds e x)
   quiet_object_bounds (s.allocate_local v type bs) = quiet_bounds bs
   quiet_object_bounds (s.allocate_coarray c bs cs l) = both (quiet_bounds bs) (both (quiet_bounds cs) (quiet_or l (pushing (pos 1)) (one tt)))
 
-  quiet_objects_bounds : (xs : List s.Allocation) → Safe false (alloc.objects_bounds e xs)
+  quiet_objects_bounds : (xs : List s.Allocation) → Safe (alloc.objects_bounds e xs)
   quiet_objects_bounds [] = no_parts
   quiet_objects_bounds (x ∷ xs) = both (quiet_object_bounds x) (quiet_objects_bounds xs)
 
-  quiet_planning_one : (x : s.Allocation) (n : ℕ) → Safe false (alloc.planning_one x n)
+  quiet_planning_one : (x : s.Allocation) (n : ℕ) → Safe (alloc.planning_one x n)
   quiet_planning_one (s.allocate_local v type bs) n = one tt
   quiet_planning_one (s.allocate_coarray c bs cs l) n = one tt
 
-  quiet_planning : (xs : List s.Allocation) (n : ℕ) → Safe false (alloc.planning xs n)
+  quiet_planning : (xs : List s.Allocation) (n : ℕ) → Safe (alloc.planning xs n)
   quiet_planning [] n = no_parts
   quiet_planning (x ∷ xs) n = both (quiet_planning_one x (alloc.object_sizes xs + n)) (quiet_planning xs n)
 
-  quiet_making_one : (x : s.Allocation) (n : ℕ) → Safe false (alloc.making_one x n)
+  quiet_making_one : (x : s.Allocation) (n : ℕ) → Safe (alloc.making_one x n)
   quiet_making_one (s.allocate_local v type bs) n = one tt
   quiet_making_one (s.allocate_coarray c bs cs l) n = making c n (length bs) (length cs + 1)
 
-  quiet_making : (xs : List s.Allocation) (n : ℕ) → Safe false (alloc.making xs n)
+  quiet_making : (xs : List s.Allocation) (n : ℕ) → Safe (alloc.making xs n)
   quiet_making [] n = no_parts
   quiet_making (x ∷ xs) n = both (quiet_making_one x (alloc.object_sizes xs + n)) (quiet_making xs n)
 
-  quiet_named_once : (xs : List Object) → Safe false (alloc.named_once xs)
+  quiet_named_once : (xs : List Object) → Safe (alloc.named_once xs)
   quiet_named_once xs = either_way (alloc.has_twice xs) (doing (a.constant (pos 0) ∷ a.operator a.both ∷ [])) end_parts (acts tt (one tt)) no_parts
 
-  allocates : (ns : List ℕ) → Safe false (alloc.allocate_round ns)
+  allocates : (ns : List ℕ) → Safe (alloc.allocate_round ns)
   allocates [] = one tt
   allocates (n ∷ ns) = rounded (quiet_numbers (n ∷ ns) (a.ask (a.arrive_allocate (length (n ∷ ns)))) tt)
 
-  deallocates : (ns : List ℕ) → Safe false (alloc.deallocate_round ns)
+  deallocates : (ns : List ℕ) → Safe (alloc.deallocate_round ns)
   deallocates [] = one tt
   deallocates (n ∷ ns) = rounded (quiet_numbers (n ∷ ns) (a.ask (a.arrive_deallocate (length (n ∷ ns)))) tt)
 
-  quiet_is_allocated : (x : Object) → Safe false (alloc.is_allocated x)
+  quiet_is_allocated : (x : Object) → Safe (alloc.is_allocated x)
   quiet_is_allocated (objects.Local v) = acts tt (one tt)
   quiet_is_allocated (objects.Coarray c) = acts tt (one tt)
   quiet_is_allocated (objects.Constant n) = no_parts
 
-  quiet_are_allocated : (xs : List Object) → Safe false (alloc.are_allocated xs)
+  quiet_are_allocated : (xs : List Object) → Safe (alloc.are_allocated xs)
   quiet_are_allocated [] = no_parts
   quiet_are_allocated (x ∷ xs) = both (quiet_is_allocated x) (quiet_are_allocated xs)
 
-  quiet_freeing_one : (x : Object) → Safe false (alloc.freeing_one x)
+  quiet_freeing_one : (x : Object) → Safe (alloc.freeing_one x)
   quiet_freeing_one (objects.Local v) = one tt
   quiet_freeing_one (objects.Coarray c) = freeing c
   quiet_freeing_one (objects.Constant n) = no_parts
 
-  quiet_freeing : (xs : List Object) → Safe false (alloc.freeing xs)
+  quiet_freeing : (xs : List Object) → Safe (alloc.freeing xs)
   quiet_freeing [] = no_parts
   quiet_freeing (x ∷ xs) = both (quiet_freeing_one x) (quiet_freeing xs)
 
-  pub allocate_quiet : (xs : List s.Allocation) (stat : t.OptionalResult) → Safe false (alloc.allocate e xs stat)
+  pub allocate_quiet : (xs : List s.Allocation) (stat : t.OptionalResult) → Safe (alloc.allocate e xs stat)
   allocate_quiet xs stat =
       both (quiet_objects_bounds xs) (both (quiet_place e stat) (both (one tt) (both (quiet_planning xs (view.optional_size stat)) (both (one tt)
       (both (quiet_named_once (alloc.objects_of xs)) (both (fork
       (both (quiet_making xs (view.optional_size stat)) (allocates (alloc.coarrays_in (alloc.objects_of xs)))) (one tt) no_parts) (settled stat 1 [] (alloc.object_sizes xs + view.optional_size stat))))))))
 
-  pub deallocate_quiet : (xs : List Object) (stat : t.OptionalResult) → Safe false (alloc.deallocate e xs stat)
+  pub deallocate_quiet : (xs : List Object) (stat : t.OptionalResult) → Safe (alloc.deallocate e xs stat)
   deallocate_quiet xs stat =
       both (quiet_place e stat) (both (one tt) (both (quiet_are_allocated xs) (both (quiet_named_once xs) (both (fork
       (both (deallocates (alloc.coarrays_in xs)) (quiet_freeing xs)) (one tt) no_parts) (settled stat 1 [] (view.optional_size stat))))))
 
   -- ---- forms of statements
-  pub condition : (x : t.Expression) → Safe false (released (view.expression e x))
+  pub condition : (x : t.Expression) → Safe (released (view.expression e x))
   condition x = free_again (view.expression e x) (quiet_expression e x)
 
-  pub start_quiet : (v : Local) (k : Kind) (first last : t.Expression) (step : t.OptionalExpression) (x : ℕ) → Safe false (do_start e v k first last step x)
+  pub start_quiet : (v : Local) (k : Kind) (first last : t.Expression) (step : t.OptionalExpression) (x : ℕ) → Safe (do_start e v k first last step x)
   start_quiet v k first last step x =
       both (both (quiet_expression e first) (one tt)) (both (both (quiet_expression e last) (one tt)) (both (both (quiet_or step (pushing (pos 1)) (one tt)) (one tt)) (one tt)))
 
-  quiet_range_then : (x : ℕ) (r : CaseRange) (rest : List Act) → Safe false (doing rest) → Safe false (doing (in_range x r ++ rest))
+  quiet_range_then : (x : ℕ) (r : CaseRange) (rest : List Act) → Safe (doing rest) → Safe (doing (in_range x r ++ rest))
   quiet_range_then x (ranges.Value v) rest h = acts tt (acts tt (acts tt h))
   quiet_range_then x (ranges.AtLeast v) rest h = acts tt (acts tt (acts tt h))
   quiet_range_then x (ranges.AtMost v) rest h = acts tt (acts tt (acts tt h))
   quiet_range_then x (ranges.Between v w) rest h = acts tt (acts tt (acts tt (acts tt (acts tt (acts tt (acts tt h))))))
 
-  quiet_more_ranges : (x : ℕ) (rs : List CaseRange) → Safe false (doing (in_more_ranges x rs))
+  quiet_more_ranges : (x : ℕ) (rs : List CaseRange) → Safe (doing (in_more_ranges x rs))
   quiet_more_ranges x [] = no_parts
   quiet_more_ranges x (r ∷ rs) = quiet_range_then x r (a.operator a.any_of ∷ in_more_ranges x rs) (acts tt (quiet_more_ranges x rs))
 
-  pub quiet_ranges : (x : ℕ) (rs : List CaseRange) → Safe false (doing (in_ranges x rs))
+  pub quiet_ranges : (x : ℕ) (rs : List CaseRange) → Safe (doing (in_ranges x rs))
   quiet_ranges x [] = one tt
   quiet_ranges x (r ∷ rs) = quiet_range_then x r (in_more_ranges x rs) (quiet_more_ranges x rs)
 
-  pub stop_quiet : (code : t.OptionalExpression) (x : a.AskAct) → IsFree (a.ask x) → Safe false (control.or_number e code (pushing (pos 0)) ▸ doing (a.ask x ∷ []))
+  pub stop_quiet : (code : t.OptionalExpression) (x : a.AskAct) → IsFree (a.ask x) → Safe (control.or_number e code (pushing (pos 0)) ▸ doing (a.ask x ∷ []))
   stop_quiet code x h = both (quiet_or code (pushing (pos 0)) (one tt)) (acts h no_parts)

@@ -1,20 +1,11 @@
 -- Which coarrays LOCK, UNLOCK, EVENT POST, EVENT WAIT and EVENT_QUERY name (ISO/IEC 1539-1:2018, 11.6.7, 11.6.8,
 -- 11.6.10, 16.9.72, 16.10.2).
-use Rattle.std.specs.Prelude.{ℕ, ◌≡◌, Bool, true, false, pos, List, [], ◌∷◌, slice_get}
+use Rattle.std.specs.Prelude.{◌≡◌, Bool, true, List, [], ◌∷◌, slice_get}
 use Rattle.checked_tree.specs.declared.data.Object.TheVariants as objects
 use Rattle.checked_tree.specs.Expressions as t
 use Rattle.checked_tree.specs.Statements as s
 use Rattle.object_rules.specs.Cells.{Content, Declared}
 use Rattle.object_rules.specs.MemoryRules.{holds, is_lock, is_event}
-use Rattle.image_acts.specs.Acts.{here, host}
-use Rattle.tree_meaning.specs.Environment.{Environment}
-use Rattle.tree_meaning.specs.Forms.{environment_of}
-use Rattle.tree_meaning.specs.Sequences.{pushing}
-use Rattle.tree_meaning.specs.Expressions.{optional_place, optional_size}
-use Rattle.tree_meaning.specs.ImageControl.{or_number, put_down_as_written}
-use Rattle.tree_meaning.specs.Pieces.{evaluating, written_dummies}
-use Rattle.tree_meaning.specs.Subroutines.{pieces_of}
-use Rattle.cell_walks.specs.Calls.{calls}
 
 module _ (coarrays : List Declared) where
   -- a cell of a declared coarray of this content
@@ -62,46 +53,3 @@ module _ (coarrays : List Declared) where
 
   abbrev pub IsTypedProgram : s.Program → Type 0
   IsTypedProgram p = AreTyped p.main.statements × AreTypedProcedures p.procedures
-
--- EVENT WAIT calls no procedure between its event and its end, so that the event is there as it was found; and
--- EVENT_QUERY, of this image's event, calls none at all
-module _ (e : Environment) where
-  abbrev pub IsOwn : t.Designator → Type 0
-  IsOwn (t.part o ss t.no_selector) = Unit {0}
-  IsOwn (t.part o ss (t.selector cs which stat)) = ⊥
-
-  abbrev pub IsSteadyCall : s.IntrinsicSubroutine → List ℕ → Type 0
-  IsSteadyCall (s.event_query d count stat) ds = IsOwn d × (calls (evaluating (pieces_of e (s.event_query d count stat)) ds) ≡ false)
-  IsSteadyCall i ds = Unit {0}
-
-  abbrev mutual
-    pub IsSteady : s.StatementForm → Type 0
-    IsSteady (s.event_wait d until stat order) = calls (put_down_as_written order (or_number e until (pushing (pos 1))) 1 (optional_place e stat) (optional_size stat)) ≡ false
-    IsSteady (s.call_intrinsic i w) = IsSteadyCall i (written_dummies w)
-    IsSteady (s.if x body others none) = AreSteady body × AreSteadyElseIfs others × AreSteady none
-    IsSteady (s.do_counted v k first last step n body) = AreSteady body
-    IsSteady (s.do_while x body) = AreSteady body
-    IsSteady (s.do_forever body) = AreSteady body
-    IsSteady (s.select x n cs none) = AreSteadyCases cs × AreSteady none
-    IsSteady (s.critical n stat body m) = AreSteady body
-    IsSteady (s.change_team x stat body end_stat m) = AreSteady body
-    IsSteady f = Unit {0}
-
-    pub AreSteady : s.Statements → Type 0
-    AreSteady s.no_statements = Unit {0}
-    AreSteady (s.more_statements (s.on_line f l) ss) = IsSteady f × AreSteady ss
-
-    pub AreSteadyElseIfs : s.ElseIfs → Type 0
-    AreSteadyElseIfs s.no_else_ifs = Unit {0}
-    AreSteadyElseIfs (s.more_else_ifs x body l others) = AreSteady body × AreSteadyElseIfs others
-
-    pub AreSteadyCases : s.Cases → Type 0
-    AreSteadyCases s.no_cases = Unit {0}
-    AreSteadyCases (s.more_cases rs body l others) = AreSteady body × AreSteadyCases others
-
-abbrev pub AreSteadyProcedures : s.Program → List s.Procedure → Type 0
-AreSteadyProcedures p [] = Unit {0}
-AreSteadyProcedures p (q ∷ qs) = AreSteady (environment_of p host q.unit) q.unit.statements × AreSteadyProcedures p qs
-
-abbrev pub IsSteadyProgram : s.Program → Type 0
-IsSteadyProgram p = AreSteady (environment_of p here p.main) p.main.statements × AreSteadyProcedures p p.procedures

@@ -8,11 +8,11 @@ ghost use Rattle.core_runs.specs.Beginnings.{IsOneOf};
 ghost use Rattle.tree_meaning.specs.Forms.{bodies};
 ghost use Rattle.made_code.specs.Ranks.{IsRankedProgram};
 ghost use Rattle.cell_walks.specs.Fitting.{StepsFit};
-ghost use Rattle.cell_statements.specs.Typed.{IsTypedProgram, IsSteadyProgram};
+ghost use Rattle.cell_statements.specs.Typed.{IsTypedProgram};
 
 /// The blocks of a program fit, its main program and its procedures, where its ranks are right and each statement on a
 /// lock or an event names one.
 pub fn law_blocks_fit()
-    ensures { (p : checked.Program) (coarrays : List Declared) (n me : ℕ) (steady : Bool) → IsRankedProgram p → IsTypedProgram coarrays p → (steady ≡ true → IsSteadyProgram p) → IsOneOf n me
-        → (k : ℕ) → StepsFit n me coarrays steady (body_of (bodies p) k) }
+    ensures { (p : checked.Program) (coarrays : List Declared) (n me : ℕ) → IsRankedProgram p → IsTypedProgram coarrays p → IsOneOf n me
+        → (k : ℕ) → StepsFit n me coarrays (body_of (bodies p) k) }
 {}

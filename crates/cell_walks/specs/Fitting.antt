@@ -1,6 +1,6 @@
 -- Which asks for one cell of a memory fit (ISO/IEC 1539-1:2018, 9.6, 11.6.7, 11.6.8, 11.6.10, 16.10.2), along the walk
 -- of a program.
-use Rattle.std.specs.Prelude.{ℕ, ◌≡◌, ◌≤◌, ◌<◌, ℤ, Bool, true, map, slice_get, List, [], ◌∷◌, Option, Some, None}
+use Rattle.std.specs.Prelude.{ℕ, ◌≡◌, ◌≤◌, ◌<◌, ℤ, true, map, slice_get, List, [], ◌∷◌, Option, Some, None}
 use Rattle.trace_theory.specs.Entries.{Each}
 use Rattle.trace_theory.specs.Machines.{Said}
 use Rattle.coarray_types.specs.Places.{size_of}
@@ -57,24 +57,24 @@ abbrev pub HasCell : Sizes → Span → Type 0
 HasCell z span = (m : ℕ) × (joined (slice_get z span.coarray) ≡ Some m) × (span.start < m)
 
 -- The ask of image `me`, whose own coarrays have these sizes, fits, as far as it is one for a lock or an event. EVENT
--- WAIT and EVENT_QUERY name a cell that is there where `steady` is true.
-abbrev pub FitsCell : (n me : ℕ) → List Declared → Bool → Sizes → Ask → Type 0
-FitsCell n me coarrays steady z (asking.Lock owner span) = IsOneOf n owner.0 × (is_cell_of (made_memory coarrays owner.0) is_lock span ≡ true)
-FitsCell n me coarrays steady z (asking.TryLock owner span) = IsOneOf n owner.0 × (is_cell_of (made_memory coarrays owner.0) is_lock span ≡ true)
-FitsCell n me coarrays steady z (asking.Unlock owner span) = IsOneOf n owner.0 × (is_cell_of (made_memory coarrays owner.0) is_lock span ≡ true)
-FitsCell n me coarrays steady z (asking.Post owner span) = IsOneOf n owner.0 × (is_cell_of (made_memory coarrays owner.0) is_event span ≡ true)
-FitsCell n me coarrays steady z (asking.Wait owner span threshold) =
-    (owner.0 ≡ me) × (is_cell_of (made_memory coarrays owner.0) is_event span ≡ true) × (1 ≤ threshold) × (steady ≡ true → HasCell z span)
-FitsCell n me coarrays steady z (asking.Query owner span) = (owner.0 ≡ me) × (is_cell_of (made_memory coarrays owner.0) is_event span ≡ true) × (steady ≡ true → HasCell z span)
-FitsCell n me coarrays steady z ask = Unit {0}
+-- WAIT and EVENT_QUERY name a cell that is there.
+abbrev pub FitsCell : (n me : ℕ) → List Declared → Sizes → Ask → Type 0
+FitsCell n me coarrays z (asking.Lock owner span) = IsOneOf n owner.0 × (is_cell_of (made_memory coarrays owner.0) is_lock span ≡ true)
+FitsCell n me coarrays z (asking.TryLock owner span) = IsOneOf n owner.0 × (is_cell_of (made_memory coarrays owner.0) is_lock span ≡ true)
+FitsCell n me coarrays z (asking.Unlock owner span) = IsOneOf n owner.0 × (is_cell_of (made_memory coarrays owner.0) is_lock span ≡ true)
+FitsCell n me coarrays z (asking.Post owner span) = IsOneOf n owner.0 × (is_cell_of (made_memory coarrays owner.0) is_event span ≡ true)
+FitsCell n me coarrays z (asking.Wait owner span threshold) =
+    (owner.0 ≡ me) × (is_cell_of (made_memory coarrays owner.0) is_event span ≡ true) × (1 ≤ threshold) × HasCell z span
+FitsCell n me coarrays z (asking.Query owner span) = (owner.0 ≡ me) × (is_cell_of (made_memory coarrays owner.0) is_event span ≡ true) × HasCell z span
+FitsCell n me coarrays z ask = Unit {0}
 
-module _ (n me : ℕ) (coarrays : List Declared) (steady : Bool) where
+module _ (n me : ℕ) (coarrays : List Declared) where
   -- what an act comes to asks for no cell that doesn't fit, and `After` holds behind it, whatever the reply is
   abbrev pub EffectFits : Acted → (Sizes → Core → Type 0) → Sizes → Type 0
   EffectFits (language.goes_to d) After z = After z d
   EffectFits (language.faults k) After z = Unit {0}
-  EffectFits (language.asking a f) After z = FitsCell n me coarrays steady z a × ((r : Reply) → TellsImages n r → After (sizes_by z a) (f r))
-  EffectFits (language.ends_with a) After z = FitsCell n me coarrays steady z a
+  EffectFits (language.asking a f) After z = FitsCell n me coarrays z a × ((r : Reply) → TellsImages n r → After (sizes_by z a) (f r))
+  EffectFits (language.ends_with a) After z = FitsCell n me coarrays z a
   EffectFits language.stuck After z = Unit {0}
 
   abbrev pub TestFits : Tested Core → (so other : Core → Type 0) → Type 0
@@ -116,4 +116,4 @@ module _ (n me : ℕ) (coarrays : List Declared) (steady : Bool) where
   -- each ask of a walk fits, where the image's own coarrays had these sizes before all
   abbrev pub AllFit : Sizes → List (Said Ask Reply) → Type 0
   AllFit z [] = Unit {0}
-  AllFit z (e ∷ es) = FitsCell n me coarrays steady z e.ask × AllFit (sizes_by z e.ask) es
+  AllFit z (e ∷ es) = FitsCell n me coarrays z e.ask × AllFit (sizes_by z e.ask) es

@@ -1,4 +1,5 @@
--- The coarrays of a checked program, as each memory has them at its start, and their names (ISO/IEC 1539-1:2018, 8.5.6).
+-- The coarrays of a checked program, as each memory has them at its start, and their names (ISO/IEC 1539-1:2018,
+-- 8.5.6).
 use Rattle.std.specs.Prelude.{ℕ, ℤ, List, [], map, Option, Some, None, slice_get}
 use Rattle.caf_base.specs.declared.value.Value.{Value}
 use Rattle.caf_base.specs.Arithmetic.{value_of}

@@ -7,7 +7,8 @@ use Rattle.number_operators.specs.Kinds.{IsInteger}
 use Rattle.coarray_tables.specs.Fits.{are_fit}
 use Rattle.image_code.specs.declared.tables.Tables.{Tables}
 
--- the acts that it does, family by family: kinds are integer ones where an operator takes integers, and ranks three at most
+-- the acts that it does, family by family: kinds are integer ones where an operator takes integers, and ranks three at
+-- most
 abbrev pub DoesOnStack : a.StackAct → Type 0
 DoesOnStack (a.nothing_read rank) = rank ≤ 3
 DoesOnStack act = Unit {0}
@@ -64,10 +65,12 @@ pub record IsUndone (code : List (Line Act)) (place line : ℕ) : Type 0 where
 abbrev pub DoesAll : List (Line Act) → Type 0
 DoesAll code = (place : ℕ) (it : Line Act) → slice_get code place ≡ Some it → Does it.instr
 
--- tables that it can begin with: static coarrays have three dimensions and codimensions at most, cobounds of kind 4, and no more cells in all than an image may have
+-- tables that it can begin with: static coarrays have three dimensions and codimensions at most, cobounds of kind 4,
+-- and no more cells in all than an image may have
 abbrev pub CanBegin : Tables → Type 0
 CanBegin t = are_fit 0 t.coarrays ≡ true
 
--- the machine can't run this code with these tables, told at this line: it doesn't do an instruction there, or can't begin, which is told at line 0
+-- the machine can't run this code with these tables, told at this line: it doesn't do an instruction there, or can't
+-- begin, which is told at line 0
 abbrev pub IsUnrunnableCode : List (Line Act) → Tables → ℕ → Type 0
 IsUnrunnableCode code t line = ((CanBegin t → ⊥) × (line ≡ 0)) ⊎ ((place : ℕ) × IsUndone code place line)

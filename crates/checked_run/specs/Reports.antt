@@ -17,8 +17,9 @@ pub record IsCodeOf (p : Program) (w : Whole) : Type 0 where
   pub code : code_of w.program ≡ lines_of p
   pub tables : w.program.tables ≡ tables_of p
 
--- It is that of the run of the program over its coarrays, on so many images, with these failures and limits, in the order of the SEED where there is one, and it has their names. Its final values are
--- those of the integer and logical variables of the main program.
+-- It is that of the run of the program over its coarrays, on so many images, with these failures and limits, in the
+-- order of the SEED where there is one, and it has their names. Its final values are those of the integer and logical
+-- variables of the main program.
 pub record IsRunOf (p : Program) (told : Told) (fails_at : ℕ → ℕ) (report : Report) : Type 0 where
   pub run : IsProgramReport p told.limit (coarrays_of p) told.images fails_at told.words (order_of told.way) report
   pub names : report.names ≡ names_of p

@@ -15,13 +15,15 @@ use Rattle.checked_run.specs.Doing.{CanBegin, DoesAll, IsUnrunnableCode}
 abbrev pub lines_of : Program → List (Line Act)
 lines_of p = program_code (ask end_program) p.end_line (bodies p)
 
--- the machine can run the program: it does each instruction of its code, can begin with its tables, and each static coarray of values has its first values
+-- the machine can run the program: it does each instruction of its code, can begin with its tables, and each static
+-- coarray of values has its first values
 pub record CanRun (p : Program) : Type 0 where
   pub does : DoesAll (lines_of p)
   pub begins : CanBegin (tables_of p)
   pub values : list_all has_first_values (coarrays_of p) ≡ true
 
--- it can't. This is the line of an instruction that it doesn't do, or 0: where it can't begin, or a first value is missing
+-- it can't. This is the line of an instruction that it doesn't do, or 0: where it can't begin, or a first value is
+-- missing
 pub record IsUnrunnable (p : Program) (line : ℕ) : Type 0 where
   pub cannot : CanRun p → ⊥
   pub place : IsUnrunnableCode (lines_of p) (tables_of p) line ⊎ ((list_all has_first_values (coarrays_of p) ≡ false) × (line ≡ 0))

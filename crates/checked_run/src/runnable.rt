@@ -15,7 +15,8 @@ use coarray_tables::fits::are_fit;
 use image_code::code::Code;
 use image_code::step::{AskStep, Step};
 
-/// The machine can't run a program: the line of a step of its code that it doesn't do, or 0 where it can't begin with its coarrays or a static coarray has no first values.
+/// The machine can't run a program: the line of a step of its code that it doesn't do, or 0 where it can't begin with
+/// its coarrays or a static coarray has no first values.
 #[derive(Clone, Copy)]
 pub struct Unrunnable {
     pub line: u32,
@@ -82,7 +83,8 @@ fn first_undone(code: &Code) -> Option<u32>
     None
 }
 
-/// Whether the machine can run code; where it can't, the line of the first step that it doesn't do, or 0 where it can't begin.
+/// Whether the machine can run code; where it can't, the line of the first step that it doesn't do, or 0 where it can't
+/// begin.
 pub fn runs(code: &Code) -> Result<(), Refusal<Unrunnable>>
     ensures runnable { OnOk result (IsRunnable code.now) }
     ensures does { OnOk result (DoesAll (code_of code.now.program)) }

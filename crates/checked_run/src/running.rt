@@ -35,7 +35,8 @@ use std::alloc::Global;
 use std::sync::{Arc, Wait};
 use std::thread::Threads;
 
-/// What a run is told: on how many images, the most statements that an image counts, the limit of an image's recorded words, and how the images take turns.
+/// What a run is told: on how many images, the most statements that an image counts, the limit of an image's recorded
+/// words, and how the images take turns.
 #[derive(Clone, Copy)]
 pub struct Told {
     pub images: u32,
@@ -129,9 +130,11 @@ fn report<R: Threads + Wait + Sync, H: Hook + Sync>(
     Ok(report)
 }
 
-/// The run of an accepted program on images, as it is told, and its report with the names of its coarrays and the final values of its main program's variables; or where the machine can't run it. An image's next
-/// statement above `told.limit` is its limit; image i fails at its event of the number that `fails` has for it, counted from 1 (0 or no number: it doesn't); with
-/// `told.words` recorded words or more an image's next step is the limit. On workers the call may wait for them. Conditions: there are at most 65,536 images and 100,000,000 statements.
+/// The run of an accepted program on images, as it is told, and its report with the names of its coarrays and the final
+/// values of its main program's variables; or where the machine can't run it. An image's next statement above
+/// `told.limit` is its limit; image i fails at its event of the number that `fails` has for it, counted from 1 (0 or no
+/// number: it doesn't); with `told.words` recorded words or more an image's next step is the limit. On workers the call
+/// may wait for them. Conditions: there are at most 65,536 images and 100,000,000 statements.
 pub fn run_checked<R: Threads + Wait + Sync, H: Hook + Sync>(
     rt: &R,
     alloc: Global,

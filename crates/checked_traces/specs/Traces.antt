@@ -18,7 +18,8 @@ use Rattle.checked_run.specs.declared.running.Told.{Told}
 use Rattle.checked_traces.specs.declared.no_run.NoRun.{NoRun}
 use Rattle.checked_traces.specs.declared.no_run.NoRun.TheVariants as no_runs
 
--- what the bytes of a trace come to: they are written for no trace, from this line on; for one that is that of no run, from this step on; or for that of a run
+-- what the bytes of a trace come to: they are written for no trace, from this line on; for one that is that of no run,
+-- from this step on; or for that of a run
 pub data TraceEnd : Type 0 where
   bad_at : ℕ → TraceEnd
   stops_at : ℕ → TraceEnd
@@ -51,7 +52,8 @@ module _ (p : Program) (told : Told) (fails_at : ℕ → ℕ) where
   IsToldAs bytes (no_runs.NotARun step) = ComesTo bytes (stops_at step)
   IsToldAs bytes (no_runs.Unrunnable line) = IsUnrunnable p line
 
-  -- It is the report of a run of the program over its coarrays, with their names, which goes on behind the trace. Its final values are those of the integer and logical variables of the main program.
+  -- It is the report of a run of the program over its coarrays, with their names, which goes on behind the trace. Its
+  -- final values are those of the integer and logical variables of the main program.
   pub record IsReplayOf (t : List Entry) (report : Report) : Type 0 where
     pub run : IsProgramReport p told.limit (coarrays_of p) told.images fails_at told.words None report
     pub onward : GoesOn (program_rules p told.limit) (program_begins p (coarrays_of p) told.images fails_at told.words) t report.trace.entries

@@ -11,7 +11,8 @@ use caf_events::event::Trace;
 use std::alloc::Global;
 use trace_reader::trace::{BadTrace, read_trace};
 
-/// The trace for which bytes are written, with the coarrays by their names in declared order; where they are written for none, the first line by which they are so.
+/// The trace for which bytes are written, with the coarrays by their names in declared order; where they are written
+/// for none, the first line by which they are so.
 pub(crate) fn trace_of(
     alloc: Global,
     bytes: &[u8],

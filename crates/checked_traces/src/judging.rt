@@ -88,9 +88,11 @@ fn judge_trace(
     }
 }
 
-/// The bytes of a trace, judged as one of a run of an accepted program on images, as it is told: the trace of a run for which they are written, with its first race (ISO/IEC 1539-1:2018, 11.6.2); or what keeps
-/// them from being that of one. How the images take turns doesn't matter. Image i fails at its event of the number that `fails` has for it, counted from 1 (0 or no number: it doesn't). Conditions: there are at
-/// most 65,536 images and 100,000,000 statements, and fewer than 4,294,967,295 bytes.
+/// The bytes of a trace, judged as one of a run of an accepted program on images, as it is told: the trace of a run for
+/// which they are written, with its first race (ISO/IEC 1539-1:2018, 11.6.2); or what keeps them from being that of
+/// one. How the images take turns doesn't matter. Image i fails at its event of the number that `fails` has for it,
+/// counted from 1 (0 or no number: it doesn't). Conditions: there are at most 65,536 images and 100,000,000 statements,
+/// and fewer than 4,294,967,295 bytes.
 pub fn judge_checked(
     alloc: Global,
     checked: &Checked,

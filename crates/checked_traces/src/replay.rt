@@ -27,7 +27,8 @@ use final_values::listing::{Listed, listed_variables};
 use std::alloc::Global;
 use trace_replay::replay::replay_code;
 
-// The report of the run that goes on behind a trace, where it is that of a run that begins so, with these names of the coarrays and the final values of these variables.
+// The report of the run that goes on behind a trace, where it is that of a run that begins so, with these names of the
+// coarrays and the final values of these variables.
 fn replay_begun(
     alloc: Global,
     begun: Begun,
@@ -63,7 +64,8 @@ fn replay_begun(
     }
 }
 
-// The report of the run that goes on behind a trace, where it is that of a run of an accepted program, with these names of the coarrays.
+// The report of the run that goes on behind a trace, where it is that of a run of an accepted program, with these names
+// of the coarrays.
 fn replay_trace(
     alloc: Global,
     checked: &Checked,
@@ -89,8 +91,10 @@ fn replay_trace(
     }
 }
 
-/// The bytes of a trace, replayed as one of a run of an accepted program on images, as it is told: the report of the run that goes on behind it, by rotation from 0 where no event of the trace ended it, with the
-/// names of the program's coarrays and the final values of its main program's variables; or what keeps the bytes from being the trace of a run. What is given, and the conditions, are as of `judge_checked`.
+/// The bytes of a trace, replayed as one of a run of an accepted program on images, as it is told: the report of the
+/// run that goes on behind it, by rotation from 0 where no event of the trace ended it, with the names of the program's
+/// coarrays and the final values of its main program's variables; or what keeps the bytes from being the trace of a
+/// run. What is given, and the conditions, are as of `judge_checked`.
 pub fn replay_checked(
     alloc: Global,
     checked: &Checked,

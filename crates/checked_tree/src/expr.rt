@@ -1,5 +1,5 @@
-//! Typed expressions (ISO/IEC 1539-1:2018, 10.1): every name is a place, every reference to a procedure is bound, and each
-//! expression has its type and rank.
+//! Typed expressions (ISO/IEC 1539-1:2018, 10.1): every name is a place, every reference to a procedure is bound, and
+//! each expression has its type and rank.
 
 use crate::data::{DataType, Local, Object};
 use caf_base::value::Kind;
@@ -43,12 +43,14 @@ impl Drop for TypedExpr {
 #[cycle(typed)]
 #[derive(Drop)]
 pub enum ExprForm {
-    /// An integer literal, a scalar named constant, a scalar part of one that is known, or a constant of ISO_FORTRAN_ENV.
+    /// An integer literal, a scalar named constant, a scalar part of one that is known, or a constant of
+    /// ISO_FORTRAN_ENV.
     Number(i64),
     Logical(bool),
     /// A variable or a part of one, or a part of a constant array.
     Designator(Designator),
-    /// A function of the program (15.5.1): its number among the procedures, and an argument for each dummy, in their order.
+    /// A function of the program (15.5.1): its number among the procedures, and an argument for each dummy, in their
+    /// order.
     Call {
         procedure: u32,
         arguments: Vec<Argument>,
@@ -60,8 +62,9 @@ pub enum ExprForm {
     Plus(Box<TypedExpr>),
     Minus(Box<TypedExpr>),
     Not(Box<TypedExpr>),
-    /// Two integers; the kind is the greater one of the two. Behind them, from the left, stand the further operators that take all before them as
-    /// their left operand; the kind of the whole is that of the last one. `**` has no link. The links are a list, since nothing bounds how many there are.
+    /// Two integers; the kind is the greater one of the two. Behind them, from the left, stand the further operators
+    /// that take all before them as their left operand; the kind of the whole is that of the last one. `**` has no
+    /// link. The links are a list, since nothing bounds how many there are.
     Arithmetic {
         operator: ArithmeticOperator,
         left: Box<TypedExpr>,
@@ -130,8 +133,8 @@ pub enum LogicalOperator {
     Neqv,
 }
 
-/// A designator (9.1): no subscripts is the whole object; else as many as its rank. A coindexed one has a selector, and its
-/// object is a coarray.
+/// A designator (9.1): no subscripts is the whole object; else as many as its rank. A coindexed one has a selector, and
+/// its object is a coarray.
 #[cycle(typed)]
 #[derive(Drop)]
 pub struct Designator {
@@ -190,8 +193,8 @@ impl Drop for SelectedTeam {
     }
 }
 
-/// A scalar variable that a statement sets last (STAT=, ACQUIRED_LOCK=) or an intrinsic subroutine sets: no coarray, its
-/// subscripts scalar integers, as many as its rank.
+/// A scalar variable that a statement sets last (STAT=, ACQUIRED_LOCK=) or an intrinsic subroutine sets: no coarray,
+/// its subscripts scalar integers, as many as its rank.
 #[cycle(typed)]
 pub struct ResultVariable {
     pub variable: Local,
@@ -236,8 +239,8 @@ pub enum WrittenOrder {
     Reversed,
 }
 
-/// The intrinsic functions, their arguments bound to the dummies (16.9). A team is of TEAM_TYPE, each other argument an integer
-/// scalar where nothing else is said.
+/// The intrinsic functions, their arguments bound to the dummies (16.9). A team is of TEAM_TYPE, each other argument an
+/// integer scalar where nothing else is said.
 #[cycle(typed)]
 #[derive(Drop)]
 pub enum Intrinsic {
@@ -289,7 +292,8 @@ pub enum Intrinsic {
     ThisImage {
         team: Option<Box<TypedExpr>>,
     },
-    /// `THIS_IMAGE(COARRAY, DIM [, TEAM])`: subscripts of the coarray aren't evaluated. `order` is that of `dim` and `team`.
+    /// `THIS_IMAGE(COARRAY, DIM [, TEAM])`: subscripts of the coarray aren't evaluated. `order` is that of `dim` and
+    /// `team`.
     ThisCosubscript {
         coarray: u32,
         dim: Box<TypedExpr>,

@@ -10,3 +10,4 @@ pub mod Replying
 pub mod Readying
 pub mod Acting
 pub mod Starting
+pub mod Inerting

@@ -10,6 +10,7 @@ ghost use Rattle.coarray_memory.specs.Memories.{declared_at, store_of, fresh_mad
 use crate::prepare::fresh_cells;
 use crate::section::{has_cells, is_section};
 use crate::store::Store;
+use caf_base::limits::COARRAY_CELLS;
 use caf_base::listing::Listing;
 use caf_base::place::ImageNo;
 use caf_base::refusal::NoMemory;
@@ -27,7 +28,8 @@ pub enum Holding {
     Events,
 }
 
-/// A declared coarray. An allocatable one has no cells before its allocation; a static one has so many, with first values if it holds values.
+/// A declared coarray. An allocatable one has no cells before its allocation; a static one has so many, with first
+/// values if it holds values.
 #[derive(Drop)]
 pub struct Coarray {
     pub holding: Holding,
@@ -204,7 +206,7 @@ fn can_be_allocated(coarrays: &Vec<Coarray>, coarray: u32) -> bool
 fn is_one(span: &Span) -> bool
     ensures { result ≡ is_one_cell span.now }
 {
-    span.dims.is_empty() && span.start < 65_536
+    span.dims.is_empty() && span.start < COARRAY_CELLS
 }
 
 impl Declarations {

@@ -1,4 +1,5 @@
-//! The memory of an image: cells that are overwritten, with a history, for proofs, that says what they hold (ISO/IEC 1539-1:2018, 5.4.8, 16.5, 19.6.5).
+//! The memory of an image: cells that are overwritten, with a history, for proofs, that says what they hold (ISO/IEC
+//! 1539-1:2018, 5.4.8, 16.5, 19.6.5).
 
 ghost use Rattle.std.specs.Prelude.{◌≡◌, ◌||◌, [], map, IfOk};
 ghost use Rattle.object_rules.specs.Cells.{size_after, value_after, is_mark};
@@ -6,6 +7,7 @@ ghost use Rattle.object_rules.specs.MemoryRules.{value_there};
 ghost use Rattle.coarray_memory.specs.Memories.{stored_at, fits_now, comes_now, reply_now, store_of, declared_of, first_of, AreDeclared};
 
 use crate::coarray::{Coarray, Declarations};
+use crate::inert::is_inert;
 use crate::prepare::{Prepared, dead_reply_of, first_cells, reply_of, section_of};
 use crate::store::{
     Store, act, event_can_come, has_event, has_place, is_locked, is_there, size_of, value_of,
@@ -20,6 +22,7 @@ use caf_events::exchange::Exchange;
 use caf_events::history::History;
 use caf_events::object::Object;
 use caf_events::reply::Reply;
+use inert_steps::inert::Inert;
 use std::alloc::Global;
 use std::marker::Model;
 use std::mem;
@@ -174,6 +177,13 @@ impl Object for Memory {
         self.marked = is_marked_by(self.marked, &ask);
         drop(ask);
         self.history.append(image, told, line, after)
+    }
+}
+
+impl Inert for Memory {
+    fn is_inert(&self, image: ImageNo, event: &Event) -> bool {
+        let _ = image;
+        is_inert(event.told())
     }
 }
 

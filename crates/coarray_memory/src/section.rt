@@ -8,11 +8,16 @@ ghost use Rattle.object_rules.specs.SpanTests.{is_cell_offset, is_span};
 ghost use Rattle.coarray_memory.specs.Sections.{cell_in, cells_in, put_front, found_if, row_from, is_between, IsCount};
 
 use caf_base::few::Few;
+use caf_base::limits::{ACCESS_CELLS, COARRAY_CELLS};
 use caf_base::refusal::NoMemory;
 use caf_base::span::Span;
 use std::alloc::Global;
 
-/// The offsets of the span's cells in array element order (ISO/IEC 1539-1:2018, 9.5.3.2 and 9.5.3.3), where each is one of so many cells.
+// The most cells that a coarray can have.
+const CELLS: u64 = COARRAY_CELLS as u64;
+
+/// The offsets of the span's cells in array element order (ISO/IEC 1539-1:2018, 9.5.3.2 and 9.5.3.3), where each is one
+/// of so many cells.
 pub fn section_within(
     alloc: Global,
     span: &Span,
@@ -137,7 +142,7 @@ pub fn is_section(span: &Span) -> bool
 {
     match span.dims.as_slice() {
         // One cell, as most accesses have.
-        [] => span.start < 65_536,
+        [] => span.start < COARRAY_CELLS,
         dims => are_wide(dims) && are_few(dims) && lie_within(span.start, dims),
     }
 }
@@ -154,7 +159,7 @@ fn are_few(dims: &[(u32, i32)]) -> bool
     ensures { (start : ℤ) → result ≡ nat_le (length (offsets_from start dims.now)) 4096 }
 {
     match count_of(dims) {
-        Some(count) => count <= 4096,
+        Some(count) => count <= u64::from(ACCESS_CELLS),
         None => false,
     }
 }
@@ -164,7 +169,7 @@ fn lie_within(start: u32, dims: &[(u32, i32)]) -> bool
     requires { list_all (λ d. nat_le 2 d.0) dims.now ≡ true }
     ensures { result ≡ list_all is_cell_offset (offsets_from (pos start) dims.now) }
 {
-    lie_between(start, dims, 0, 65_536)
+    lie_between(start, dims, 0, CELLS)
 }
 
 // Whether each cell lies from one offset on and before another: of a row it is enough that its ends do.
@@ -179,7 +184,7 @@ fn lie_between(start: u32, dims: &[(u32, i32)], low: u64, high: u64) -> bool
     };
     let reach = u64::from(*count - 1) * u64::from(step.unsigned_abs());
     if *step < 0 {
-        lie_between(start, dims, (low + reach).min(65_536), high)
+        lie_between(start, dims, (low + reach).min(CELLS), high)
     } else {
         lie_between(start, dims, low, high.saturating_sub(reach))
     }

@@ -11,6 +11,7 @@ use crate::cells::write_cells;
 use crate::prepare::Prepared;
 use atomic_subs::atomic::atomic_reply;
 use caf_base::few::Few;
+use caf_base::limits::COARRAY_CELLS;
 use caf_base::place::ImageNo;
 use caf_base::refusal::NoMemory;
 use caf_base::span::Span;
@@ -79,7 +80,7 @@ fn cells_of(store: &Store) -> u64
 pub fn has_place(stores: &[Store], cells: u32) -> bool
     ensures { result ≡ nat_le (total_of stores.now + cells) 65536 }
 {
-    let mut left: u64 = 65_536;
+    let mut left = u64::from(COARRAY_CELLS);
     for store in stores {
         let size = cells_of(store);
         if size > left {

@@ -1,4 +1,5 @@
-//! Bounds and sections of coarrays, and whether they are allocated here (ISO/IEC 1539-1:2018, 9.5.3, 9.6; ALLOCATED, LBOUND and UBOUND in 16.9).
+//! Bounds and sections of coarrays, and whether they are allocated here (ISO/IEC 1539-1:2018, 9.5.3, 9.6; ALLOCATED,
+//! LBOUND and UBOUND in 16.9).
 
 ghost use Rattle.std.specs.Prelude.{◌≡◌, ◌<◌, ◌≤◌, ◌+◌, length};
 ghost use Rattle.image_acts.specs.Acts as acts;
@@ -7,13 +8,9 @@ ghost use Rattle.image_acts.specs.Operate.Bounds.{bounds_effect};
 ghost use Rattle.image_state.specs.Acting.{Acts};
 
 use crate::forms::numbers_of_form;
+use caf_events::fault::{NOT_ALLOCATED, ROOM};
 use image_state::state::{Acting, ImageState};
 use number_operators::operators::truth;
-
-/// The numbers of the run faults NotAllocated and Room.
-const NOT_ALLOCATED: u32 = 6;
-
-const ROOM: u32 = 11;
 
 /// Does the step `CoSection`.
 #[tactic(auto, using(crate::proofs::OwnBounds::section_missing, crate::proofs::OwnBounds::section_faults, crate::proofs::OwnBounds::section_placed))]

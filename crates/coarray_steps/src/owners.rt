@@ -14,12 +14,10 @@ ghost use Rattle.coarray_tables.specs.Owns.{own_at};
 ghost use Rattle.coarray_tables.specs.Steps.{made_team};
 ghost use Rattle.image_state.specs.Acting.{Acts, with_core};
 
+use caf_events::fault::CELLS;
 use coarray_tables::images::has_few_cells;
 use image_state::state::{Acting, ImageState};
 use team_tables::named::team_of;
-
-/// The number of the run fault Cells.
-const CELLS: u32 = 9;
 
 /// How many numbers a place of this rank is.
 fn place_size(rank: u32) -> usize
@@ -100,7 +98,8 @@ pub fn owner(image: &mut ImageState, coarray: u32, rank: u32, corank: u32) -> Ac
     }
 }
 
-/// The index of the image that the cosubscripts in the top array name in a team, as a number of the stack; or a run fault.
+/// The index of the image that the cosubscripts in the top array name in a team, as a number of the stack; or a run
+/// fault.
 #[tactic(auto, using(crate::proofs::OwnImages::index_small))]
 fn index_among(image: &ImageState, coarray: u32, corank: u32, team: u64) -> Result<i64, u32>
     ensures { as_found result ≡ with_found (index_found (own_at image.now.core.coarrays coarray) corank (elements_on_top image.now.core.arrays) (length (members image.now.core team))) (λ i. found (pos i)) }

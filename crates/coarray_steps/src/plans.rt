@@ -9,12 +9,10 @@ ghost use Rattle.image_acts.specs.Operate.Allocating.{allocation_effect, bounds_
 ghost use Rattle.coarray_tables.specs.Owns.{sum_of_cells};
 ghost use Rattle.image_state.specs.Acting.{Acts};
 
+use caf_events::fault::ROOM;
 use coarray_tables::plans::{sum_alone, sum_with};
 use image_state::state::{Acting, ImageState};
 use number_operators::operators::truth;
-
-/// The number of the run fault Room.
-const ROOM: u32 = 11;
 
 /// A plan of an ALLOCATE: whether all is well so far, as a truth value, and the coarray cells and local cells in use.
 #[derive(Clone, Copy)]

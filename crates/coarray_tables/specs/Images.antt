@@ -8,8 +8,8 @@ use Rattle.image_acts.specs.Statuses.{most_access_cells}
 use Rattle.image_acts.specs.Teams.{cosubscripts_behind, index_of, member_at}
 use Rattle.array_places.specs.Images.{cosubscript_found}
 
--- The member that an index names in a team in which the coarray is established or not, for an access to the section at a place: no index is a fault where the
--- section has cells.
+-- The member that an index names in a team in which the coarray is established or not, for an access to the section at
+-- a place: no index is a fault where the section has cells.
 abbrev pub selected : Bool → List ℕ → Place → ℕ → Found ℕ
 selected established ms p i =
     cond (not (i == 0) || (cells_of p == 0)) (cond established (cond (nat_le (cells_of p) most_access_cells) (found (member_at ms i)) (at_fault cells_fault)) (at_fault not_established)) (at_fault cobounds_fault)

@@ -43,7 +43,8 @@ are_cobounds [] = true
 are_cobounds (l ∷ []) = true
 are_cobounds (l ∷ u ∷ vs) = int_le l u && are_cobounds vs
 
--- Whether a coarray may be allocated with the bounds of its rank and cobounds behind them: it isn't allocated here, and all of them are numbers of kind 4.
+-- Whether a coarray may be allocated with the bounds of its rank and cobounds behind them: it isn't allocated here, and
+-- all of them are numbers of kind 4.
 abbrev pub may_be_made : Option Own → ℕ → List ℤ → Bool
 may_be_made o rank vs = not (is_some o) && (list_all (fits_kind kinds.I4) vs && are_cobounds (drop (bounds_size rank) vs))
 
@@ -52,8 +53,8 @@ abbrev pub last_from : ℤ → List ℤ → ℤ
 last_from d [] = d
 last_from d (l ∷ ls) = last_from l ls
 
--- With a coarray of these bounds and cobounds that was allocated in a team; none where its rank or corank is too great, or more coarray cells would be in use than
--- there may be.
+-- With a coarray of these bounds and cobounds that was allocated in a team; none where its rank or corank is too great,
+-- or more coarray cells would be in use than there may be.
 abbrev pub noted_in : Owned → ℕ → List (ℤ × ℤ) → List ℤ → ℕ → Option Owned
 noted_in a k bs cs t =
     cond (nat_le (a.cells + size_of bs) most_cells) (Some (with_own a k (Some (record { bounds = bs; lowers = lowers_in cs; extents = extents_in cs; team = t })) (a.cells + size_of bs))) None

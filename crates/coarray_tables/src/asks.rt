@@ -1,4 +1,5 @@
-//! What asks of coarrays hold: the cells of an access, and the coarrays of an ALLOCATE statement (ISO/IEC 1539-1:2018, 9.6, 9.7.1).
+//! What asks of coarrays hold: the cells of an access, and the coarrays of an ALLOCATE statement (ISO/IEC 1539-1:2018,
+//! 9.6, 9.7.1).
 
 ghost use Rattle.std.specs.Prelude.{◌≡◌, ◌<◌, ◌≤◌, ◌+◌, ◌*◌, ◌++◌, ◌∷◌, [], min, length, option_copied, IfOk, OnOk};
 ghost use Rattle.std.specs.Option.{option_map};

@@ -4,11 +4,12 @@ ghost use Rattle.std.specs.Prelude.{◌≡◌, ◌+◌, ◌*◌, ◌^◌, ◌<�
 ghost use Rattle.std.specs.Option.{option_map};
 ghost use Rattle.image_acts.specs.Frames.{pairs_in, pairs_numbers};
 ghost use Rattle.image_acts.specs.Operate.Allocating.{bounds_size, cobounds_size};
+ghost use Rattle.image_acts.specs.Operate.Asking.{has_cell};
 ghost use Rattle.coarray_tables.specs.Steps.{made_team};
 ghost use Rattle.coarray_tables.specs.Owns.{own_at, own_of, owns_of, is_of_team, noted, noted_in, freed};
 
 use crate::few::Few;
-use crate::shape::{Shape, cells_with, cells_without, put, shape_at, whole};
+use crate::shape::{Shape, cells_with, cells_without, is_within, put, shape_at, whole};
 use std::marker::Model;
 
 /// The coarrays of one image, in declared order, and how many coarray cells are in use.
@@ -55,6 +56,16 @@ impl Coarrays {
         self.shape(coarray).is_some()
     }
 
+    /// Whether it is, and has a cell at this offset.
+    pub fn has_cell(&self, coarray: u32, offset: u32) -> bool
+        ensures { result ≡ has_cell (own_at self.now.coarrays coarray) offset }
+    {
+        match self.shape(coarray) {
+            Some(shape) => is_within(shape.bounds.as_slice(), offset),
+            None => false,
+        }
+    }
+
     /// The team in which it was allocated.
     pub fn team_of(&self, coarray: u32) -> Option<u64>
         ensures { result ≡ option_map (λ o. o.team) (own_at self.now.coarrays coarray) }
@@ -92,8 +103,9 @@ impl Coarrays {
         }
     }
 
-    /// Notes that a coarray was allocated in this team, with the bounds of its rank and the cobounds of its corank, whether or not it was before. Where the rank or the corank
-    /// is above 3, or more than 65,536 coarray cells would be in use, nothing is noted, and the answer is false: the run fault Room.
+    /// Notes that a coarray was allocated in this team, with the bounds of its rank and the cobounds of its corank,
+    /// whether or not it was before. Where the rank or the corank is above 3, or more than 65,536 coarray cells would
+    /// be in use, nothing is noted, and the answer is false: the run fault Room.
     pub fn note_made(
         &mut self,
         coarray: u32,

@@ -1,4 +1,5 @@
-//! Cobounds as numbers: a lower and an upper one for each codimension, and a lower one for the last (ISO/IEC 1539-1:2018, 5.4.7).
+//! Cobounds as numbers: a lower and an upper one for each codimension, and a lower one for the last (ISO/IEC
+//! 1539-1:2018, 5.4.7).
 
 ghost use Rattle.std.specs.Prelude.{◌≡◌, ◌<◌, ◌+◌, ◌*◌, ◌-◌, ◌/◌, ◌%◌, ◌^◌, ◌∷◌, ◌+ℤ◌, ◌-ℤ◌, ◌&&◌, pos, min, [], length, slice_get, cond, int_le, nat_lt, unsigned_abs, Some, None};
 ghost use Rattle.std.specs.List.{list_all};
@@ -103,7 +104,8 @@ fn order_behind(order: u64, weight: u64, digit: u64) -> u64
     order.saturating_add(weight.saturating_mul(digit))
 }
 
-/// The place from 0 of the image that cosubscripts name, or the largest number of 64 bits where it is larger; nothing where they aren't within their cobounds.
+/// The place from 0 of the image that cosubscripts name, or the largest number of 64 bits where it is larger; nothing
+/// where they aren't within their cobounds.
 pub(crate) fn order_of(cobounds: &[i64], subscripts: &[i64]) -> Option<u64>
     ensures { result ≡ order_found 0 1 (lowers_in cobounds.now) (extents_in cobounds.now) subscripts.now }
 {

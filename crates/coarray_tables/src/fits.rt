@@ -35,7 +35,8 @@ fn has_upper(lower: &i64, extent: &i64) -> bool
     is_wide_of_kind_4(&upper_of(lower, extent))
 }
 
-/// Whether there are as many coextents as lower cobounds but the last, none is empty, and all cobounds are numbers of kind 4.
+/// Whether there are as many coextents as lower cobounds but the last, none is empty, and all cobounds are numbers of
+/// kind 4.
 fn are_first_cobounds(lowers: &[i64], extents: &[i64]) -> bool
     ensures { result ≡ are_first_cobounds lowers.now extents.now }
 {
@@ -57,7 +58,8 @@ fn are_first_cobounds(lowers: &[i64], extents: &[i64]) -> bool
     false
 }
 
-/// Whether a coarray is an allocatable one, or has three dimensions and three codimensions at most, whose cobounds are numbers of kind 4.
+/// Whether a coarray is an allocatable one, or has three dimensions and three codimensions at most, whose cobounds are
+/// numbers of kind 4.
 fn is_fit(coarray: &Coarray) -> bool
     ensures { result ≡ is_fit coarray.now }
 {
@@ -101,8 +103,8 @@ fn fit_together(tables: &[Coarray]) -> bool
     true
 }
 
-/// Whether a store can be made of these tables: each coarray that is there from the start has three dimensions and three codimensions at most, whose cobounds are numbers of
-/// kind 4, and all have no more cells than an image may have.
+/// Whether a store can be made of these tables: each coarray that is there from the start has three dimensions and
+/// three codimensions at most, whose cobounds are numbers of kind 4, and all have no more cells than an image may have.
 pub fn are_fit(tables: &[Coarray]) -> bool
     ensures value { result ≡ are_fit 0 tables.now }
     ensures few { IsTrue result → AreFew tables.now }

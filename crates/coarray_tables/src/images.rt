@@ -16,22 +16,11 @@ use crate::coarrays::Coarrays;
 use crate::cobounds::{cosubscript_at, order_of};
 use array_places::bounds::in_kind;
 use array_places::place::{cells_in, natural};
-
-/// The numbers of run faults.
-const BOUNDS: u32 = 3;
-
-const COBOUNDS: u32 = 5;
-
-const NOT_ALLOCATED: u32 = 6;
-
-const NOT_ESTABLISHED: u32 = 7;
-
-const CELLS: u32 = 9;
-
-const SHAPE: u32 = 12;
+use caf_base::limits::ACCESS_CELLS;
+use caf_events::fault::{BOUNDS, CELLS, COBOUNDS, NOT_ALLOCATED, NOT_ESTABLISHED, SHAPE};
 
 /// The most cells of one access.
-const MOST_ACCESS_CELLS: u64 = 4096;
+const MOST_ACCESS_CELLS: u64 = ACCESS_CELLS as u64;
 
 /// The index of the image that cosubscripts name among so many, or 0 where they name none.
 fn index_among(cobounds: &[i64], subscripts: &[i64], images: u64) -> u64
@@ -70,8 +59,8 @@ pub fn has_no_cells(place: &[i64]) -> bool
     cells_in(place) == 0
 }
 
-/// The image with an index among these members, for an access to the section at a place; or the run fault CoBounds (an index of 0, where the section has cells),
-/// NotEstablished or Cells.
+/// The image with an index among these members, for an access to the section at a place; or the run fault CoBounds (an
+/// index of 0, where the section has cells), NotEstablished or Cells.
 fn select(index: u64, is_established: bool, members: &[u32], place: &[i64]) -> Result<u32, u32>
     ensures { as_found result ≡ selected is_established members.now (place_in place.now) index }
 {
@@ -99,9 +88,10 @@ impl Coarrays {
         }
     }
 
-    /// The image that cosubscripts of a coarray name among the members of a team, for an access to the section at a place: its number in the run, 0 where the section
-    /// has no cells and they name none. Or the run fault that is found first: NotEstablished (the coarray isn't allocated here), CoBounds, NotEstablished (by its `made_team` it isn't
-    /// established in the team), Cells (more than 4,096).
+    /// The image that cosubscripts of a coarray name among the members of a team, for an access to the section at a
+    /// place: its number in the run, 0 where the section has no cells and they name none. Or the run fault that is
+    /// found first: NotEstablished (the coarray isn't allocated here), CoBounds, NotEstablished (by its `made_team` it
+    /// isn't established in the team), Cells (more than 4,096).
     pub fn owner(
         &self,
         coarray: u32,
@@ -121,8 +111,8 @@ impl Coarrays {
         }
     }
 
-    /// The index of the image that cosubscripts of a coarray name in a team of so many images, 0 where they name none (IMAGE_INDEX, 16.9.97); or the run fault Shape (their number
-    /// isn't the corank of the step) or NotAllocated.
+    /// The index of the image that cosubscripts of a coarray name in a team of so many images, 0 where they name none
+    /// (IMAGE_INDEX, 16.9.97); or the run fault Shape (their number isn't the corank of the step) or NotAllocated.
     pub fn image_index(
         &self,
         coarray: u32,
@@ -141,7 +131,8 @@ impl Coarrays {
         }
     }
 
-    /// The cosubscript with this number from 1 of the image with an index (THIS_IMAGE, 16.9.190); an index of 0 is taken as 1. Or the run fault NotAllocated, Bounds or Overflow.
+    /// The cosubscript with this number from 1 of the image with an index (THIS_IMAGE, 16.9.190); an index of 0 is
+    /// taken as 1. Or the run fault NotAllocated, Bounds or Overflow.
     pub fn cosubscript(&self, coarray: u32, index: u64, dim: &i64) -> Result<i64, u32>
         ensures { as_found result ≡ own_cosubscript (own_at self.now.coarrays coarray) (index - 1) dim.now }
     {
@@ -152,7 +143,8 @@ impl Coarrays {
     }
 }
 
-/// The cosubscript with this number from 1 of the image that is so many images behind the first, or the run fault Bounds or Overflow.
+/// The cosubscript with this number from 1 of the image that is so many images behind the first, or the run fault
+/// Bounds or Overflow.
 fn numbered(cobounds: &[i64], images: u64, dim: &i64) -> Result<i64, u32>
     ensures { as_found result ≡ cosubscript_found (cosubscripts_behind (lowers_in cobounds.now) (extents_in cobounds.now) images) dim.now }
 {

@@ -1,4 +1,5 @@
-//! Laws of the steps on coarrays: what each act does to a core, by the definitions of this crate. Each is the contract of a function that does nothing.
+//! Laws of the steps on coarrays: what each act does to a core, by the definitions of this crate. Each is the contract
+//! of a function that does nothing.
 
 ghost use Rattle.std.specs.Prelude.{◌≡◌, ◌+◌, ◌-◌, ℕ, pos, min, None, Some, length, take};
 ghost use Rattle.caf_base.specs.Arithmetic.{natural};

@@ -1,4 +1,5 @@
-//! Plans of an ALLOCATE statement (ISO/IEC 1539-1:2018, 9.7.1): whether all is well, and the cells that would be in use.
+//! Plans of an ALLOCATE statement (ISO/IEC 1539-1:2018, 9.7.1): whether all is well, and the cells that would be in
+//! use.
 
 ghost use Rattle.std.specs.Prelude.{◌≡◌, ◌≤◌, length};
 ghost use Rattle.coarray_types.specs.Places.{size_of};
@@ -15,8 +16,8 @@ use array_places::place::natural;
 const TOO_MANY: u128 = 65_537;
 
 impl Coarrays {
-    /// Whether a coarray may be allocated with the bounds of its rank and cobounds behind them: it isn't allocated here, all are numbers of kind 4, and no upper
-    /// cobound is below its lower one.
+    /// Whether a coarray may be allocated with the bounds of its rank and cobounds behind them: it isn't allocated
+    /// here, all are numbers of kind 4, and no upper cobound is below its lower one.
     pub fn may_be_made(&self, coarray: u32, rank: u32, numbers: &[i64]) -> bool
         requires { bounds_size rank ≤ length numbers.now }
         ensures { result ≡ may_be_made (own_at self.now.coarrays coarray) rank numbers.now }
@@ -27,7 +28,8 @@ impl Coarrays {
     }
 }
 
-/// The sum of cells of a plan with an array of these bounds more; one cell too many stands for any number that is too great.
+/// The sum of cells of a plan with an array of these bounds more; one cell too many stands for any number that is too
+/// great.
 pub fn sum_with(sum: &i64, bounds: &[i64]) -> i64
     ensures { result ≡ sum_of_cells sum.now (size_of (pairs_in bounds.now)) }
 {

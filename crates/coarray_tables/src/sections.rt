@@ -31,7 +31,8 @@ fn triplets_of(form: u32) -> u32
     triplet(form % 10) + triplet(form / 10 % 10) + triplet(form / 100 % 10)
 }
 
-/// One cell in each dimension of a section of this form: what stands in the place of one where the coarray isn't allocated here.
+/// One cell in each dimension of a section of this form: what stands in the place of one where the coarray isn't
+/// allocated here.
 fn no_place(form: u32) -> PlaceNumbers
     ensures { result ≡ place_numbers (places.no_place (triplets (digits form))) }
 {
@@ -67,8 +68,9 @@ impl Coarrays {
         }
     }
 
-    /// The numbers of the place of an element or a section of a coarray, by a form and the numbers of its subscripts in the order in which they were put down; or the run fault
-    /// Room, ZeroStep or Bounds that is found first. Bounds of a coarray that isn't allocated here are known to nobody: its section is one cell.
+    /// The numbers of the place of an element or a section of a coarray, by a form and the numbers of its subscripts in
+    /// the order in which they were put down; or the run fault Room, ZeroStep or Bounds that is found first. Bounds of
+    /// a coarray that isn't allocated here are known to nobody: its section is one cell.
     pub fn section(&self, coarray: u32, form: u32, numbers: &[i64]) -> Result<PlaceNumbers, u32>
         ensures found { IfOk result (λ p. numbers_of (own_place (own_at self.now.coarrays coarray) (digits form) numbers.now) ≡ found p) }
         ensures faults { IfErr result (λ k. numbers_of (own_place (own_at self.now.coarrays coarray) (digits form) numbers.now) ≡ at_fault k) }

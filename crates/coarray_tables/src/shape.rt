@@ -1,15 +1,16 @@
 //! What is kept of a coarray that is allocated here.
 
-ghost use Rattle.std.specs.Prelude.{◌≡◌, ◌+◌, ◌-◌, Option, Some, None, cond, nat_le, option_copied, slice_get, slice_set};
+ghost use Rattle.std.specs.Prelude.{◌≡◌, ◌+◌, ◌-◌, Option, Some, None, cond, nat_le, nat_lt, option_copied, slice_get, slice_set};
 ghost use Rattle.coarray_types.specs.Places.{size_of};
 ghost use Rattle.image_acts.specs.Frames.{joined, pairs_in, pairs_numbers};
 ghost use Rattle.image_acts.specs.Statuses.{most_cells};
 
 use crate::few::Few;
 use array_places::bounds::cells_between;
+use caf_base::limits::COARRAY_CELLS;
 
 /// The most coarray cells of an image.
-const MOST_CELLS: u128 = 65_536;
+const MOST_CELLS: u128 = COARRAY_CELLS as u128;
 
 /// The bounds and cobounds of a coarray as they stood on the stack, and the team in which it was allocated.
 #[derive(Drop)]
@@ -56,6 +57,13 @@ pub(crate) fn cells_with(cells: u64, bounds: &[i64]) -> Option<u64>
     } else {
         None
     }
+}
+
+/// Whether an array of these bounds has a cell at this offset.
+pub(crate) fn is_within(bounds: &[i64], offset: u32) -> bool
+    ensures { result ≡ nat_lt offset (size_of (pairs_in bounds.now)) }
+{
+    u128::from(offset) < cells_between(bounds)
 }
 
 /// The cells in use without an array of these bounds.

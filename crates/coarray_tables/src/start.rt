@@ -118,8 +118,8 @@ fn first_cells(shapes: &[Option<Shape>]) -> u64
 }
 
 impl Coarrays {
-    /// The coarrays of a program as it begins: each that is no allocatable one is allocated in the initial team. The room for them is made here; nothing that is done with them
-    /// takes more.
+    /// The coarrays of a program as it begins: each that is no allocatable one is allocated in the initial team. The
+    /// room for them is made here; nothing that is done with them takes more.
     pub fn new(alloc: Global, tables: &[Coarray]) -> Result<Coarrays, NoMemory>
         requires few { AreFew tables.now }
         requires cells { sum_by own_size (map first_own tables.now) < 2 ^ 64 }

@@ -5,7 +5,8 @@ use Rattle.std.specs.Int.{w32}
 use Rattle.std.specs.Int.RustNames.{unsigned_abs}
 use Rattle.coarray_types.specs.Distances.{distance}
 
--- lower cobounds, and the coextents of all but the last of one to more codimensions: none is empty, and all cobounds are numbers of kind 4
+-- lower cobounds, and the coextents of all but the last of one to more codimensions: none is empty, and all cobounds
+-- are numbers of kind 4
 abbrev pub HasCobounds : List ℤ → List ℤ → Type 0
 HasCobounds [] es = ⊥
 HasCobounds (l ∷ ls) [] = FitsSigned w32 l × (ls ≡ [])

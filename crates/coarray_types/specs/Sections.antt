@@ -1,10 +1,11 @@
--- Sections by subscript triplets (ISO/IEC 1539-1:2018, 9.5.3.3): which elements of an array they have, in which order, and the
--- dimensions of their spans.
+-- Sections by subscript triplets (ISO/IEC 1539-1:2018, 9.5.3.3): which elements of an array they have, in which order,
+-- and the dimensions of their spans.
 use Rattle.std.specs.Prelude.{ℕ, ◌*◌, ◌==◌, cond, ℤ, pos, ◌*ℤ◌, List, [], ◌∷◌, ◌++◌, map}
 use Rattle.caf_base.specs.Spans.{row_of}
 use Rattle.coarray_types.specs.Places.{extent_of}
 
--- a subscript triplet: the first subscript, how many there are, and the stride from each to the next; a single subscript is a triplet of one
+-- a subscript triplet: the first subscript, how many there are, and the stride from each to the next; a single
+-- subscript is a triplet of one
 pub record Triplet : Type 0 where
   pub first : ℤ
   pub count : ℕ
@@ -29,7 +30,8 @@ elements_of (t ∷ ts) = crossed (row_of t.count t.stride t.first) (elements_of 
 abbrev pub with_dim : ℕ → ℤ → List (ℕ × ℤ) → List (ℕ × ℤ)
 with_dim count step dims = cond (count == 1) dims ((count, step) ∷ dims)
 
--- the dimensions of a section's span: the stride, in cells, where neighbours of the first dimension are so many cells apart
+-- the dimensions of a section's span: the stride, in cells, where neighbours of the first dimension are so many cells
+-- apart
 abbrev pub dims_of : ℕ → List (ℤ × ℤ) → List Triplet → List (ℕ × ℤ)
 dims_of apart [] ts = []
 dims_of apart (d ∷ ds) [] = []

@@ -7,8 +7,8 @@ use crate::digits::{above, apart, coextent, joined};
 use caf_base::short::Short;
 
 /// The cobounds of a coarray: of each codimension the lower cobound, and of each but the last the coextent. The
-/// coextents are its coshape, as extents are a shape (ISO/IEC 1539-1:2018, 5.4.6, and COSHAPE in 16.9); the last one has
-/// no limit (8.5.6.3). The calls here want one codimension or more, cobounds of kind 4 and no coextent below 1
+/// coextents are its coshape, as extents are a shape (ISO/IEC 1539-1:2018, 5.4.6, and COSHAPE in 16.9); the last one
+/// has no limit (8.5.6.3). The calls here want one codimension or more, cobounds of kind 4 and no coextent below 1
 /// (`HasCobounds`). Up to 3 codimensions lie in place; the 3 is this project's, the standard has up to 15.
 #[derive(Drop, Debug)]
 pub struct CoShape {

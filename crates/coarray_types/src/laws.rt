@@ -1,4 +1,5 @@
-//! Laws of array element order: a subscript list and its offset, and a cosubscript list and its image, belong to each other.
+//! Laws of array element order: a subscript list and its offset, and a cosubscript list and its image, belong to each
+//! other.
 
 ghost use Rattle.std.specs.Prelude.{◌≡◌, ◌≤◌, ◌<◌, ℕ, ℤ, pos, List, length, map, All};
 ghost use Rattle.caf_base.specs.Spans.{offsets_from};

@@ -283,7 +283,8 @@ high_all code front (x ∷ xs) =
           (subst (λ n. High {A = _} 0 (λ x. 0) (λ x. 0) (λ x. true) (λ p. slice_get ((front ++ x ∷ []) ++ xs) p) code n xs) l (high_all code (front ++ x ∷ []) xs)),
     )
 
--- Made code has the heights of its program: no step of it takes more than stands there, and all ways to a place find as many values there.
+-- Made code has the heights of its program: no step of it takes more than stands there, and all ways to a place find as
+-- many values there.
 pub made_is_level : {A : Type 0} (tested : ℕ) (takes leaves : A → ℕ) (ends : A → Bool) (last : A) (l : ℕ) (bs : List (Steps A)) → takes last ≡ 0 → ends last ≡ true → AllEven tested takes leaves bs → IsLevel tested takes leaves ends (program_code last l bs) (λ p. slice_get (program_heights tested takes leaves bs) p)
 made_is_level tested takes leaves ends last l bs t e b p h m i f o =
     let H = λ (p : ℕ). slice_get (program_heights tested takes leaves bs) p in

@@ -13,7 +13,8 @@ module _ {A C Q R : Type 0} (L : Language A C Q R) (height : C → ℕ) (tested 
   Moves h t l e (ends_with q) = Unit {0}
   Moves h t l e stuck = Unit {0}
 
-  -- a truth value that was taken is so many of them, or all where there are fewer: one of the numbers, none of another part
+  -- a truth value that was taken is so many of them, or all where there are fewer: one of the numbers, none of another
+  -- part
   abbrev pub TakesTested : ℕ → Tested C → Type 0
   TakesTested h no_value = Unit {0}
   TakesTested h (holds d) = height d ≤ h - tested

@@ -1,4 +1,5 @@
--- The heights of the code that a program is made into. At the start of each statement nothing of its body stands on the stack.
+-- The heights of the code that a program is made into. At the start of each statement nothing of its body stands on the
+-- stack.
 use Rattle.std.specs.Prelude.{ℕ, ◌+◌, ◌-◌, ◌≤◌, ◌≡◌, List, [], ◌∷◌, ◌++◌}
 use Rattle.walk_theory.specs.Syntax.{Parts, end_parts, value, act, enter, either, Form, simple, choose, loop, around, exit, cycle, return, Branches, otherwise, branch, Steps, stop, also}
 

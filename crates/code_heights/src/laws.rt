@@ -10,8 +10,8 @@ ghost use Rattle.code_heights.specs.Heights.{IsSized, IsLevel, Piled, Stands, Ke
 ghost use Rattle.code_heights.specs.MadeHeights.{AllEven, program_heights};
 ghost use Rattle.code_heights.specs.Left.{left, LeavesLess};
 
-/// A language, and one part of the stack of its cores: how many values stand there, how many a test takes, and how many each act takes and
-/// leaves. Acts that end a program go nowhere.
+/// A language, and one part of the stack of its cores: how many values stand there, how many a test takes, and how many
+/// each act takes and leaves. Acts that end a program go nowhere.
 pub trait Stacked {
     ghost Act: { Type 0 };
 
@@ -43,14 +43,15 @@ pub fn law_code_keeps_to_its_heights<S: Stacked>()
         → Keeps {A = S.Act} S.height code heights {Q = S.Ask} {R = S.Reply} (code_step S.language code S.limit d) }
 {}
 
-/// Where no height is above `most`, no more than `most` for each body that waits, and for the one that runs, stand on the stack.
+/// Where no height is above `most`, no more than `most` for each body that waits, and for the one that runs, stand on
+/// the stack.
 pub fn law_heights_bound_the_stack<S: Stacked>()
     ensures { (code : List (Line S.Act)) (heights : ℕ → Option ℕ) (most : ℕ) → ((p h : ℕ) → heights p ≡ Some h → h ≤ most)
         → (d : State S.Core) → Piled {A = S.Act} S.height code heights d → S.height d.core ≤ most * (length d.returns + 1) }
 {}
 
-/// The code of a program has heights: where no act of the program takes more than stands there, each simple statement leaves nothing and each
-/// test what a test takes.
+/// The code of a program has heights: where no act of the program takes more than stands there, each simple statement
+/// leaves nothing and each test what a test takes.
 pub fn law_made_code_has_heights<S: Stacked>()
     ensures { (last : S.Act) (line : ℕ) (bodies : List (Steps S.Act)) → S.takes last ≡ 0 → S.ends last ≡ true → AllEven S.tested S.takes S.leaves bodies
         → IsLevel S.tested S.takes S.leaves S.ends (program_code last line bodies) (λ p. slice_get (program_heights S.tested S.takes S.leaves bodies) p) }

@@ -1,4 +1,5 @@
--- What blocks and constructs add to code that is being made: each hands the draft on to the next. Their sizes stand only in the jumps that go on.
+-- What blocks and constructs add to code that is being made: each hands the draft on to the next. Their sizes stand
+-- only in the jumps that go on.
 use Rattle.std.specs.Prelude.{ℕ, ◌+◌, List, ◌∷◌}
 use Rattle.walk_theory.specs.Syntax.{Form, simple, choose, loop, around, exit, cycle, return, Branches, otherwise, branch, Steps, stop, also}
 use Rattle.walk_theory.specs.Code.{on, count_one, jump, jump_if, jump_unless, go_back}
@@ -6,7 +7,8 @@ use Rattle.walk_theory.specs.Made.{parts_size, steps_size, branches_size, Places
 use Rattle.image_acts.specs.Acts.{Act}
 use Rattle.expr_code.specs.Drafts.{Drafted, lines_in, with_line, written}
 
--- where a loop goes on whose iterations begin at this place, by the sizes of its body, of the way to the next iteration, and of its test
+-- where a loop goes on whose iterations begin at this place, by the sizes of its body, of the way to the next
+-- iteration, and of its test
 abbrev pub places_at : (first body next test : ℕ) → Places
 places_at p b n t = record { next = p + 1 + b; exit = p + 1 + b + n + t + 1 }
 
@@ -22,8 +24,9 @@ iterations_begun l b n d = with_line (on l count_one) (with_line (on l (jump (fi
 abbrev pub passing : (line block : ℕ) → Drafted → Drafted
 passing l b d = with_line (on l (jump_unless (lines_in d.body + 1 + b + 1))) d
 
--- The code of a block more, inside loops that go on at these places: `with_lines (steps_code (starts_of d) xs (lines_in d.body) b) d`, form by form
--- (law_steps_written). Branches have the place behind all of them.
+-- The code of a block more, inside loops that go on at these places:
+-- `with_lines (steps_code (starts_of d) xs (lines_in d.body) b) d`, form by form (law_steps_written). Branches have the
+-- place behind all of them.
 abbrev mutual
   pub steps_written : List Places → Steps Act → Drafted → Drafted
   steps_written xs stop d = d

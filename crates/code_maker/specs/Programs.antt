@@ -29,7 +29,8 @@ procedures_written l (b ∷ bs) d = procedures_written l bs (procedure_written l
 abbrev pub beginning_written : Act → (line : ℕ) → Drafted → Drafted
 beginning_written last l d = with_line (on l go_back) (with_line (on l (does_act last)) (with_line (on l count_one) (with_line (on l (call (starts_of d 0))) d)))
 
--- the whole code: `program_code` of walk_theory, in an empty draft that keeps it and knows where its procedures begin (program_made)
+-- the whole code: `program_code` of walk_theory, in an empty draft that keeps it and knows where its procedures begin
+-- (program_made)
 abbrev pub program_written : Act → (line : ℕ) → List (Steps Act) → Drafted → Drafted
 program_written last l bs d = with_line (on l go_back) (procedures_written l bs (beginning_written last l d))
 

@@ -165,8 +165,8 @@ fn push_form(
     }
 }
 
-// The body of a loop whose start was written: from the jump to the test on. The next iteration and the test make so many steps. It answers where the
-// iterations begin.
+// The body of a loop whose start was written: from the jump to the test on. The next iteration and the test make so
+// many steps. It answers where the iterations begin.
 #[cycle(block)]
 #[tactic(auto, using(crate::proofs::Texts::laws))]
 fn push_body(

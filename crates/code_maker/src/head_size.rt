@@ -1,4 +1,5 @@
-//! How many steps a simple statement makes, and the heads and ends of constructs: as many as a draft that counts has of them.
+//! How many steps a simple statement makes, and the heads and ends of constructs: as many as a draft that counts has of
+//! them.
 
 ghost use Rattle.std.specs.Prelude.{◌≡◌, [], ◌∷◌, IfOk};
 ghost use Rattle.walk_theory.specs.Made.{parts_size};

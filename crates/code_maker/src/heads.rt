@@ -1,4 +1,5 @@
-//! What stands before the blocks of constructs. The texts of the draft stay those of the program, so a block may be put behind.
+//! What stands before the blocks of constructs. The texts of the draft stay those of the program, so a block may be put
+//! behind.
 
 ghost use Rattle.std.specs.Prelude.{◌≡◌, [], ◌∷◌, OnOk};
 ghost use Rattle.checked_tree.specs.ExpressionViews as view;

@@ -46,7 +46,8 @@ pub fn place_behind(draft: &Draft, size: u64) -> Result<u32, NoMemory>
     place(sum(draft.length(), size)?)
 }
 
-/// Where a loop goes on whose iterations begin at this place, by the sizes of its body, of the way to the next iteration, and of its test.
+/// Where a loop goes on whose iterations begin at this place, by the sizes of its body, of the way to the next
+/// iteration, and of its test.
 fn places_at(first: u32, body: u64, next: u64, test: u64) -> Result<LoopPlaces, NoMemory>
     ensures { IfOk result (λ x. open_loop x ≡ blocks.places_at first body next test) }
 {

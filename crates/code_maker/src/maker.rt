@@ -160,8 +160,9 @@ fn coded(code: CodeDraft, starts: Starts, checked: &Checked) -> Result<Code, Ref
     whole(draft.into_code(), checked)
 }
 
-/// The code of a checked program (`program_code` of walk_theory for the bodies of `tree_meaning`), with its tables; or the first bad instruction, which
-/// there is only where some expression, designator or argument hasn't the rank that its place wants (`IsRankedProgram`).
+/// The code of a checked program (`program_code` of walk_theory for the bodies of `tree_meaning`), with its tables; or
+/// the first bad instruction, which there is only where some expression, designator or argument hasn't the rank that
+/// its place wants (`IsRankedProgram`).
 pub fn make(alloc: Global, checked: &Checked) -> Result<Code, Refusal<BadCode>>
     ensures code { IfOk result (λ c. code_of c.program ≡ program_code (ask end_program) checked.now.end_line (bodies (view.program checked.now))) }
     ensures tables { IfOk result (λ c. c.program.tables ≡ tables_of (view.program checked.now)) }

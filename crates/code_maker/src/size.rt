@@ -1,4 +1,5 @@
-//! How many steps blocks and constructs make (ISO/IEC 1539-1:2018, 11.1). A jump that goes on stands before what it passes, so that has to be known first.
+//! How many steps blocks and constructs make (ISO/IEC 1539-1:2018, 11.1). A jump that goes on stands before what it
+//! passes, so that has to be known first.
 
 ghost use Rattle.std.specs.Prelude.{◌≡◌, ◌+◌, ℕ, IfOk};
 ghost use Rattle.walk_theory.specs.Made as made;

@@ -39,7 +39,8 @@ fn fold_in(total: &mut Vec<Value>, op: Fold, kind: Kind, part: &Vec<Value>) -> R
     fold_each(total, op, kind, part)
 }
 
-/// The arguments of a collective subroutine, one list for each member in member order, combined element by element, as far as all of them go.
+/// The arguments of a collective subroutine, one list for each member in member order, combined element by element, as
+/// far as all of them go.
 /// Overflow exactly where a partial sum in member order leaves the kind.
 pub fn combine(
     alloc: Global,

@@ -1,4 +1,5 @@
-//! Of what HUGE may be an inquiry in a constant expression (ISO/IEC 1539-1:2018, 10.1.12): a variable or a constant expression.
+//! Of what HUGE may be an inquiry in a constant expression (ISO/IEC 1539-1:2018, 10.1.12): a variable or a constant
+//! expression.
 
 ghost use Rattle.std.specs.Prelude.{◌≡◌, ◌||◌, ◌&&◌, not, IfOk};
 ghost use Rattle.checked_tree.specs.ExpressionViews.{expression as typed, form};

@@ -1,4 +1,5 @@
-//! Arithmetic of constant expressions (ISO/IEC 1539-1:2018, 10.1.5.2 and 16.9): nothing where a result leaves its kind or a divisor is 0.
+//! Arithmetic of constant expressions (ISO/IEC 1539-1:2018, 10.1.5.2 and 16.9): nothing where a result leaves its kind
+//! or a divisor is 0.
 
 ghost use Rattle.std.specs.Prelude.{◌≡◌, neg_ℤ, pos, nat_abs, unsigned_abs, int_div, int_rem, false, ◌≤◌, ◌^◌, ◌+ℤ◌, FitsSigned};
 ghost use Rattle.std.specs.Int.{w128};
@@ -138,7 +139,8 @@ fn inverse(of_type: DataType, power: Option<i64>) -> Option<i64>
     }
 }
 
-// A power with a natural exponent. Powers of 1, -1 and 0 need no multiplying; of any other number that with exponent 65 is too large.
+// A power with a natural exponent. Powers of 1, -1 and 0 need no multiplying; of any other number that with exponent 65
+// is too large.
 fn small_power(of_type: DataType, base: i64, exponent: u64) -> Option<i64>
     ensures { as_constant result ≡ rules.small_power of_type base exponent }
 {

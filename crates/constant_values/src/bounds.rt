@@ -1,4 +1,5 @@
-//! Bounds of dimensions, as far as they are known before the run, and extents and sizes of them (ISO/IEC 1539-1:2018, 5.4.6).
+//! Bounds of dimensions, as far as they are known before the run, and extents and sizes of them (ISO/IEC 1539-1:2018,
+//! 5.4.6).
 
 ghost use Rattle.std.specs.Prelude.{◌≡◌, ◌<◌, ◌^◌, ◌≤◌, IfOk, IfSome, pos, false, unsigned_abs, ◌-ℤ◌};
 ghost use Rattle.std.specs.Ordering.{int_eq};
@@ -14,7 +15,8 @@ use caf_base::value::Kind;
 use checked_tree::data::DataType;
 use scope_table::item::item;
 
-/// The lower and the upper bound of a dimension, as far as they are known. The upper bound of a section or of an array constructor may need more than 64 bits.
+/// The lower and the upper bound of a dimension, as far as they are known. The upper bound of a section or of an array
+/// constructor may need more than 64 bits.
 pub(crate) type Bounds = Option<(i128, i128)>;
 
 /// An extent; the greatest number of 128 bits stands for any above it.

@@ -1,4 +1,5 @@
-//! The subscripts that a subscript or triplet of a constant array stands for (ISO/IEC 1539-1:2018, 9.5.3.3), where they are known.
+//! The subscripts that a subscript or triplet of a constant array stands for (ISO/IEC 1539-1:2018, 9.5.3.3), where they
+//! are known.
 
 ghost use Rattle.std.specs.Prelude.{◌≡◌, IfOk, pos, false, cond, Some, None, ◌+ℤ◌};
 ghost use Rattle.std.specs.Ordering.{int_eq};

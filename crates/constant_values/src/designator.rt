@@ -1,4 +1,5 @@
-//! What is known of designators (ISO/IEC 1539-1:2018, 9.1): parts of constant arrays, and the bounds of variables and sections.
+//! What is known of designators (ISO/IEC 1539-1:2018, 9.1): parts of constant arrays, and the bounds of variables and
+//! sections.
 
 ghost use Rattle.std.specs.Prelude.{◌≡◌, ◌++◌, Some, map, pos, IfOk, OnOk};
 ghost use Rattle.rule_definitions.specs.Constants as rules;

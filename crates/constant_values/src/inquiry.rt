@@ -1,4 +1,5 @@
-//! The inquiries SIZE, LBOUND and UBOUND (ISO/IEC 1539-1:2018, 16.9.179, 16.9.109 and 16.9.196), as far as bounds are known before the run.
+//! The inquiries SIZE, LBOUND and UBOUND (ISO/IEC 1539-1:2018, 16.9.179, 16.9.109 and 16.9.196), as far as bounds are
+//! known before the run.
 
 ghost use Rattle.std.specs.Prelude.{◌≡◌};
 ghost use Rattle.checked_tree.specs.ExpressionViews.{expression, form};

@@ -70,7 +70,8 @@ values_of bs i = slice_index_or (values_in bs) (i - 1) []
 abbrev pub table_of : List (List BroughtState) → ℕ → List BroughtState
 table_of ts t = slice_index_or ts (t - 1) []
 
--- after an arrival that joined its round the values of the image are kept behind the others, and after one that clashed nothing is
+-- after an arrival that joined its round the values of the image are kept behind the others, and after one that clashed
+-- nothing is
 abbrev pub IsKeptWith : List BroughtState → List BroughtState → ℕ → List Value → Arrival → Type 0
 IsKeptWith bs cs i vs (arrived.Joined r) = values_in cs ≡ slice_set (values_in bs) (i - 1) (values_of bs i ++ vs ∷ [])
 IsKeptWith bs cs i vs (arrived.Clash j l) = cs ≡ bs
@@ -305,7 +306,8 @@ PartsRoom p i ask = Unit {0}
 abbrev pub due : ℕ → List Entry → ImageNo → Ask → ℕ → ℕ → Entry
 due n h i ask stamp line = record { image = i; event = record { ask = ask; reply = board_reply n h i.0 ask; stamp = stamp; line = line } }
 
--- the plan is that of an ask: it has the teams that its entry makes, and says whether the round of its arrival closes with a bad argument
+-- the plan is that of an ask: it has the teams that its entry makes, and says whether the round of its arrival closes
+-- with a bad argument
 pub record Planned (n : ℕ) (h : List Entry) (plan : Plan) (i : ImageNo) (ask : Ask) : Type 0 where
   pub made : (stamp line : ℕ) → made_by 1 (teams_after n h) h (due n h i ask stamp line) ≡ all_made plan.formations.items
   pub bad : (team : TeamNo) (arriving : Arriving) (stamp line : ℕ) → ask ≡ asks.Arrive team arriving

@@ -65,7 +65,8 @@ impl Brought {
     }
 }
 
-/// What each image of the run has brought to the collective subroutines of one team. In a contract it is a list, that of image 1 first.
+/// What each image of the run has brought to the collective subroutines of one team. In a contract it is a list, that
+/// of image 1 first.
 #[derive(Drop)]
 pub struct Table {
     rows: Vec<Brought>,

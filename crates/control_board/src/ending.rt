@@ -50,7 +50,8 @@ fn indices_of(
     Ok(indices)
 }
 
-// The image indices of the members of a team that have failed, or with `failed` false of those that have stopped (ISO/IEC 1539-1:2018, 16.9.77, 16.9.183).
+// The image indices of the members of a team that have failed, or with `failed` false of those that have stopped
+// (ISO/IEC 1539-1:2018, 16.9.77, 16.9.183).
 pub(crate) fn ended_members(
     alloc: Global,
     parts: &Parts,

@@ -38,8 +38,8 @@ pub struct Formation {
     pub plan: FormPlan,
 }
 
-/// What a step makes of the teams: the rounds that close, `bad` where one closes with a bad argument, and for each team that is made what the rounds
-/// and the collective subroutines keep of it.
+/// What a step makes of the teams: the rounds that close, `bad` where one closes with a bad argument, and for each team
+/// that is made what the rounds and the collective subroutines keep of it.
 #[derive(Drop)]
 pub struct Plan {
     pub formations: Vec<Formation>,

@@ -81,7 +81,8 @@ fn is_inert_by(parts: &Parts, image: ImageNo, ask: &Ask, reply: &Reply) -> bool
     is_silent(ask) || leaves_open(parts, image, ask, reply)
 }
 
-// Whether the arrival of the image at SYNC ALL or SYNC TEAM, by which it joined this round, is known to be inert, where it was the last step.
+// Whether the arrival of the image at SYNC ALL or SYNC TEAM, by which it joined this round, is known to be inert, where
+// it was the last step.
 fn is_inert_arrival(parts: &Parts, image: ImageNo, team: TeamNo, round: u64) -> bool
     requires { IsKept parts.now }
     ensures { (n : ℕ) (h : List Entry) → IsBoard n h parts.now → result ≡ is_inert_step n h image.0 (asks.Arrive team arrivings.Sync) (replies.Round round) }
@@ -102,7 +103,8 @@ fn is_inert_exchange(alloc: Global, parts: &Parts, image: ImageNo, told: &Exchan
     inert
 }
 
-// The same: an arrival that joined a round and a departure from one, which are most steps, are seen without the ask and the reply.
+// The same: an arrival that joined a round and a departure from one, which are most steps, are seen without the ask and
+// the reply.
 fn is_inert_told(alloc: Global, parts: &Parts, image: ImageNo, told: &Exchange) -> bool
     requires { IsKept parts.now }
     ensures { (n : ℕ) (h : List Entry) → IsBoard n h parts.now → result ≡ is_inert_step n h image.0 told.now.ask told.now.reply }

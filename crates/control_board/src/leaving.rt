@@ -90,7 +90,8 @@ fn teams_by(
     Ok(teams)
 }
 
-// The teams that a round of a team made: none but where it is one of FORM TEAM, so that other departures don't go over the teams.
+// The teams that a round of a team made: none but where it is one of FORM TEAM, so that other departures don't go over
+// the teams.
 fn teams_made(
     alloc: Global,
     parts: &Parts,
@@ -109,7 +110,8 @@ fn teams_made(
     }
 }
 
-// Whether the round closed with a bad argument: one that isn't of FORM TEAM didn't, so that other departures don't go over those that did.
+// Whether the round closed with a bad argument: one that isn't of FORM TEAM didn't, so that other departures don't go
+// over those that did.
 fn has_bad_argument(parts: &Parts, team: TeamNo, round: u64) -> bool
     requires kept { IsKept parts.now }
     requires team { (0 < team.0) × (team.0 ≤ length parts.now.control.teams) }

@@ -18,9 +18,10 @@ use std::alloc::Global;
 use team_round::rounds::Rounds;
 use team_tree::teams::Teams;
 
-/// The number of images, the teams with the round that made each, their rounds of image control statements and of collective subroutines, what each
-/// image has brought to the latter and given at FORM TEAM, the rounds of FORM TEAM that closed with a bad argument, the SYNC IMAGES of each image, who
-/// is inside CRITICAL constructs, and what the next step makes of the teams.
+/// The number of images, the teams with the round that made each, their rounds of image control statements and of
+/// collective subroutines, what each image has brought to the latter and given at FORM TEAM, the rounds of FORM TEAM
+/// that closed with a bad argument, the SYNC IMAGES of each image, who is inside CRITICAL constructs, and what the next
+/// step makes of the teams.
 #[derive(Drop)]
 pub struct Parts {
     pub images: u32,

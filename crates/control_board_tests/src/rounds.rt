@@ -1,4 +1,5 @@
-//! Rounds, collective subroutines, SYNC IMAGES, CRITICAL, failures and stops of two and three images, and FORM TEAM of four.
+//! Rounds, collective subroutines, SYNC IMAGES, CRITICAL, failures and stops of two and three images, and FORM TEAM of
+//! four.
 
 use caf_base::few::Few;
 use caf_base::listing::Listing;
@@ -163,7 +164,8 @@ fn one_fails(rt: HostRuntime) {
     drop(board);
 }
 
-// An arrival of another kind joins no round, a round that closed before a failure keeps its status, and a sum that leaves its kind is told.
+// An arrival of another kind joins no round, a round that closed before a failure keeps its status, and a sum that
+// leaves its kind is told.
 #[test]
 fn one_fails_after_the_close(rt: HostRuntime) {
     let alloc = rt.alloc();

@@ -4,7 +4,7 @@ use Rattle.walk_theory.specs.Syntax.{Parts}
 use Rattle.checked_tree.specs.declared.expr.WrittenOrder.{WrittenOrder}
 use Rattle.checked_tree.specs.Expressions as t
 use Rattle.image_acts.specs.Acts as a
-use Rattle.image_acts.specs.Acts.{Act, stack, bounded, ask}
+use Rattle.image_acts.specs.Acts.{Act, stack, ask}
 use Rattle.tree_meaning.specs.Environment.{Environment}
 use Rattle.tree_meaning.specs.Expressions.{optional_place, optional_size, result_size}
 use Rattle.tree_meaning.specs.ImageControl.{put_down_as_written, cell_there, cell_stat, cell_size, tried_lock}
@@ -13,9 +13,7 @@ use Rattle.tree_meaning.specs.Settling.{settling, settling_selector}
 
 -- the wait for this image's event, whose place stands beneath the threshold and the place of STAT=
 abbrev pub waiting : (c : ℕ) → t.OptionalResult → Parts Act
-waiting c stat =
-    doing (bounded (a.needs_own c) ∷ []) ▸ copying (optional_size stat) 2 ▸ doing (ask (a.wait c) ∷ []) ▸ settling stat 1 []
-    ▸ dropping (optional_size stat + 2)
+waiting c stat = copying (optional_size stat) 2 ▸ doing (ask (a.wait c) ∷ []) ▸ settling stat 1 [] ▸ dropping (optional_size stat + 2)
 
 module _ (e : Environment) where
   -- the access to the cell whose place and owner stand beneath so many numbers

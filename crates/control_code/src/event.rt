@@ -264,7 +264,6 @@ fn push_waiting(
     ensures { OnOk result (draft.new ≡ written line (part.waiting coarray (view.maybe_result stat.now)) draft.old) }
 {
     let size = size_of(stat);
-    draft.push(Step::NeedsOwn(coarray), line)?;
     push_copy(draft, size, 2, line)?;
     draft.push(Step::Ask(AskStep::Wait(coarray)), line)?;
     push_settling(draft, stat, 1, &[], line)?;

@@ -1,4 +1,5 @@
-//! Image control statements (ISO/IEC 1539-1:2018, 11.6), and what CRITICAL, CHANGE TEAM and END TEAM do (11.1.5, 11.1.6).
+//! Image control statements (ISO/IEC 1539-1:2018, 11.6), and what CRITICAL, CHANGE TEAM and END TEAM do (11.1.5,
+//! 11.1.6).
 
 ghost use Rattle.std.specs.Prelude.{◌≡◌, ◌≤◌, [], ◌∷◌, slice_get, OnOk, IfOk};
 ghost use Rattle.checked_tree.specs.ExpressionViews as view;

@@ -96,7 +96,8 @@ fn push_requiring(draft: &mut Draft, accepted: &[i64], line: u32) -> Result<(), 
     draft.push(Step::Ask(AskStep::ErrorStop), line)
 }
 
-/// The status on top goes into STAT=, whose place stands beneath `depth` numbers; without STAT= any but 0 and the accepted ones starts error termination.
+/// The status on top goes into STAT=, whose place stands beneath `depth` numbers; without STAT= any but 0 and the
+/// accepted ones starts error termination.
 pub fn push_settling(
     draft: &mut Draft,
     stat: &Option<ResultVariable>,

@@ -84,7 +84,8 @@ module _ {C M B : Type 0} (r : Rules C M B) (b : Beginning C M B) (m m' : Moment
       subst (λ l. WalkTo r.step (b.first (suc k)) l s.to) (sym (map_append said es (e ∷ [])))
       (walk_on r.step (b.first (suc k)) s.from s.to (r.step s.from) (map said es) e refl (h.lanes (suc k) s.from s.stands).walks s.due.asked s.due.line s.goes_on)
 
-  -- the program doesn't ask a limit of stamps, so the step's stamp is above the image's last one by the rule of the others
+  -- the program doesn't ask a limit of stamps, so the step's stamp is above the image's last one by the rule of the
+  -- others
   rises : (n : ℕ) → stamp_alone e.ask n ≡ suc n
   rises n =
       let in_run = is_image m.configs b.images (suc k) s.from h.count s.stands in

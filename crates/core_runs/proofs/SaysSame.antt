@@ -1,4 +1,5 @@
--- Programs that say the same: where the one comes to rest the other does, and behind an ask and its reply they say the same again.
+-- Programs that say the same: where the one comes to rest the other does, and behind an ask and its reply they say the
+-- same again.
 use Rattle.std.proofs.Common.{◌≡◌, ℕ, ◌+◌, List, [], ◌∷◌, refl, ap, sym, ◌∙◌, subst}
 use Rattle.caf_events.specs.declared.ask.Ask.{Ask}
 use Rattle.caf_events.specs.declared.reply.Reply.{Reply}

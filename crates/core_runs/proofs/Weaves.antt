@@ -46,7 +46,8 @@ pub data Where (n : ℕ) : Place → Type 0 where
   board : Where n places.Board
   memory : (owner : ImageNo) (j : ℕ) → owner.0 ≡ suc j → j < n → Where n (places.Memory owner)
 
--- at an object and at an image's own place alike the stamp that is due to a step is one more than the greater of the last ones, unless it is a limit of stamps
+-- at an object and at an image's own place alike the stamp that is due to a step is one more than the greater of the
+-- last ones, unless it is a limit of stamps
 due_is : (o mine there : ℕ) (x : Entry) → ((n : ℕ) → own_stamp x n ≡ suc n) → (o ≡ 0 → there ≡ 0) → due own_stamp o x mine there ≡ suc (max mine there)
 due_is zero mine there x rises none = let z = none refl in rises mine ∙ omega arith
 due_is (suc o) mine there x rises none = refl

@@ -6,7 +6,8 @@ use Rattle.caf_base.specs.declared.place.Place.TheVariants.{Memory, Board, Own}
 use Rattle.trace_theory.specs.Machines.{go, goes, Rests}
 use Rattle.core_runs.specs.Moments.{Rules, Moment}
 
--- how many images there are, where each one is before its first statement, and what the memory of each and the board are made with
+-- how many images there are, where each one is before its first statement, and what the memory of each and the board
+-- are made with
 pub record Beginning (C M B : Type 0) : Type 0 where
   pub images : ℕ
   pub first : ℕ → C

@@ -39,9 +39,11 @@ said_by i t = map (λ x. said x.event) (of_image i t)
 abbrev pub IsDoneAlone : Entry → Type 0
 IsDoneAlone x = place_of x.event.ask ≡ Own → x.event.reply ≡ replies.Done
 
--- a lawful trace: by stamp, then image, each stamp the one that is due after those before it at its image and its object; of this run's images and objects;
--- each ask was ready where it stands and has the reply that is due there; each arrival has its departure. (`IsLawfulTrace`, of the language's own memories and
--- board, says besides what the declared coarrays are, what a failing image does, and that nothing follows a limit.)
+-- a lawful trace: by stamp, then image, each stamp the one that is due after those before it at its image and its
+-- object; of this run's images and objects;
+-- each ask was ready where it stands and has the reply that is due there; each arrival has its departure.
+-- (`IsLawfulTrace`, of the language's own memories and board, says besides what the declared coarrays are, what a
+-- failing image does, and that nothing follows a limit.)
 pub record IsLawful {C M B : Type 0} (r : Rules C M B) (b : Beginning C M B) (t : List Entry) : Type 0 where
   pub ordered : IsTraceOrder image_of stamp_of t
   pub stamped : IsStamped image_of key_of stamp_of own_stamp t
@@ -52,14 +54,16 @@ pub record IsLawful {C M B : Type 0} (r : Rules C M B) (b : Beginning C M B) (t 
   pub alone : Each IsDoneAlone t
   pub joins : (i : ℕ) → Joins (said_by i t)
 
--- a core run: a lawful trace in which each image's events are a walk of its program, and nothing follows a step that ends the image
+-- a core run: a lawful trace in which each image's events are a walk of its program, and nothing follows a step that
+-- ends the image
 pub record IsCoreRun {C M B : Type 0} (r : Rules C M B) (b : Beginning C M B) (t : List Entry) : Type 0 where
   pub lawful : IsLawful r b t
   pub walks : (i : ℕ) → IsImage b i → (c : C) × Walk r.step (b.first i) (said_by i t) c
   pub nothing_after : (i : ℕ) → NothingAfterEnd (said_by i t)
 
--- what the rules and the programs of a run must be for its traces to be core runs: replies answer their asks, walks are orderly, an image that fails makes
--- the steps of its failure, and at each moment of a run each image can go on with the reply that is due
+-- what the rules and the programs of a run must be for its traces to be core runs: replies answer their asks, walks are
+-- orderly, an image that fails makes the steps of its failure, and at each moment of a run each image can go on with
+-- the reply that is due
 pub record IsFit {C M B : Type 0} (r : Rules C M B) (b : Beginning C M B) : Type 0 where
   pub memory_answers : (made : M) (h : List Entry) (i : ℕ) (a : Ask) → Served (r.memory_ready made) (r.memory_reply made) [] h → IsTrue (r.memory_ready made h i a) → Answers a (r.memory_reply made h i a)
   pub board_answers : (made : B) (h : List Entry) (i : ℕ) (a : Ask) → Served (r.board_ready made) (r.board_reply made) [] h → IsTrue (r.board_ready made h i a) → Answers a (r.board_reply made h i a)

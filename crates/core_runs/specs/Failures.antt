@@ -1,4 +1,5 @@
--- The failure of an image (ISO/IEC 1539-1:2018, 5.3.6, 11.5) and the limits of a run, in the list of what the image says and hears.
+-- The failure of an image (ISO/IEC 1539-1:2018, 5.3.6, 11.5) and the limits of a run, in the list of what the image
+-- says and hears.
 use Rattle.std.specs.Prelude.{ℕ, ◌≡◌, ◌⊎◌, Bool, true, false, ◌&&◌, not, nat_eq, cond, pos, List, [], ◌∷◌, ◌++◌, map}
 use Rattle.std.specs.List.{filter}
 use Rattle.caf_base.specs.declared.place.ImageNo.{ImageNo}
@@ -25,8 +26,8 @@ lock_place owner span = record { owner = owner.0; coarray = span.coarray; offset
 abbrev pub without : LockPlace → List LockPlace → List LockPlace
 without p held = filter (λ q. not (same_place q p)) held
 
--- the locks that an image holds after a step, in the order in which they were got last (11.6.10): LOCK puts the one that it gets at the end, UNLOCK with
--- status 0 takes it out
+-- the locks that an image holds after a step, in the order in which they were got last (11.6.10): LOCK puts the one
+-- that it gets at the end, UNLOCK with status 0 takes it out
 abbrev pub held_after : List LockPlace → Ask → Reply → List LockPlace
 held_after held (asks.Lock owner span) reply = cond (acquires reply) (without (lock_place owner span) held ++ lock_place owner span ∷ []) held
 held_after held (asks.TryLock owner span) reply = cond (acquires reply) (without (lock_place owner span) held ++ lock_place owner span ∷ []) held
@@ -37,7 +38,8 @@ held_after held ask reply = held
 abbrev pub release_of : LockPlace → Ask
 release_of p = asks.Free (record { 0 = p.owner }) (record { coarray = p.coarray; start = p.offset; dims = [] })
 
--- the steps of a failure after the first one: the mark at the image's memory, a release for each lock that it holds, and its end at the board
+-- the steps of a failure after the first one: the mark at the image's memory, a release for each lock that it holds,
+-- and its end at the board
 abbrev pub failure_steps : ℕ → List LockPlace → List Ask
 failure_steps image held = asks.Mark (record { 0 = image }) ∷ map release_of held ++ asks.Gone ∷ []
 
@@ -62,7 +64,8 @@ RunsOut steps [] = Unit {0}
 RunsOut [] (e ∷ es) = (is_limit e.ask ≡ true) × (es ≡ [])
 RunsOut (s ∷ ss) (e ∷ es) = ((e.ask ≡ s) × RunsOut ss es) ⊎ ((is_limit e.ask ≡ true) × (es ≡ []))
 
--- behind the first step of a failure stand the others, with a release for each lock that the image holds then; none of them stands elsewhere
+-- behind the first step of a failure stand the others, with a release for each lock that the image holds then; none of
+-- them stands elsewhere
 abbrev pub FailsBy : ℕ → List LockPlace → Ask → Reply → List (Said Ask Reply) → (List LockPlace → Type 0) → Type 0
 FailsBy image held asks.Fail reply es rest = RunsOut (failure_steps image held) es
 FailsBy image held ask reply es rest = (is_failure_step ask ≡ false) × rest (held_after held ask reply)

@@ -1,5 +1,5 @@
--- The moments that a run can come to: woven lists, each object served, one lane for each image. They speak of no order in which the steps were made, so that
--- images on threads come to them too.
+-- The moments that a run can come to: woven lists, each object served, one lane for each image. They speak of no order
+-- in which the steps were made, so that images on threads come to them too.
 use Rattle.std.specs.Prelude.{ℕ, ◌≡◌, IsTrue, List, [], length, map, Some}
 use Rattle.caf_base.specs.declared.place.Place.TheVariants.{Own}
 use Rattle.caf_events.specs.declared.ask.Ask.{Ask}
@@ -15,8 +15,8 @@ use Rattle.core_runs.specs.Lists.{said, list_at, IsWoven}
 use Rattle.core_runs.specs.Moments.{Rules, Moment, item_at, ready_there, reply_there}
 use Rattle.core_runs.specs.Beginnings.{Beginning, IsImage, IsPlace, numbers_to}
 
--- the events are a walk of the image's program to where it stands, at an ask or its end; each stands at a place of the run and has a reply that answers it,
--- and the image's own are done
+-- the events are a walk of the image's program to where it stands, at an ask or its end; each stands at a place of the
+-- run and has a reply that answers it, and the image's own are done
 pub record IsLane {C M B : Type 0} (r : Rules C M B) (b : Beginning C M B) (i : ℕ) (es : List Event) (c : C) : Type 0 where
   pub walks : WalkTo r.step (b.first i) (map said es) c
   pub rests : Rests (r.step c)
@@ -24,7 +24,8 @@ pub record IsLane {C M B : Type 0} (r : Rules C M B) (b : Beginning C M B) (i : 
   pub answered : Each (λ e. Answers e.ask e.reply) es
   pub alone : Each (λ e. place_of e.ask ≡ Own → e.reply ≡ replies.Done) es
 
--- a moment of a run whose rules and programs are as `Fit` says: each image's lane, each object served, and lists that are woven of one run
+-- a moment of a run whose rules and programs are as `Fit` says: each image's lane, each object served, and lists that
+-- are woven of one run
 pub record IsMomentOf {C M B : Type 0} (Fit : Type 0) (r : Rules C M B) (b : Beginning C M B) (m : Moment C M B) : Type 0 where
   pub fit : Fit
   pub count : length m.configs ≡ b.images

@@ -1,4 +1,5 @@
--- Lawful traces: what is true of every trace of a run, whatever the images' programs are (ISO/IEC 1539-1:2018, 5.3.5, 5.3.6, 11.6).
+-- Lawful traces: what is true of every trace of a run, whatever the images' programs are (ISO/IEC 1539-1:2018, 5.3.5,
+-- 5.3.6, 11.6).
 use Rattle.std.specs.Prelude.{ℕ, ◌≡◌, true, List, []}
 use Rattle.std.specs.List.{list_all}
 use Rattle.caf_events.specs.declared.ask.Ask.{Ask}
@@ -23,10 +24,11 @@ use Rattle.core_runs.specs.CoreRuns.{at_board, of_memory, said_by, IsDoneAlone}
 abbrev pub made_memory : List Declared → ℕ → MadeMemory
 made_memory coarrays i = record { owner = record { 0 = i }; coarrays = coarrays }
 
--- A lawful trace of n images with these coarrays. Each static coarray of values has a first value of its kind for each of its cells. The entries stand by
--- stamp, then image, each stamp the one that is due after those before it at its image and its object; they are of this run's images and objects; each ask
--- fits and is ready where it stands, and has the reply that is due there; each arrival has its departure; a failing image makes the steps of its failure,
--- and nothing follows a limit.
+-- A lawful trace of n images with these coarrays. Each static coarray of values has a first value of its kind for each
+-- of its cells. The entries stand by stamp, then image, each stamp the one that is due after those before it at its
+-- image and its object; they are of this run's images and objects; each ask fits and is ready where it stands, and has
+-- the reply that is due there; each arrival has its departure; a failing image makes the steps of its failure, and
+-- nothing follows a limit.
 pub record IsLawfulTrace (coarrays : List Declared) (n : ℕ) (t : List Entry) : Type 0 where
   pub declared : list_all has_first_values coarrays ≡ true
   pub ordered : IsTraceOrder image_of stamp_of t

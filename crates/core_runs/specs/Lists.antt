@@ -22,8 +22,8 @@ key_of e = object_of (place_of e.event.ask)
 abbrev pub stamp_of : Entry → ℕ
 stamp_of e = e.event.stamp
 
--- the stamp of an image's own step after the image's last one: one more; but a limit of stamps has one more than the stamp that it names, which may be the
--- last one of an object
+-- the stamp of an image's own step after the image's last one: one more; but a limit of stamps has one more than the
+-- stamp that it names, which may be the last one of an object
 abbrev pub stamp_alone : Ask → ℕ → ℕ
 stamp_alone (asks.LimitStamp number) mine = suc number
 stamp_alone ask mine = suc mine

@@ -9,7 +9,8 @@ use Rattle.core_runs.specs.Moments.{Rules, Moment, can_step, Steps}
 use Rattle.core_runs.specs.Beginnings.{Beginning, IsFirst, numbers_to}
 use Rattle.core_runs.specs.CoreRuns.{of_image}
 
--- how choices are made: from where they stand and the candidates, the number of the one that is chosen and where the choices stand then
+-- how choices are made: from where they stand and the candidates, the number of the one that is chosen and where the
+-- choices stand then
 pub record Chooser (S : Type 0) : Type 0 where
   pub chosen : S → List ℕ → ℕ
   pub after : S → List ℕ → S

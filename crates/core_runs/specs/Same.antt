@@ -9,7 +9,8 @@ use Rattle.caf_events.specs.Answers.{Answers}
 use Rattle.core_runs.specs.Moments.{Rules}
 use Rattle.core_runs.specs.Beginnings.{Beginning, IsImage}
 
--- what the one says and hears from c on up to where it stops, the other says and hears from d on, and stops in the same way
+-- what the one says and hears from c on up to where it stops, the other says and hears from d on, and stops in the same
+-- way
 abbrev pub SaysAs : {C D : Type 0} → (C → Move C Ask Reply) → (D → Move D Ask Reply) → C → D → Type 0
 SaysAs {C} {D} source target c d = (es : List (Said Ask Reply)) (e : C) → AllAnswer Answers es → WalkTo source c es e → Rests (source e) → (f : D) × WalkTo target d es f × SameRest (source e) (target f)
 

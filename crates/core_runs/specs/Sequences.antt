@@ -1,4 +1,5 @@
--- The order of the asks of one image: an arrival and its departure (ISO/IEC 1539-1:2018, 11.6.3, 11.6.4, 11.6.9), and the end (5.3.6, 5.3.7).
+-- The order of the asks of one image: an arrival and its departure (ISO/IEC 1539-1:2018, 11.6.3, 11.6.4, 11.6.9), and
+-- the end (5.3.6, 5.3.7).
 use Rattle.std.specs.Prelude.{◌≡◌, ◌⊎◌, List, [], ◌∷◌, ◌++◌, Option, Some, None}
 use Rattle.trace_theory.specs.Entries.{Each}
 use Rattle.trace_theory.specs.Machines.{Move, Said, Walk, WalkTo}
@@ -11,7 +12,8 @@ use Rattle.caf_events.specs.Answers.{Answers}
 use Rattle.caf_events.specs.Events.{EndsImage}
 use Rattle.caf_events.specs.Walkers.{IsOver}
 
--- the departure that is asked next after an arrival: from the round that it joined, or from the images of its SYNC IMAGES
+-- the departure that is asked next after an arrival: from the round that it joined, or from the images of its SYNC
+-- IMAGES
 abbrev pub departure_after : Ask → Reply → Option Ask
 departure_after (asks.Arrive team arriving) (replies.Round round) = Some (asks.Leave team round)
 departure_after (asks.Gather team op root kind values) (replies.Round round) = Some (asks.Take team round)
@@ -59,13 +61,15 @@ NothingAfterEnd es = (before after : List (Said Ask Reply)) (e : Said Ask Reply)
 abbrev pub HasEndedBy : List (Said Ask Reply) → Type 0
 HasEndedBy es = (before : List (Said Ask Reply)) × (e : Said Ask Reply) × (es ≡ before ++ e ∷ []) × EndsImage e.ask e.reply
 
--- what every walk from here on has in common, whatever the replies are that answer its asks; a limit of stamps isn't a program's own to ask
+-- what every walk from here on has in common, whatever the replies are that answer its asks; a limit of stamps isn't a
+-- program's own to ask
 pub record IsOrderly {C : Type 0} (step : C → Move C Ask Reply) (first : C) : Type 0 where
   pub joins : (es : List (Said Ask Reply)) (c : C) → AllAnswer Answers es → Walk step first es c → Joins es
   pub nothing_after : (es : List (Said Ask Reply)) (c : C) → AllAnswer Answers es → Walk step first es c → NothingAfterEnd es
   pub no_stamp_limit : (es : List (Said Ask Reply)) (c : C) → AllAnswer Answers es → Walk step first es c → Each (λ e. IsStampLimit e.ask → ⊥) es
 
--- What is wanted of a machine's ends, apart from that: from here on it is over only behind a step that ended the image, whatever the replies are that answer. A run
--- is one without this: it is asked where images that are over are said to have ended.
+-- What is wanted of a machine's ends, apart from that: from here on it is over only behind a step that ended the image,
+-- whatever the replies are that answer. A run is one without this: it is asked where images that are over are said to
+-- have ended.
 abbrev pub EndsByItself : {C : Type 0} → (C → Move C Ask Reply) → C → Type 0
 EndsByItself {C} step first = (es : List (Said Ask Reply)) (c : C) → AllAnswer Answers es → WalkTo step first es c → IsOver (step c) → HasEndedBy es

@@ -46,8 +46,8 @@ pub fn law_heard<M: Walker, O: Object, B: Object>()
         → M.hears c (reply_there (rules M.Walker O.Object B.Object) m i ask (place_of ask)) }
 {}
 
-/// A step at one object leaves readiness at the others as it is: every ask there can come exactly if it could before, and another image
-/// whose next ask isn't at the step's place can step exactly if it could.
+/// A step at one object leaves readiness at the others as it is: every ask there can come exactly if it could before,
+/// and another image whose next ask isn't at the step's place can step exactly if it could.
 pub fn law_ready_elsewhere<M: Walker, O: Object, B: Object>()
     ensures ready { (m m' : Moment M.Config O.Made B.Made) (i : ℕ) (e : Event) → Steps (rules M.Walker O.Object B.Object) m i e m'
         → (j : ℕ) (ask : Ask) (place : Place) → (place ≡ place_of e.ask → ⊥)
@@ -65,15 +65,16 @@ pub fn law_core_run<M: Walker, O: Object, B: Object>()
         → IsCoreRun (rules M.Walker O.Object B.Object) b t }
 {}
 
-/// The trace of what is kept in a run whose memories and control board are those of the language is lawful, whatever the images' machines are, where each static
-/// coarray of values has a first value of its kind for each of its cells.
+/// The trace of what is kept in a run whose memories and control board are those of the language is lawful, whatever
+/// the images' machines are, where each static coarray of values has a first value of its kind for each of its cells.
 pub fn law_lawful<M: Walker>()
     ensures { (coarrays : List Declared) (n : ℕ) (first : ℕ → M.Config) (m : Moment M.Config MadeMemory ℕ) (t : List Entry)
         → list_all has_first_values coarrays ≡ true
         → IsKept (full_rules M.step M.hears) (full_beginning coarrays n first) m → IsTraceOf m.events t → IsLawfulTrace coarrays n t }
 {}
 
-/// So is every core run whose programs are fit, with such coarrays: who knows that a trace is a core run can cite the laws of lawful traces.
+/// So is every core run whose programs are fit, with such coarrays: who knows that a trace is a core run can cite the
+/// laws of lawful traces.
 pub fn law_core_run_lawful<M: Walker>()
     ensures { (coarrays : List Declared) (n : ℕ) (first : ℕ → M.Config) (t : List Entry)
         → list_all has_first_values coarrays ≡ true

@@ -16,7 +16,8 @@ use crate::order_laws::Choices;
 use caf_events::object::Object;
 use caf_events::walker::Walker;
 
-/// The core runs of programs are those of programs that say the same, where the run is fit, or where each reply answers its ask.
+/// The core runs of programs are those of programs that say the same, where the run is fit, or where each reply answers
+/// its ask.
 pub fn law_same_core_runs<M: Walker, N: Walker, O: Object, B: Object>()
     ensures fit { (b : Beginning M.Config O.Made B.Made) (first : ℕ → N.Config) → ImagesSayAs M.step N.step b first
         → IsFit (rules M.Walker O.Object B.Object) b
@@ -40,7 +41,8 @@ pub fn law_same_orders<M: Walker, N: Walker, O: Object, B: Object, S: Choices>()
         → IsOrderTrace (rules N.Walker O.Object B.Object) (with_programs b first) S.chooser s t }
 {}
 
-/// And after a core run the same images wait, at the same asks and lines. (Which images have ended is told by the trace alone: `HasEndedIn`.)
+/// And after a core run the same images wait, at the same asks and lines. (Which images have ended is told by the trace
+/// alone: `HasEndedIn`.)
 pub fn law_same_waits<M: Walker, N: Walker, O: Object, B: Object>()
     ensures fit { (b : Beginning M.Config O.Made B.Made) (first : ℕ → N.Config) → ImagesSayAs M.step N.step b first
         → IsFit (rules M.Walker O.Object B.Object) b
@@ -54,8 +56,8 @@ pub fn law_same_waits<M: Walker, N: Walker, O: Object, B: Object>()
         → IsWaiting (rules N.Walker O.Object B.Object) (with_programs b first) t i line ask }
 {}
 
-/// A run of programs that say what those of a fit run say is fit, where they hear the replies that are due; and a program that says what another one says ends by
-/// itself as that one does.
+/// A run of programs that say what those of a fit run say is fit, where they hear the replies that are due; and a
+/// program that says what another one says ends by itself as that one does.
 pub fn law_same_fit<M: Walker, N: Walker, O: Object, B: Object>()
     ensures fit { (b : Beginning M.Config O.Made B.Made) (first : ℕ → N.Config) → ((i : ℕ) → IsImage b i → SaysAs N.step M.step (first i) (b.first i))
         → ((m : Moment N.Config O.Made B.Made) → IsMoment (rules N.Walker O.Object B.Object) (with_programs b first) m → HearsDue (rules N.Walker O.Object B.Object) m)

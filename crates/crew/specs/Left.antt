@@ -24,7 +24,8 @@ module _ {C M B : Type 0} (r : Rules C M B) (m : Moment C M B) where
   was_ready i a Board h = r.board_ready m.board h i a
   was_ready i a Own h = true
 
-  -- the object of an ask of image i wasn't ready for it after a beginning of its history that has all the image's entries there
+  -- the object of an ask of image i wasn't ready for it after a beginning of its history that has all the image's
+  -- entries there
   pub record IsHeldBack (i : ℕ) (a : Ask) : Type 0 where
     pub seen : List Entry
     pub rest : List Entry

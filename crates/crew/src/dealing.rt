@@ -51,7 +51,8 @@ fn share<M: Drop>(
     Ok(taken)
 }
 
-/// Workers with these images by number, as many for each as for another or one more. Condition: there is at least one worker.
+/// Workers with these images by number, as many for each as for another or one more. Condition: there is at least one
+/// worker.
 pub(crate) fn deal<M: Drop>(
     alloc: Global,
     members: Vec<Member<M>>,

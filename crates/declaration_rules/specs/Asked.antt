@@ -15,7 +15,8 @@ use Rattle.constant_values.specs.Views.{constancy}
 use Rattle.declaration_rules.specs.declared.asked.Valued.{Valued}
 use Rattle.declaration_rules.specs.declared.asked.Asked.{Asked as AskedInMemory}
 
--- of an expression in which nothing is broken: its type, whether it is a list of images, what it stands for before the run
+-- of an expression in which nothing is broken: its type, whether it is a list of images, what it stands for before the
+-- run
 pub record Worth : Type 0 where
   pub of_type : DataType
   pub is_list : Bool

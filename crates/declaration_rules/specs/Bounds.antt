@@ -1,4 +1,5 @@
--- Bounds and kinds, by what is asked of their expressions: the words of the definitions of declarations (8.5.8.2, 8.5.6.3, 7.4.3.1), without the scope.
+-- Bounds and kinds, by what is asked of their expressions: the words of the definitions of declarations (8.5.8.2,
+-- 8.5.6.3, 7.4.3.1), without the scope.
 use Rattle.std.specs.Prelude.{ℤ, pos, int_lt, not, Option, Some, None}
 use Rattle.std.specs.Option.{option_map}
 use Rattle.caf_base.specs.declared.place.Pos.{Pos}

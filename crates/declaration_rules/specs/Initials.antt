@@ -1,4 +1,5 @@
--- Initial values, by what is asked of their expressions: the words of the definitions of declarations (8.4), without the scope.
+-- Initial values, by what is asked of their expressions: the words of the definitions of declarations (8.4), without
+-- the scope.
 use Rattle.std.specs.Prelude.{ℕ, ℤ, Bool, true, cond, nat_eq, List, [], Option, Some, None}
 use Rattle.caf_base.specs.declared.place.Pos.{Pos}
 use Rattle.coarray_types.specs.Places.{extent_of}

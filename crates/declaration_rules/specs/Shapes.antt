@@ -1,4 +1,5 @@
--- Shapes of entities, by what is asked of their expressions: the words of the definitions of declarations (8.5.8, 8.5.6), without the scope.
+-- Shapes of entities, by what is asked of their expressions: the words of the definitions of declarations (8.5.8,
+-- 8.5.6), without the scope.
 use Rattle.std.specs.Prelude.{ℤ, Bool, true, false, List, [], ◌∷◌, ◌++◌, Option, Some, None}
 use Rattle.rule_definitions.specs.declared.broken.Broken.{Broken}
 use Rattle.rule_definitions.specs.Judgements.{Judgement, unknown}

@@ -9,9 +9,11 @@ use caf_base::place::Pos;
 use checked_tree::data::DataType;
 use constant_values::constancy::Constancy;
 use rule_definitions::broken::Broken;
+use rule_definitions::rule;
 use scope_table::broken::note;
 
-/// An expression in which nothing is broken: its type, what it stands for before the run, and whether it is a list of images.
+/// An expression in which nothing is broken: its type, what it stands for before the run, and whether it is a list of
+/// images.
 #[derive(Drop)]
 pub struct Valued {
     pub of_type: DataType,
@@ -19,8 +21,8 @@ pub struct Valued {
     pub constancy: Constancy,
 }
 
-/// An expression: the rules that are broken in it, what it is where none is, whether it is no constant expression whatever values its parts have (ISO/IEC
-/// 1539-1:2018, 10.1.12), and its place.
+/// An expression: the rules that are broken in it, what it is where none is, whether it is no constant expression
+/// whatever values its parts have (ISO/IEC 1539-1:2018, 10.1.12), and its place.
 #[derive(Drop)]
 pub struct Asked {
     pub breaks: Vec<Broken>,
@@ -67,7 +69,7 @@ pub fn plain_value<'a>(first: &mut Option<Broken>, expr: &'a Asked) -> Option<&'
     note_all(first, expr.breaks.as_slice());
     let value = expr.value.as_ref()?;
     if value.is_list {
-        note(first, 56, expr.at);
+        note(first, rule::IMAGE_LIST, expr.at);
         return None;
     }
     Some(value)

@@ -23,7 +23,8 @@ pub struct Attributes<'a> {
     pub coshape: Option<&'a Coshape>,
 }
 
-/// Where declarations stand: in the main program, or in a procedure with these dummies and this result, which the heading may have typed.
+/// Where declarations stand: in the main program, or in a procedure with these dummies and this result, which the
+/// heading may have typed.
 #[derive(Drop)]
 pub struct DeclaringUnit<'a> {
     pub is_procedure: bool,

@@ -12,6 +12,7 @@ use caf_base::place::Pos;
 use caf_base::value::{Kind, Value};
 use constant_values::constancy::{Constancy, holds};
 use rule_definitions::broken::Broken;
+use rule_definitions::rule;
 use scope_table::broken::note;
 
 /// The bounds of a dimension: 1 where no lower one is written.
@@ -30,19 +31,19 @@ fn bound_of_value(first: &mut Option<Broken>, at: Pos, value: &Valued) -> Option
     match &value.constancy {
         Constancy::Value(Value::Int(number)) => {
             if !holds(Kind::I4, *number) {
-                note(first, 25, at);
+                note(first, rule::BOUND, at);
                 return None;
             }
             Some(*number)
         }
         Constancy::Value(Value::Bool(_)) | Constancy::NoConstant => {
-            note(first, 25, at);
+            note(first, rule::BOUND, at);
             None
         }
         Constancy::Values { .. } => {
-            note(first, 37, at);
+            note(first, rule::ARRAY_FOR_SCALAR, at);
             if is_logical_type(value.of_type) {
-                note(first, 25, at);
+                note(first, rule::BOUND, at);
             }
             None
         }
@@ -55,7 +56,7 @@ pub fn bound(first: &mut Option<Broken>, expr: &Asked) -> Option<i64>
     ensures first { first.new ≡ first_of first.old (bound_asked (asked expr.now)).breaks }
     ensures bound { result ≡ (bound_asked (asked expr.now)).meaning }
 {
-    let value = constant_value(first, 25, expr)?;
+    let value = constant_value(first, rule::BOUND, expr)?;
     bound_of_value(first, expr.at, value)
 }
 
@@ -89,7 +90,7 @@ pub fn cobounds(first: &mut Option<Broken>, written: &AskedBounds) -> Option<(i6
 {
     let (lower, upper) = bounds(first, written)?;
     if upper < lower {
-        note(first, 25, written.upper.at);
+        note(first, rule::BOUND, written.upper.at);
         return None;
     }
     Some((lower, upper))

@@ -12,6 +12,7 @@ use caf_base::refusal::NoMemory;
 use fortran_tree::name::Name;
 use fortran_tree::unit::{Procedure, Use};
 use rule_definitions::broken::Broken;
+use rule_definitions::rule;
 use scope_table::broken::note;
 use scope_table::names::Names;
 use scope_table::outside::{heading_name, is_known_module, module_named};
@@ -29,7 +30,7 @@ fn judge_only_name(first: &mut Option<Broken>, name: &Name)
     ensures { first.new ≡ first_of first.old (unless (is_there (denoted_in module_names name.now.text)) 20 name.now.at) }
 {
     if module_named(name.text.as_slice()).is_none() {
-        note(first, 20, name.at);
+        note(first, rule::UNKNOWN_NAME, name.at);
     }
 }
 
@@ -37,7 +38,7 @@ fn judge_use(first: &mut Option<Broken>, statement: &Use)
     ensures { first.new ≡ first_of first.old (use_breaks (use_statement statement.now)) }
 {
     if !is_known_module(&statement.module) {
-        note(first, 20, statement.module.at);
+        note(first, rule::UNKNOWN_NAME, statement.module.at);
         return;
     }
     if let Some(only) = &statement.only {
@@ -65,12 +66,13 @@ fn judge_new_name(
     ensures names { OnOk result (Adds before.new before.old (name.now.text ∷ [])) }
 {
     if !before.add(name.text.copy()?)? {
-        note(first, 21, name.at);
+        note(first, rule::DECLARED_TWICE, name.at);
     }
     Ok(())
 }
 
-/// Rule 21 (19.3.1): a procedure with the name of an earlier one, or one of those before; these are all before from here.
+/// Rule 21 (19.3.1): a procedure with the name of an earlier one, or one of those before; these are all before from
+/// here.
 pub fn judge_procedure_names(
     first: &mut Option<Broken>,
     before: &mut Names,

@@ -18,6 +18,7 @@ use caf_base::value::{Kind, Value};
 use checked_tree::data::DataType;
 use constant_values::constancy::{Constancy, can_hold};
 use rule_definitions::broken::Broken;
+use rule_definitions::rule;
 use scope_table::broken::note;
 use scope_table::symbol::KnownBounds;
 
@@ -125,11 +126,11 @@ fn judge_types(
     ensures fine { result ≡ is_nothing (type_breaks of_type value_type values.now at) }
 {
     if !is_alike(of_type, value_type) {
-        note(first, 32, at);
+        note(first, rule::ASSIGNMENT, at);
         return false;
     }
     if !can_hold_all(of_type, values) {
-        note(first, 22, at);
+        note(first, rule::INITIAL_VALUE, at);
         return false;
     }
     true
@@ -146,11 +147,11 @@ fn judge_extents(
     ensures fine { result ≡ is_nothing (extent_breaks bounds.now extents.now at) }
 {
     if bounds.is_empty() {
-        note(first, 37, at);
+        note(first, rule::ARRAY_FOR_SCALAR, at);
         return false;
     }
     if !fits_extents(bounds, extents) {
-        note(first, 38, at);
+        note(first, rule::ARRAY_ASSIGNMENT, at);
         return false;
     }
     true
@@ -176,7 +177,7 @@ fn judge_value(
             has_types && has_extents
         }
         Constancy::NoConstant => {
-            note(first, 22, at);
+            note(first, rule::INITIAL_VALUE, at);
             false
         }
     }
@@ -207,7 +208,7 @@ fn judge_initialized(
 {
     let is_special = is_special_type(of_type);
     if is_special {
-        note(first, 27, at);
+        note(first, rule::SPECIAL_TYPE, at);
     }
     let is_fine = judge_unit_value(first, of, is_constant, allocates, at);
     !is_special && is_fine
@@ -226,10 +227,10 @@ fn judge_unit_value(
 {
     let is_misplaced = !is_constant && of.is_procedure;
     if is_misplaced {
-        note(first, 28, at);
+        note(first, rule::IN_PROCEDURE, at);
     }
     if allocates {
-        note(first, 22, at);
+        note(first, rule::INITIAL_VALUE, at);
         return false;
     }
     !is_misplaced
@@ -253,7 +254,7 @@ fn initial_of_value<'a>(
         return None;
     }
     if let Constancy::NoConstant = &value.constancy {
-        note(first, 22, at);
+        note(first, rule::INITIAL_VALUE, at);
     }
     None
 }
@@ -269,7 +270,7 @@ fn constant_initial<'a>(
     ensures first { first.new ≡ first_of first.old (constant_initial_asked of_type bounds.now (asked expr.now)).breaks }
     ensures value { option_map (λ c. constancy c.now) result ≡ (constant_initial_asked of_type bounds.now (asked expr.now)).meaning }
 {
-    let value = constant_value(first, 22, expr)?;
+    let value = constant_value(first, rule::INITIAL_VALUE, expr)?;
     initial_of_value(first, of_type, bounds, value, expr.at)
 }
 

@@ -12,6 +12,7 @@ use caf_base::value::{Kind, Value};
 use checked_tree::data::DataType;
 use constant_values::constancy::Constancy;
 use rule_definitions::broken::Broken;
+use rule_definitions::rule;
 use scope_table::broken::note;
 
 /// Of which type a kind is asked.
@@ -61,23 +62,23 @@ fn kind_of_value(first: &mut Option<Broken>, of: KindOf, at: Pos, value: &Valued
         Constancy::Value(Value::Int(number)) => {
             let kind = kind_numbered(of, *number);
             if kind.is_none() {
-                note(first, 23, at);
+                note(first, rule::KIND, at);
             }
             kind
         }
         Constancy::Value(Value::Bool(_)) => {
-            note(first, 23, at);
+            note(first, rule::KIND, at);
             None
         }
         Constancy::Values { .. } => {
-            note(first, 37, at);
+            note(first, rule::ARRAY_FOR_SCALAR, at);
             if is_logical_type(value.of_type) {
-                note(first, 23, at);
+                note(first, rule::KIND, at);
             }
             None
         }
         Constancy::NoConstant => {
-            note(first, 22, at);
+            note(first, rule::INITIAL_VALUE, at);
             None
         }
     }
@@ -89,6 +90,6 @@ pub fn kind_of(first: &mut Option<Broken>, of: KindOf, expr: &Asked) -> Option<K
     ensures first { first.new ≡ first_of first.old (kind_asked of (asked expr.now)).breaks }
     ensures kind { result ≡ (kind_asked of (asked expr.now)).meaning }
 {
-    let value = constant_value(first, 22, expr)?;
+    let value = constant_value(first, rule::INITIAL_VALUE, expr)?;
     kind_of_value(first, of, expr.at, value)
 }

@@ -38,7 +38,8 @@ pub fn law_cobounds()
     ensures { (s : Scope) (b : d.Bounds) → cobounds_asked (bounds_asked_of s b) ≡ cobounds_value s b }
 {}
 
-/// The dimensions of an entity in a scope, by what is asked of their expressions: what breaks in these alone, the rules, and the bounds that are known.
+/// The dimensions of an entity in a scope, by what is asked of their expressions: what breaks in these alone, the
+/// rules, and the bounds that are known.
 pub fn law_dimensions()
     ensures raw { (s : Scope) (ds : List d.Dimension) → raw_dimensions_asked (map (dimension_asked_of s) ds) ≡ raw_dimensions_breaks s ds }
     ensures breaks { (s : Scope) (a : Bool) (ds : List d.Dimension) → dimensions_asked a (map (dimension_asked_of s) ds) ≡ dimensions_breaks s a ds }

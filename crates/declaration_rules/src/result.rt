@@ -14,6 +14,7 @@ use caf_base::refusal::NoMemory;
 use checked_tree::data::{Codimensions, DataType, Home, Initial, Local, Object};
 use fortran_tree::name::Name;
 use rule_definitions::broken::Broken;
+use rule_definitions::rule;
 use scope_table::broken::note;
 use scope_table::symbol::{Entry, Role, Symbol};
 use scope_table::table::Table;
@@ -71,7 +72,8 @@ fn is_declared_name(of: &DeclaringUnit<'_>, own: &Table, name: &[u8]) -> bool
     of.is_answer_typed && names_answer(of, name)
 }
 
-/// Rule 29 (ISO/IEC 1539-1:2018, 8.5.10): a dummy argument without a type; it is a variable of unknown type all the same.
+/// Rule 29 (ISO/IEC 1539-1:2018, 8.5.10): a dummy argument without a type; it is a variable of unknown type all the
+/// same.
 fn add_dummy(
     alloc: Global,
     first: &mut Option<Broken>,
@@ -85,7 +87,7 @@ fn add_dummy(
     if is_declared_name(of, own, dummy.text.as_slice()) {
         return Ok(());
     }
-    note(first, 29, dummy.at);
+    note(first, rule::INTENT, dummy.at);
     add_bare(alloc, own, dummy, None, Role::UndeclaredDummy)?;
     Ok(())
 }
@@ -120,7 +122,7 @@ pub fn add_untyped_result(
     if own.find(name.text.as_slice()).is_some() {
         return Ok(());
     }
-    note(first, 20, name.at);
+    note(first, rule::UNKNOWN_NAME, name.at);
     add_bare(alloc, own, name, None, Role::FunctionResult)?;
     Ok(())
 }

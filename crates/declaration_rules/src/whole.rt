@@ -12,6 +12,7 @@ use checked_tree::data::DataType;
 use fortran_tree::declaration::{Coshape, Dimension, Entity};
 use fortran_tree::name::Name;
 use rule_definitions::broken::Broken;
+use rule_definitions::rule;
 use scope_table::broken::note;
 
 /// How many codimensions there are.
@@ -89,7 +90,7 @@ pub fn judge_special_type(
 {
     if let Some(of_type) = of_type {
         if !is_placed(rank, corank, of_type) {
-            note(first, 27, at);
+            note(first, rule::SPECIAL_TYPE, at);
         }
     }
 }
@@ -99,7 +100,7 @@ fn judge_rank(first: &mut Option<Broken>, rank: usize, corank: usize, at: Pos)
     ensures { first.new ≡ first_of first.old (rank_breaks rank corank at) }
 {
     if rank > 3 || corank > 3 {
-        note(first, 24, at);
+        note(first, rule::RANK, at);
     }
 }
 
@@ -114,7 +115,7 @@ fn judge_deferred(
     ensures { first.new ≡ first_of first.old (deferred_breaks allocates (map dimension dimensions.now) (lent_coshape coshape.entry) at) }
 {
     if !has_shape(allocates, dimensions, coshape) {
-        note(first, 26, at);
+        note(first, rule::DEFERRED_SHAPE, at);
     }
 }
 
@@ -129,7 +130,7 @@ fn judge_procedure_variable(
     ensures { first.new ≡ first_of first.old (procedure_variable_breaks (unit of.now) (attributes all.entry) corank at) }
 {
     if of.is_procedure && (all.is_allocatable || all.is_saved || corank != 0) {
-        note(first, 28, at);
+        note(first, rule::IN_PROCEDURE, at);
     }
 }
 
@@ -143,7 +144,7 @@ fn judge_intent(
     ensures { first.new ≡ first_of first.old (intent_breaks (unit of.now) (attributes all.entry) name.now) }
 {
     if all.intent.is_some() && !of.dummies.contains(name.text.as_slice()) {
-        note(first, 29, name.at);
+        note(first, rule::INTENT, name.at);
     }
 }
 
@@ -174,6 +175,6 @@ fn judge_parameter(first: &mut Option<Broken>, all: Attributes<'_>, entity: &Ent
     ensures { first.new ≡ first_of first.old (parameter_breaks (attributes all.entry) (entity_seen entity.now).initial entity.now.name.at) }
 {
     if all.is_parameter && entity.initial.is_none() {
-        note(first, 22, entity.name.at);
+        note(first, rule::INITIAL_VALUE, entity.name.at);
     }
 }

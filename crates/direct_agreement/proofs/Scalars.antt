@@ -163,12 +163,13 @@ pub counted_comes : (vs : List ℤ) (x : Act) (b : Bool) (v : ℤ) (l : ℕ) (z 
 counted_comes vs x true v l z c n h = (refl, h)
 counted_comes vs x false v l z c n h = members_come vs x (sibling (team_in (current_team z) z.known) v z.known) l z c n h
 
-pub number_comes : (vs : List ℤ) (x : Act) (o : Option Team) (l : ℕ) (z : State) (c : Core) (n : ℕ) → Kept n z
-    → Comes (put_down c) (Leaves n) ((or_fault no_team o ▹ (λ m. giving (number m.number))) l z)
-    (and_then (of_effect l (with_values (with_state z c) vs) (settled x (teamed o (λ k. giving_act k.number (with_state z c)))))
-    (told end_parts l))
-number_comes vs x None l z c n h = refl
-number_comes vs x (Some k) l z c n h = (refl, h)
+pub number_comes : (vs : List ℤ) (x : Act) (o : Option Team) (k : Kind) (l : ℕ) (z : State) (c : Core) (n : ℕ) → Kept n z
+    → Comes (put_down c) (Leaves n)
+    ((or_fault no_team o ▹ (λ m. unless overflow (fits_kind k m.number) (giving (number m.number)))) l z)
+    (and_then (of_effect l (with_values (with_state z c) vs) (settled x (teamed o (λ m. giving_act m.number (with_state z c)))))
+    (told (doing (operator (a.fits k 0) ∷ [])) l))
+number_comes vs x None k l z c n h = refl
+number_comes vs x (Some m) k l z c n h = fits_comes (m.number ∷ c.values) (operator (a.fits k 0)) (fits_kind k m.number) m.number l z c n h
 
 pub level_comes : (vs : List ℤ) (x : Act) (b d f : Bool) (l : ℕ) (z : State) (c : Core) (n : ℕ) → Kept n z
     → Comes (put_down c) (Leaves n) ((cond b (giving 1) (cond d (the (λ s. parent_of s.teams)) (cond f (the current_team) (fault no_team)))

@@ -502,9 +502,11 @@ module _ (e : Environment) (calls : ℕ → List Passed → Does Value) where
         ))
     intrinsic_comes n (t.number_of_team which) k l c r h =
         comes_then (put_team c) (Keeps c.used) (put_down c) (Leaves c.used) (team_of e calls which l (state_of c))
-        (told (parts.team_of e which) l c) (λ p. (known_team p.0 ▹ (λ m. giving (number m.number))) l p.1)
-        (told (doing (selector a.team_number ∷ [])) l)
-        (team_comes n which l c r h) (λ m z b. number_comes (pos m ∷ c.values) (selector a.team_number) (team_in m z.known) l z c c.used b)
+        (told (parts.team_of e which) l c)
+        (λ p. (known_team p.0 ▹ (λ m. unless overflow (fits_kind k m.number) (giving (number m.number)))) l p.1)
+        (told (doing (selector a.team_number ∷ operator (a.fits k 0) ∷ [])) l)
+        (team_comes n which l c r h)
+        (λ m z b. number_comes (pos m ∷ c.values) (selector a.team_number) (team_in m z.known) k l z c c.used b)
     intrinsic_comes n (t.get_team t.missing) k l c r h = (refl, (le_refl c.used, r.0))
     intrinsic_comes n (t.get_team (t.given x)) k l c r h =
         comes_number (put_down c) (Leaves c.used) c.used (value e calls x) (λ v. team_of_level v ▹ (λ m. giving (number (pos m)))) l

@@ -235,6 +235,6 @@ module _ (e : Environment) (calls : ℕ → List Passed → Does Value) where
         scalar_as_written o (value i) (team_of which) (λ v n. own_team (pos n) ▹ (λ m. status_of_image m v))
     intrinsic (t.failed_images which) k = team_of which ▹ (λ n. asking (asks.Failed (team n)) ▹ (λ r. indices r ▹ (λ vs. using (length vs) ▹ (λ u. giving (array_of vs)))))
     intrinsic (t.stopped_images which) k = team_of which ▹ (λ n. asking (asks.Stopped (team n)) ▹ (λ r. indices r ▹ (λ vs. using (length vs) ▹ (λ u. giving (array_of vs)))))
-    intrinsic (t.number_of_team which) k = team_of which ▹ (λ n. known_team n ▹ (λ m. giving (number m.number)))
+    intrinsic (t.number_of_team which) k = team_of which ▹ (λ n. known_team n ▹ (λ m. unless overflow (fits_kind k m.number) (giving (number m.number))))
     intrinsic (t.get_team t.missing) k = the current_team ▹ (λ n. giving (number (pos n)))
     intrinsic (t.get_team (t.given level)) k = value level ▹ℤ (λ v. team_of_level v ▹ (λ n. giving (number (pos n))))

@@ -33,7 +33,8 @@ fn print<R: Abort>(rt: &R, alloc: Global, image: u32, stamp: u64, text: &str) ->
     entry(rt, alloc, image, stamp, Ask::Print { text })
 }
 
-// Whether a report has this status and this text is judged; with `all` it shows the final values, the trace and the line that sums the run up too.
+// Whether a report has this status and this text is judged; with `all` it shows the final values, the trace and the
+// line that sums the run up too.
 fn says<R: Abort>(rt: &R, alloc: Global, report: Report, all: bool, status: u8, wanted: &str)
     requires { HasEnd report }
 {

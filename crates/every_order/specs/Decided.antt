@@ -52,8 +52,8 @@ EventsStay t =
     (x y : Stands t) (c : Cell) → act_of x.event ≡ posts c
     → (act_of y.event ≡ creates c.owner c.coarray → ⊥) × (act_of y.event ≡ deletes c.owner c.coarray → ⊥)
 
--- A decided trace of n images: it has no race, each of its replies is free, each of its events has one poster, and no coarray
--- of which an event is posted is allocated or deallocated.
+-- A decided trace of n images: it has no race, each of its replies is free, each of its events has one poster, and no
+-- coarray of which an event is posted is allocated or deallocated.
 pub record IsDecided (n : ℕ) (t : List Entry) : Type 0 where
   pub no_race : HasNoRace (edges n) touches t
   pub free : Each (λ x. is_free x.event.ask x.event.reply ≡ true) t

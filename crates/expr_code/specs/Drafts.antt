@@ -14,8 +14,8 @@ pub data Body : Type 0 where
   counted : ℕ → Body
   kept : List (Line Act) → Body
 
--- where the code of each procedure begins, and any other one's; what stands beside the code; the lines so far; and whether one of them took evaluation
--- cells since that was last looked at
+-- where the code of each procedure begins, and any other one's; what stands beside the code; the lines so far; and
+-- whether one of them took evaluation cells since that was last looked at
 pub record Drafted : Type 0 where
   pub starts : List ℕ
   pub end : ℕ
@@ -68,7 +68,8 @@ written l (either p q r) d =
 abbrev pub looked : Drafted → Drafted
 looked d = record d { took = false }
 
--- Where it ends, its evaluation cells are free again, if it took any (`written l (released p)`, released_written); `before` is what was so before it.
+-- Where it ends, its evaluation cells are free again, if it took any (`written l (released p)`, released_written);
+-- `before` is what was so before it.
 abbrev pub ended : ℕ → (before : Bool) → Drafted → Drafted
 ended l before d = let e : Drafted = cond d.took (with_line (on l (does_act (stack release))) d) d in record e { took = e.took || before }
 

@@ -36,7 +36,8 @@ abbrev pub local_bounds : Bool → Scope → (array form rank : ℕ) → Parts A
 local_bounds true s x form rank = doing (bounded (a.bounds s x) ∷ [])
 local_bounds false s x form rank = doing (bounded (a.section s x form) ∷ bounded (a.section_bounds rank) ∷ [])
 
--- those of the section of a coarray whose place and owner are on top, with the place of a STAT= variable of this size beneath
+-- those of the section of a coarray whose place and owner are on top, with the place of a STAT= variable of this size
+-- beneath
 abbrev pub selected_bounds : (rank stat : ℕ) → Parts Act
 selected_bounds rank stat = dropping 1 ▸ doing (bounded (a.section_bounds rank) ∷ []) ▸ dropping stat
 
@@ -65,7 +66,8 @@ module _ (e : Environment) where
   coarray_bounds true c form rank sel = doing (bounded (a.co_bounds c) ∷ [])
   coarray_bounds false c form rank sel = doing (bounded (a.co_section c form) ∷ []) ▸ section_bounds_of c rank sel
 
-  -- the bounds of a variable, a constant array or a part of one: its subscripts, and then the bounds of what they select
+  -- the bounds of a variable, a constant array or a part of one: its subscripts, and then the bounds of what they
+  -- select
   abbrev pub bounds_of_designator : t.Designator → ℕ → Parts Act
   bounds_of_designator (t.part (objects.Local v) ss sel) rank = subscripts e ss ▸ local_bounds (is_whole ss) (scope_of v.home) v.variable (form_of ss rank) rank
   bounds_of_designator (t.part (objects.Constant n) ss sel) rank = subscripts e ss ▸ local_bounds (is_whole ss) e.main (constant_place e n) (form_of ss rank) rank

@@ -23,7 +23,8 @@ use image_code::step::{Scope, Step};
 use std::alloc::Global;
 use tree_meaning::start::sum_of_locals;
 
-/// An argument as it was passed: its dummy's number and rank; where it goes back to; how many numbers its place is; and whether it goes back.
+/// An argument as it was passed: its dummy's number and rank; where it goes back to; how many numbers its place is; and
+/// whether it goes back.
 #[derive(Clone, Copy)]
 pub struct PassedArgument {
     pub dummy: u32,

@@ -13,9 +13,10 @@ use image_code::step::Step;
 use std::alloc::Global;
 use std::marker::Model;
 
-/// A draft that keeps its code, or one that only counts how many steps it has: by such a one the size of code is known before the code itself. It knows
-/// where the code of each procedure will begin: the main program is the first one, and a procedure that isn't among them begins at `end`. And it knows
-/// whether a step took evaluation cells since that was last looked at: they are released at the end of the statement.
+/// A draft that keeps its code, or one that only counts how many steps it has: by such a one the size of code is known
+/// before the code itself. It knows where the code of each procedure will begin: the main program is the first one, and
+/// a procedure that isn't among them begins at `end`. And it knows whether a step took evaluation cells since that was
+/// last looked at: they are released at the end of the statement.
 #[derive(Drop)]
 pub struct Draft {
     code: CodeDraft,
@@ -124,7 +125,8 @@ impl Draft {
         before
     }
 
-    /// Ends a statement: where a step of it took evaluation cells, they are free again. `before` is what `look` answered.
+    /// Ends a statement: where a step of it took evaluation cells, they are free again. `before` is what `look`
+    /// answered.
     pub fn release(&mut self, before: bool, line: u32) -> Result<(), NoMemory>
         ensures { OnOk result (self.new ≡ ended line before self.old) }
     {

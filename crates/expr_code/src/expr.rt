@@ -32,7 +32,8 @@ use checked_tree::expr::{
 use checked_tree::program::Dummy;
 use image_code::step::Step;
 
-/// Appends the code of an expression: it leaves a number, or an array with its evaluation cells. After want of memory nothing is said of the draft.
+/// Appends the code of an expression: it leaves a number, or an array with its evaluation cells. After want of memory
+/// nothing is said of the draft.
 #[cycle(expression)]
 #[tactic(auto, using(crate::proofs::Forms::laws))]
 pub fn push_expr(
@@ -741,7 +742,8 @@ fn push_intrinsic(
         }
         Intrinsic::TeamNumber { team } => {
             push_team_of(draft, env, team, line)?;
-            draft.push(Step::TeamNumber, line)
+            draft.push(Step::TeamNumber, line)?;
+            draft.push(Step::Fits(kind, 0), line)
         }
         Intrinsic::GetTeam { level } => push_team_of_level(draft, env, level, line),
     }

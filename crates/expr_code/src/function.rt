@@ -61,7 +61,8 @@ pub fn push_is_there(draft: &mut Draft, object: Object, line: u32) -> Result<(),
     }
 }
 
-/// IMAGE_STATUS of the image index beneath the team on top, which is looked up once more: the index may have been evaluated behind it.
+/// IMAGE_STATUS of the image index beneath the team on top, which is looked up once more: the index may have been
+/// evaluated behind it.
 pub fn push_image_status(draft: &mut Draft, line: u32) -> Result<(), NoMemory>
     ensures { OnOk result (draft.new ≡ written line (doing (act.selector act.team_value ∷ act.ask act.status ∷ [])) draft.old) }
 {

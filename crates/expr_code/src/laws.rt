@@ -22,7 +22,8 @@ pub fn law_written_takes()
     ensures { (line : ℕ) (parts : Parts Act) (draft : Drafted) → (written line parts draft).took ≡ (takes parts || draft.took) }
 {}
 
-/// Parts that are written between `look` and `release` are written as a statement whose evaluation cells are free again behind it.
+/// Parts that are written between `look` and `release` are written as a statement whose evaluation cells are free again
+/// behind it.
 pub fn law_written_released()
     ensures { (line : ℕ) (parts : Parts Act) (draft : Drafted) → ended line draft.took (written line parts (looked draft)) ≡ written line (released parts) draft }
 {}

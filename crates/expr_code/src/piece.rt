@@ -369,7 +369,8 @@ pub fn push_access(
     push_as_value(draft, rank, line)
 }
 
-/// The image that cosubscripts and a team select; the place of the selector's STAT= variable comes beneath the section's.
+/// The image that cosubscripts and a team select; the place of the selector's STAT= variable comes beneath the
+/// section's.
 pub fn push_selected_owner(
     draft: &mut Draft,
     coarray: u32,

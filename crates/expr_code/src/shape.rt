@@ -37,8 +37,8 @@ pub fn count_of(exprs: &[TypedExpr]) -> Result<u32, NoMemory>
     Ok(n as u32)
 }
 
-/// The form of subscripts: a digit for each, the first one's last; a whole array is the section of all its elements. A form beyond 32 bits is no
-/// form of a program.
+/// The form of subscripts: a digit for each, the first one's last; a whole array is the section of all its elements. A
+/// form beyond 32 bits is no form of a program.
 pub fn form_of(subscripts: &[Subscript], rank: u32) -> Result<u32, NoMemory>
     ensures { IfOk result (λ n. n ≡ meaning.form_of (view.subscripts subscripts.now) rank) }
 {

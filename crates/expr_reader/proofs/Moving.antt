@@ -1,4 +1,5 @@
--- A word of a phrase under another limit: the same tokens, none of the first ones too deep where the limit is out of reach.
+-- A word of a phrase under another limit: the same tokens, none of the first ones too deep where the limit is out of
+-- reach.
 use Rattle.std.proofs.Common.{◌≡◌, ℕ, zero, suc, ◌+◌, ◌-◌, ◌≤◌, Bool, true, false, cond, max, List, [], ◌∷◌, ◌++◌, length, inl, inr, refl, ap, sym, ◌∙◌, subst, arith}
 use Rattle.std.proofs.lemmas.Bool.{le-ltb, and_parts, or_cases, false≢true}
 use Rattle.std.proofs.lemmas.List.{length-append}

@@ -1,5 +1,6 @@
--- Readers that look no further than where they stop. Of two texts that are alike up to a place both get one answer where it stops before that place; where
--- the reader comes to the place in both and finds something up to there in the one, in the other it doesn't expect more there.
+-- Readers that look no further than where they stop. Of two texts that are alike up to a place both get one answer
+-- where it stops before that place; where the reader comes to the place in both and finds something up to there in the
+-- one, in the other it doesn't expect more there.
 use Rattle.std.proofs.Common.{◌≡◌, ℕ, zero, suc, ◌+◌, ◌≤◌, Bool, true, false, cond, List, [], ◌∷◌, ◌++◌, ◌⊎◌, inl, inr, length, refl, ap, sym, subst, arith}
 use Rattle.std.specs.Prelude.{Some, None}
 use Rattle.reader_theory.specs.Words.{Cause, expected, too_deep, Verdict, found, fault}

@@ -1,4 +1,5 @@
--- All primaries (ISO/IEC 1539-1:2018, R1001): literals, designators, function references, expressions in brackets, array constructors.
+-- All primaries (ISO/IEC 1539-1:2018, R1001): literals, designators, function references, expressions in brackets,
+-- array constructors.
 use Rattle.std.specs.Prelude.{ℕ, Bool, true, false, cond, List, [], ◌∷◌, Option, Some, None}
 use Rattle.caf_base.specs.declared.place.Pos.{Pos}
 use Rattle.reader_theory.specs.Words.{found}

@@ -25,8 +25,8 @@ abbrev pub place_told : ReadFault → Pos
 place_told (faults.Expected at) = at
 place_told (faults.TooDeep at) = at
 
--- With so many levels open: the longest expression that begins the text, and what stands behind it; or why there is none, and where, `end` being the place
--- where the text ends.
+-- With so many levels open: the longest expression that begins the text, and what stands behind it; or why there is
+-- none, and where, `end` being the place where the text ends.
 abbrev pub IsRead : {X : Type 0} → ℕ → Pos → (X → Expression × List Token) → List Token → Result X (Refusal ReadFault) → Type 0
 IsRead level end look ts (Ok x) = Longest (Expressions_at NESTING level) ts (found (look x).0 (look x).1)
 IsRead level end look ts (Err refusals.NoMemory) = Unit {0}

@@ -1,4 +1,5 @@
--- What is read where a text may go on behind it: the longest word that begins the text, or the first token that fits none.
+-- What is read where a text may go on behind it: the longest word that begins the text, or the first token that fits
+-- none.
 use Rattle.std.specs.Prelude.{◌≡◌, List, [], ◌∷◌, ◌++◌}
 use Rattle.reader_theory.specs.Words.{Language, Cause, expected, too_deep, Verdict, found, fault}
 use Rattle.reader_theory.specs.Refusals.{Reads, Begins, Opens, StopsAt}
@@ -20,7 +21,8 @@ abbrev pub Unread : {T A : Type 0} → Language T A → List T → Cause → Typ
 Unread {T} {A} L front expected = (a : A) → Reads L front a → ⊥
 Unread L front too_deep = Unit {0}
 
--- what stands in front of the rest begins a word, and none goes on with the rest's first token: none at all, or only with a level too deep that begins there
+-- what stands in front of the rest begins a word, and none goes on with the rest's first token: none at all, or only
+-- with a level too deep that begins there
 pub record FailsAt {T A : Type 0} (L : Language T A) (ts : List T) (c : Cause) (rest : List T) : Type 0 where
   pub front : List T
   pub split : ts ≡ front ++ rest

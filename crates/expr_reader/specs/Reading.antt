@@ -1,4 +1,5 @@
--- Readers of expressions, as functions on lists of tokens, from readers of primaries and of what stands one level further in.
+-- Readers of expressions, as functions on lists of tokens, from readers of primaries and of what stands one level
+-- further in.
 use Rattle.std.specs.Prelude.{ℕ, zero, suc, cond, nat_eq, List, [], ◌∷◌, Option, Some, None}
 use Rattle.caf_base.specs.declared.place.Pos.{Pos}
 use Rattle.reader_theory.specs.Words.{Verdict}
@@ -109,7 +110,8 @@ tier_from primary power term relation = record {
   primary = primary;
 }
 
--- The readers where so many levels are left, from those of primaries: where none is left, and where expressions are read one level further in.
+-- The readers where so many levels are left, from those of primaries: where none is left, and where expressions are
+-- read one level further in.
 unfoldable pub tier : Reader Expression → (Reader Expression → Reader Expression) → ℕ → Tier
 tier bottom primaries zero = tier_from bottom (sunk (opens 8)) (sunk (opens 7)) (sunk (opens 5))
 tier bottom primaries (suc left) =

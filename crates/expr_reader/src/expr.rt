@@ -1,5 +1,7 @@
-//! Reads expressions (ISO/IEC 1539-1:2018, 10.1). Each reader takes the words from its place on, and gives what it reads and the words behind it.
-//! `left` is how many levels may still be opened. A reader calls itself only over levels: chains of operators and lists are loops.
+//! Reads expressions (ISO/IEC 1539-1:2018, 10.1). Each reader takes the words from its place on, and gives what it
+//! reads and the words behind it.
+//! `left` is how many levels may still be opened. A reader calls itself only over levels: chains of operators and lists
+//! are loops.
 
 ghost use Rattle.std.specs.Prelude.{◌≡◌, ◌≤◌};
 ghost use Rattle.reader_theory.specs.Readers.{joined, many, optional};

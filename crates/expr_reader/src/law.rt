@@ -8,7 +8,8 @@ pub fn expressions_exactly()
     ensures once { ExpressionsOnce }
 {}
 
-/// The reader of expressions gives the longest expression that begins a text, or where and why there is none; and each text has one such answer.
+/// The reader of expressions gives the longest expression that begins a text, or where and why there is none; and each
+/// text has one such answer.
 pub fn longest_expressions()
     ensures answered { LongestAnswered }
     ensures once { LongestOnce }

@@ -1,4 +1,5 @@
-//! Readers of one token. Each reader takes the words from its place on, and gives what it reads and the words behind it.
+//! Readers of one token. Each reader takes the words from its place on, and gives what it reads and the words behind
+//! it.
 
 ghost use Rattle.std.specs.Prelude.{◌≡◌, ◌≤◌, IfOk};
 ghost use Rattle.reader_theory.specs.Readers.{sunk, token};

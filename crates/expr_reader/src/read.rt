@@ -48,8 +48,9 @@ fn place_of_last(words: &[Word], left: usize, end: Pos) -> Pos
     }
 }
 
-/// The longest expression (ISO/IEC 1539-1:2018, 10.1.2.2, R1022) that begins the words, and the words behind it; `level` levels are open there, and `end` is the place
-/// where the words end. Otherwise the first token that fits none, or at which a level too deep begins.
+/// The longest expression (ISO/IEC 1539-1:2018, 10.1.2.2, R1022) that begins the words, and the words behind it;
+/// `level` levels are open there, and `end` is the place where the words end. Otherwise the first token that fits none,
+/// or at which a level too deep begins.
 pub fn read_expr<'a>(
     alloc: Global,
     words: &'a [Word],

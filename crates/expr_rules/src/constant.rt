@@ -26,6 +26,7 @@ use part_rules::bracket::Actual;
 use part_rules::designator::{Selection, part_rank};
 use part_rules::judged::{Judged, add_all, fine};
 use part_rules::shape::{Ranks, counted};
+use rule_definitions::rule;
 use scope_table::symbol::{ConstantSymbol, ConstantValue};
 use std::alloc::Global;
 
@@ -181,7 +182,7 @@ pub fn module_constant(
     ensures meaning { IfOk result (λ j. option_map expression j.meaning ≡ (rules.unsubscripted (module_number number) (map actual_seen actuals.items) at).meaning) }
 {
     if actuals.len() > 0 {
-        return refused_around(alloc, actuals, 33, at);
+        return refused_around(alloc, actuals, rule::SUBSCRIPT_COUNT, at);
     }
     drop(actuals);
     Ok(fine(alloc, default_integer(number)))

@@ -21,10 +21,12 @@ use checked_tree::expr::{Selector, TypedExpr};
 use part_rules::bracket::Actual;
 use part_rules::designator::Selection;
 use part_rules::judged::{Judged, are_none, joined, refused, ruled};
+use rule_definitions::rule;
 use scope_table::scope::{Denoted, Scope};
 use std::alloc::Global;
 
-/// Whether nothing is to be said of a selector behind what is no variable: none is there, or something breaks before or in it.
+/// Whether nothing is to be said of a selector behind what is no variable: none is there, or something breaks before or
+/// in it.
 fn is_unsaid(is_plain: bool, selection: &Selection) -> bool
     ensures { result ≡ (not (is_plain && is_nothing selection.now.judged.breaks.items) || not (is_there selection.now.count)) }
 {
@@ -59,7 +61,8 @@ fn behind_selector(
     }
 }
 
-/// What is no variable, with its selector: rule 34 where one stands behind it and nothing is broken before, that is in the brackets, and in it.
+/// What is no variable, with its selector: rule 34 where one stands behind it and nothing is broken before, that is in
+/// the brackets, and in it.
 #[tactic(auto, using(crate::proofs::Names::unsaid_laws))]
 fn unselected(
     part: Judged<TypedExpr>,
@@ -72,7 +75,7 @@ fn unselected(
 {
     let holds = is_unsaid(is_plain, &selection);
     let Selection { judged, .. } = selection;
-    let Judged { breaks, meaning } = ruled(part, holds, 34, at)?;
+    let Judged { breaks, meaning } = ruled(part, holds, rule::NO_COARRAY, at)?;
     let Judged {
         breaks: further,
         meaning: selector,
@@ -147,7 +150,7 @@ fn undeclared(
 {
     drop(actuals);
     drop(selection);
-    refused(alloc, 20, at)
+    refused(alloc, rule::UNKNOWN_NAME, at)
 }
 
 /// What a designator is, by what its name stands for: rule 20 for nothing and for a type.

@@ -19,6 +19,7 @@ use part_rules::bracket::Actual;
 use part_rules::designator::Selection;
 use part_rules::judged::{Judged, are_none, note_unless, refused, unknown};
 use rule_definitions::broken::Broken;
+use rule_definitions::rule;
 use scope_table::scope::{Denoted, Scope};
 use scope_table::symbol::{Interface, Symbol};
 use std::alloc::Global;
@@ -93,7 +94,8 @@ fn function_called(
     Ok(Judged { breaks, meaning })
 }
 
-/// A name with arguments: rule 20 for nothing and for a type, rule 47 for a subroutine, rule 33 for what is no procedure.
+/// A name with arguments: rule 20 for nothing and for a type, rule 47 for a subroutine, rule 33 for what is no
+/// procedure.
 pub fn referenced(
     alloc: Global,
     scope: &Scope<'_>,
@@ -106,7 +108,7 @@ pub fn referenced(
 {
     let Some(denoted) = denoted else {
         drop(actuals);
-        return refused(alloc, 20, at);
+        return refused(alloc, rule::UNKNOWN_NAME, at);
     };
     match denoted {
         Denoted::Function(number) => {
@@ -114,14 +116,14 @@ pub fn referenced(
         }
         Denoted::IntrinsicFunction(name) => intrinsic_reference(alloc, scope, name, actuals, at),
         Denoted::Subroutine(_) | Denoted::IntrinsicSubroutine(_) => {
-            refused_around(alloc, actuals, 47, at)
+            refused_around(alloc, actuals, rule::PROCEDURE_NAME, at)
         }
         Denoted::ModuleType(_) => {
             drop(actuals);
-            refused(alloc, 20, at)
+            refused(alloc, rule::UNKNOWN_NAME, at)
         }
         Denoted::Variable(_) | Denoted::Constant(_) | Denoted::ModuleConstant(_) => {
-            refused_around(alloc, actuals, 33, at)
+            refused_around(alloc, actuals, rule::SUBSCRIPT_COUNT, at)
         }
     }
 }
@@ -144,7 +146,7 @@ pub fn function_named(
     }
     drop(actuals);
     if are_none(selection.judged.breaks.as_slice()) {
-        refused(alloc, 47, at)
+        refused(alloc, rule::PROCEDURE_NAME, at)
     } else {
         Ok(unknown(alloc))
     }
@@ -162,6 +164,6 @@ pub fn subroutine_breaks(
 {
     let mut breaks = breaks_in_all(alloc, actuals)?;
     let is_clean = are_none(breaks.as_slice()) && are_none(selection.judged.breaks.as_slice());
-    note_unless(&mut breaks, !is_clean, 47, at)?;
+    note_unless(&mut breaks, !is_clean, rule::PROCEDURE_NAME, at)?;
     Ok(breaks)
 }

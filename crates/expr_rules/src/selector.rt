@@ -15,6 +15,7 @@ use part_rules::designator::Selection;
 use part_rules::judged::{Judged, fine, joined, keep};
 use part_rules::operand::integer;
 use part_rules::part::Part;
+use rule_definitions::rule;
 use specifier_rules::selector::{TeamAndStat, selector_specifiers};
 use specifier_rules::specifier::Specified;
 use std::alloc::Global;
@@ -37,7 +38,7 @@ fn cosubscripts(alloc: Global, parts: Vec<Part>) -> Result<Judged<Vec<TypedExpr>
 {
     let mut list = fine(alloc, Vec::new(alloc));
     for part in parts {
-        let item = integer(31, part)?;
+        let item = integer(rule::OPERAND, part)?;
         keep(&mut list, item)?;
     }
     Ok(list)

@@ -19,6 +19,7 @@ use part_rules::judged::{Judged, fine, keep};
 use part_rules::operand::integer;
 use part_rules::part::Part;
 use rule_definitions::broken::Broken;
+use rule_definitions::rule;
 use std::alloc::Global;
 
 /// A bound or a stride of a triplet, where one is written.
@@ -29,7 +30,7 @@ pub fn bound(alloc: Global, part: Part) -> Result<Judged<Bound>, NoMemory>
     ensures breaks { IfOk result (λ j. j.breaks.items ≡ (made_of t.given (parts.integer 31 (placed part))).breaks) }
     ensures meaning { IfOk result (λ j. option_map optional_expression j.meaning ≡ (made_of t.given (parts.integer 31 (placed part))).meaning) }
 {
-    let Judged { breaks, meaning } = integer(31, part)?;
+    let Judged { breaks, meaning } = integer(rule::OPERAND, part)?;
     let meaning = match meaning {
         Some(value) => Some(Some(Box::new(alloc, value)?)),
         None => None,
@@ -119,7 +120,7 @@ fn element(part: Part) -> Result<Judged<Subscript>, NoMemory>
     ensures breaks { IfOk result (λ j. j.breaks.items ≡ (made_of t.element (parts.integer 31 (placed part))).breaks) }
     ensures meaning { IfOk result (λ j. option_map subscript_seen j.meaning ≡ (made_of t.element (parts.integer 31 (placed part))).meaning) }
 {
-    let Judged { breaks, meaning } = integer(31, part)?;
+    let Judged { breaks, meaning } = integer(rule::OPERAND, part)?;
     let meaning = match meaning {
         Some(value) => Some(Subscript::Element(value)),
         None => None,

@@ -9,20 +9,23 @@ use Rattle.open_constructs.specs.Open.{IsInnermostOpen}
 use Rattle.file_reader.specs.declared.fault.FileFault.{FileFault}
 use Rattle.file_reader.specs.declared.fault.FileFault.TheVariants.{Expected, NotClosed, TooDeep}
 
--- No program begins with the words up to and with this token, whatever its levels; the end of a statement is a token, just past its last one.
+-- No program begins with the words up to and with this token, whatever its levels; the end of a statement is a token,
+-- just past its last one.
 pub record IsExpectedAt (ts : List Token) (at : Pos) : Type 0 where
   pub token : Token
   pub rest : List Token
   pub refused : RefusedFor Sources ts no_word (token ∷ rest)
   pub place : at ≡ token.at
 
--- There are words, and programs go on from them, but none ends there; in each of those programs the innermost construct that the words begin and don't end begins at this place.
+-- There are words, and programs go on from them, but none ends there; in each of those programs the innermost construct
+-- that the words begin and don't end begins at this place.
 pub record IsOpenAt (ts : List Token) (at : Pos) : Type 0 where
   pub some : 0 < length ts
   pub refused : RefusedFor Sources ts no_word []
   pub innermost : IsInnermostOpen ts at
 
--- Programs go on with the token at which the words are refused, but each has a level too deep by then; the first of those levels begins at this token.
+-- Programs go on with the token at which the words are refused, but each has a level too deep by then; the first of
+-- those levels begins at this token.
 pub record IsTooDeepAt (ts : List Token) (at : Pos) : Type 0 where
   pub before : ℕ
   pub token : Token

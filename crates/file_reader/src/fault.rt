@@ -5,7 +5,8 @@ use caf_base::place::Pos;
 /// What is wrong in the words of a source, and its place.
 #[derive(Clone, Copy, PartialEq, Eq, Debug)]
 pub enum FileFault {
-    /// A token with which no statement that the grammar allows there goes on, or just past the statement where more was needed.
+    /// A token with which no statement that the grammar allows there goes on, or just past the statement where more was
+    /// needed.
     Expected { at: Pos },
     /// What is open innermost where the file ends: a construct, a procedure or the main program, at its first token.
     NotClosed { at: Pos },

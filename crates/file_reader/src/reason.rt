@@ -67,8 +67,8 @@ fn names(alloc: Global, state: &State) -> Result<Vec<Form>, ReadError>
     Ok(names)
 }
 
-/// Where the words of one statement come to a level too deep first, of all statements that the place allows and that go on with these words: the number
-/// of words from there on.
+/// Where the words of one statement come to a level too deep first, of all statements that the place allows and that go
+/// on with these words: the number of words from there on.
 fn too_deep_from(
     alloc: Global,
     state: &State,
@@ -111,8 +111,8 @@ fn number(begin: usize, size: usize, from: Option<usize>) -> Option<usize>
     }
 }
 
-/// The number of the word at which a level too deep is open first, of all programs that go on with the words up to and with the one at which
-/// reading stops, if any does.
+/// The number of the word at which a level too deep is open first, of all programs that go on with the words up to and
+/// with the one at which reading stops, if any does.
 pub fn sunk_word(alloc: Global, words: &[Word], stop: Stop) -> Result<Option<usize>, ReadError>
     requires some { 0 < stop.left }
     requires whole { whole_statements (tokens_of words.now) ≡ true }

@@ -1,5 +1,6 @@
--- What variables of the main program hold on an image (ISO/IEC 1539-1:2018, 19.6): a coarray what the image's memory holds by its history, another variable what the image's
--- program has computed. None stands for a variable that isn't allocated.
+-- What variables of the main program hold on an image (ISO/IEC 1539-1:2018, 19.6): a coarray what the image's memory
+-- holds by its history, another variable what the image's program has computed. None stands for a variable that isn't
+-- allocated.
 use Rattle.std.specs.Prelude.{ℕ, zero, suc, ℤ, Bool, true, false, cond, List, [], ◌∷◌, ◌++◌, map, Option, None, Some}
 use Rattle.std.specs.List.{list_any}
 use Rattle.std.specs.Option.{option_map}

@@ -11,7 +11,8 @@ use checked_tree::data::{DataType, Dimensions, Variable};
 use checked_tree::program::Checked;
 use std::alloc::Global;
 
-/// Where a variable of the main program is found: among the scalars, or among the arrays of its frame, by its own number, or by this number among the coarrays.
+/// Where a variable of the main program is found: among the scalars, or among the arrays of its frame, by its own
+/// number, or by this number among the coarrays.
 #[derive(Clone, Copy)]
 pub enum Form {
     Scalar,

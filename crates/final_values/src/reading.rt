@@ -123,8 +123,8 @@ fn add(
     )
 }
 
-/// What these variables hold at the end of a run, by image in rising order: of the images that made no step of a failure. Condition: there is a memory for each image, in
-/// the same order.
+/// What these variables hold at the end of a run, by image in rising order: of the images that made no step of a
+/// failure. Condition: there is a memory for each image, in the same order.
 pub fn finals(
     alloc: Global,
     images: &[ImageRun<Lane<Machine>>],

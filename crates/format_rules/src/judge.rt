@@ -11,6 +11,7 @@ use caf_base::place::Pos;
 use caf_base::refusal::NoMemory;
 use checked_tree::format::Descriptor;
 use rule_definitions::broken::Broken;
+use rule_definitions::rule;
 use std::alloc::Global;
 
 /// What is found of a format: the rules that are broken in it, and its items in order, nothing where one is broken.
@@ -50,7 +51,10 @@ fn refused(alloc: Global, at: Pos) -> Result<JudgedFormat, NoMemory>
     ensures meaning { IfOk result (λ j. j.meaning ≡ None) }
 {
     let mut breaks = Vec::new(alloc);
-    breaks.push(Broken { rule: 57, at })?;
+    breaks.push(Broken {
+        rule: rule::FORMAT,
+        at,
+    })?;
     Ok(JudgedFormat {
         breaks,
         meaning: None,

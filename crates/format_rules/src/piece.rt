@@ -9,7 +9,8 @@ use caf_base::listing::Text;
 use caf_base::refusal::NoMemory;
 use std::alloc::Global;
 
-/// A piece of a format: a character outside of literals, a letter in lower case; or the characters of a literal, a doubled delimiter being one.
+/// A piece of a format: a character outside of literals, a letter in lower case; or the characters of a literal, a
+/// doubled delimiter being one.
 #[derive(Drop)]
 pub enum Piece {
     Sign(u8),
@@ -47,7 +48,8 @@ pub fn is_sign(sign: u8, piece: &Piece) -> bool
     }
 }
 
-/// The characters of a literal whose opening delimiter stands before the text (7.4.4), and the text behind it; nothing where it isn't closed.
+/// The characters of a literal whose opening delimiter stands before the text (7.4.4), and the text behind it; nothing
+/// where it isn't closed.
 fn literal(alloc: Global, quote: u8, text: &[u8]) -> Result<Option<(Text, &[u8])>, NoMemory>
     ensures read { IfOk result (λ o. with_literal (option_map (λ r. (r.0, r.1.now)) o) ≡ rules.pieces (rules.inside quote []) text.now) }
     ensures shorter { IfOk result (λ o. IfSome o (λ r. length r.1.now ≤ length text.now)) }

@@ -1,4 +1,5 @@
--- Files that the grammar reads, and trees that it doesn't have for their tokens, worked out by hand; `;` ends a statement. Behind `/` stands what isn't a word of the tree.
+-- Files that the grammar reads, and trees that it doesn't have for their tokens, worked out by hand; `;` ends a
+-- statement. Behind `/` stands what isn't a word of the tree.
 use Rattle.std.proofs.Common.{◌≡◌, ℕ, true, false, List, [], ◌∷◌, refl, codes, Some, None}
 use Rattle.caf_base.specs.declared.place.Pos.{Pos}
 use Rattle.fortran_tree.specs.declared.name.Name.{Name}
@@ -43,11 +44,13 @@ contains_nothing = refl
 declarations : spelled (unit_file (record { modules = ((record { name = (n (codes "m") 1 8); uses = ([]); implicit_none = None; declarations = ((record { type_spec = (s.integer None); attributes = ([]); entities = ((record { name = (n (codes "x") 1 23); dimensions = ([]); coshape = (Some (s.explicit_coshape ([]) None)); initial = None }) ∷ []); at = (p 1 12) }) ∷ (record { type_spec = (s.logical None); attributes = ([]); entities = ((record { name = (n (codes "y") 1 44); dimensions = ([]); coshape = None; initial = None }) ∷ []); at = (p 1 33) }) ∷ []); procedures = None; end = record { name = None; at = (p 1 48) }; at = (p 1 1) }) ∷ []); main = record { name = None; uses = ([]); body = (record { implicit_none = None; declarations = ([]); statements = s.no_statements }); procedures = None; end = record { name = None; at = (p 1 61) } } })) 64 (cut (codes "module m ; integer :: x [ * ] ; logical :: y ; end module ; end ;")) ≡ true
 declarations = refl
 
--- module m ; contains ; subroutine s ( ) ; end subroutine s ; integer function f ( ) ; f = 1 ; end function ; end module ; program p ; call s ( ) ; end program p ;
+-- module m ; contains ; subroutine s ( ) ; end subroutine s ; integer function f ( ) ; f = 1 ; end function ; end
+-- module ; program p ; call s ( ) ; end program p ;
 procedures : spelled (unit_file (record { modules = ((record { name = (n (codes "m") 1 8); uses = ([]); implicit_none = None; declarations = ([]); procedures = (Some ((record { heading = (u.subroutine recursions.Unstated (n (codes "s") 1 34) (Some ([]))); body = (record { implicit_none = None; declarations = ([]); statements = s.no_statements }); end = record { name = (Some (n (codes "s") 1 57)); at = (p 1 42) }; at = (p 1 23) }) ∷ (record { heading = (u.function ((u.result_type (s.integer None)) ∷ []) (n (codes "f") 1 78) ([]) None); body = (record { implicit_none = None; declarations = ([]); statements = (s.more_statements (s.action (s.assignment (f.part_ref (n (codes "f") 1 86) f.no_section_subscripts f.no_image_selector) (f.number 1 kinds.Unstated (p 1 90))) (p 1 86)) s.no_statements) }); end = record { name = None; at = (p 1 94) }; at = (p 1 61) }) ∷ [])); end = record { name = None; at = (p 1 109) }; at = (p 1 1) }) ∷ []); main = record { name = (Some (n (codes "p") 1 130)); uses = ([]); body = (record { implicit_none = None; declarations = ([]); statements = (s.more_statements (s.action (s.call (n (codes "s") 1 139) (Some f.no_arguments)) (p 1 134)) s.no_statements) }); procedures = None; end = record { name = (Some (n (codes "p") 1 159)); at = (p 1 147) } } })) 64 (cut (codes "module m ; contains ; subroutine s ( ) ; end subroutine s ; integer function f ( ) ; f = 1 ; end function ; end module ; program p ; call s ( ) ; end program p ;")) ≡ true
 procedures = refl
 
--- module m ; use a ; use :: b , only : ; use , intrinsic :: c , only : x , y => z ; end ; use m , i => j , k => l ; end ;
+-- module m ; use a ; use :: b , only : ; use , intrinsic :: c , only : x , y => z ; end ; use m , i => j , k => l ; end
+-- ;
 uses : spelled (unit_file (record { modules = ((record { name = (n (codes "m") 1 8); uses = ((record { nature = natures.Unstated; module_name = (n (codes "a") 1 16); list = (files.all_but ([])); at = (p 1 12) }) ∷ (record { nature = natures.Unstated; module_name = (n (codes "b") 1 27); list = (files.only ([])); at = (p 1 20) }) ∷ (record { nature = natures.Intrinsic; module_name = (n (codes "c") 1 59); list = (files.only ((files.named (n (codes "x") 1 70)) ∷ (files.renamed (record { local = (n (codes "y") 1 74); entity = (n (codes "z") 1 79) })) ∷ [])); at = (p 1 40) }) ∷ []); implicit_none = None; declarations = ([]); procedures = None; end = record { name = None; at = (p 1 83) }; at = (p 1 1) }) ∷ []); main = record { name = None; uses = ((record { nature = natures.Unstated; module_name = (n (codes "m") 1 93); list = (files.all_but ((record { local = (n (codes "i") 1 97); entity = (n (codes "j") 1 102) }) ∷ (record { local = (n (codes "k") 1 106); entity = (n (codes "l") 1 111) }) ∷ [])); at = (p 1 89) }) ∷ []); body = (record { implicit_none = None; declarations = ([]); statements = s.no_statements }); procedures = None; end = record { name = None; at = (p 1 115) } } })) 64 (cut (codes "module m ; use a ; use :: b , only : ; use , intrinsic :: c , only : x , y => z ; end ; use m , i => j , k => l ; end ;")) ≡ true
 uses = refl
 

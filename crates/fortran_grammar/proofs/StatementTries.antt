@@ -1,4 +1,5 @@
--- Actions and constructs that the grammar reads, and trees that it doesn't have for them, worked out by hand; `;` ends a statement.
+-- Actions and constructs that the grammar reads, and trees that it doesn't have for them, worked out by hand; `;` ends
+-- a statement.
 use Rattle.std.proofs.Common.{◌≡◌, true, false, [], ◌∷◌, refl, codes, Some, None}
 use Rattle.fortran_tree.specs.Expressions as e
 use Rattle.fortran_tree.specs.Statements as s

@@ -1,4 +1,5 @@
--- Declarations and programs that the grammar reads, and trees that it doesn't have for them, worked out by hand; `;` ends a statement.
+-- Declarations and programs that the grammar reads, and trees that it doesn't have for them, worked out by hand; `;`
+-- ends a statement.
 use Rattle.std.proofs.Common.{◌≡◌, true, false, [], ◌∷◌, refl, codes, Some, None}
 use Rattle.fortran_tree.specs.declared.declaration.Intent.TheVariants as t
 use Rattle.fortran_tree.specs.declared.unit.ModuleNature.TheVariants as u

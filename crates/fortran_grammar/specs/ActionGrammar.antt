@@ -166,7 +166,8 @@ allocated os ps = round (listed allocation os ▸ more_specifiers ps)
 abbrev pub deallocated : List Name → Specifiers → Phrase
 deallocated ns ps = round (listed name ns ▸ more_specifiers ps)
 
--- an action; under a one-line IF a further one, whose first token stands at a place (a constraint of R1139 has no IF there: an extension)
+-- an action; under a one-line IF a further one, whose first token stands at a place (a constraint of R1139 has no IF
+-- there: an extension)
 abbrev pub action_statement : ActionStatement → Phrase
 action_statement (s.assignment d e) = designator d ▸ sign Assign ▸ expr e
 action_statement (s.call n args) = key (codes "call") ▸ name n ▸ optional bracketed_arguments args

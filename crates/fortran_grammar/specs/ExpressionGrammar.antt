@@ -1,4 +1,5 @@
--- Which tokens spell which expression (ISO/IEC 1539-1:2018, 10.1.2); the phrase of an expression is `expr`, as R1022 has it.
+-- Which tokens spell which expression (ISO/IEC 1539-1:2018, 10.1.2); the phrase of an expression is `expr`, as R1022
+-- has it.
 use Rattle.std.specs.Prelude.{ℕ, suc, nat_le, ◌&&◌, Bool, true, false, Option, Some, None}
 use Rattle.fortran_tokens.specs.declared.token.Sign.{Sign}
 use Rattle.fortran_tokens.specs.declared.token.Sign.TheVariants as sign
@@ -42,7 +43,8 @@ abbrev pub truth_sign : Bool → Sign
 truth_sign true = sign.True
 truth_sign false = sign.False
 
--- How tightly an operator binds (10.1.3, Table 10.1), loosest first: .eqv. .neqv. | .or. | .and. | .not. | one relation | + - | * / | **
+-- How tightly an operator binds (10.1.3, Table 10.1), loosest first: .eqv. .neqv. | .or. | .and. | .not. | one
+-- relation | + - | * / | **
 abbrev pub strength : Operator → ℕ
 strength operators.Eqv = 1
 strength operators.Neqv = 1

@@ -48,6 +48,6 @@ unit_file x = repeated module_unit x.modules ▸ main_program x.main
 abbrev pub Files : ℕ → UnitFile → List (Mark Token) → Type 0
 Files limit x = Words (unit_file x) limit 0
 
--- the language of source files with modules: 64 levels may be open (docs/LANGUAGE.md)
+-- the language of source files with modules: 64 levels may be open (docs/use/LANGUAGE.md)
 abbrev pub UnitSources : UnitFile → List (Mark Token) → Type 0
 UnitSources = Files 64

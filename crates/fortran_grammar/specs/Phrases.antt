@@ -1,4 +1,5 @@
--- Phrases: how a grammar says which marked tokens may stand at a place. Of two alternatives the first is the canonical one.
+-- Phrases: how a grammar says which marked tokens may stand at a place. Of two alternatives the first is the canonical
+-- one.
 use Rattle.std.specs.Prelude.{ℕ, suc, ◌≡◌, ◌++◌, Bool, true, false, List, [], ◌∷◌, Option, Some, None, ◌⊎◌}
 use Rattle.caf_base.specs.declared.place.Pos.{Pos}
 use Rattle.reader_theory.specs.Words.{Mark, ◌⟫◌}
@@ -34,7 +35,8 @@ abbrev pub FirstAt : Pos → List (Mark Token) → Type 0
 FirstAt p [] = ⊥
 FirstAt p (m ∷ w) = m.token.at ≡ p
 
--- The words of a phrase, where so many levels may be open and so many are: each token with whether a level too deep is open at it.
+-- The words of a phrase, where so many levels may be open and so many are: each token with whether a level too deep is
+-- open at it.
 abbrev pub Words : Phrase → ℕ → ℕ → List (Mark Token) → Type 0
 Words nothing limit level w = w ≡ []
 Words (token x) limit level w = (p : Pos) × (w ≡ mark limit level (record { tok = x; at = p }) ∷ [])
@@ -90,7 +92,8 @@ joined j k = key j ▸ key k ∪ key (j ++ k)
 abbrev pub round : Phrase → Phrase
 round P = deeper (sign OpenRound ▸ P ▸ sign CloseRound)
 
--- in square brackets, or in `(/` and `/)`, which the standard has for array constructors alone (R769): elsewhere they are an extension
+-- in square brackets, or in `(/` and `/)`, which the standard has for array constructors alone (R769): elsewhere they
+-- are an extension
 abbrev pub square : Phrase → Phrase
 square P = deeper (sign OpenSquare ▸ P ▸ sign CloseSquare ∪ sign OpenArray ▸ P ▸ sign CloseArray)
 

@@ -64,7 +64,8 @@ abbrev pub subprogram_keyword : Heading → List ℕ
 subprogram_keyword (u.subroutine r n ns) = codes "subroutine"
 subprogram_keyword (u.function ps n ns r) = codes "function"
 
--- "end" [ KEYWORD [ NAME ] ] of a subprogram, and of the main program, which has its keyword in the canonical spelling only before a name
+-- "end" [ KEYWORD [ NAME ] ] of a subprogram, and of the main program, which has its keyword in the canonical spelling
+-- only before a name
 abbrev pub end_of_procedure : List ℕ → Option Name → Phrase
 end_of_procedure word None = joined (codes "end") word ∪ key (codes "end")
 end_of_procedure word (Some n) = joined (codes "end") word ▸ name n
@@ -85,7 +86,8 @@ program_statement n = key (codes "program") ▸ name n ▸ over
 abbrev pub contained : List Procedure → Phrase
 contained ps = key (codes "contains") ▸ over ▸ repeated internal_subprogram ps
 
--- [ "program" NAME ] { use } [ "implicit" "none" ] { declaration } { statement } [ "contains" { internal_subprogram } ] "end" [ "program" [ NAME ] ]
+-- [ "program" NAME ] { use } [ "implicit" "none" ] { declaration } { statement } [ "contains" { internal_subprogram } ]
+-- "end" [ "program" [ NAME ] ]
 abbrev pub program : Program → Phrase
 program x = optional program_statement x.name ▸ repeated use_statement x.uses ▸ body x.body ▸ optional contained x.procedures ▸ from x.end.at (end_of_program x.end.name) ▸ over
 
@@ -93,6 +95,6 @@ program x = optional program_statement x.name ▸ repeated use_statement x.uses 
 abbrev pub Programs : ℕ → Program → List (Mark Token) → Type 0
 Programs limit x = Words (program x) limit 0
 
--- the language of source files: 64 levels may be open (docs/LANGUAGE.md)
+-- the language of source files: 64 levels may be open (docs/use/LANGUAGE.md)
 abbrev pub Sources : Program → List (Mark Token) → Type 0
 Sources = Programs 64

@@ -1,4 +1,5 @@
--- Which tokens spell which statement or construct (ISO/IEC 1539-1:2018, 11.1). A construct is a level from its first token on.
+-- Which tokens spell which statement or construct (ISO/IEC 1539-1:2018, 11.1). A construct is a level from its first
+-- token on.
 use Rattle.std.specs.Prelude.{codes}
 use Rattle.fortran_tokens.specs.declared.token.Sign.TheVariants.{Assign, Colon, Comma}
 use Rattle.fortran_tree.specs.declared.name.Name.{Name}

@@ -27,7 +27,8 @@ pub record Pour : Type 0 where
   pub text : List ℕ
   pub used : ℕ
 
--- a part of a long literal that isn't cut: in the line while it has no more than 990 bytes of the literal, else in the next line
+-- a part of a long literal that isn't cut: in the line while it has no more than 990 bytes of the literal, else in the
+-- next line
 abbrev pub poured : Pour → List ℕ → Pour
 poured s c = cond (nat_le (s.used + length c) 990) (record { text = s.text ++ c; used = s.used + length c }) (record { text = s.text ++ (codes "&\n&" ++ c); used = length c })
 

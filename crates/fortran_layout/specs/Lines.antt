@@ -14,7 +14,8 @@ has_short_lines c (b ∷ t) = cond (nat_eq b 10) (nat_le c 1000 && has_short_lin
 abbrev pub no_feed : List ℕ → Bool
 no_feed x = list_all (λ b. not (nat_eq b 10)) x
 
--- a token that has no line feed, and of which a line can hold the spelling and ` &`; as names of 63 characters and numbers have
+-- a token that has no line feed, and of which a line can hold the spelling and ` &`; as names of 63 characters and
+-- numbers have
 abbrev pub has_room : Tok → Bool
 has_room (word x) = no_feed x && nat_le (length x) 998
 has_room (integer n k) = no_feed (number_text n k) && nat_le (length (number_text n k)) 998

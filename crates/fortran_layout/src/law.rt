@@ -3,7 +3,8 @@
 ghost use Rattle.fortran_layout.specs.Lines.{LaidLinesFit};
 ghost use Rattle.fortran_layout.specs.Spelling.{SignsAreSpelled};
 
-/// No line has more than 1,000 bytes, where no token has a line feed and each name and number is short enough for a line.
+/// No line has more than 1,000 bytes, where no token has a line feed and each name and number is short enough for a
+/// line.
 pub fn laid_lines_fit()
     ensures { LaidLinesFit }
 {}

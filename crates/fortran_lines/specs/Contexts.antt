@@ -1,4 +1,5 @@
--- Character contexts (ISO/IEC 1539-1:2018, 3.21): where a byte stands within a character literal (7.4.4), as comments and continuations ask (6.3.2.3, 6.3.2.4).
+-- Character contexts (ISO/IEC 1539-1:2018, 3.21): where a byte stands within a character literal (7.4.4), as comments
+-- and continuations ask (6.3.2.3, 6.3.2.4).
 use Rattle.std.specs.Prelude.{Bool, true, false, cond, nat_eq, List, fold}
 use Rattle.fortran_lines.specs.declared.placed_byte.PlacedByte.{PlacedByte}
 use Rattle.fortran_lines.specs.declared.context.Context.{Context}

@@ -1,4 +1,5 @@
--- How the physical lines of a file join to statements (ISO/IEC 1539-1:2018, 6.3.2, with the limits and the leave of docs/LANGUAGE.md).
+-- How the physical lines of a file join to statements (ISO/IEC 1539-1:2018, 6.3.2, with the limits and the leave of
+-- docs/use/LANGUAGE.md).
 use Rattle.std.specs.Prelude.{ℕ, Bool, true, cond, not, ◌&&◌, nat_eq, List, [], ◌∷◌, ◌++◌, Option, Some, None, filter}
 use Rattle.std.specs.List.{flat_map, onto_first}
 use Rattle.fortran_lines.specs.declared.placed_byte.PlacedByte.{PlacedByte}
@@ -60,7 +61,8 @@ part_by k code (Some r) = record { code = code; text = r.0; next = Continued r.1
 abbrev pub part_from : Context → List PlacedByte → Part
 part_from k line = part_by k (code_part k line) (before_amp (code_part k line))
 
--- behind a leading `&` the text goes on at once; where the line has nothing else, that `&` continues as the one before did
+-- behind a leading `&` the text goes on at once; where the line has nothing else, that `&` continues as the one before
+-- did
 abbrev pub resumed : Context → PlacedByte → Part → Part
 resumed k amp part = cond (all_blank part.code) (record { code = part.code; text = []; next = Continued amp k; left_open = None }) part
 

@@ -15,7 +15,8 @@ abbrev pub numbered : ℕ → List (List ℕ) → List (List PlacedByte)
 numbered n [] = []
 numbered n (l ∷ ls) = placed_from n 1 l ∷ numbered (n + 1) ls
 
--- the physical lines of a file: each ends at a line feed or where the file ends, and has neither the line feed nor a carriage return before it
+-- the physical lines of a file: each ends at a line feed or where the file ends, and has neither the line feed nor a
+-- carriage return before it
 abbrev pub physical_lines : List ℕ → List (List PlacedByte)
 physical_lines bytes = numbered 1 (lines bytes)
 

@@ -26,7 +26,8 @@ abbrev pub before_next : List (List PlacedByte) → Before → Before
 before_next [] b = b
 before_next (l ∷ ls) b = cond (is_nothing l) (before_next ls b) (before_next ls (part_of b l).next)
 
--- a line that a continuation may part in two: no continuation stands before it, no comment begins in its first part, and the second has something else than blanks and a comment
+-- a line that a continuation may part in two: no continuation stands before it, no comment begins in its first part,
+-- and the second has something else than blanks and a comment
 pub record CanBeParted (front : List (List ℕ)) (one two : List ℕ) : Type 0 where
   pub begins : before_next (map plain front) Start ≡ Start
   pub clear : code_part Outside (plain one) ≡ plain one

@@ -1,4 +1,5 @@
-//! Character contexts: whether a place of a statement lies within a character literal (ISO/IEC 1539-1:2018, 3.21, 6.3.2.3 and 6.3.2.4).
+//! Character contexts: whether a place of a statement lies within a character literal (ISO/IEC 1539-1:2018, 3.21,
+//! 6.3.2.3 and 6.3.2.4).
 
 ghost use Rattle.std.specs.Prelude.{◌≡◌};
 ghost use Rattle.fortran_lines.specs.Contexts as spec;
@@ -12,7 +13,8 @@ pub enum Context {
     Outside,
     /// A literal is open, which began at this quote.
     Inside(PlacedByte),
-    /// The literal that began at this quote has just been closed: the same quote at once takes it up again, since a doubled quote stands for one.
+    /// The literal that began at this quote has just been closed: the same quote at once takes it up again, since a
+    /// doubled quote stands for one.
     Closed(PlacedByte),
 }
 

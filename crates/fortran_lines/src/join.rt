@@ -70,7 +70,8 @@ fn marks_of(alloc: Global, line: u32, bytes: &[u8]) -> Result<Vec<PlacedByte>, N
     Ok(marks)
 }
 
-/// The statements of a file in free source form, in order. A refusal is what is broken first in the file, judged to its end; want of memory may come at any time.
+/// The statements of a file in free source form, in order. A refusal is what is broken first in the file, judged to its
+/// end; want of memory may come at any time.
 pub fn join_lines(alloc: Global, bytes: &[u8]) -> Result<Vec<Stmt>, Refusal<LineFault>>
     requires { length bytes.now < 4294967295 }
     ensures statements { IfOk result (λ stmts. map placed_bytes stmts.items ≡ statements_of bytes.now) }

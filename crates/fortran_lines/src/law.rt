@@ -15,13 +15,15 @@ pub fn nothing_put_in()
         → is_nothing (placed_from 1 1 line) ≡ true → texts_of bytes' ≡ texts_of bytes }
 {}
 
-/// A file in which a line is parted in two by a continuation, `&` at the end of the one and `&` at the beginning of the other, has the same statements; the cut may lie in a literal.
+/// A file in which a line is parted in two by a continuation, `&` at the end of the one and `&` at the beginning of the
+/// other, has the same statements; the cut may lie in a literal.
 pub fn continuation_put_in()
     ensures { (bytes bytes' : List ℕ) (front back : List (List ℕ)) (one two : List ℕ) → lines bytes ≡ front ++ (one ++ two) ∷ back → lines bytes' ≡ front ++ (one ++ 38 ∷ []) ∷ (38 ∷ two) ∷ back
         → CanBeParted front one two → texts_of bytes' ≡ texts_of bytes }
 {}
 
-/// Where a file breaks no rule, its bytes come into its statements, each with its place, in their order and once. Only comments, blanks, `&` and `;` are left out, and an `&` may leave a blank at its place. Nothing else is added.
+/// Where a file breaks no rule, its bytes come into its statements, each with its place, in their order and once. Only
+/// comments, blanks, `&` and `;` are left out, and an `&` may leave a blank at its place. Nothing else is added.
 pub fn bytes_kept()
     ensures { (bytes : List ℕ) → faults_of bytes ≡ [] → AreKept bytes }
 {}

@@ -26,7 +26,8 @@ NoForm text = (j : TokenKind) (m : ℕ) → m ≤ length text → HasForm j (tak
 abbrev pub value_of : List ℕ → ℕ
 value_of digits = digits_value 10 digits
 
--- The limits: a name has at most 63 characters (6.2.2), also as a kind; an integer is at most 2^63 - 1; a literal has printing characters and tabs. None where the token keeps them, else which byte or number breaks one.
+-- The limits: a name has at most 63 characters (6.2.2), also as a kind; an integer is at most 2^63 - 1; a literal has
+-- printing characters and tabs. None where the token keeps them, else which byte or number breaks one.
 abbrev pub excess_of : TokenKind → List ℕ → Option Excess
 excess_of Name w = cond (nat_lt 63 (length w)) (Some (excess.Character 63)) None
 excess_of Number w =
@@ -41,7 +42,8 @@ pub record IsToken (text : List ℕ) (k : TokenKind) (n : ℕ) : Type 0 where
   pub longest : IsLongest text k n
   pub allowed : excess_of k (take n text) ≡ None
 
--- what is wrong at the front of a text that does not begin with a blank: no form begins it, or the longest front that has one breaks a limit
+-- what is wrong at the front of a text that does not begin with a blank: no form begins it, or the longest front that
+-- has one breaks a limit
 abbrev pub IsWrong : List ℕ → Excess → Type 0
 IsWrong text e = (NoForm text × (e ≡ excess.Character 0)) ⊎ ((k : TokenKind) × (n : ℕ) × IsLongest text k n × (excess_of k (take n text) ≡ Some e))
 

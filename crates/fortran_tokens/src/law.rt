@@ -14,7 +14,8 @@ pub fn one_cutting()
     ensures { (text : List ℕ) (ps qs : List Piece) → IsCut text 0 ps (length text) → IsCut text 0 qs (length text) → ps ≡ qs }
 {}
 
-/// The texts of a text's tokens, with a blank behind each, are cut into the same tokens again: of the same kinds, with the same texts.
+/// The texts of a text's tokens, with a blank behind each, are cut into the same tokens again: of the same kinds, with
+/// the same texts.
 pub fn read_again()
     ensures { (text : List ℕ) (ps : List Piece) → IsCut text 0 ps (length text)
         → (qs : List Piece) × IsCut (spaced (words_of text ps)) 0 qs (length (spaced (words_of text ps))) × (words_of (spaced (words_of text ps)) qs ≡ words_of text ps) }

@@ -65,7 +65,8 @@ fn number_rest_len(text: &[u8]) -> usize
     text.len()
 }
 
-/// The last place at which a literal with this delimiter is closed, before a byte that is not its own delimiter follows.
+/// The last place at which a literal with this delimiter is closed, before a byte that is not its own delimiter
+/// follows.
 fn literal_rest_len(quote: u8, text: &[u8]) -> Option<usize>
     ensures value { result ≡ spec.closes quote true text.now }
     ensures within { IfSome result (λ len. len ≤ length text.now) }

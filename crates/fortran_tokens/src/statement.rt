@@ -12,7 +12,8 @@ use caf_base::refusal::Refusal;
 use fortran_lines::stmt::Stmt;
 use std::alloc::Global;
 
-/// The tokens of a statement, in order. A refusal stands at the first place where no token begins or one breaks a limit; want of memory may come at any time.
+/// The tokens of a statement, in order. A refusal stands at the first place where no token begins or one breaks a
+/// limit; want of memory may come at any time.
 pub fn tokens(alloc: Global, stmt: &Stmt) -> Result<Vec<Token>, Refusal<TokenFault>>
     requires { length stmt.now.text < 4294967295 }
     ensures tokens { IfOk result (λ tokens. AreTokens stmt.now tokens.items) }

@@ -21,9 +21,11 @@ use image_lanes::lane::Lane;
 use lane_parts::start::start_lanes;
 use std::alloc::Global;
 
-/// The parts of a run of these machines by image number from 1, each at the first ask of its image or at its end, with no step. Each memory has these coarrays. Image i
-/// fails at its event of the number that `fails` has for it, counted from 1 (0 or no number: it doesn't); with `words` recorded words or more an image's next step
-/// is the limit. Conditions: there are at most 65,536 machines, and each static coarray of values has a first value for each of its cells.
+/// The parts of a run of these machines by image number from 1, each at the first ask of its image or at its end, with
+/// no step. Each memory has these coarrays. Image i fails at its event of the number that `fails` has for it, counted
+/// from 1 (0 or no number: it doesn't); with `words` recorded words or more an image's next step is the limit.
+/// Conditions: there are at most 65,536 machines, and each static coarray of values has a first value for each of its
+/// cells.
 pub fn start_full<M: Walker + Drop>(
     alloc: Global,
     machines: Vec<M>,

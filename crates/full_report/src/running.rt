@@ -83,10 +83,12 @@ fn on_workers<R: Threads + Wait + Sync, M: Walker + Send + Drop, H: Hook + Sync>
     Ok(Ran { report, parts })
 }
 
-/// The run of these machines as the images from 1 on, in this way, and its report with these names of the coarrays. Each memory has these coarrays. Image i
-/// fails at its event of the number that `fails` has for it, counted from 1 (0 or no number: it doesn't); with `words` recorded words or more an image's next step
-/// is the limit. On workers the call may wait for them. Conditions: there are at most 65,536 machines, each static coarray of values has a first value of its kind for each of its cells, the machines run
-/// programs whose run is fit, and go on whatever the reply to their ask is.
+/// The run of these machines as the images from 1 on, in this way, and its report with these names of the coarrays.
+/// Each memory has these coarrays. Image i fails at its event of the number that `fails` has for it, counted from 1 (0
+/// or no number: it doesn't); with `words` recorded words or more an image's next step is the limit. On workers the
+/// call may wait for them. Conditions: there are at most 65,536 machines, each static coarray of values has a first
+/// value of its kind for each of its cells, the machines run programs whose run is fit, and go on whatever the reply to
+/// their ask is.
 pub fn run_images<R: Threads + Wait + Sync, M: Walker + Send + Drop, H: Hook + Sync>(
     rt: &R,
     alloc: Global,

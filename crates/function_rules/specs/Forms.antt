@@ -1,4 +1,5 @@
--- References to intrinsic functions by their forms (16.9): THIS_IMAGE and NUM_IMAGES have two. Each is a row of dummies and what is made of their arguments.
+-- References to intrinsic functions by their forms (16.9): THIS_IMAGE and NUM_IMAGES have two. Each is a row of dummies
+-- and what is made of their arguments.
 use Rattle.std.specs.Prelude.{ℕ, Bool, false, bytes_eq, cond, codes, Option, Some, None, List, [], ◌∷◌}
 use Rattle.caf_base.specs.declared.place.Pos.{Pos}
 use Rattle.caf_base.specs.declared.value.Kind.TheVariants.{I4, L4}

@@ -12,6 +12,7 @@ use call_rules::binding::{Dummy, is_written};
 use fortran_tree::name::Name;
 use part_rules::bracket::{Actual, Item};
 use part_rules::types::is_integer_type;
+use rule_definitions::rule;
 use scope_table::symbol::FunctionName;
 
 /// MIN or MAX.
@@ -262,9 +263,9 @@ fn num_images_form(actuals: &[Actual]) -> Form
         return Form::NumImagesOfNumber;
     }
     if is_first_unnamed(actuals) {
-        Form::NumImages(59)
+        Form::NumImages(rule::INTRINSIC_ARGUMENT)
     } else {
-        Form::NumImages(51)
+        Form::NumImages(rule::TEAM)
     }
 }
 

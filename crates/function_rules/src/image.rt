@@ -1,4 +1,5 @@
-//! Images and teams: THIS_IMAGE, NUM_IMAGES, IMAGE_INDEX, IMAGE_STATUS, FAILED_IMAGES, STOPPED_IMAGES, TEAM_NUMBER, GET_TEAM (16.9).
+//! Images and teams: THIS_IMAGE, NUM_IMAGES, IMAGE_INDEX, IMAGE_STATUS, FAILED_IMAGES, STOPPED_IMAGES, TEAM_NUMBER,
+//! GET_TEAM (16.9).
 
 ghost use Rattle.std.specs.Prelude.{◌≡◌, IfOk, map};
 ghost use Rattle.std.specs.Option.{option_map};
@@ -20,6 +21,7 @@ use call_rules::object::coarray_at;
 use checked_tree::data::DataType;
 use checked_tree::expr::{ExprForm, Intrinsic, TypedExpr, WrittenOrder};
 use part_rules::judged::Judged;
+use rule_definitions::rule;
 use std::alloc::Global;
 
 /// A default integer that a function gives.
@@ -64,7 +66,7 @@ pub fn this_image(alloc: Global, bindings: Vec<Binding>) -> Result<Judged<TypedE
 {
     let mut bindings = bindings;
     let mut breaks = Vec::new(alloc);
-    let team = maybe_team_at(alloc, &mut breaks, &mut bindings, 0, 51)?;
+    let team = maybe_team_at(alloc, &mut breaks, &mut bindings, 0, rule::TEAM)?;
     drop(bindings);
     Ok(Judged {
         breaks,
@@ -90,7 +92,7 @@ pub fn failed_images(alloc: Global, bindings: Vec<Binding>) -> Result<Judged<Typ
 {
     let mut bindings = bindings;
     let mut breaks = Vec::new(alloc);
-    let team = maybe_team_at(alloc, &mut breaks, &mut bindings, 0, 51)?;
+    let team = maybe_team_at(alloc, &mut breaks, &mut bindings, 0, rule::TEAM)?;
     drop(bindings);
     Ok(Judged {
         breaks,
@@ -116,7 +118,7 @@ pub fn stopped_images(alloc: Global, bindings: Vec<Binding>) -> Result<Judged<Ty
 {
     let mut bindings = bindings;
     let mut breaks = Vec::new(alloc);
-    let team = maybe_team_at(alloc, &mut breaks, &mut bindings, 0, 51)?;
+    let team = maybe_team_at(alloc, &mut breaks, &mut bindings, 0, rule::TEAM)?;
     drop(bindings);
     Ok(Judged {
         breaks,
@@ -142,7 +144,7 @@ pub fn team_number(alloc: Global, bindings: Vec<Binding>) -> Result<Judged<Typed
 {
     let mut bindings = bindings;
     let mut breaks = Vec::new(alloc);
-    let team = maybe_team_at(alloc, &mut breaks, &mut bindings, 0, 51)?;
+    let team = maybe_team_at(alloc, &mut breaks, &mut bindings, 0, rule::TEAM)?;
     drop(bindings);
     Ok(Judged {
         breaks,
@@ -269,7 +271,7 @@ pub fn image_status(alloc: Global, bindings: Vec<Binding>) -> Result<Judged<Type
     let mut bindings = bindings;
     let mut breaks = Vec::new(alloc);
     let image = integer_at(alloc, &mut breaks, &mut bindings, 0)?;
-    let team = maybe_team_at(alloc, &mut breaks, &mut bindings, 1, 51)?;
+    let team = maybe_team_at(alloc, &mut breaks, &mut bindings, 1, rule::TEAM)?;
     drop(bindings);
     Ok(Judged {
         breaks,
@@ -322,7 +324,7 @@ pub fn this_cosubscript(
     let mut breaks = Vec::new(alloc);
     let coarray = coarray_at(&mut breaks, &mut bindings)?;
     let dim = integer_at(alloc, &mut breaks, &mut bindings, 1)?;
-    let team = maybe_team_at(alloc, &mut breaks, &mut bindings, 2, 51)?;
+    let team = maybe_team_at(alloc, &mut breaks, &mut bindings, 2, rule::TEAM)?;
     drop(bindings);
     Ok(Judged {
         breaks,
@@ -372,7 +374,7 @@ pub fn image_index(alloc: Global, bindings: Vec<Binding>) -> Result<Judged<Typed
     let mut breaks = Vec::new(alloc);
     let coarray = coarray_at(&mut breaks, &mut bindings)?;
     let sub = integer_list_at(alloc, &mut breaks, &mut bindings, 1)?;
-    let team = maybe_team_at(alloc, &mut breaks, &mut bindings, 2, 51)?;
+    let team = maybe_team_at(alloc, &mut breaks, &mut bindings, 2, rule::TEAM)?;
     drop(bindings);
     Ok(Judged {
         breaks,

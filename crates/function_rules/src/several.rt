@@ -21,6 +21,7 @@ use checked_tree::expr::{ExprForm, Intrinsic, TypedExpr};
 use part_rules::bracket::{Actual, Item, is_triplet};
 use part_rules::judged::{Judged, fine, keep, refused, ruled};
 use part_rules::operand::integer;
+use rule_definitions::rule;
 use std::alloc::Global;
 
 /// Whether an argument has no keyword, where nothing is broken in it.
@@ -40,10 +41,10 @@ fn integer_item(alloc: Global, item: Item, at: Pos) -> Result<Judged<TypedExpr>,
     ensures meaning { IfOk result (λ j. option_map expression j.meaning ≡ (integer_part (item_seen item) at).meaning) }
 {
     match item {
-        Item::Value(part) => integer(59, part),
+        Item::Value(part) => integer(rule::INTRINSIC_ARGUMENT, part),
         Item::Triplet(judged) => {
             drop(judged);
-            refused(alloc, 59, at)
+            refused(alloc, rule::INTRINSIC_ARGUMENT, at)
         }
     }
 }
@@ -56,7 +57,7 @@ fn unnamed_integer(alloc: Global, actual: Actual) -> Result<Judged<TypedExpr>, N
     let holds = stands_by_place(&actual);
     let Actual { at, item, .. } = actual;
     let judged = integer_item(alloc, item, at)?;
-    ruled(judged, holds, 59, at)
+    ruled(judged, holds, rule::INTRINSIC_ARGUMENT, at)
 }
 
 /// The arguments, one by one.
@@ -165,5 +166,5 @@ pub fn several(
 {
     let holds = are_enough(actuals.as_slice());
     let judged = extreme_of(alloc, function, actuals)?;
-    ruled(judged, holds, 59, at)
+    ruled(judged, holds, rule::INTRINSIC_ARGUMENT, at)
 }

@@ -11,8 +11,8 @@ own_in c k = joined (slice_get c.coarrays k)
 abbrev pub with_own : ℕ → Option Own → ℕ → Core → Core
 with_own k o n c = record c { coarrays = slice_set c.coarrays k o; coarray_cells = n }
 
--- Cobounds stand as pairs of a lower and an upper one, and a lower one for the last. The lower cobounds of them, and the coextents of all but the
--- last (ISO/IEC 1539-1:2018, 5.4.7).
+-- Cobounds stand as pairs of a lower and an upper one, and a lower one for the last. The lower cobounds of them, and
+-- the coextents of all but the last (ISO/IEC 1539-1:2018, 5.4.7).
 abbrev pub lowers_in : List ℤ → List ℤ
 lowers_in [] = []
 lowers_in (l ∷ []) = l ∷ []

@@ -13,7 +13,8 @@ unlocked_failed_image = pos 6002
 abbrev pub bad_argument : ℤ
 bad_argument = pos 6006
 
--- what stands in the place of a status where the coarray isn't there, and where an atomic action's result leaves its kind
+-- what stands in the place of a status where the coarray isn't there, and where an atomic action's result leaves its
+-- kind
 abbrev pub absent : ℤ
 absent = negsuc 0
 
@@ -35,13 +36,15 @@ most_frames = 256
 abbrev pub most_teams : ℕ
 most_teams = 32768
 
--- The most portions of the texts that are begun. Values have as many evaluation cells at most, which are 65,536; literals are one portion where no value stands between
--- them, so there is one beside each value and one more in each text; and a text is begun at most in each of 257 bodies.
+-- The most portions of the texts that are begun. Values have as many evaluation cells at most, which are 65,536;
+-- literals are one portion where no value stands between them, so there is one beside each value and one more in each
+-- text; and a text is begun at most in each of 257 bodies.
 abbrev pub most_portions : ℕ
 most_portions = 131329
 
--- The most elements of the array values that are being evaluated: 65,536 are counted at most; a return, a load or a reply puts down as many before they are counted, one of
--- them at a time; six bounds stand for each of 64 levels in 257 bodies (98,688), and the 256 images of a SYNC IMAGES (*) in each of these bodies (65,792), with a reply's 257 more.
+-- The most elements of the array values that are being evaluated: 65,536 are counted at most; a return, a load or a
+-- reply puts down as many before they are counted, one of them at a time; six bounds stand for each of 64 levels in 257
+-- bodies (98,688), and the 256 images of a SYNC IMAGES (*) in each of these bodies (65,792), with a reply's 257 more.
 abbrev pub most_elements : ℕ
 most_elements = 524288
 

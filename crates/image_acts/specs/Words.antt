@@ -1,4 +1,5 @@
--- Numbers as the fields of an ask hold them. What a checked program asks fits them, so that the bounds are met by hand-made acts alone.
+-- Numbers as the fields of an ask hold them. What a checked program asks fits them, so that the bounds are met by
+-- hand-made acts alone.
 use Rattle.std.specs.Prelude.{ℕ, ℤ, pos, negsuc, min}
 use Rattle.caf_base.specs.Arithmetic.{natural, lesser, greater_of}
 

@@ -1,5 +1,5 @@
 -- The asks of one cell: atomic subroutines, locks, and events.
-use Rattle.std.proofs.Common.{◌≡◌, ℕ, ◌<◌, ◌≤◌, ℤ, List, [], ◌∷◌, length, drop, refl, ap, ◌∙◌, arith}
+use Rattle.std.proofs.Common.{◌≡◌, ℕ, ◌<◌, ◌≤◌, ℤ, Bool, true, false, List, [], ◌∷◌, length, drop, refl, ap, sym, ◌∙◌, subst, arith}
 use Rattle.std.specs.Prelude.{max}
 use Rattle.caf_base.specs.declared.place.ImageNo.{ImageNo}
 use Rattle.caf_base.specs.declared.place.Place.{Place}
@@ -12,9 +12,12 @@ use Rattle.caf_events.specs.declared.ask.Ask.TheVariants as asks
 use Rattle.caf_events.specs.declared.reply.Reply.{Reply}
 use Rattle.walk_theory.specs.Language.{asking}
 use Rattle.image_acts.specs.Core.{Core, with_values}
+use Rattle.image_acts.specs.Faults.{not_allocated}
+use Rattle.image_acts.specs.Owning.{own_in}
 use Rattle.image_acts.specs.Replies.{status_of, with_status, acquired_in, count_in, old_in, atomic_reply, try_reply, count_reply}
-use Rattle.image_acts.specs.Taking.{Acted, taking_two}
-use Rattle.image_acts.specs.Operate.Asking.{cell_span, first_operand, second_operand}
+use Rattle.image_acts.specs.Taking.{Acted, unless, taking_two}
+use Rattle.image_acts.specs.Words.{word}
+use Rattle.image_acts.specs.Operate.Asking.{cell_span, has_cell, first_operand, second_operand}
 use Rattle.image_code.specs.declared.step.AskStep.TheVariants as asked
 use Rattle.image_state.specs.Kept.{Kept}
 use Rattle.image_state.specs.Acting.{with_core}
@@ -118,51 +121,86 @@ module _ (m : Kept) (k : ℕ) where
   pub try_told : (e : Kept) (v s : ℤ) (r : Reply) → IsAsking (ask_here m (asked.TryLock k)) → v ≡ acquired_in r → s ≡ status_of r → e ≡ with_core m (with_values m.core (s ∷ v ∷ drop 2 m.core.values)) → GoesOnWith m (ask_here m (asked.TryLock k)) r e
   try_told e v s r h x y g = try_heard e r h (g ∙ ap (λ w. with_core m (with_values m.core (s ∷ w ∷ drop 2 m.core.values))) x ∙ ap (λ w. with_core m (with_values m.core (w ∷ acquired_in r ∷ drop 2 m.core.values))) y)
 
+-- what holds of the ask holds of what comes of it, where that asks
+there : (P : Acted → Type 0) (b : Bool) (x : Acted) → IsAsking (unless not_allocated b x) → P x → P (unless not_allocated b x)
+there P true x h p = p
+there P false x h p = absurd h
+
 -- EVENT WAIT: the offset of this image's cell, and on top a threshold
 module _ (m : Kept) (k : ℕ) where
+  abbrev wait : ℤ → ℤ → Core → Acted
+  wait start n d = asking (asks.Wait (record { 0 = d.me }) (cell_span k start) (max (natural n) 1)) (λ r. with_status r d)
+
   abbrev waiting : ℤ → ℤ → Core → Acted
-  waiting start n d = asking (asks.Wait (record { 0 = d.me }) (cell_span k start) (max (natural n) 1)) (λ r. with_status r d)
+  waiting start n d = unless not_allocated (has_cell (own_in d k) (word start)) (wait start n d)
+
+  abbrev waited : Acted
+  waited = wait (number_beneath 1 m.core.values) (number_beneath 0 m.core.values) (with_values m.core (drop 2 m.core.values))
+
+  abbrev waits_there : Bool
+  waits_there = has_cell (own_in m.core k) (word (number_beneath 1 m.core.values))
 
   pub wait_there : IsAsking (ask_here m (asked.Wait k)) → 2 ≤ length m.core.values
   wait_there h = (two_in m.core waiting h).0
 
-  pub wait_comes : 2 ≤ length m.core.values → ComesTo (ask_here m (asked.Wait k)) askings.Asks
-  wait_comes h = two_is m.core (λ x. ComesTo x askings.Asks) waiting h refl
+  wait_is : (P : Acted → Type 0) → IsAsking (ask_here m (asked.Wait k)) → P waited → P (ask_here m (asked.Wait k))
+  wait_is P h p = (let t = two_in m.core waiting h in two_is m.core P waiting t.0 (there P waits_there waited t.1 p))
+
+  pub wait_comes : 2 ≤ length m.core.values → waits_there ≡ true → ComesTo (ask_here m (asked.Wait k)) askings.Asks
+  wait_comes h t = two_is m.core (λ x. ComesTo x askings.Asks) waiting h (subst (λ b. ComesTo (unless not_allocated b waited) askings.Asks) (sym t) refl)
+
+  pub wait_faults : 2 ≤ length m.core.values → waits_there ≡ false → ComesTo (ask_here m (asked.Wait k)) (askings.Fault 6)
+  wait_faults h t = two_is m.core (λ x. ComesTo x (askings.Fault 6)) waiting h (subst (λ b. ComesTo (unless not_allocated b waited) (askings.Fault 6)) (sym t) refl)
 
   pub wait_missing : length m.core.values < 2 → ComesTo (ask_here m (asked.Wait k)) askings.Stuck
   wait_missing h = two_not m.core (λ x. ComesTo x askings.Stuck) waiting h refl
 
   pub wait_placed : (p : Place) → IsAsking (ask_here m (asked.Wait k)) → p ≡ places.Memory (record { 0 = m.core.me }) → IsAskedAt (ask_here m (asked.Wait k)) p
-  wait_placed p h e = two_is m.core (λ x. IsAskedAt x p) waiting (wait_there h) e
+  wait_placed p h e = wait_is (λ x. IsAskedAt x p) h e
 
   pub wait_asked : (q : Ask) → IsAsking (ask_here m (asked.Wait k)) → q ≡ asks.Wait (record { 0 = m.core.me }) (cell_span k (number_beneath 1 m.core.values)) (max (natural (number_beneath 0 m.core.values)) 1) → IsAsked (ask_here m (asked.Wait k)) q
-  wait_asked q h e = two_is m.core (λ x. IsAsked x q) waiting (wait_there h) e
+  wait_asked q h e = wait_is (λ x. IsAsked x q) h e
 
   pub wait_heard : (e : Kept) (r : Reply) → IsAsking (ask_here m (asked.Wait k)) → e ≡ with_core m (with_status r (with_values m.core (drop 2 m.core.values))) → GoesOnWith m (ask_here m (asked.Wait k)) r e
-  wait_heard e r h g = two_is m.core (λ x. GoesOnWith m x r e) waiting (wait_there h) g
+  wait_heard e r h g = wait_is (λ x. GoesOnWith m x r e) h g
 
 -- EVENT_QUERY: the offset of this image's cell
 module _ (m : Kept) (k : ℕ) where
+  abbrev query : ℤ → Core → Acted
+  query start d = asking (asks.Query (record { 0 = d.me }) (cell_span k start)) (count_reply d)
+
   abbrev querying : ℤ → Core → Acted
-  querying start d = asking (asks.Query (record { 0 = d.me }) (cell_span k start)) (count_reply d)
+  querying start d = unless not_allocated (has_cell (own_in d k) (word start)) (query start d)
+
+  abbrev queried : Acted
+  queried = query (number_beneath 0 m.core.values) (with_values m.core (drop 1 m.core.values))
+
+  abbrev queries_there : Bool
+  queries_there = has_cell (own_in m.core k) (word (number_beneath 0 m.core.values))
 
   pub query_there : IsAsking (ask_here m (asked.Query k)) → 1 ≤ length m.core.values
   query_there h = (one_in m.core querying h).0
 
-  pub query_comes : 1 ≤ length m.core.values → ComesTo (ask_here m (asked.Query k)) askings.Asks
-  query_comes h = one_is m.core (λ x. ComesTo x askings.Asks) querying h refl
+  query_is : (P : Acted → Type 0) → IsAsking (ask_here m (asked.Query k)) → P queried → P (ask_here m (asked.Query k))
+  query_is P h p = (let t = one_in m.core querying h in one_is m.core P querying t.0 (there P queries_there queried t.1 p))
+
+  pub query_comes : 1 ≤ length m.core.values → queries_there ≡ true → ComesTo (ask_here m (asked.Query k)) askings.Asks
+  query_comes h t = one_is m.core (λ x. ComesTo x askings.Asks) querying h (subst (λ b. ComesTo (unless not_allocated b queried) askings.Asks) (sym t) refl)
+
+  pub query_faults : 1 ≤ length m.core.values → queries_there ≡ false → ComesTo (ask_here m (asked.Query k)) (askings.Fault 6)
+  query_faults h t = one_is m.core (λ x. ComesTo x (askings.Fault 6)) querying h (subst (λ b. ComesTo (unless not_allocated b queried) (askings.Fault 6)) (sym t) refl)
 
   pub query_missing : length m.core.values < 1 → ComesTo (ask_here m (asked.Query k)) askings.Stuck
   query_missing h = one_not m.core (λ x. ComesTo x askings.Stuck) querying h refl
 
   pub query_placed : (p : Place) → IsAsking (ask_here m (asked.Query k)) → p ≡ places.Memory (record { 0 = m.core.me }) → IsAskedAt (ask_here m (asked.Query k)) p
-  query_placed p h e = one_is m.core (λ x. IsAskedAt x p) querying (query_there h) e
+  query_placed p h e = query_is (λ x. IsAskedAt x p) h e
 
   pub query_asked : (q : Ask) → IsAsking (ask_here m (asked.Query k)) → q ≡ asks.Query (record { 0 = m.core.me }) (cell_span k (number_beneath 0 m.core.values)) → IsAsked (ask_here m (asked.Query k)) q
-  query_asked q h e = one_is m.core (λ x. IsAsked x q) querying (query_there h) e
+  query_asked q h e = query_is (λ x. IsAsked x q) h e
 
   pub query_heard : (e : Kept) (r : Reply) → IsAsking (ask_here m (asked.Query k)) → e ≡ with_core m (count_reply (with_values m.core (drop 1 m.core.values)) r) → GoesOnWith m (ask_here m (asked.Query k)) r e
-  query_heard e r h g = one_is m.core (λ x. GoesOnWith m x r e) querying (query_there h) g
+  query_heard e r h g = query_is (λ x. GoesOnWith m x r e) h g
 
   pub query_told : (e : Kept) (v : ℤ) (r : Reply) → IsAsking (ask_here m (asked.Query k)) → v ≡ count_in r → e ≡ with_core m (with_values m.core (v ∷ drop 1 m.core.values)) → GoesOnWith m (ask_here m (asked.Query k)) r e
   query_told e v r h x g = query_heard e r h (g ∙ ap (λ w. with_core m (with_values m.core (w ∷ drop 1 m.core.values))) x)

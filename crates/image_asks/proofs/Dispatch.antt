@@ -23,7 +23,7 @@ use Rattle.image_asks.proofs.OperandLaws.{array_is, array_in}
 use Rattle.image_asks.proofs.AccessAsks.{read_asks, read_missing, read_placed, row_missing, row_placed, write_asks, write_missing, write_placed}
 use Rattle.image_asks.proofs.AllocationAsks.{allocate_asks, allocate_missing, allocate_placed, create_asks, create_missing, create_placed, deallocate_asks, deallocate_missing, deallocate_placed}
 use Rattle.image_asks.proofs.AskLaws.{leave_missing, leave_placed}
-use Rattle.image_asks.proofs.CellAsks.{atomic_comes, atomic_missing, atomic_placed, cell_comes, cell_missing, cell_placed, query_comes, query_missing, query_placed, try_comes, try_missing, try_placed, wait_comes, wait_missing, wait_placed}
+use Rattle.image_asks.proofs.CellAsks.{atomic_comes, atomic_missing, atomic_placed, cell_comes, cell_missing, cell_placed, query_missing, query_placed, try_comes, try_missing, try_placed, wait_missing, wait_placed}
 use Rattle.image_asks.proofs.CollectiveAsks.{gather_missing, gather_placed, take_placed}
 use Rattle.image_asks.proofs.EndAsks.{error_stop_asks, error_stop_missing, error_stop_placed, stop_asks, stop_missing, stop_placed}
 use Rattle.image_asks.proofs.TeamAsks.{change_asks, change_missing, change_placed, end_asks, end_missing, end_placed, failed_asks, failed_missing, failed_placed, form_asks, form_missing, form_placed, status_missing, status_placed, stopped_asks, stopped_missing, stopped_placed, sync_asks, sync_missing, sync_placed}
@@ -84,8 +84,8 @@ there m (asked.Lock coarray) h p = cell_comes m (λ o start. asks.Lock o (cell_s
 there m (asked.TryLock coarray) h p = try_comes m coarray h
 there m (asked.Unlock coarray) h p = cell_comes m (λ o start. asks.Unlock o (cell_span coarray start)) h
 there m (asked.Post coarray) h p = cell_comes m (λ o start. asks.Post o (cell_span coarray start)) h
-there m (asked.Wait coarray) h p = wait_comes m coarray h
-there m (asked.Query coarray) h p = query_comes m coarray h
+there m (asked.Wait coarray) h p = absurd p
+there m (asked.Query coarray) h p = absurd p
 there m asked.ArriveSync h p = sync_asks m h
 there m asked.ArriveForm h p = form_asks m h
 there m asked.ArriveChange h p = change_asks m h

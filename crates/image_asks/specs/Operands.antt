@@ -50,6 +50,8 @@ numbers_for asked.EndProgram = 0
 -- it takes numbers alone, and asks wherever they are there
 abbrev pub TakesNumbers : AskStep → Type 0
 TakesNumbers (asked.WriteArray coarray rank kind) = ⊥
+TakesNumbers (asked.Wait coarray) = ⊥
+TakesNumbers (asked.Query coarray) = ⊥
 TakesNumbers asked.Leave = ⊥
 TakesNumbers (asked.Gather op kind) = ⊥
 TakesNumbers asked.Take = ⊥

@@ -1,4 +1,5 @@
-//! Accesses: the image that is accessed stands on top, and beneath it the place of the cells (ISO/IEC 1539-1:2018, 9.6).
+//! Accesses: the image that is accessed stands on top, and beneath it the place of the cells (ISO/IEC 1539-1:2018,
+//! 9.6).
 
 ghost use Rattle.std.specs.Prelude.{◌≡◌, ◌<◌, ◌≤◌, ◌+◌, drop, length, map, min, replicate, IfOk};
 ghost use Rattle.caf_base.specs.Arithmetic.{value_of};

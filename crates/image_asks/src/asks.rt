@@ -36,6 +36,8 @@ pub fn come(image: &ImageState, ask: AskStep) -> Asking
         AskStep::WriteArray(coarray, rank, kind) => {
             accesses::row_comes(image, coarray, rank, kind)
         }
+        AskStep::Wait(coarray) => cells::waits(image, coarray),
+        AskStep::Query(coarray) => cells::queries(image, coarray),
         AskStep::Gather(op, kind) => collectives::gather_comes(image, op, kind),
         AskStep::Take => collectives::take_comes(image),
         AskStep::Pair => output::pairs(image),

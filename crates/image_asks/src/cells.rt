@@ -3,12 +3,15 @@
 ghost use Rattle.std.specs.Prelude.{◌≡◌, ◌<◌, ◌≤◌, ◌∷◌, max, drop, length};
 ghost use Rattle.caf_base.specs.Arithmetic as arithmetic;
 ghost use Rattle.image_acts.specs.Core.{with_values};
+ghost use Rattle.image_acts.specs.Owning.{own_in};
 ghost use Rattle.image_acts.specs.Operate.Asking as asking;
+ghost use Rattle.image_acts.specs.Words as words;
 ghost use Rattle.image_code.specs.declared.step.AskStep.TheVariants as asked;
 ghost use Rattle.image_state.specs.Acting.{with_core};
-ghost use Rattle.image_asks.specs.Asking.{ask_here, IsAsking, IsAsked, GoesOnWith};
+ghost use Rattle.image_asks.specs.Asking.{ask_here, ComesTo, IsAsking, IsAsked, GoesOnWith};
 ghost use Rattle.image_asks.specs.Operands.{number_beneath};
 
+use crate::asks::Asking;
 use crate::operands::{image_at, number, this_image};
 use crate::replies::{acquired_in, count_in, old_in, put_status, status_of};
 use crate::values::value_of;
@@ -16,8 +19,11 @@ use caf_base::span::Span;
 use caf_base::value::{AtomicOp, Kind, Value};
 use caf_events::ask::Ask;
 use caf_events::reply::Reply;
-use coarray_tables::asks::cell_span;
+use coarray_tables::asks::{cell_span, word};
 use image_state::state::ImageState;
+
+/// The number of the run fault NotAllocated.
+const NOT_ALLOCATED: u32 = 6;
 
 /// The cell of a coarray whose offset stands beneath so many numbers. It takes no memory.
 fn cell(image: &ImageState, coarray: u32, depth: u32) -> Span
@@ -74,6 +80,28 @@ pub(crate) fn post(image: &ImageState, coarray: u32) -> Ask
     }
 }
 
+/// Whether the number beneath so many others is the offset of a cell of a coarray that is allocated here.
+fn is_there(image: &ImageState, coarray: u32, depth: u32) -> bool
+    ensures { result ≡ asking.has_cell (own_in image.now.core coarray) (words.word (number_beneath depth image.now.core.values)) }
+{
+    image
+        .coarrays()
+        .has_cell(coarray, word(&number(image, depth)))
+}
+
+/// What EVENT WAIT comes to: the event may have been deallocated since its place was found.
+#[tactic(auto, using(crate::proofs::CellAsks::wait_comes, crate::proofs::CellAsks::wait_faults))]
+pub(crate) fn waits(image: &ImageState, coarray: u32) -> Asking
+    requires { 2 ≤ length image.now.core.values }
+    ensures { ComesTo (ask_here image.now (asked.Wait coarray)) result }
+{
+    if is_there(image, coarray, 1) {
+        Asking::Asks
+    } else {
+        Asking::Fault(NOT_ALLOCATED)
+    }
+}
+
 /// EVENT WAIT.
 #[tactic(auto, using(crate::proofs::CellAsks::wait_asked))]
 pub(crate) fn wait(image: &ImageState, coarray: u32) -> Ask
@@ -92,6 +120,19 @@ fn threshold(n: i64) -> u64
     ensures { result ≡ max (arithmetic.natural n) 1 }
 {
     if n < 1 { 1 } else { n as u64 }
+}
+
+/// What EVENT_QUERY comes to, likewise.
+#[tactic(auto, using(crate::proofs::CellAsks::query_comes, crate::proofs::CellAsks::query_faults))]
+pub(crate) fn queries(image: &ImageState, coarray: u32) -> Asking
+    requires { 1 ≤ length image.now.core.values }
+    ensures { ComesTo (ask_here image.now (asked.Query coarray)) result }
+{
+    if is_there(image, coarray, 0) {
+        Asking::Asks
+    } else {
+        Asking::Fault(NOT_ALLOCATED)
+    }
 }
 
 /// EVENT_QUERY.

@@ -11,10 +11,8 @@ use caf_base::listing::Listing;
 use caf_base::place::ImageNo;
 use caf_base::refusal::NoMemory;
 use caf_events::ask::Ask;
+use caf_events::fault::FORMAT;
 use image_state::state::ImageState;
-
-/// The number of the run fault Format.
-const FORMAT: u32 = 13;
 
 /// Whether there is a text, and one without a fault.
 pub(crate) fn says(image: &ImageState) -> Asking

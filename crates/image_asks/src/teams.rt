@@ -1,4 +1,5 @@
-//! Asks of teams: arrivals, FORM TEAM, departures, and inquiries of images (ISO/IEC 1539-1:2018, 11.1.5, 11.6.3, 11.6.6, 11.6.9, 16.9).
+//! Asks of teams: arrivals, FORM TEAM, departures, and inquiries of images (ISO/IEC 1539-1:2018, 11.1.5, 11.6.3,
+//! 11.6.6, 11.6.9, 16.9).
 
 ghost use Rattle.std.specs.Prelude.{◌≡◌, ◌<◌, ◌≤◌, ◌∷◌, drop, length, IfSome, IfNone};
 ghost use Rattle.caf_base.specs.Arithmetic.{natural};
@@ -16,14 +17,12 @@ use crate::operands::{number, team_at};
 use crate::replies::{join, status_of};
 use caf_base::place::TeamNo;
 use caf_events::ask::Ask;
+use caf_events::fault::COBOUNDS;
 use caf_events::reply::Reply;
 use caf_events::round::Arriving;
 use coarray_tables::asks::word;
 use image_state::state::ImageState;
 use team_tables::named::team_of;
-
-/// The number of the run fault CoBounds.
-const COBOUNDS: u32 = 5;
 
 /// The arrival of SYNC ALL or SYNC TEAM.
 #[tactic(auto, using(crate::proofs::TeamAsks::sync_asked))]

@@ -88,8 +88,8 @@ pub data Reaches (code : List Shape) : ℕ → Height → Type 0 where
   at_start : Reaches code 0 nothing
   onward : (p : ℕ) (h : Height) (aside : Bool) (q : ℕ) (k : Height) (s : Shape) → Reaches code p h → slice_get code p ≡ Some s → Within s.takes h → leads aside p s.flow (after s h) ≡ Some (lead q k) → Reaches code q k
 
--- The instruction at p is bad: a way on from it isn't in the code or goes back to no count; it takes more than stands on the stack, or goes back
--- with something of its own; or two paths reach it with unlike heights.
+-- The instruction at p is bad: a way on from it isn't in the code or goes back to no count; it takes more than stands
+-- on the stack, or goes back with something of its own; or two paths reach it with unlike heights.
 pub data IsBad (code : List Shape) (p : ℕ) : Type 0 where
   leaves : (s : Shape) → slice_get code p ≡ Some s → (Stays code p s.flow → ⊥) → IsBad code p
   takes_more : (s : Shape) (h : Height) → slice_get code p ≡ Some s → Reaches code p h → (Within s.takes h → ⊥) → IsBad code p
@@ -186,7 +186,8 @@ pub record IsFirstBad (code : List Shape) (heights : List (Option Height)) (q : 
   pub bad : FindsBad code heights finder q
   pub first : (p r : ℕ) → FindsBad code heights p r → q ≤ r
 
--- what is found of a draft: no instruction is bad; or the first one that is, under heights of its paths; nothing where a height is beyond 64 bits
+-- what is found of a draft: no instruction is bad; or the first one that is, under heights of its paths; nothing where
+-- a height is beyond 64 bits
 abbrev pub Judged : List Shape → List (Option Height) → Verdict → Type 0
 Judged code heights verdicts.Fine = AreHeights code heights × ((p q : ℕ) → FindsBad code heights p q → ⊥)
 Judged code heights (verdicts.Bad q) = AreHeights code heights × IsFirstBad code heights q

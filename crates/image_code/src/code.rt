@@ -77,8 +77,8 @@ impl CodeDraft {
         self.steps.len()
     }
 
-    /// Puts an instruction at the end, with the line of its statement; after want of memory the draft is as before. There are at most 4,294,967,295
-    /// instructions.
+    /// Puts an instruction at the end, with the line of its statement; after want of memory the draft is as before.
+    /// There are at most 4,294,967,295 instructions.
     pub fn push(&mut self, step: Step, line: u32) -> Result<(), NoMemory>
         ensures pushed { OnOk result (self.new ≡ record self.old { steps = self.old.steps ++ step ∷ []; lines = self.old.lines ++ line ∷ [] }) }
         ensures kept { OnErr result (self.new ≡ self.old) }
@@ -92,8 +92,8 @@ impl CodeDraft {
         Ok(())
     }
 
-    /// Puts a literal or a format behind those that are there, and gives its number; after want of memory the draft is as before. There are at most
-    /// 4,294,967,295 of them.
+    /// Puts a literal or a format behind those that are there, and gives its number; after want of memory the draft is
+    /// as before. There are at most 4,294,967,295 of them.
     pub fn add_text(&mut self, text: Text) -> Result<u32, NoMemory>
         ensures added { OnOk result (self.new ≡ record self.old { tables = record self.old.tables { texts = self.old.tables.texts ++ text ∷ [] } }) }
         ensures number { IfOk result (λ n. n ≡ length self.old.tables.texts) }
@@ -107,8 +107,8 @@ impl CodeDraft {
         Ok(n as u32)
     }
 
-    /// Puts a coarray behind those that are there, in declared order; after want of memory the draft is as before. There are at most 4,294,967,295 of
-    /// them.
+    /// Puts a coarray behind those that are there, in declared order; after want of memory the draft is as before.
+    /// There are at most 4,294,967,295 of them.
     pub fn add_coarray(&mut self, coarray: Coarray) -> Result<(), NoMemory>
         ensures added { OnOk result (self.new ≡ record self.old { tables = record self.old.tables { coarrays = self.old.tables.coarrays ++ coarray ∷ [] } }) }
         ensures kept { OnErr result (self.new ≡ self.old) }
@@ -127,7 +127,8 @@ impl CodeDraft {
         self.tables.main = main;
     }
 
-    /// The code of these instructions, or the place of the first bad one. Where the stack would be higher than 64 bits say there is no memory.
+    /// The code of these instructions, or the place of the first bad one. Where the stack would be higher than 64 bits
+    /// say there is no memory.
     pub fn finish(self) -> Result<Code, Refusal<BadCode>>
         ensures whole { IfOk result (λ code. (code.program ≡ self) × IsWhole self.steps code.highest) }
         ensures refused { IfErr result (λ refusal. IfCause refusal (λ bad. IsRefused self.steps bad.at)) }

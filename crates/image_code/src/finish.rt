@@ -1,4 +1,5 @@
-//! Which drafts are refused. All heights are learned first, sweep by sweep; then one look at each place takes the first bad one.
+//! Which drafts are refused. All heights are learned first, sweep by sweep; then one look at each place takes the first
+//! bad one.
 
 ghost use Rattle.std.specs.Prelude.{◌≡◌, ◌≢◌, ◌<◌, ◌≤◌, ◌+◌, ◌-◌, ◌⊎◌, ℕ, length, slice_get, slice_set, Some, None, IsTrue, IsFalse, IfSome, IfNone};
 ghost use Rattle.image_code.specs.Draft.{shapes, nothing, Within, after, lead, leads, leads_on, leads_aside, IsLead, WayAt, LooksAt, LooksThrough, JumpsWell, Stays, Sound, Known, KnowsMore, AreHeights, IsFaulty, Meets, IsEndOrBad, Lowest, Judged};

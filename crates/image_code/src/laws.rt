@@ -13,8 +13,8 @@ pub fn law_whole_code_is_good()
     ensures { (texts : List (List ℕ)) (steps : List Step) (lines : List ℕ) (highest : Height) → IsWhole steps highest → IsGood (lines_of texts steps lines) }
 {}
 
-/// There is a height for each place that a path reaches, on each part of the stack: where so much stands, each step takes no more, and each place where it
-/// goes on has what it leaves.
+/// There is a height for each place that a path reaches, on each part of the stack: where so much stands, each step
+/// takes no more, and each place where it goes on has what it leaves.
 pub fn law_whole_code_has_levels()
     ensures { (part : Part) (texts : List (List ℕ)) (steps : List Step) (lines : List ℕ) (highest : Height) → IsWhole steps highest
         → HasLevels part texts steps lines highest }

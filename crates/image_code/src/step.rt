@@ -4,17 +4,20 @@ use caf_base::value::{AtomicOp, Kind};
 use caf_events::round::GatherOp;
 use std::mem::size_of;
 
-/// Whose variable: one of the running procedure or main program, or one of the main program by host association (ISO/IEC 1539-1:2018, 19.5.1.4).
+/// Whose variable: one of the running procedure or main program, or one of the main program by host association
+/// (ISO/IEC 1539-1:2018, 19.5.1.4).
 #[derive(Clone, Copy)]
 pub enum Scope {
     Here,
     Host,
 }
 
-/// One step, with the names of its operands in their order. Scalars, arrays and coarrays are numbered from 0 in their frame or in the program, steps in the code,
-/// texts in the tables. Owners, places, bounds and values stand on the stack: numbers, array values and texts that were begun, each a part of its own. A place is a
-/// start, and above it count and step in cells of each dimension. `form` has a digit for each dimension, the first dimension's last: 1 for a subscript, 2 for a
-/// triplet, and then 1 more with a first subscript, 2 with a last one, 4 with a stride. docs/MACHINE.md says what each step takes and leaves, and its faults.
+/// One step, with the names of its operands in their order. Scalars, arrays and coarrays are numbered from 0 in their
+/// frame or in the program, steps in the code, texts in the tables. Owners, places, bounds and values stand on the
+/// stack: numbers, array values and texts that were begun, each a part of its own. A place is a start, and above it
+/// count and step in cells of each dimension. `form` has a digit for each dimension, the first dimension's last: 1 for
+/// a subscript, 2 for a triplet, and then 1 more with a first subscript, 2 with a last one, 4 with a stride.
+/// docs/build/MACHINE.md says what each step takes and leaves, and its faults.
 #[derive(Clone, Copy)]
 pub enum Step {
     /// Pushes the number `value`; a truth value is 1 or 0. (`value`)
@@ -43,7 +46,8 @@ pub enum Step {
     Release,
     /// The status on top says that the coarray is there and the result is of its kind; it stays.
     Accessed,
-    /// Stands in the place of a reference to no cell: an array value with the extents of the place and without elements, and the status 0. (`rank`)
+    /// Stands in the place of a reference to no cell: an array value with the extents of the place and without
+    /// elements, and the status 0. (`rank`)
     NothingRead(u32),
     /// Pushes the value of scalar `x`. (`scope`, `x`)
     Cell(Scope, u32),
@@ -53,11 +57,14 @@ pub enum Step {
     Load(Scope, u32, u32),
     /// Gives each cell at the place on top the number beneath it. (`scope`, `array`, `rank`)
     Put(Scope, u32, u32),
-    /// Gives the cells at the place on top the elements of the top array, in array element order. (`scope`, `array`, `rank`)
+    /// Gives the cells at the place on top the elements of the top array, in array element order. (`scope`, `array`,
+    /// `rank`)
     PutArray(Scope, u32, u32),
-    /// Gives a whole allocatable array of rank one the elements of the top array; where its extent is another one, it is allocated anew from 1. (`scope`, `array`)
+    /// Gives a whole allocatable array of rank one the elements of the top array; where its extent is another one, it
+    /// is allocated anew from 1. (`scope`, `array`)
     PutImages(Scope, u32),
-    /// Begins a DO with the first value, the last value and the step on top: `x` gets the first value, hidden cells `t` and `t + 1` keep the iteration count and the step. (`scope`, `x`, `t`)
+    /// Begins a DO with the first value, the last value and the step on top: `x` gets the first value, hidden cells `t`
+    /// and `t + 1` keep the iteration count and the step. (`scope`, `x`, `t`)
     BeginIterations(Scope, u32, u32),
     /// Adds the step to DO variable `x` and takes one from the iteration count. (`scope`, `x`, `t`, `kind`)
     NextIteration(Scope, u32, u32, Kind),
@@ -109,7 +116,8 @@ pub enum Step {
     AnyOf,
     /// The place of an element or section of an array. (`scope`, `array`, `form`)
     Section(Scope, u32, u32),
-    /// The same of a coarray, by this image's bounds; where it isn't allocated here, a place of one cell, which the next steps refuse. (`coarray`, `form`)
+    /// The same of a coarray, by this image's bounds; where it isn't allocated here, a place of one cell, which the
+    /// next steps refuse. (`coarray`, `form`)
     CoSection(u32, u32),
     /// The top array has the extents of the place beneath `depth` numbers; both stay. (`depth`, `rank`)
     SameShape(u32, u32),
@@ -147,17 +155,21 @@ pub enum Step {
     IsIndex,
     /// Begins the plan of an ALLOCATE: whether all is well so far, and the coarray cells and local cells in use.
     BeginPlan,
-    /// Adds a coarray to the plan on top; its bounds and cobounds stand beneath `depth` numbers and the plan, and stay. (`coarray`, `depth`, `rank`, `corank`)
+    /// Adds a coarray to the plan on top; its bounds and cobounds stand beneath `depth` numbers and the plan, and stay.
+    /// (`coarray`, `depth`, `rank`, `corank`)
     PlanCoarray(u32, u32, u32, u32),
-    /// Adds a local array to the plan on top; its bounds stand beneath `depth` numbers and the plan, and stay. (`scope`, `array`, `depth`, `rank`)
+    /// Adds a local array to the plan on top; its bounds stand beneath `depth` numbers and the plan, and stay.
+    /// (`scope`, `array`, `depth`, `rank`)
     PlanLocal(Scope, u32, u32, u32),
     /// Whether all of the plan is well and fits its limits.
     EndPlan,
-    /// Allocates a local array of zeros, with the bounds beneath `depth` numbers, which stay. (`scope`, `array`, `depth`, `rank`)
+    /// Allocates a local array of zeros, with the bounds beneath `depth` numbers, which stay. (`scope`, `array`,
+    /// `depth`, `rank`)
     Make(Scope, u32, u32, u32),
     /// Deallocates it. (`scope`, `array`)
     Free(Scope, u32),
-    /// Notes that a coarray was allocated in the current team, with the bounds and cobounds beneath `depth` numbers, which stay. (`coarray`, `depth`, `rank`, `corank`)
+    /// Notes that a coarray was allocated in the current team, with the bounds and cobounds beneath `depth` numbers,
+    /// which stay. (`coarray`, `depth`, `rank`, `corank`)
     NoteMade(u32, u32, u32, u32),
     /// Notes that it was deallocated. (`coarray`)
     NoteFreed(u32),
@@ -165,7 +177,8 @@ pub enum Step {
     LayOut(u32, u32),
     /// This image, for the section at the place on top, which stays. (`rank`)
     OwnImage(u32),
-    /// The image that the cosubscripts name in the team, for the section at the place beneath them, which stays. (`coarray`, `rank`, `corank`)
+    /// The image that the cosubscripts name in the team, for the section at the place beneath them, which stays.
+    /// (`coarray`, `rank`, `corank`)
     Owner(u32, u32, u32),
     /// The current team.
     ThisTeam,
@@ -199,7 +212,8 @@ pub enum Step {
     LeaveTeam,
     /// Notes the teams of the last reply of `Leave`; scalar `x` gets the one that has this image. (`scope`, `x`)
     NoteTeams(Scope, u32),
-    /// Begins a frame of so many scalars and hidden cells, which are 0, and so many arrays, which takes `need` local cells. (`cells`, `arrays`, `need`)
+    /// Begins a frame of so many scalars and hidden cells, which are 0, and so many arrays, which takes `need` local
+    /// cells. (`cells`, `arrays`, `need`)
     BeginFrame(u32, u32, u32),
     /// The top array becomes the elements of an array of the frame. (`array`)
     CopyIn(u32),
@@ -239,17 +253,19 @@ pub enum Step {
     SkipUnless(u32),
 }
 
-/// A step that asks. The reply of an access or of image control leaves a status on top: -1 in the place of one where the coarray isn't there, -2 where the result leaves
-/// its kind.
+/// A step that asks. The reply of an access or of image control leaves a status on top: -1 in the place of one where
+/// the coarray isn't there, -2 where the result leaves its kind.
 #[derive(Clone, Copy)]
 pub enum AskStep {
-    /// Reads the cells at a place. Where the owner's memory is marked the values are 0 and the status is 6001. (`coarray`, `rank`)
+    /// Reads the cells at a place. Where the owner's memory is marked the values are 0 and the status is 6001.
+    /// (`coarray`, `rank`)
     Read(u32, u32),
     /// Writes one number to each cell. (`coarray`, `rank`, `kind`)
     Write(u32, u32, Kind),
     /// Writes the elements of the top array. (`coarray`, `rank`, `kind`)
     WriteArray(u32, u32, Kind),
-    /// Makes the cells of a coarray whose bounds stand beneath `depth` numbers, which stay. (`coarray`, `depth`, `rank`)
+    /// Makes the cells of a coarray whose bounds stand beneath `depth` numbers, which stay. (`coarray`, `depth`,
+    /// `rank`)
     Create(u32, u32, u32),
     /// Takes them away. (`coarray`)
     Delete(u32),

@@ -18,8 +18,8 @@ pub enum CellType {
     Lock,
 }
 
-/// A declared coarray. A static one is there from the start, with these bounds, cobounds and first values in array element order, truth values as 1
-/// and 0; of an allocatable one the four are empty, and it has no cells.
+/// A declared coarray. A static one is there from the start, with these bounds, cobounds and first values in array
+/// element order, truth values as 1 and 0; of an allocatable one the four are empty, and it has no cells.
 #[derive(Drop)]
 pub struct Coarray {
     pub of_type: CellType,
@@ -31,15 +31,16 @@ pub struct Coarray {
     pub first: Listing<i64>,
 }
 
-/// An array of the main program that is there from the start: lower and upper bounds, and its elements in array element order, truth values as 1 and 0.
+/// An array of the main program that is there from the start: lower and upper bounds, and its elements in array element
+/// order, truth values as 1 and 0.
 #[derive(Drop)]
 pub struct FirstArray {
     pub bounds: Listing<(i64, i64)>,
     pub elements: Listing<i64>,
 }
 
-/// How the main program's frame begins: its scalars with hidden cells behind them, its arrays with those of constants behind them, and how many local
-/// cells it takes.
+/// How the main program's frame begins: its scalars with hidden cells behind them, its arrays with those of constants
+/// behind them, and how many local cells it takes.
 #[derive(Drop)]
 pub struct MainFrame {
     pub cells: Listing<i64>,

@@ -6,7 +6,8 @@ use image_code::step::{AskStep, Step};
 use std::alloc::Global;
 use std::process::Abort;
 
-/// The first bad place of a draft of these steps; or its length, with the most numbers and arrays that stand on its stack.
+/// The first bad place of a draft of these steps; or its length, with the most numbers and arrays that stand on its
+/// stack.
 #[derive(PartialEq, Debug, Clone, Copy)]
 enum Outcome {
     Code(usize, u64, u64),

@@ -31,6 +31,7 @@ use part_rules::judged::{Judged, add_all, breaking, fine, joined, refused, ruled
 use part_rules::part::{Part, plain};
 use part_rules::types::{is_integer_type, is_team_type};
 use rule_definitions::broken::Broken;
+use rule_definitions::rule;
 use scope_table::object::object_from;
 use scope_table::scope::{Denoted, Scope, Visible};
 use shared_rules::optional::scalar_integer;
@@ -119,9 +120,9 @@ fn judge_images(part: Part) -> Result<Judged<TypedExpr>, NoMemory>
         return Ok(value);
     }
     if is_team_type(found.of_type) {
-        return breaking(value, 51, at);
+        return breaking(value, rule::TEAM, at);
     }
-    breaking(value, 52, at)
+    breaking(value, rule::IMAGE_SET, at)
 }
 
 fn set_of(images: Option<TypedExpr>) -> Option<ImageSet>
@@ -262,8 +263,8 @@ fn team_local(alloc: Global, visible: Visible<'_>, at: Pos) -> Result<Judged<Loc
         breaks: Vec::new(alloc),
         meaning: local_of(object_from(visible.home, symbol.object)),
     };
-    let judged = ruled(judged, is_team_type(of_type), 51, at)?;
-    ruled(judged, symbol.bounds.len() == 0, 37, at)
+    let judged = ruled(judged, is_team_type(of_type), rule::TEAM, at)?;
+    ruled(judged, symbol.bounds.len() == 0, rule::ARRAY_FOR_SCALAR, at)
 }
 
 // The team variable of FORM TEAM by what its name stands for.
@@ -276,7 +277,7 @@ fn team_variable(
     ensures meaning { IfOk result (λ j. j.meaning ≡ (rules.team_variable (option_map meaning_of denoted.entry) at).meaning) }
 {
     let Some(denoted) = denoted else {
-        return refused(alloc, 20, at);
+        return refused(alloc, rule::UNKNOWN_NAME, at);
     };
     match denoted {
         Denoted::Variable(visible) => team_local(alloc, visible, at),
@@ -286,7 +287,7 @@ fn team_variable(
         | Denoted::ModuleConstant(_)
         | Denoted::ModuleType(_)
         | Denoted::IntrinsicFunction(_)
-        | Denoted::IntrinsicSubroutine(_) => refused(alloc, 51, at),
+        | Denoted::IntrinsicSubroutine(_) => refused(alloc, rule::TEAM, at),
     }
 }
 

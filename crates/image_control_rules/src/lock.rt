@@ -24,6 +24,7 @@ use expr_rules::expr::{judge_designator, judge_specifiers};
 use fortran_tree::expr::{Designator, Specifier};
 use part_rules::judged::{Judged, joined, ruled};
 use part_rules::part::{Part, plain};
+use rule_definitions::rule;
 use scope_table::scope::Scope;
 use shared_rules::form::scalar_part;
 use shared_rules::stat::stat_of;
@@ -78,7 +79,7 @@ fn a_lock(part: Part) -> Result<Judged<TypedDesignator>, NoMemory>
             meaning: found,
         },
         is_there,
-        48,
+        rule::LOCK,
         at,
     )
 }

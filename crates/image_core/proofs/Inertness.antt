@@ -31,22 +31,26 @@ last_there xs x =
 some_same : {A : Type 0} (x y : A) → Some x ≡ Some y → x ≡ y
 some_same x y h = cc
 
+pub length_with : {A : Type 0} (xs : List A) (n : ℕ) (x : A) → length (with_item xs n x) ≡ length xs
+length_with xs zero x = refl
+length_with xs (suc k) x = length-set xs k x
+
+-- the last event of an image is that of the step that it made last
+pub last_event : {C M B : Type 0} (r : Rules C M B) (m' : Moment C M B) (i : ℕ) (last : Event) → length m'.events ≡ length m'.configs → 0 < i
+    → Some last ≡ slice_get (slice_index_or m'.events (i - 1) []) (length (slice_index_or m'.events (i - 1) []) - 1)
+    → (m : Moment C M B) (e : Event) → Steps r m i e m' → last ≡ e
+last_event r m' i last many low at_end m e s =
+    let many_before : length m.events ≡ length m.configs = sym (ap length s.events ∙ length_with m.events i _) ∙ many ∙ ap length s.configs ∙ length_with m.configs i s.to in
+    let q : i ≡ suc (i - 1) = omega arith in
+    let now = new_event r m m' (i - 1) e many_before (subst (λ n. Steps r m n e m') q s) in
+    some_same last e (at_end ∙ ap (λ es. slice_get es (length es - 1)) now ∙ last_there (list_at m.events (suc (i - 1))) e)
+
 module _ {C M B : Type 0} (r : Rules C M B) (m' : Moment C M B) (i : ℕ) (last : Event) (many : length m'.events ≡ length m'.configs) (low : 0 < i)
     (at_end : Some last ≡ slice_get (slice_index_or m'.events (i - 1) []) (length (slice_index_or m'.events (i - 1) []) - 1))
     (inert : (h : List Entry) → m'.board_history ≡ h ++ entry i last ∷ [] → IsTrue (r.board_ready m'.board h i last.ask) → last.reply ≡ r.board_reply m'.board h i last.ask → IsInert r.board_ready m'.board h (entry i last)) where
   module _ (m : Moment C M B) (e : Event) (s : Steps r m i e m') (at_board : place_of e.ask ≡ places.Board) where
-    many_before : length m.events ≡ length m.configs
-    many_before = sym (ap length s.events ∙ length_with m.events i _) ∙ many ∙ ap length s.configs ∙ length_with m.configs i s.to
-      where
-        length_with : {A : Type 0} (xs : List A) (n : ℕ) (x : A) → length (with_item xs n x) ≡ length xs
-        length_with xs zero x = refl
-        length_with xs (suc k) x = length-set xs k x
-
     is_last : last ≡ e
-    is_last =
-        let q : i ≡ suc (i - 1) = omega arith in
-        let now = new_event r m m' (i - 1) e many_before (subst (λ n. Steps r m n e m') q s) in
-        some_same last e (at_end ∙ ap (λ es. slice_get es (length es - 1)) now ∙ last_there (list_at m.events (suc (i - 1))) e)
+    is_last = last_event r m' i last many low at_end m e s
 
     history : m'.board_history ≡ m.board_history ++ entry i e ∷ []
     history = s.board_history ∙ ap (λ p. board_with p m.board_history (entry i e)) at_board

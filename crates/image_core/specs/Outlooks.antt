@@ -11,7 +11,8 @@ use Rattle.run_outlook.specs.ImageSets.{has}
 use Rattle.run_outlook.specs.Outlooks.{IsFiled, IsWell}
 use Rattle.image_core.specs.NextAsks.{AreNextAsks}
 
--- what the outlook says of a moment is so: of each image that isn't stale, whether it can step, and of each ask that is kept, that it is next. An image that isn't stale is filed at the object of its next ask.
+-- what the outlook says of a moment is so: of each image that isn't stale, whether it can step, and of each ask that is
+-- kept, that it is next. An image that isn't stale is filed at the object of its next ask.
 pub record Knows {C M B : Type 0} (r : Rules C M B) (m : Moment C M B) (o : Outlook) : Type 0 where
   pub well : IsWell o
   pub images : o.images ≡ length m.configs

@@ -75,8 +75,8 @@ pub record IsBounded {C M B : Type 0} (left : C → ℕ) (m : Moment C M B) : Ty
   pub board : last_stamp_of m.board_history ≤ steps_made m
   pub few : steps_made m + total left m.configs < 2 ^ 60
 
--- what every call keeps of the parts: the images are numbered from 1, are not too many, stamps stay far below the last, and the parts stand in a run of their
--- beginning
+-- what every call keeps of the parts: the images are numbered from 1, are not too many, stamps stay far below the last,
+-- and the parts stand in a run of their beginning
 pub record AreSound {M O B : Type 0} (walks : walker.Ghosts M) (memory : object.Ghosts O) (control : object.Ghosts B) (p : PartsOf M O B) : Type 0 where
   pub few : length p.images.items < 2 ^ 31
   pub numbered : AreNumbered p.images.items

@@ -27,7 +27,8 @@ pub record HasRoom {M : Type 0} (walks : walker.Ghosts M) (r : ImageRun M) : Typ
   pub events : vec_len r.events < vec_capacity r.events
   pub machine : walks.has_room r.machine
 
--- the object is ready for the ask of image i and has room for its step; what is set aside is the ask with the reply that is due
+-- the object is ready for the ask of image i and has room for its step; what is set aside is the ask with the reply
+-- that is due
 pub record IsServed {O : Type 0} (object : objects.Ghosts O) (i : ℕ) (o : O) (ask : Ask) (told : Exchange) : Type 0 where
   pub ready : IsTrue (object.ready_after (object.made o) (object.history o) i ask)
   pub room : object.has_room o i ask

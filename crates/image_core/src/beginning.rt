@@ -45,8 +45,9 @@ fn fresh_images<M: Drop>(alloc: Global, machines: Vec<M>) -> Result<Vec<ImageRun
     Ok(images)
 }
 
-/// The parts of a run with no step, of the machine and the memory of each image by number from 1, and the board. Conditions: there are below 2^31 images, fewer
-/// than 2^60 asks are still to come, and neither a memory nor the board has served one.
+/// The parts of a run with no step, of the machine and the memory of each image by number from 1, and the board.
+/// Conditions: there are below 2^31 images, fewer than 2^60 asks are still to come, and neither a memory nor the board
+/// has served one.
 pub fn begin<M: Walker + Drop, O: Object + Drop, B: Object + Drop>(
     alloc: Global,
     machines: Vec<M>,

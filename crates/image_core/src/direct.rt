@@ -24,7 +24,8 @@ use caf_events::reply::Reply;
 use caf_events::walker::Walker;
 use run_outlook::next_asks::NextAsks;
 
-// Makes the step of the kept ask, which the image makes by itself; the ask isn't kept any more. After want of memory it isn't made.
+// Makes the step of the kept ask, which the image makes by itself; the ask isn't kept any more. After want of memory it
+// isn't made.
 fn step_alone<M: Walker>(run: &mut ImageRun<M>, asks: &mut NextAsks) -> Result<(), NoMemory>
     requires kept { KeepsNext (move_of M.Walker run.old) run.old.image.0 asks.old.kept.items }
     requires hears { (ask : Ask) → AsksNext (move_of M.Walker run.old) ask → M.hears (M.config run.old.machine) replies.Done }
@@ -53,8 +54,8 @@ fn step_alone<M: Walker>(run: &mut ImageRun<M>, asks: &mut NextAsks) -> Result<(
     }
 }
 
-// Makes the step of the kept ask at an object, which is ready for it; the ask isn't kept any more. It stays where it is until the object takes it. After want of
-// memory the step isn't made.
+// Makes the step of the kept ask at an object, which is ready for it; the ask isn't kept any more. It stays where it is
+// until the object takes it. After want of memory the step isn't made.
 fn step_at<M: Walker, O: Object>(
     run: &mut ImageRun<M>,
     object: &mut O,
@@ -150,7 +151,8 @@ impl<M: Walker, O: Object, B: Object> PartsOf<M, O, B> {
         step_at(&mut self.images[k], &mut self.memories[at], asks)
     }
 
-    // The next step of an image that can step, whose next ask is kept and is made at this place. The ask isn't kept any more.
+    // The next step of an image that can step, whose next ask is kept and is made at this place. The ask isn't kept any
+    // more.
     pub(crate) fn make_step(
         &mut self,
         image: ImageNo,

@@ -87,10 +87,11 @@ impl<M: Walker, O: Object, B: Object> PartsOf<M, O, B> {
         }
     }
 
-    /// Sets the next step of an image aside: `Can` where it can be made now, `NotYet` exactly where the image's next ask
-    /// isn't ready, `Over` exactly where the image's machine is over: it stopped, failed or made an ending step. No step is made, also after want of memory.
-    /// Another image that was prepared before stays so, but not where its step is at the same object: an object sets one step aside at a
-    /// time, and that image is prepared anew before its step is made.
+    /// Sets the next step of an image aside: `Can` where it can be made now, `NotYet` exactly where the image's next
+    /// ask isn't ready, `Over` exactly where the image's machine is over: it stopped, failed or made an ending step. No
+    /// step is made, also after want of memory.
+    /// Another image that was prepared before stays so, but not where its step is at the same object: an object sets
+    /// one step aside at a time, and that image is prepared anew before its step is made.
     pub fn prepare(&mut self, image: ImageNo) -> Result<Ready, NoMemory>
         requires image { (0 < image.0) × (image.0 ≤ length self.old.images.items) }
         requires sound { AreSound M.Walker O.Object B.Object self.old }

@@ -10,7 +10,8 @@ use caf_events::ask::Ask;
 use caf_events::event::Event;
 use caf_events::walker::{Next, Walker};
 
-/// One image: its number from 1, its machine, its events with the last one's stamp, and what is set aside for its next step.
+/// One image: its number from 1, its machine, its events with the last one's stamp, and what is set aside for its next
+/// step.
 #[derive(Drop)]
 pub struct ImageRun<M> {
     pub(crate) image: ImageNo,

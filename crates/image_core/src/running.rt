@@ -1,4 +1,5 @@
-//! One image that is run by itself, step by step, by who has the objects elsewhere: what it does next, its next ask, and its own steps.
+//! One image that is run by itself, step by step, by who has the objects elsewhere: what it does next, its next ask,
+//! and its own steps.
 
 ghost use Rattle.std.specs.Prelude.{◌≡◌, ◌<◌, ◌^◌, ◌++◌, ◌∷◌, ◌↔◌, [], List, true, false, IsTrue, IfOk, OnOk, OnErr};
 ghost use Rattle.trace_theory.specs.Machines.{Rests};

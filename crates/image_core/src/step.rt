@@ -38,8 +38,8 @@ pub(crate) fn next_ask<M: Walker>(run: &mut ImageRun<M>) -> Result<Ask, NoMemory
     run.machine.ask()
 }
 
-// The old value is given to the generic `drop`, here and below, which is one goal of the proof; dropped where the new one is written, or
-// at the end of a block, it would be one goal for each kind of ask and reply.
+// The old value is given to the generic `drop`, here and below, which is one goal of the proof; dropped where the new
+// one is written, or at the end of a block, it would be one goal for each kind of ask and reply.
 
 // Sets an ask aside that the image makes by itself.
 pub(crate) fn prepare_alone<M: Walker>(run: &mut ImageRun<M>, ask: Ask) -> Result<(), NoMemory>

@@ -31,8 +31,9 @@ pub struct Fabric<O: Object, B: Object> {
 }
 
 impl<O: Object, B: Object> Fabric<O, B> {
-    /// Gates round the memories of images 1 to their number and round the board, and for each of these images its passes. On refusal the
-    /// objects are given up. Conditions: there are fewer than 2 ** 31 memories, and none of the objects has an entry.
+    /// Gates round the memories of images 1 to their number and round the board, and for each of these images its
+    /// passes. On refusal the objects are given up. Conditions: there are fewer than 2 ** 31 memories, and none of the
+    /// objects has an entry.
     pub fn new(
         alloc: Global,
         memories: Vec<O>,
@@ -72,8 +73,9 @@ impl<O: Object, B: Object> Fabric<O, B> {
         &self.gates
     }
 
-    /// The memories and the board, once all passes are back: the object of each gate has in its history exactly the entries of the passes that
-    /// came back to it, image by image. On refusal the fabric and the passes are given up. Condition: the passes are those of all images, in order.
+    /// The memories and the board, once all passes are back: the object of each gate has in its history exactly the
+    /// entries of the passes that came back to it, image by image. On refusal the fabric and the passes are given up.
+    /// Condition: the passes are those of all images, in order.
     pub fn close(self, alloc: Global, passes: Vec<Passes>) -> Result<(Vec<O>, B), NoMemory>
     where
         O: Drop,

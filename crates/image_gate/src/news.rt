@@ -264,8 +264,8 @@ impl News {
         self.over.park_timeout(rt, 0, Duration::from_micros(micros));
     }
 
-    /// Sleeps so many microseconds, as the images of this worker only look at what doesn't change; not where those of no
-    /// other worker could change it.
+    /// Sleeps so many microseconds, as the images of this worker only look at what doesn't change; not where those of
+    /// no other worker could change it.
     pub fn nap_looking<R: Wait>(&self, rt: &R, micros: u64) {
         let looking = self.looking.fetch_add(1, Ordering::SeqCst);
         let idle = looking

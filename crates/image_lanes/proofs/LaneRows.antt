@@ -66,7 +66,8 @@ by_list = refl
 ended : lane 2 (at 9 (asking.Stop (pos 0)) ∷ []) (replies.Done ∷ []) ≡ at 9 (asking.Stop (pos 0)) ∷ []
 ended = refl
 
--- 5 steps of 4 words each reach the limit of 20: the next event is the limit, in place of a run fault too, but not of a failure
+-- 5 steps of 4 words each reach the limit of 20: the next event is the limit, in place of a run fault too, but not of a
+-- failure
 limited : lane 0 (at 1 asking.Memory ∷ at 2 asking.Memory ∷ at 3 asking.Memory ∷ at 4 asking.Memory ∷ at 5 asking.Memory ∷ at 6 (asking.ErrorStop (pos 1)) ∷ []) (ok ∷ ok ∷ ok ∷ ok ∷ ok ∷ ok ∷ [])
     ≡ at 1 asking.Memory ∷ at 2 asking.Memory ∷ at 3 asking.Memory ∷ at 4 asking.Memory ∷ at 5 asking.Memory ∷ at 6 (asking.LimitWords 20) ∷ []
 limited = refl

@@ -1,4 +1,5 @@
--- What a lane says, in the words of lists: a walk of its program, and behind it nothing, its failure, or its limit of recorded words.
+-- What a lane says, in the words of lists: a walk of its program, and behind it nothing, its failure, or its limit of
+-- recorded words.
 use Rattle.std.specs.Prelude.{ℕ, ◌+◌, ◌-◌, ◌≡◌, ◌⊎◌, ◌||◌, not, true, false, List, [], ◌∷◌, ◌++◌}
 use Rattle.caf_events.specs.declared.ask.Ask.{Ask}
 use Rattle.caf_events.specs.declared.ask.Ask.TheVariants as asking
@@ -15,7 +16,8 @@ AreAt line steps [] = Unit {0}
 AreAt line [] (e ∷ es) = ⊥
 AreAt line (s ∷ ss) (e ∷ es) = (e.ask ≡ s) × (e.line ≡ line) × AreAt line ss es
 
--- each of these steps records words, but perhaps the last one, where nothing stands behind it: behind such a step the lane is over
+-- each of these steps records words, but perhaps the last one, where nothing stands behind it: behind such a step the
+-- lane is over
 abbrev pub AreRecorded : List (Said Ask Reply) → List (Said Ask Reply) → Type 0
 AreRecorded [] behind = Unit {0}
 AreRecorded (e ∷ es) behind = ((counts_words e.ask ≡ true) ⊎ ((es ≡ []) × (behind ≡ []))) × AreRecorded es behind
@@ -35,8 +37,8 @@ module _ {C : Type 0} where
   NoneDue l [] = Unit {0}
   NoneDue l (e ∷ es) = (is_due l ≡ false) × (is_failure e.ask ≡ false) × (is_full l ≡ false) × NoneDue (after_step l e) es
 
-  -- the failure, in place of an ask of the program (an image that has ended isn't touched): by the list at its event, at line 0, or by the program's FAIL IMAGE where none of the
-  -- list is due; each step at that line
+  -- the failure, in place of an ask of the program (an image that has ended isn't touched): by the list at its event,
+  -- at line 0, or by the program's FAIL IMAGE where none of the list is due; each step at that line
   pub record Fails (step : C → Move C Ask Reply) (l : OnLane C) (es : List (Said Ask Reply)) : Type 0 where
     pub line : ℕ
     pub reply : Reply

@@ -1,4 +1,5 @@
--- The lane of an image: it does what its program does, up to its failure (ISO/IEC 1539-1:2018, 5.3.6, 11.5) or to the limit of its recorded words.
+-- The lane of an image: it does what its program does, up to its failure (ISO/IEC 1539-1:2018, 5.3.6, 11.5) or to the
+-- limit of its recorded words.
 use Rattle.std.specs.Prelude.{ℕ, ◌+◌, ◌-◌, ◌*◌, ◌≡◌, Bool, true, false, nat_eq, nat_le, cond, List, [], ◌∷◌, length}
 use Rattle.caf_events.specs.declared.ask.Ask.{Ask}
 use Rattle.caf_events.specs.declared.ask.Ask.TheVariants as asking
@@ -7,15 +8,16 @@ use Rattle.caf_events.specs.Events.{counts_words, words_by}
 use Rattle.core_runs.specs.Failures.{LockPlace, held_after, failure_steps}
 use Rattle.trace_theory.specs.Machines.{Move, goes, asks, over}
 
--- an image goes on by its program, makes the rest of the steps of its failure, all at one line, or is over: behind a limit, or a step of its program without
--- recorded words
+-- an image goes on by its program, makes the rest of the steps of its failure, all at one line, or is over: behind a
+-- limit, or a step of its program without recorded words
 pub data Course : Type 0 where
   by_program : Course
   failing : List Ask → ℕ → Course
   at_end : Course
 
--- where an image is: its number, with which of its next events the list of failures lets it fail (1 for the next one, 0 for none) and its limit of
--- recorded words; where its program stands; the recorded words of its events, the locks that it holds; and how it goes on
+-- where an image is: its number, with which of its next events the list of failures lets it fail (1 for the next one, 0
+-- for none) and its limit of recorded words; where its program stands; the recorded words of its events, the locks that
+-- it holds; and how it goes on
 pub record OnLane (C : Type 0) : Type 0 where
   pub image : ℕ
   pub fails_in : ℕ
@@ -53,8 +55,10 @@ module _ {C : Type 0} where
   abbrev pub is_full : OnLane C → Bool
   is_full l = nat_le l.limit l.words
 
-  -- The program's next ask, where no failure of the list is due: FAIL IMAGE begins the failure; else the limit comes in place of the ask, or the ask is made.
-  -- Behind an ask without recorded words the image is over: it is a limit, or, in code that no program has, one of the later steps of a failure.
+  -- The program's next ask, where no failure of the list is due: FAIL IMAGE begins the failure; else the limit comes in
+  -- place of the ask, or the ask is made.
+  -- Behind an ask without recorded words the image is over: it is a limit, or, in code that no program has, one of the
+  -- later steps of a failure.
   abbrev pub asked_next : OnLane C → Ask → ℕ → (Reply → C) → Move (OnLane C) Ask Reply
   asked_next l ask line k =
       cond (is_failure ask) (asks asking.Fail line (λ r. begins_to_fail l line))
@@ -95,12 +99,13 @@ module _ {C : Type 0} where
   heard_on step hears l by_program reply = heard_by_program hears l (step l.program) reply
   heard_on step hears l course reply = Unit {0}
 
-  -- the replies with which a lane can go on: any in a failure, at a limit and at the end, else those with which its program can
+  -- the replies with which a lane can go on: any in a failure, at a limit and at the end, else those with which its
+  -- program can
   abbrev pub lane_hears : (C → Move C Ask Reply) → (C → Reply → Type 0) → OnLane C → Reply → Type 0
   lane_hears step hears l reply = heard_on step hears l l.course reply
 
-  -- at most so many asks are still to come: each step of a program that goes on records words, of which there is a limit, and may get one lock, which its
-  -- failure frees
+  -- at most so many asks are still to come: each step of a program that goes on records words, of which there is a
+  -- limit, and may get one lock, which its failure frees
   abbrev pub program_left : OnLane C → Move C Ask Reply → ℕ
   program_left l (goes c) = 2 * (l.limit - l.words) + length l.held + 4
   program_left l (asks ask line k) = 2 * (l.limit - l.words) + length l.held + 4

@@ -9,8 +9,8 @@ use caf_events::ask::Ask;
 use caf_events::walker::Next;
 use std::alloc::Global;
 
-/// A step of a failure behind its first one: the mark at the image's memory, the release of a held lock by its number from 0 (of
-/// the number of them all: the end at the board), or no more.
+/// A step of a failure behind its first one: the mark at the image's memory, the release of a held lock by its number
+/// from 0 (of the number of them all: the end at the board), or no more.
 #[derive(Clone, Copy)]
 pub(crate) enum Failing {
     Mark,
@@ -18,7 +18,8 @@ pub(crate) enum Failing {
     Ended,
 }
 
-/// How an image goes on: by its program, with the steps of its failure at a line, or not at all, behind a limit or a step without recorded words.
+/// How an image goes on: by its program, with the steps of its failure at a line, or not at all, behind a limit or a
+/// step without recorded words.
 #[derive(Clone, Copy)]
 pub(crate) enum Going {
     ByProgram,

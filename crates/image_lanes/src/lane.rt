@@ -41,8 +41,9 @@ fn fails(ask: &Ask) -> bool
 }
 
 impl<M: Walker> Lane<M> {
-    /// The lane of an image before its first step. Its failure starts at its event of the number `fails_at`, counted from 1 (0 for
-    /// none), if its program doesn't fail before; with `limit` recorded words or more its next step is the limit.
+    /// The lane of an image before its first step. Its failure starts at its event of the number `fails_at`, counted
+    /// from 1 (0 for none), if its program doesn't fail before; with `limit` recorded words or more its next step is
+    /// the limit.
     pub fn new(alloc: Global, image: ImageNo, fails_at: u32, limit: u32, machine: M) -> Lane<M>
         ensures { lane_of M.Walker result ≡ lane_start image.0 fails_at limit (M.config machine) }
     {
@@ -191,7 +192,8 @@ impl<M: Walker> Lane<M> {
         self.words += u128::from(words);
     }
 
-    // Goes on with an event that records so many words and asks nothing of a lock, where the lane goes on by its program.
+    // Goes on with an event that records so many words and asks nothing of a lock, where the lane goes on by its
+    // program.
     fn go_on_plainly(&mut self, words: u32, event: &Event)
         requires going { self.old.going ≡ goings.ByProgram }
         requires recorded { counts_words event.now.ask ≡ true }

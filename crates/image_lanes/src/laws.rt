@@ -17,7 +17,8 @@ pub fn law_course<M: Walker>()
         → Course M.step (lane_start image fails_at limit c) es }
 {}
 
-/// Where the program makes none of the steps of a failure but the first, the failure stands in the lane's events as the list of its steps says:
+/// Where the program makes none of the steps of a failure but the first, the failure stands in the lane's events as the
+/// list of its steps says:
 /// the mark, the release of each lock that the image holds then, in the order in which it got them last, and its end.
 pub fn law_fails<M: Walker>()
     ensures { (image fails_at limit : ℕ) (c : M.Config) (es : List (Said Ask Reply)) (to : OnLane M.Config)
@@ -26,8 +27,9 @@ pub fn law_fails<M: Walker>()
         → FailsFrom image es [] }
 {}
 
-/// The bound on the asks that a lane still makes (`asks_left` of its `Walker`) is at first twice its limit of recorded words, and four: each step of its program but the last records four words at least, and may get a
-/// lock that its failure frees.
+/// The bound on the asks that a lane still makes (`asks_left` of its `Walker`) is at first twice its limit of recorded
+/// words, and four: each step of its program but the last records four words at least, and may get a lock that its
+/// failure frees.
 pub fn law_few<M: Walker>()
     ensures { (image fails_at limit : ℕ) (c : M.Config) → lane_left M.step (lane_start image fails_at limit c) ≤ 2 * limit + 4 }
 {}

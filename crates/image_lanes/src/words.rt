@@ -22,8 +22,8 @@ pub(crate) fn is_recorded(ask: &Ask) -> bool
     )
 }
 
-/// The recorded words of a step of this ask with this reply: none for limits and the steps of a failure, else four and those
-/// of the ask and the reply.
+/// The recorded words of a step of this ask with this reply: none for limits and the steps of a failure, else four and
+/// those of the ask and the reply.
 pub(crate) fn words_of(ask: &Ask, reply: &Reply) -> u128
     ensures is { result ≡ words_by ask.now reply.now }
     ensures few { result + 2 ^ 32 < 2 ^ 128 }

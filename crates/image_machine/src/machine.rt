@@ -59,8 +59,9 @@ impl Model for Machine {
 }
 
 impl Machine {
-    /// Image `me` of so many at the first ask of its code, which may count so many statements. Its stack, its frames and all cells are made whole here. Conditions: the code's
-    /// kinds and ranks are such as made code has, and so are its static coarrays (`AreFew`), which have 65,536 cells at most.
+    /// Image `me` of so many at the first ask of its code, which may count so many statements. Its stack, its frames
+    /// and all cells are made whole here. Conditions: the code's kinds and ranks are such as made code has, and so are
+    /// its static coarrays (`AreFew`), which have 65,536 cells at most.
     #[tactic(auto, using(crate::proofs::Bare::bare_rests))]
     pub fn new(
         alloc: Global,

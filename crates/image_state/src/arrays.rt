@@ -11,10 +11,11 @@ ghost use Rattle.image_state.specs.Acting.{with_core, Acts};
 ghost use Rattle.array_values.specs.Values.{elements_on_top, with_element, merged_arrays};
 ghost use Rattle.image_state.specs.Arrays.{with_arrays};
 
-use crate::state::{Acting, ImageState, MOST_CELLS, MOST_ELEMENTS, ROOM};
+use crate::state::{Acting, ImageState, MOST_ELEMENTS, MOST_EVALUATED};
 use array_values::extents::Extents;
 use caf_base::value::Kind;
-use number_operators::arithmetic::{OVERFLOW, is_of_kind};
+use caf_events::fault::{OVERFLOW, ROOM};
+use number_operators::arithmetic::is_of_kind;
 
 impl ImageState {
     /// Whether there are so many array values.
@@ -159,7 +160,7 @@ impl ImageState {
             return Acting::Stuck;
         }
         let n = self.elements().len() as u64;
-        if n > MOST_CELLS - self.used {
+        if n > MOST_EVALUATED - self.used {
             return Acting::Fault(ROOM);
         }
         self.used += n;

@@ -1,4 +1,5 @@
-//! Places on the stack, and the bounds, extents and sizes of array values and sections (ISO/IEC 1539-1:2018, 5.4.6; LBOUND, SIZE and UBOUND in 16.9).
+//! Places on the stack, and the bounds, extents and sizes of array values and sections (ISO/IEC 1539-1:2018, 5.4.6;
+//! LBOUND, SIZE and UBOUND in 16.9).
 
 ghost use Rattle.std.specs.Prelude.{◌≡◌, ◌==◌, ◌<◌, ◌≤◌, ◌+◌, ◌*◌, ◌∷◌, pos, drop, length, not, IfSome, IfNone};
 ghost use Rattle.image_acts.specs.Acts as acts;
@@ -15,14 +16,12 @@ ghost use Rattle.image_state.specs.Acting.{with_core, Acts};
 ghost use Rattle.image_state.specs.Arrays.{with_arrays};
 ghost use Rattle.image_state.specs.Places.{place_at, without_tops};
 
-use crate::state::{Acting, ImageState, MOST_ELEMENTS, ROOM};
+use crate::state::{Acting, ImageState, MOST_ELEMENTS};
 use array_places::bounds::{extent_along, lower_along, size_in, upper_along};
 use array_places::place::cells_in;
 use array_values::extents::{Extents, extents_of};
+use caf_events::fault::{ROOM, SHAPE};
 use number_operators::operators::truth;
-
-/// The number of the run fault Shape.
-const SHAPE: u32 = 12;
 
 impl ImageState {
     /// The numbers of the place of this rank beneath so many others.

@@ -38,8 +38,9 @@ impl ImageState {
         self.teams.me()
     }
 
-    /// Notes that a coarray was allocated in the current team, with the bounds of its rank and the cobounds of its corank that stand beneath so many numbers. Where
-    /// there is no room for it nothing is noted, and the answer is false.
+    /// Notes that a coarray was allocated in the current team, with the bounds of its rank and the cobounds of its
+    /// corank that stand beneath so many numbers. Where there is no room for it nothing is noted, and the answer is
+    /// false.
     pub fn note_coarray(&mut self, coarray: u32, rank: u32, corank: u32, depth: usize) -> bool
         requires { bounds_size rank + cobounds_size corank ≤ length (drop depth self.old.core.values) }
         ensures made { IsTrue result → noted (owned_by self.old.core) coarray rank corank (reverse (take (bounds_size rank + cobounds_size corank) (drop depth self.old.core.values))) (current_team self.old.core) ≡ Some (owned_by self.new.core) }

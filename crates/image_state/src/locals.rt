@@ -63,8 +63,9 @@ impl ImageState {
         self.locals.store(scope, x, offset, value)
     }
 
-    /// Gives the element of a local array of rank one by its subscript a value (ISO/IEC 1539-1:2018, 9.5.3.2); false says that it isn't found at once, nothing
-    /// is changed, and the ordinary way tells what it is: an array of another rank or one that isn't allocated, or a subscript outside its bounds.
+    /// Gives the element of a local array of rank one by its subscript a value (ISO/IEC 1539-1:2018, 9.5.3.2); false
+    /// says that it isn't found at once, nothing is changed, and the ordinary way tells what it is: an array of another
+    /// rank or one that isn't allocated, or a subscript outside its bounds.
     #[inline(always)]
     pub fn put_by_one(&mut self, scope: Scope, x: u32, subscript: i64, value: i64) -> bool
         ensures put { IsTrue result → (b : Option Local) × HasNewElement (array_in (scope_of scope) x self.old.core) (single subscript ∷ []) value b × (self.new ≡ with_core self.old (with_array_in (scope_of scope) x b self.old.core)) }
@@ -73,8 +74,9 @@ impl ImageState {
         self.locals.put_by_one(scope, x, subscript, value)
     }
 
-    /// Gives the element of a local array of rank two by its row and its column a value (ISO/IEC 1539-1:2018, 9.5.3.2); false says that it isn't found at once,
-    /// nothing is changed, and the ordinary way tells what it is: an array of another rank or one that isn't allocated, or a subscript outside its bounds.
+    /// Gives the element of a local array of rank two by its row and its column a value (ISO/IEC 1539-1:2018, 9.5.3.2);
+    /// false says that it isn't found at once, nothing is changed, and the ordinary way tells what it is: an array of
+    /// another rank or one that isn't allocated, or a subscript outside its bounds.
     #[inline(always)]
     pub fn put_by_two(&mut self, scope: Scope, x: u32, row: i64, column: i64, value: i64) -> bool
         ensures put { IsTrue result → (b : Option Local) × HasNewElement (array_in (scope_of scope) x self.old.core) (single row ∷ single column ∷ []) value b × (self.new ≡ with_core self.old (with_array_in (scope_of scope) x b self.old.core)) }
@@ -91,7 +93,8 @@ impl ImageState {
         self.locals.fill(scope, x, place, value);
     }
 
-    /// Gives the cells of a place of a local array the elements of the top array value, in array element order, as far as there are both.
+    /// Gives the cells of a place of a local array the elements of the top array value, in array element order, as far
+    /// as there are both.
     pub fn put_top(&mut self, scope: Scope, x: u32, place: &[i64])
         requires { HasCells (array_in (scope_of scope) x self.old.core) (place_in place.now) }
         ensures { self.new ≡ with_core self.old (with_array_in (scope_of scope) x (overwritten (place_in place.now) (elements_on_top self.old.core.arrays) (array_in (scope_of scope) x self.old.core)) self.old.core) }
@@ -107,8 +110,8 @@ impl ImageState {
         self.locals.refill(scope, x, self.arrays.elements());
     }
 
-    /// Gives a local array the elements of the top array value, as one of rank one with the lower bound 1, where all arrays have room together; else the run
-    /// fault Room, and nothing is changed.
+    /// Gives a local array the elements of the top array value, as one of rank one with the lower bound 1, where all
+    /// arrays have room together; else the run fault Room, and nothing is changed.
     pub fn renew_top(&mut self, scope: Scope, x: u32) -> Result<(), u32>
         ensures ok { OnOk result (self.new ≡ with_core self.old (with_array_in (scope_of scope) x (Some (from_one (elements_on_top self.old.core.arrays))) self.old.core)) }
         ensures room { OnOk result (cells_in_frames (framed.with_array (scope_of scope) x (Some (from_one (elements_on_top self.old.core.arrays))) (arrays_of_frames self.old.core)) ≤ self.old.core.array_room) }
@@ -119,7 +122,8 @@ impl ImageState {
         self.locals.renew(scope, x, self.arrays.elements())
     }
 
-    /// Gives a local array these bounds and zeros (ALLOCATE, 9.7.1), where all arrays have room together; else the run fault Room, and nothing is changed.
+    /// Gives a local array these bounds and zeros (ALLOCATE, 9.7.1), where all arrays have room together; else the run
+    /// fault Room, and nothing is changed.
     pub fn lay(&mut self, scope: Scope, x: u32, numbers: &[i64]) -> Result<(), u32>
         requires { length numbers.now ≤ 6 }
         ensures ok { OnOk result (self.new ≡ with_core self.old (with_array_in (scope_of scope) x (Some (zeros_in (pairs_in numbers.now))) self.old.core)) }

@@ -18,10 +18,11 @@ ghost use Rattle.image_state.specs.Kept.{texts_of};
 ghost use Rattle.image_state.specs.Texts.{with_texts, with_portion, with_literal, with_items, innermost, begun, value_printed, element_portion, heaped_all, IsPut, HasNoRoom};
 ghost use Rattle.image_state.specs.Texts.{with_next as next_in};
 
-use crate::state::{Acting, ImageState, MOST_CELLS, MOST_PORTIONS, ROOM};
+use crate::state::{Acting, ImageState, MOST_EVALUATED, MOST_PORTIONS};
 use caf_base::listing::Text;
 use caf_base::refusal::NoMemory;
 use caf_base::value::Kind;
+use caf_events::fault::ROOM;
 use image_stores::piles::Piles;
 use print_text::item::Portion;
 use print_text::{fault_of, text_of};
@@ -142,7 +143,7 @@ impl ImageState {
         requires { 0 < length self.old.core.values }
         ensures { Acts self.old (value_printed (portion_of (texts_of self.old) portion) (drop 1 self.old.core.values) self.old.core) self.new result }
     {
-        if self.used >= MOST_CELLS {
+        if self.used >= MOST_EVALUATED {
             return Acting::Fault(ROOM);
         }
         if !self.has_text() {
@@ -284,7 +285,8 @@ fn one_more(first: u32, more: u32, text: u32) -> Option<Portion>
     Some(Portion::Literals(first, more + 1))
 }
 
-/// Puts a literal into the newest text, with the literals that stand last there where it comes next behind them in the program; says whether there was room.
+/// Puts a literal into the newest text, with the literals that stand last there where it comes next behind them in the
+/// program; says whether there was room.
 #[tactic(auto, using(crate::proofs::PrintLaws::put_joined, crate::proofs::PrintLaws::put_apart, crate::proofs::PrintLaws::not_put, crate::proofs::PrintLaws::last_there))]
 fn put_literal(prints: &mut Piles<Option<u32>, Portion>, text: u32) -> bool
     requires some { 0 < length prints.old.piles }

@@ -7,10 +7,7 @@ ghost use Rattle.image_acts.specs.Operate.Stack.{stack_effect};
 ghost use Rattle.image_state.specs.Acting.{Acts};
 
 use crate::state::{Acting, ImageState};
-use number_operators::arithmetic::OVERFLOW;
-
-/// The number of the run fault NotAllocated.
-const NOT_ALLOCATED: u32 = 6;
+use caf_events::fault::{NOT_ALLOCATED, OVERFLOW};
 
 /// What stands in the place of a status where the coarray isn't there, and where a result leaves its kind.
 const ABSENT: i64 = -1;

@@ -34,7 +34,8 @@ head_of (p ∷ ps) = Some p.head
 abbrev pub last_of : {H T : Type 0} → List (Pile H T) → Option T
 last_of ps = elim (newest ps) [ [] ↦ None | x ∷ xs ↦ Some x ]
 
--- with one item more on the newest pile, with another one as the last there, or with another head; the newest pile on top of the one beneath, whose head stays
+-- with one item more on the newest pile, with another one as the last there, or with another head; the newest pile on
+-- top of the one beneath, whose head stays
 abbrev pub heaped : {H T : Type 0} → T → List (Pile H T) → List (Pile H T)
 heaped x [] = []
 heaped x (p ∷ ps) = pile p.head (x ∷ p.items) ∷ ps

@@ -1,4 +1,5 @@
-//! Piles of items, one on top of the other: array values with their elements, or texts that were begun with what is to be printed.
+//! Piles of items, one on top of the other: array values with their elements, or texts that were begun with what is to
+//! be printed.
 
 ghost use Rattle.std.specs.Prelude.{◌≡◌, ◌<◌, ◌≤◌, ◌+◌, ◌∷◌, ◌++◌, [], drop, length, reverse, IfOk};
 ghost use Rattle.image_stores.specs.Piles.{Piled, pile, items_in, newest, head_of, last_of, heaped, headed, merged, with_last};

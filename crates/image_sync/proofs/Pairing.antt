@@ -110,7 +110,8 @@ closed_by : (i : ℕ) (hs : List Happening) (o : Option (List Happening)) (t : L
 closed_by i hs None t closed b status c e s = rw (c, e, s) (elim (cases_Bool (t hs)) [ inl y ↦ rw y refl | inr z ↦ rw z refl ])
 closed_by i hs (Some f) t closed b status c e s = rw c refl
 
--- an image whose last SYNC IMAGES is the same as before: what it is told now is what closed it before, or what closes it now
+-- an image whose last SYNC IMAGES is the same as before: what it is told now is what closed it before, or what closes
+-- it now
 pub closed_more : (i n : ℕ) (hs : List Happening) (x : Happening) (closed : Option ℤ) (b : Bool) (status : ℤ) → pairs_of i (hs ++ x ∷ []) ≡ n → closed ≡ status_paired i (at_pairing i n hs)
     → b ≡ has_paired i (hs ++ x ∷ []) → status ≡ pairing_status i (hs ++ x ∷ []) → closed_now closed b status ≡ status_paired i (at_pairing i n (hs ++ x ∷ []))
 closed_more i n hs x closed b status e was now s =

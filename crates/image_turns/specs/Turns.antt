@@ -40,8 +40,8 @@ pub record AreLinked (count i : ℕ) (es : List Event) (passes : List Known) : T
   pub wide : length passes ≡ count
   pub each : (o : ℕ) (p : Known) → At passes o p → (p.image ≡ i) × Linked image_of key_of stamp_of i o (entries i es) p.seen p.own
 
--- the events are a walk of a program from c to d, where it is at an ask or over; each stands at a place of a run of n images, and the image's own are done; together
--- with the asks that may still come they are at most so many
+-- the events are a walk of a program from c to d, where it is at an ask or over; each stands at a place of a run of n
+-- images, and the image's own are done; together with the asks that may still come they are at most so many
 pub record HasWalked {C : Type 0} (step : C → Move C Ask Reply) (left : C → ℕ) (n : ℕ) (c : C) (most : ℕ) (es : List Event) (d : C) : Type 0 where
   pub walks : WalkTo step c (map said es) d
   pub rests : Rests (step d)

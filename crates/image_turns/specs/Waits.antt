@@ -16,7 +16,8 @@ use Rattle.turn_gate.specs.Known.{Known}
 use Rattle.turn_gate.specs.Passes.{Opened}
 use Rattle.image_gate.specs.declared.passes.Passes.{Passes}
 
--- the object wasn't ready for the ask after what the pass has seen of it, or the last stamp of the image or of the object is one behind which no step is made
+-- the object wasn't ready for the ask after what the pass has seen of it, or the last stamp of the image or of the
+-- object is one behind which no step is made
 abbrev pub IsNotNow : {O : Type 0} → objects.Ghosts O → Opened O → Known → Ask → ℕ → Type 0
 IsNotNow object gate pass ask after = (object.ready_after (object.made gate.start) pass.seen pass.image ask ≡ false) ⊎ (2 ^ 62 ≤ after) ⊎ (2 ^ 62 ≤ last_stamp_of pass.seen)
 

@@ -14,14 +14,14 @@ ghost use Rattle.inert_steps.specs.Inert.{IsInert};
 ghost use Rattle.inert_laws.specs.Silent.{is_silent};
 ghost use Rattle.inert_laws.specs.InertSteps.{is_inert_step};
 
-/// A departure from a round, from a collective subroutine or from SYNC IMAGES is inert, and so are FAILED_IMAGES, STOPPED_IMAGES and IMAGE_STATUS: no round closes by them,
-/// and they change no construct.
+/// A departure from a round, from a collective subroutine or from SYNC IMAGES is inert, and so are FAILED_IMAGES,
+/// STOPPED_IMAGES and IMAGE_STATUS: no round closes by them, and they change no construct.
 pub fn law_departure_is_inert()
     ensures { (n : ℕ) (h : List Entry) (e : Entry) → IsTrue (is_silent e.event.ask) → IsInert board_ready n h e }
 {}
 
-/// An arrival at a round of image control statements (ISO/IEC 1539-1:2018, 11.6) that joined it is inert where its own image can't leave that round yet: then the round hasn't
-/// closed, and no other round has heard of it.
+/// An arrival at a round of image control statements (ISO/IEC 1539-1:2018, 11.6) that joined it is inert where its own
+/// image can't leave that round yet: then the round hasn't closed, and no other round has heard of it.
 pub fn law_arrival_is_inert()
     ensures { (n : ℕ) (h : List Entry) (e : Entry) (team : TeamNo) (arriving : Arriving) (round : ℕ)
         → e.event.ask ≡ Arrive team arriving → e.event.reply ≡ Round round → e.event.reply ≡ board_reply n h e.image.0 e.event.ask

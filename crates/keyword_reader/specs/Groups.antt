@@ -1,4 +1,5 @@
--- The choice among actions by their first keywords, from behind: each group tries its own keywords, and then the group before it.
+-- The choice among actions by their first keywords, from behind: each group tries its own keywords, and then the group
+-- before it.
 use Rattle.std.specs.Prelude.{codes}
 use Rattle.fortran_tree.specs.Statements as s
 use Rattle.fortran_tree.specs.Statements.{ActionStatement}

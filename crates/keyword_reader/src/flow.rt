@@ -1,4 +1,5 @@
-//! Readers of actions that turn the flow of control or end the program (ISO/IEC 1539-1:2018, 11.1.12, 11.1.7.4.4, 11.4, 11.5 and 15.6.2.7).
+//! Readers of actions that turn the flow of control or end the program (ISO/IEC 1539-1:2018, 11.1.12, 11.1.7.4.4, 11.4,
+//! 11.5 and 15.6.2.7).
 
 ghost use Rattle.std.specs.Prelude.{codes};
 ghost use Rattle.expr_reader.specs.Results.{Gives};

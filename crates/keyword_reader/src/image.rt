@@ -1,4 +1,5 @@
-//! Readers of the image control statements SYNC, FORM TEAM, EVENT, LOCK and UNLOCK (ISO/IEC 1539-1:2018, 11.6), and of CALL (15.5.1).
+//! Readers of the image control statements SYNC, FORM TEAM, EVENT, LOCK and UNLOCK (ISO/IEC 1539-1:2018, 11.6), and of
+//! CALL (15.5.1).
 
 ghost use Rattle.std.specs.Prelude.{codes};
 ghost use Rattle.expr_reader.specs.Results.{Gives};

@@ -1,4 +1,5 @@
-//! Readers of objects with specifiers behind them, as ALLOCATE and DEALLOCATE have them (ISO/IEC 1539-1:2018, 9.7.1 and 9.7.3).
+//! Readers of objects with specifiers behind them, as ALLOCATE and DEALLOCATE have them (ISO/IEC 1539-1:2018, 9.7.1 and
+//! 9.7.3).
 
 ghost use Rattle.std.specs.Prelude.{◌≡◌, IfOk, map};
 ghost use Rattle.expr_reader.specs.Results.{Gives};

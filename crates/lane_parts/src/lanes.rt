@@ -17,8 +17,8 @@ fn fails_at(fails: &[u32], place: usize) -> u32
     fails.get(place).copied().unwrap_or(0)
 }
 
-/// A lane over each machine, by image number from 1. Image i fails at its event of the number that `fails` has for it, counted from 1 (0 or no number: it
-/// doesn't); with `words` recorded words or more its next step is the limit.
+/// A lane over each machine, by image number from 1. Image i fails at its event of the number that `fails` has for it,
+/// counted from 1 (0 or no number: it doesn't); with `words` recorded words or more its next step is the limit.
 pub(crate) fn lanes<M: Walker + Drop>(
     alloc: Global,
     machines: Vec<M>,

@@ -17,9 +17,11 @@ use image_core::parts::PartsOf;
 use image_lanes::lane::Lane;
 use std::alloc::Global;
 
-/// The parts of a run with no step: a lane over each machine and a memory for it, by image number from 1, and the board. Each machine stands at the first ask of its image
-/// or at its end. Image i fails at its event of the number that `fails` has for it, counted from 1 (0 or no number: it doesn't); with `words` recorded words or more
-/// an image's next step is the limit. Conditions: there are at most 65,536 machines, and neither a memory nor the board has served an ask.
+/// The parts of a run with no step: a lane over each machine and a memory for it, by image number from 1, and the
+/// board. Each machine stands at the first ask of its image or at its end. Image i fails at its event of the number
+/// that `fails` has for it, counted from 1 (0 or no number: it doesn't); with `words` recorded words or more an image's
+/// next step is the limit. Conditions: there are at most 65,536 machines, and neither a memory nor the board has served
+/// an ask.
 pub fn start_lanes<M: Walker + Drop, O: Object + Drop, B: Object + Drop>(
     alloc: Global,
     machines: Vec<M>,

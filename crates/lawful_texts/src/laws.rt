@@ -12,9 +12,10 @@ ghost use Rattle.trace_text.specs.Forms.{Second};
 ghost use Rattle.trace_forms.specs.Shown.{HaveTexts};
 ghost use Rattle.lawful_texts.specs.Ranges.{IsInRange, IsThreefold};
 
-/// The entries of a lawful trace can be shown by lines, where each image names no team but those that it was told, as many names are there as coarrays, the
-/// numbers of the entries are those of the code's types, and no section has more than three dimensions: each ask of a memory has a span of an access, of a
-/// coarray that is declared; each team that an ask names has a team number; and each reply has one of the forms that answer its ask.
+/// The entries of a lawful trace can be shown by lines, where each image names no team but those that it was told, as
+/// many names are there as coarrays, the numbers of the entries are those of the code's types, and no section has more
+/// than three dimensions: each ask of a memory has a span of an access, of a coarray that is declared; each team that
+/// an ask names has a team number; and each reply has one of the forms that answer its ask.
 pub fn law_lawful_has_texts()
     ensures { (names : List (List ℕ)) (coarrays : List Declared) (n : ℕ) (t : List Entry) → length names ≡ length coarrays
         → IsLawfulTrace coarrays n t → ((i : ℕ) → IsOneOf n i → AllTold [] (said_by i t)) → Each (IsInRange names) t

@@ -42,7 +42,8 @@ abbrev pub placed : ℕ → List Info → List Info
 placed s [] = []
 placed s (i ∷ is) = record i { start = s } ∷ placed (s + i.size) is
 
--- three pairs at most, of which it is noted whether they have fewer than 2 ** 63 cells, an empty dimension counting as one
+-- three pairs at most, of which it is noted whether they have fewer than 2 ** 63 cells, an empty dimension counting as
+-- one
 pub record AreBounds (b : Bounds) : Type 0 where
   pub few : b.len ≤ 6
   pub noted : b.has_places ≡ nat_lt (spread_of (pairs_of b)) 9223372036854775808

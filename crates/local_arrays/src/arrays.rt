@@ -12,12 +12,13 @@ ghost use Rattle.local_arrays.specs.Frames.{Framed, first_array, array_of, with_
 ghost use Rattle.image_acts.specs.Operate.Variables.{elements_there};
 
 use crate::first::room_for;
-use crate::row::{NOT_ALLOCATED, Row, SHAPE};
+use crate::row::Row;
 use crate::slot::slot;
 use array_places::elements::are_there;
 use array_places::list::PlaceNumbers;
 use array_places::place::cells_in;
 use caf_base::refusal::NoMemory;
+use caf_events::fault::{NOT_ALLOCATED, SHAPE};
 use image_code::step::Scope;
 use image_code::tables::FirstArray;
 use std::alloc::Global;
@@ -44,7 +45,8 @@ impl Model for Arrays {
 }
 
 impl Arrays {
-    /// The main program's arrays at the start, with room for so many frames beside, which have so many arrays together, and for 65,536 cells more.
+    /// The main program's arrays at the start, with room for so many frames beside, which have so many arrays together,
+    /// and for 65,536 cells more.
     pub fn new(
         alloc: Global,
         first: &[Option<FirstArray>],
@@ -89,8 +91,9 @@ impl Arrays {
         }
     }
 
-    /// The element of an array of rank one by its subscript (ISO/IEC 1539-1:2018, 9.5.3.2); None says that it isn't found at once, and the ordinary way tells
-    /// what it is: an array of another rank or one that isn't allocated, or a subscript outside its bounds.
+    /// The element of an array of rank one by its subscript (ISO/IEC 1539-1:2018, 9.5.3.2); None says that it isn't
+    /// found at once, and the ordinary way tells what it is: an array of another rank or one that isn't allocated, or a
+    /// subscript outside its bounds.
     #[inline(always)]
     pub fn element_by_one(&self, scope: Scope, x: u32, subscript: i64) -> Option<i64>
         ensures { IfSome result (IsElement (array_of (scope_of scope) x self.now.frames) (single subscript ∷ [])) }
@@ -101,8 +104,9 @@ impl Arrays {
         }
     }
 
-    /// The element of an array of rank two by its row and its column (ISO/IEC 1539-1:2018, 9.5.3.2); None says that it isn't found at once, and the ordinary
-    /// way tells what it is: an array of another rank or one that isn't allocated, or a subscript outside its bounds.
+    /// The element of an array of rank two by its row and its column (ISO/IEC 1539-1:2018, 9.5.3.2); None says that it
+    /// isn't found at once, and the ordinary way tells what it is: an array of another rank or one that isn't
+    /// allocated, or a subscript outside its bounds.
     #[inline(always)]
     pub fn element_by_two(&self, scope: Scope, x: u32, row: i64, column: i64) -> Option<i64>
         ensures { IfSome result (IsElement (array_of (scope_of scope) x self.now.frames) (single row ∷ single column ∷ [])) }
@@ -113,8 +117,9 @@ impl Arrays {
         }
     }
 
-    /// Gives the element of an array of rank one by its subscript a value (ISO/IEC 1539-1:2018, 9.5.3.2); false says that it isn't found at once, nothing is
-    /// changed, and the ordinary way tells what it is: an array of another rank or one that isn't allocated, or a subscript outside its bounds.
+    /// Gives the element of an array of rank one by its subscript a value (ISO/IEC 1539-1:2018, 9.5.3.2); false says
+    /// that it isn't found at once, nothing is changed, and the ordinary way tells what it is: an array of another rank
+    /// or one that isn't allocated, or a subscript outside its bounds.
     #[inline(always)]
     pub fn put_by_one(&mut self, scope: Scope, x: u32, subscript: i64, value: i64) -> bool
         ensures put { IsTrue result → (b : Option Local) × HasNewElement (array_of (scope_of scope) x self.old.frames) (single subscript ∷ []) value b × (self.new ≡ record self.old { frames = with_array (scope_of scope) x b self.old.frames }) }
@@ -126,8 +131,9 @@ impl Arrays {
         }
     }
 
-    /// Gives the element of an array of rank two by its row and its column a value (ISO/IEC 1539-1:2018, 9.5.3.2); false says that it isn't found at once,
-    /// nothing is changed, and the ordinary way tells what it is: an array of another rank or one that isn't allocated, or a subscript outside its bounds.
+    /// Gives the element of an array of rank two by its row and its column a value (ISO/IEC 1539-1:2018, 9.5.3.2);
+    /// false says that it isn't found at once, nothing is changed, and the ordinary way tells what it is: an array of
+    /// another rank or one that isn't allocated, or a subscript outside its bounds.
     #[inline(always)]
     pub fn put_by_two(&mut self, scope: Scope, x: u32, row: i64, column: i64, value: i64) -> bool
         ensures put { IsTrue result → (b : Option Local) × HasNewElement (array_of (scope_of scope) x self.old.frames) (single row ∷ single column ∷ []) value b × (self.new ≡ record self.old { frames = with_array (scope_of scope) x b self.old.frames }) }
@@ -209,7 +215,8 @@ impl Arrays {
         }
     }
 
-    /// The numbers of the place of an element or a section of an array, by a form and the numbers of its subscripts; or the run fault that is found first.
+    /// The numbers of the place of an element or a section of an array, by a form and the numbers of its subscripts; or
+    /// the run fault that is found first.
     pub fn section(
         &self,
         scope: Scope,
@@ -246,7 +253,8 @@ impl Arrays {
         }
     }
 
-    /// Gives an array these bounds and zeros (ALLOCATE, 9.7.1), where all arrays have room together; else the run fault Room, and nothing is changed.
+    /// Gives an array these bounds and zeros (ALLOCATE, 9.7.1), where all arrays have room together; else the run fault
+    /// Room, and nothing is changed.
     pub fn lay(&mut self, scope: Scope, x: u32, numbers: &[i64]) -> Result<(), u32>
         requires { length numbers.now ≤ 6 }
         ensures ok { OnOk result (self.new ≡ record self.old { frames = with_array (scope_of scope) x (Some (zeros_in (pairs_in numbers.now))) self.old.frames }) }
@@ -261,8 +269,8 @@ impl Arrays {
         }
     }
 
-    /// Gives an array these elements, as one of rank one with the lower bound 1, where all arrays have room together; else the run fault Room, and nothing is
-    /// changed.
+    /// Gives an array these elements, as one of rank one with the lower bound 1, where all arrays have room together;
+    /// else the run fault Room, and nothing is changed.
     pub fn renew(&mut self, scope: Scope, x: u32, values: &[i64]) -> Result<(), u32>
         ensures ok { OnOk result (self.new ≡ record self.old { frames = with_array (scope_of scope) x (Some (from_one values.now)) self.old.frames }) }
         ensures room { OnOk result (cells_in_frames (with_array (scope_of scope) x (Some (from_one values.now)) self.old.frames) ≤ self.old.size) }

@@ -11,11 +11,10 @@ ghost use Rattle.array_places.specs.Sections.{numbers_of};
 use array_places::empty::wide_place;
 use array_places::list::PlaceNumbers;
 use array_places::section::{has_places, place_of};
+use caf_events::fault::ROOM;
 
-/// The number of the run fault Room.
-pub(crate) const ROOM: u32 = 11;
-
-/// Lower and upper bounds of at most three dimensions, and whether they have fewer than 2 ** 63 cells, an empty dimension counting as one.
+/// Lower and upper bounds of at most three dimensions, and whether they have fewer than 2 ** 63 cells, an empty
+/// dimension counting as one.
 #[derive(Clone, Copy)]
 pub struct Bounds {
     pub(crate) numbers: [i64; 6],

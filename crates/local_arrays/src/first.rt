@@ -7,11 +7,12 @@ ghost use Rattle.local_arrays.specs.Rows.{pairs_of, AreBounds};
 
 use crate::bounds::{Bounds, bounds_of};
 use crate::row::Row;
+use caf_base::limits::LOCAL_CELLS;
 use caf_base::refusal::NoMemory;
 use image_code::tables::FirstArray;
 
 /// The most cells of arrays beside those that are there from the start.
-const MOST_CELLS: u64 = 65_536;
+const MOST_CELLS: u64 = LOCAL_CELLS as u64;
 
 /// Bounds of these pairs.
 fn bounds_of_pairs(pairs: &[(i64, i64)]) -> Result<Bounds, NoMemory>

@@ -1,4 +1,5 @@
-//! Laws of the steps on local arrays: what each act does to a core, by the definitions of this crate. Each is the contract of a function that does nothing.
+//! Laws of the steps on local arrays: what each act does to a core, by the definitions of this crate. Each is the
+//! contract of a function that does nothing.
 
 ghost use Rattle.std.specs.Prelude.{◌≡◌, ◌+◌, ◌-◌, nat_le, ℕ, List, Option, None, Some, length, replicate, cond, ◌==◌, ◌&&◌};
 ghost use Rattle.coarray_types.specs.Places.{size_of};
@@ -79,7 +80,8 @@ pub fn law_lay_out()
         ≡ taking (bounds_size rank) c (λ vs d. unless room (nat_le rank 3) (if_room (with_array_in a.here x (Some (zeros_in (pairs_in vs))) d))) }
 {}
 
-/// PutImages does what `refill` does where the array has as many elements, and else what `renew` does, where there are local cells for it.
+/// PutImages does what `refill` does where the array has as many elements, and else what `renew` does, where there are
+/// local cells for it.
 pub fn law_put_images()
     ensures { (s : a.Scope) (x : ℕ) (c : Core) → variable_effect (a.put_images s x) c
         ≡ taking_array c (λ y d. cond (has_length (length y.elements) (array_in s x d)) (goes_to (with_array_in s x (refilled y.elements (array_in s x d)) d))

@@ -6,8 +6,8 @@ ghost use Rattle.local_arrays.specs.Rows.{AreBounds, IsReach, IsWell};
 use crate::bounds::Bounds;
 use array_places::bounds::cells_between;
 
-/// How the elements of an array are found at once: by one subscript, or by a row and a column, between these bounds, where the array has a cell for each and
-/// 64 bits hold each place; of any other the ordinary way tells.
+/// How the elements of an array are found at once: by one subscript, or by a row and a column, between these bounds,
+/// where the array has a cell for each and 64 bits hold each place; of any other the ordinary way tells.
 #[derive(Clone, Copy)]
 pub enum Reach {
     One {

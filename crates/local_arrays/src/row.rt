@@ -10,21 +10,18 @@ ghost use Rattle.array_places.specs.Sections.{numbers_of};
 ghost use Rattle.local_arrays.specs.Arrays.{array_at, from_one, bounds_in, place_found, elements_of, loaded, overwritten, refilled, HasCells, HasNewElement, IsElement};
 ghost use Rattle.local_arrays.specs.Rows.{Rowed, Fit, IsCell, IsSpot, exchanged, locals_of, pairs_of, local_with, placed, total_size, IsWell};
 
-use crate::bounds::{Bounds, ROOM, bounds_of};
+use crate::bounds::{Bounds, bounds_of};
 use crate::offsets::{offset_of_one, offset_of_two};
 use crate::reach::{Reach, reach_of};
 use array_places::bounds::cells_between;
 use array_places::elements::{fill, put};
 use array_places::list::PlaceNumbers;
+use caf_events::fault::{NOT_ALLOCATED, ROOM, SHAPE};
 use std::alloc::{AllocError, Global};
 use std::marker::Model;
 
-/// The numbers of the run faults NotAllocated and Shape.
-pub(crate) const NOT_ALLOCATED: u32 = 6;
-
-pub(crate) const SHAPE: u32 = 12;
-
-/// An array: how its elements are found at once; its bounds, where it is there; where its cells begin, and how many it has.
+/// An array: how its elements are found at once; its bounds, where it is there; where its cells begin, and how many it
+/// has.
 #[derive(Clone, Copy)]
 pub struct Info {
     pub(crate) reach: Reach,
@@ -175,7 +172,8 @@ impl Row {
         info_at(&self.infos, k).size
     }
 
-    /// Whether there is room for an array of so many cells in the place of one; of more than 128 bits hold there may be any number.
+    /// Whether there is room for an array of so many cells in the place of one; of more than 128 bits hold there may be
+    /// any number.
     pub fn fits(&self, k: usize, n: u128) -> bool
         requires { k < length self.now.arrays }
         ensures few { IsTrue result → n < 2 ^ 32 }
@@ -223,7 +221,8 @@ impl Row {
         }
     }
 
-    /// The numbers of the place of an element or a section of an array, by a form and the numbers of its subscripts; or the run fault that is found first.
+    /// The numbers of the place of an element or a section of an array, by a form and the numbers of its subscripts; or
+    /// the run fault that is found first.
     #[tactic(auto, using(crate::proofs::RowLaws::locals_long))]
     pub fn section(&self, k: usize, form: u32, numbers: &[i64]) -> Result<PlaceNumbers, u32>
         requires { k < length self.now.arrays }
@@ -262,8 +261,9 @@ impl Row {
         Ok(())
     }
 
-    /// The element of an array of rank one by its subscript (ISO/IEC 1539-1:2018, 9.5.3.2); None says that it isn't found at once, and the ordinary way tells
-    /// what it is: an array of another rank or one that isn't allocated, or a subscript outside its bounds.
+    /// The element of an array of rank one by its subscript (ISO/IEC 1539-1:2018, 9.5.3.2); None says that it isn't
+    /// found at once, and the ordinary way tells what it is: an array of another rank or one that isn't allocated, or a
+    /// subscript outside its bounds.
     #[inline(always)]
     #[tactic(auto, using(crate::proofs::RowLaws::locals_long))]
     pub fn element_by_one(&self, k: usize, subscript: i64) -> Option<i64>
@@ -274,8 +274,9 @@ impl Row {
         Some(read(&self.cells, at))
     }
 
-    /// The element of an array of rank two by its row and its column (ISO/IEC 1539-1:2018, 9.5.3.2); None says that it isn't found at once, and the ordinary
-    /// way tells what it is: an array of another rank or one that isn't allocated, or a subscript outside its bounds.
+    /// The element of an array of rank two by its row and its column (ISO/IEC 1539-1:2018, 9.5.3.2); None says that it
+    /// isn't found at once, and the ordinary way tells what it is: an array of another rank or one that isn't
+    /// allocated, or a subscript outside its bounds.
     #[inline(always)]
     #[tactic(auto, using(crate::proofs::RowLaws::locals_long))]
     pub fn element_by_two(&self, k: usize, row: i64, column: i64) -> Option<i64>
@@ -286,8 +287,9 @@ impl Row {
         Some(read(&self.cells, at))
     }
 
-    /// Gives the element of an array of rank one by its subscript a value (ISO/IEC 1539-1:2018, 9.5.3.2); false says that it isn't found at once, nothing is
-    /// changed, and the ordinary way tells what it is: an array of another rank or one that isn't allocated, or a subscript outside its bounds.
+    /// Gives the element of an array of rank one by its subscript a value (ISO/IEC 1539-1:2018, 9.5.3.2); false says
+    /// that it isn't found at once, nothing is changed, and the ordinary way tells what it is: an array of another rank
+    /// or one that isn't allocated, or a subscript outside its bounds.
     #[inline(always)]
     #[tactic(auto, using(crate::proofs::RowLaws::locals_long))]
     pub fn put_by_one(&mut self, k: usize, subscript: i64, value: i64) -> bool
@@ -304,8 +306,9 @@ impl Row {
         }
     }
 
-    /// Gives the element of an array of rank two by its row and its column a value (ISO/IEC 1539-1:2018, 9.5.3.2); false says that it isn't found at once,
-    /// nothing is changed, and the ordinary way tells what it is: an array of another rank or one that isn't allocated, or a subscript outside its bounds.
+    /// Gives the element of an array of rank two by its row and its column a value (ISO/IEC 1539-1:2018, 9.5.3.2);
+    /// false says that it isn't found at once, nothing is changed, and the ordinary way tells what it is: an array of
+    /// another rank or one that isn't allocated, or a subscript outside its bounds.
     #[inline(always)]
     #[tactic(auto, using(crate::proofs::RowLaws::locals_long))]
     pub fn put_by_two(&mut self, k: usize, row: i64, column: i64, value: i64) -> bool
@@ -344,7 +347,8 @@ impl Row {
         put_part(&mut self.cells, info.start, info.size, place, values);
     }
 
-    /// Puts an array of so many zeros with these bounds, or none, in the place of one. It takes no memory, as nothing here does.
+    /// Puts an array of so many zeros with these bounds, or none, in the place of one. It takes no memory, as nothing
+    /// here does.
     #[tactic(auto, using(crate::proofs::RowLaws::locals_long))]
     pub fn reset(&mut self, k: usize, bounds: Option<Bounds>, n: usize)
         requires number { k < length self.old.arrays }
@@ -369,7 +373,8 @@ impl Row {
         place_behind(&mut self.infos, k + 1, start + n);
     }
 
-    /// Puts an array of zeros with these bounds in the place of one, where all have room; else the run fault Room, and nothing is changed.
+    /// Puts an array of zeros with these bounds in the place of one, where all have room; else the run fault Room, and
+    /// nothing is changed.
     pub fn lay(&mut self, k: usize, numbers: &[i64]) -> Result<(), u32>
         requires number { k < length self.old.arrays }
         requires few { length numbers.now ≤ 6 }
@@ -387,8 +392,8 @@ impl Row {
         Ok(())
     }
 
-    /// Puts an array of rank one with these elements and the lower bound 1 in the place of one, where all have room; else the run fault Room, and nothing is
-    /// changed.
+    /// Puts an array of rank one with these elements and the lower bound 1 in the place of one, where all have room;
+    /// else the run fault Room, and nothing is changed.
     pub fn renew(&mut self, k: usize, values: &[i64]) -> Result<(), u32>
         requires { k < length self.old.arrays }
         ensures ok { OnOk result (self.new ≡ record { arrays = slice_set self.old.arrays k (Some (from_one values.now)); most = self.old.most; size = self.old.size }) }

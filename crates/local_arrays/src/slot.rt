@@ -6,7 +6,8 @@ ghost use Rattle.local_arrays.specs.Frames.{SlotIs, NoSlot};
 
 use image_code::step::Scope;
 
-/// The place of an array where the frame in front begins at `base`, the main program has `main` arrays, and there are `len` in all.
+/// The place of an array where the frame in front begins at `base`, the main program has `main` arrays, and there are
+/// `len` in all.
 #[inline(always)]
 pub(crate) fn slot(scope: Scope, x: u32, base: usize, main: usize, len: usize) -> Option<usize>
     requires { base ≤ len }

@@ -65,7 +65,8 @@ pub fn law_machine_core_runs<H: Hearing>()
         → IsCoreRun (lane_rules machine_step H.hears) (machines_begin w limit rooms coarrays n fails_at words) t }
 {}
 
-/// And the trace of an ordered run of such machines exactly where it is that of an ordered run of the program, by the same choices.
+/// And the trace of an ordered run of such machines exactly where it is that of an ordered run of the program, by the
+/// same choices.
 pub fn law_machine_ordered<H: Hearing, S: Choices>()
     ensures onward { (p : checked.Program) (w : Whole) (limit : ℕ) (rooms : ℕ → Rooms) (coarrays : List Declared) (n : ℕ) (fails_at : ℕ → ℕ) (words : ℕ) → HasWalksOn p limit n w
         → (s : S.State) (t : List Entry) → IsOrderTrace (lane_rules machine_step H.hears) (machines_begin w limit rooms coarrays n fails_at words) S.chooser s t
@@ -75,7 +76,8 @@ pub fn law_machine_ordered<H: Hearing, S: Choices>()
         → IsOrderTrace (lane_rules machine_step H.hears) (machines_begin w limit rooms coarrays n fails_at words) S.chooser s t }
 {}
 
-/// After a core run of such machines the images wait that wait in the program, at the same asks and lines. (Which have ended is told by the trace alone.)
+/// After a core run of such machines the images wait that wait in the program, at the same asks and lines. (Which have
+/// ended is told by the trace alone.)
 pub fn law_machine_waits<H: Hearing>()
     ensures onward { (p : checked.Program) (w : Whole) (limit : ℕ) (rooms : ℕ → Rooms) (coarrays : List Declared) (n : ℕ) (fails_at : ℕ → ℕ) (words : ℕ) → HasWalksOn p limit n w
         → (t : List Entry) → IsCoreRun (lane_rules machine_step H.hears) (machines_begin w limit rooms coarrays n fails_at words) t
@@ -87,7 +89,8 @@ pub fn law_machine_waits<H: Hearing>()
         → IsWaiting (lane_rules machine_step H.hears) (machines_begin w limit rooms coarrays n fails_at words) t i line ask }
 {}
 
-/// Where an image stands after a trace whose replies answer their asks, that of the program stands, and it has computed what the machine has.
+/// Where an image stands after a trace whose replies answer their asks, that of the program stands, and it has computed
+/// what the machine has.
 pub fn law_machine_stands<H: Hearing>()
     ensures { (p : checked.Program) (w : Whole) (limit : ℕ) (rooms : ℕ → Rooms) (coarrays : List Declared) (n : ℕ) (fails_at : ℕ → ℕ) (words : ℕ) → HasWalksOn p limit n w
         → (t : List Entry) (i : ℕ) → IsOneOf n i → AllAnswer Answers (said_by i t)
@@ -95,7 +98,8 @@ pub fn law_machine_stands<H: Hearing>()
         → (c : OnLane (Config Act Core)) × StandsAfter (program_rules p limit) (program_begins p coarrays n fails_at words) t i c × HasComputed l.program c.program }
 {}
 
-/// The run of such machines is fit, where they hear the replies that are due to them; and each image is over only behind a step that ended it.
+/// The run of such machines is fit, where they hear the replies that are due to them; and each image is over only
+/// behind a step that ended it.
 pub fn law_machine_fit<H: Hearing>()
     ensures fit { (p : checked.Program) (w : Whole) (limit : ℕ) (rooms : ℕ → Rooms) (coarrays : List Declared) (n : ℕ) (fails_at : ℕ → ℕ) (words : ℕ) → HasWalksOn p limit n w
         → ((m : Moment (OnLane Engine) MadeMemory ℕ) → IsMoment (lane_rules machine_step H.hears) (machines_begin w limit rooms coarrays n fails_at words) m

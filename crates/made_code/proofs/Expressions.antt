@@ -290,6 +290,6 @@ module _ (e : Environment) where
     intrinsic_turns (t.image_status i which o) k r h = of_rank_0 h.0 (then_two (numbers 0 1) (written_two o (scalar_turns i h.1) (team_turns which h.2)) (omega arith))
     intrinsic_turns (t.failed_images which) k r h = of_array h.0 (then_two (with_arrays 0 0 0 1) (team_turns which h.1) (omega arith))
     intrinsic_turns (t.stopped_images which) k r h = of_array h.0 (then_two (with_arrays 0 0 0 1) (team_turns which h.1) (omega arith))
-    intrinsic_turns (t.number_of_team which) k r h = of_rank_0 h.0 (then_one (numbers 0 1) (team_turns which h.1) (omega arith))
+    intrinsic_turns (t.number_of_team which) k r h = of_rank_0 h.0 (then_two (numbers 0 1) (team_turns which h.1) (omega arith))
     intrinsic_turns (t.get_team t.missing) k r h = of_rank_0 h.0 one_act
     intrinsic_turns (t.get_team (t.given level)) k r h = of_rank_0 h.0 (then_one (numbers 0 1) (scalar_turns level h.1) (omega arith))

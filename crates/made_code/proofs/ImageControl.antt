@@ -144,7 +144,7 @@ module _ (e : Environment) where
   wait_turns d until stat order f g h =
       let o = view.optional_size stat in
       closes (part (own_cell d f) ⨾ part (dropped 1) ⨾ part (put_down_two order 1 o (or_number until g (pushed (pos 1))) (place_turns e stat h))
-      ⨾ acts ended ⨾ part (copied o 2) ⨾ acts ended ⨾ part (settled stat 1 o [] (omega arith) (omega arith)) ⨾ part (dropped (o + 2))) (omega arith)
+      ⨾ part (copied o 2) ⨾ acts ended ⨾ part (settled stat 1 o [] (omega arith) (omega arith)) ⨾ part (dropped (o + 2))) (omega arith)
 
   -- ---- constructs
   pub critical_turns : (n : ℕ) (stat : t.OptionalResult) → ranks.IsOptionalResult e.program.procedures stat → Turns none (control.critical e n stat)

@@ -133,7 +133,7 @@ module _ (e : Environment) where
       → depth ps ds 0 + control.cell_size e d ≤ sizes ps ds → depth ps ds 1 + view.result_size count ≤ sizes ps ds → depth ps ds 2 + view.optional_size stat ≤ sizes ps ds
       → Turns none (sub.query e ps ds d count stat)
   query_turns ps ds d count stat ev at hc hs =
-      closes (part ev ⨾ acts ended ⨾ part (fetched_more ps ds 0 0 2 (omega arith)) ⨾ part (dropped 1) ⨾ acts ended
+      closes (part ev ⨾ part (fetched_more ps ds 0 0 2 (omega arith)) ⨾ part (dropped 1) ⨾ acts ended
       ⨾ part (stored (depth ps ds 1 + 1) (depth ps ds 1 + view.result_size count) count (omega arith) (omega arith)) ⨾ part (pushed (pos 0))
       ⨾ part (settled stat (depth ps ds 2 + 1) (depth ps ds 2 + view.optional_size stat) [] (omega arith) (omega arith)) ⨾ part (dropped (sizes ps ds))) (omega arith)
 

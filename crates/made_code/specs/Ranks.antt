@@ -1,5 +1,6 @@
--- The ranks that a checked program has (ISO/IEC 1539-1:2018): each operand, subscript, cosubscript and argument is of the rank that its place
--- wants, each designator of the rank of its section, no array of a rank above 3; and an object stands where its form is one that the language has there.
+-- The ranks that a checked program has (ISO/IEC 1539-1:2018): each operand, subscript, cosubscript and argument is of
+-- the rank that its place wants, each designator of the rank of its section, no array of a rank above 3; and an object
+-- stands where its form is one that the language has there.
 -- The compiler asks for no more: types and kinds don't matter to it.
 use Rattle.std.specs.Prelude.{ℕ, zero, suc, ◌+◌, ◌==◌, ◌≤◌, ◌≡◌, cond, List, [], ◌∷◌, Option, Some, None, slice_index_or}
 use Rattle.checked_tree.specs.declared.data.Object.{Object}

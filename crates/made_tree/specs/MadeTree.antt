@@ -1,4 +1,5 @@
--- The tree of a made program: of its size and of the values with which its elements begin, each part at its line and column.
+-- The tree of a made program: of its size and of the values with which its elements begin, each part at its line and
+-- column.
 use Rattle.std.specs.Prelude.{ℕ, zero, suc, ◌+◌, List, [], ◌∷◌, codes, decimal, length, Some, None}
 use Rattle.caf_base.specs.declared.place.Pos.{Pos}
 use Rattle.fortran_tree.specs.declared.name.Name.{Name}

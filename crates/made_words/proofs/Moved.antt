@@ -1,4 +1,5 @@
--- Words that are spelled elsewhere and with other numbers: where the places of a phrase are moved and its numbers changed, so are those of its words.
+-- Words that are spelled elsewhere and with other numbers: where the places of a phrase are moved and its numbers
+-- changed, so are those of its words.
 use Rattle.std.proofs.Common.{◌≡◌, ℕ, suc, true, List, [], ◌∷◌, ◌++◌, map, inl, inr, refl, ap, sym, ◌∙◌, subst, append_assoc}
 use Rattle.caf_base.specs.declared.place.Pos.{Pos}
 use Rattle.reader_theory.specs.Words.{Mark, bare, Shallow}

@@ -13,7 +13,8 @@ use Rattle.plain_words.proofs.Shifted.{shifted, front_tokens, numeral, tokens_ar
 use Rattle.made_words.proofs.Lines.{program_words, declaration_front, declaration_rest, declaration_words, image_words, left_words, wrap_words, setting_front, setting_middle, setting_words, settings_words}
 use Rattle.made_words.proofs.Moved.{all_moved, Spells, by_test, spells_moved, spells_both, spells_nothing}
 
--- Where the tokens of a line stand: as they stand where no number of the program is before them, else behind one, or behind two
+-- Where the tokens of a line stand: as they stand where no number of the program is before them, else behind one, or
+-- behind two
 abbrev pub around : ℕ → ℕ → ℕ → ℕ → ℕ → Pos
 around l a b zero c = here l c
 around l a b (suc zero) c = here l (a + c)

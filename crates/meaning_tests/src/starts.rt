@@ -1,4 +1,5 @@
-//! The start of the neighbour read: `integer :: x[*]`, `x = this_image()`, `sync all`, `if (this_image() == 1) print *, x[4]`, `end`.
+//! The start of the neighbour read: `integer :: x[*]`, `x = this_image()`, `sync all`,
+//! `if (this_image() == 1) print *, x[4]`, `end`.
 
 use caf_base::listing::{Listing, Text};
 use caf_base::place::ImageNo;

@@ -30,7 +30,7 @@ use Rattle.walk_laws.proofs.Members.{told_by}
 use Rattle.walk_laws.proofs.OwnSizes.{size_there}
 use Rattle.walk_laws.proofs.Runs.{image_there}
 use Rattle.cell_walks.specs.Fitting.{IsSmall, FitsCell, HasCell}
-use Rattle.cell_statements.specs.Typed.{IsTypedProgram, IsSteadyProgram}
+use Rattle.cell_statements.specs.Typed.{IsTypedProgram}
 use Rattle.memory_fits.specs.CellAsks.{is_of_cell, is_of_own_event}
 use Rattle.memory_fits.proofs.Runs.{lawful, stands_fit}
 
@@ -62,7 +62,7 @@ module _ (p : s.Program) (limit : ℕ) (coarrays : List Declared) (n : ℕ) (fai
   there owner h b e = and_from (is_image n owner.0) (nat_eq owner.0 owner.0 && b) (image_there n owner.0 h) (and_from (nat_eq owner.0 owner.0) b (eq-eqb owner.0 owner.0 refl) e)
 
   -- ---- LOCK, UNLOCK, EVENT POST
-  cell_fits : (i : ℕ) (a : Ask) (z : List (Option ℕ)) → FitsCell n i coarrays false z a → is_of_cell a ≡ true → Fits i a
+  cell_fits : (i : ℕ) (a : Ask) (z : List (Option ℕ)) → FitsCell n i coarrays z a → is_of_cell a ≡ true → Fits i a
   cell_fits i (asking.Lock owner span) z f e = there owner f.0 (is_cell_of (made_memory coarrays owner.0) is_lock span) f.1
   cell_fits i (asking.TryLock owner span) z f e = there owner f.0 (is_cell_of (made_memory coarrays owner.0) is_lock span) f.1
   cell_fits i (asking.Unlock owner span) z f e = there owner f.0 (is_cell_of (made_memory coarrays owner.0) is_lock span) f.1
@@ -71,10 +71,10 @@ module _ (p : s.Program) (limit : ℕ) (coarrays : List Declared) (n : ℕ) (fai
 
   pub named_fits : (i : ℕ) (a : Ask) → Stands i a → is_of_cell a ≡ true → Fits i a
   named_fits i a h e =
-      cell_fits i a (told_by (told_first p i n) (said_by i t)).sizes (stands_fit p limit coarrays n fails_at words t declared core ranked typed small false (λ x. absurd (let y : false ≡ true = x in cc)) i a h) e
+      cell_fits i a (told_by (told_first p i n) (said_by i t)).sizes (stands_fit p limit coarrays n fails_at words t declared core ranked typed small i a h) e
 
   -- ---- EVENT WAIT, EVENT_QUERY
-  module _ (quiet : IsSteadyProgram p) (own : AreDeclaredBy p coarrays) where
+  module _ (own : AreDeclaredBy p coarrays) where
     size_so : (i c : ℕ) → c < length coarrays → joined (slice_get (told_by (told_first p i n) (said_by i t)).sizes c) ≡ size_after (made_memory coarrays i) (of_memory i t) c
     size_so i c lt =
         let m : length (map own_cells (own_coarrays p)) ≡ length coarrays = ap length (sym own) ∙ length-map coarrays first_cells in
@@ -85,11 +85,11 @@ module _ (p : s.Program) (limit : ℕ) (coarrays : List Declared) (n : ℕ) (fai
         let q = and_parts (is_one_cell span) (holds is_event (slice_get coarrays span.coarray)) c in
         within_one (made_memory coarrays i) (of_memory i t) span h.0 q.0 (sym (size_so i span.coarray (low_place coarrays is_event span.coarray q.1)) ∙ h.1) h.2
 
-    event_fits : (i : ℕ) → IsOneOf n i → (a : Ask) → FitsCell n i coarrays true (told_by (told_first p i n) (said_by i t)).sizes a → is_of_own_event a ≡ true → Fits i a
+    event_fits : (i : ℕ) → IsOneOf n i → (a : Ask) → FitsCell n i coarrays (told_by (told_first p i n) (said_by i t)).sizes a → is_of_own_event a ≡ true → Fits i a
     event_fits i one (asking.Wait owner span threshold) f e =
         subst (λ j. (is_image n j && (is_own (made_memory coarrays j) i (record { 0 = j }) && is_cell_of (made_memory coarrays j) is_event span && is_within (made_memory coarrays j) (of_memory j t) span && nat_le 1 threshold)) ≡ true) (sym f.0)
         (by (is_image n i) (nat_eq i i) (is_cell_of (made_memory coarrays i) is_event span) (is_within (made_memory coarrays i) (of_memory i t) span) (nat_le 1 threshold) (image_there n i one) (eq-eqb i i refl)
-        cell (within i span cell (f.3 refl)) (le-leb 1 threshold f.2))
+        cell (within i span cell f.3) (le-leb 1 threshold f.2))
       where
         cell : is_cell_of (made_memory coarrays i) is_event span ≡ true
         cell = f.1
@@ -99,7 +99,7 @@ module _ (p : s.Program) (limit : ℕ) (coarrays : List Declared) (n : ℕ) (fai
     event_fits i one (asking.Query owner span) f e =
         subst (λ j. (is_image n j && (is_own (made_memory coarrays j) i (record { 0 = j }) && is_cell_of (made_memory coarrays j) is_event span && is_within (made_memory coarrays j) (of_memory j t) span)) ≡ true) (sym f.0)
         (by (is_image n i) (nat_eq i i) (is_cell_of (made_memory coarrays i) is_event span) (is_within (made_memory coarrays i) (of_memory i t) span) (image_there n i one) (eq-eqb i i refl)
-        cell (within i span cell (f.2 refl)))
+        cell (within i span cell f.2))
       where
         cell : is_cell_of (made_memory coarrays i) is_event span ≡ true
         cell = f.1
@@ -109,4 +109,4 @@ module _ (p : s.Program) (limit : ℕ) (coarrays : List Declared) (n : ℕ) (fai
     event_fits i one a f e = absurd (cc)
 
     pub own_fits : (i : ℕ) (a : Ask) → Stands i a → is_of_own_event a ≡ true → Fits i a
-    own_fits i a h e = event_fits i h.image a (stands_fit p limit coarrays n fails_at words t declared core ranked typed small true (λ x. quiet) i a h) e
+    own_fits i a h e = event_fits i h.image a (stands_fit p limit coarrays n fails_at words t declared core ranked typed small i a h) e

@@ -16,20 +16,19 @@ ghost use Rattle.program_walks.specs.Runs.{program_rules, program_begins};
 ghost use Rattle.wait_reason.specs.WaitsFor.{is_fit_after};
 ghost use Rattle.walk_laws.specs.Fits.{StandsAt, AreDeclaredBy};
 ghost use Rattle.cell_walks.specs.Fitting.{IsSmall};
-ghost use Rattle.cell_statements.specs.Typed.{IsTypedProgram, IsSteadyProgram};
+ghost use Rattle.cell_statements.specs.Typed.{IsTypedProgram};
 ghost use Rattle.memory_fits.specs.CellAsks.{is_of_cell, is_of_own_event};
 
 /// In a core run of a checked program whose ranks are right, and whose statements on locks and events name ones that
-/// are declared, each next ask of an image with LOCK, UNLOCK or EVENT POST fits (11.6.7, 11.6.10). So does one with
-/// EVENT WAIT or EVENT_QUERY where no procedure is called between its event and the ask, and EVENT_QUERY names this
-/// image's event (11.6.8, 16.9.72).
+/// are declared, each next ask of an image with LOCK, UNLOCK or EVENT POST fits (11.6.7, 11.6.10); and so does one with
+/// EVENT WAIT or EVENT_QUERY, which is for a cell of its own coarray that is there (11.6.8, 16.9.72).
 pub fn law_cell_asks_fit()
     ensures named { (p : checked.Program) (limit : ℕ) (coarrays : List Declared) (n : ℕ) (fails_at : ℕ → ℕ) (words : ℕ) (t : List Entry) → list_all has_first_values coarrays ≡ true
         → IsCoreRun (program_rules p limit) (program_begins p coarrays n fails_at words) t → IsRankedProgram p → IsTypedProgram coarrays p → Each IsSmall (own_coarrays p)
         → (i : ℕ) (a : Ask) → StandsAt p limit coarrays n fails_at words t i a → is_of_cell a ≡ true → is_fit_after coarrays n t i a ≡ true }
     ensures own { (p : checked.Program) (limit : ℕ) (coarrays : List Declared) (n : ℕ) (fails_at : ℕ → ℕ) (words : ℕ) (t : List Entry) → list_all has_first_values coarrays ≡ true
         → IsCoreRun (program_rules p limit) (program_begins p coarrays n fails_at words) t → IsRankedProgram p → IsTypedProgram coarrays p → Each IsSmall (own_coarrays p)
-        → IsSteadyProgram p → AreDeclaredBy p coarrays → (i : ℕ) (a : Ask) → StandsAt p limit coarrays n fails_at words t i a → is_of_own_event a ≡ true → is_fit_after coarrays n t i a ≡ true }
+        → AreDeclaredBy p coarrays → (i : ℕ) (a : Ask) → StandsAt p limit coarrays n fails_at words t i a → is_of_own_event a ≡ true → is_fit_after coarrays n t i a ≡ true }
 {}
 
 /// So the ask with which an image waits fits: its LOCK, and its EVENT WAIT.
@@ -39,6 +38,6 @@ pub fn law_cell_waits_fit()
         → (i line : ℕ) (a : Ask) → IsWaiting (program_rules p limit) (program_begins p coarrays n fails_at words) t i line a → is_of_cell a ≡ true → is_fit_after coarrays n t i a ≡ true }
     ensures own { (p : checked.Program) (limit : ℕ) (coarrays : List Declared) (n : ℕ) (fails_at : ℕ → ℕ) (words : ℕ) (t : List Entry) → list_all has_first_values coarrays ≡ true
         → IsCoreRun (program_rules p limit) (program_begins p coarrays n fails_at words) t → IsRankedProgram p → IsTypedProgram coarrays p → Each IsSmall (own_coarrays p)
-        → IsSteadyProgram p → AreDeclaredBy p coarrays → (i line : ℕ) (a : Ask) → IsWaiting (program_rules p limit) (program_begins p coarrays n fails_at words) t i line a
+        → AreDeclaredBy p coarrays → (i line : ℕ) (a : Ask) → IsWaiting (program_rules p limit) (program_begins p coarrays n fails_at words) t i line a
         → is_of_own_event a ≡ true → is_fit_after coarrays n t i a ≡ true }
 {}

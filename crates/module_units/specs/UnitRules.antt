@@ -1,4 +1,4 @@
--- Which rules the units of a file break, before they are one program: 20, 41, 60, 61 and 62 (docs/REFUSALS.md).
+-- Which rules the units of a file break, before they are one program: 20, 41, 60, 61 and 62 (docs/use/REFUSALS.md).
 use Rattle.std.specs.Prelude.{ℕ, not, bytes_eq, codes, List, [], ◌∷◌, ◌++◌, ◌||◌, Option, Some, None, map}
 use Rattle.fortran_tree.specs.declared.name.Name.{Name}
 use Rattle.fortran_tree.specs.Units as u

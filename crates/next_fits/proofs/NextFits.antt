@@ -31,9 +31,9 @@ module _ (p : s.Program) (limit : ℕ) (coarrays : List Declared) (n : ℕ) (fai
   next_fits i (asks.Unlock owner span) h e = named_fits p limit coarrays n fails_at words t sound.values core sound.ranked sound.typed sound.small i (asks.Unlock owner span) h e
   next_fits i (asks.Post owner span) h e = named_fits p limit coarrays n fails_at words t sound.values core sound.ranked sound.typed sound.small i (asks.Post owner span) h e
   next_fits i (asks.Wait owner span k) h e =
-      own_fits p limit coarrays n fails_at words t sound.values core sound.ranked sound.typed sound.small sound.steady sound.declared i (asks.Wait owner span k) h e
+      own_fits p limit coarrays n fails_at words t sound.values core sound.ranked sound.typed sound.small sound.declared i (asks.Wait owner span k) h e
   next_fits i (asks.Query owner span) h e =
-      own_fits p limit coarrays n fails_at words t sound.values core sound.ranked sound.typed sound.small sound.steady sound.declared i (asks.Query owner span) h e
+      own_fits p limit coarrays n fails_at words t sound.values core sound.ranked sound.typed sound.small sound.declared i (asks.Query owner span) h e
   next_fits i (asks.Read owner span) h e = absurd (cc)
   next_fits i (asks.Write owner span vs) h e = absurd (cc)
   next_fits i (asks.Atomic owner op span x y) h e = absurd (cc)

@@ -12,19 +12,17 @@ use Rattle.object_rules.specs.MemoryRules.{has_first_values}
 use Rattle.walk_laws.specs.Fits.{AreDeclaredBy}
 use Rattle.fit_laws.specs.Asks.{AllocatesAllocatable}
 use Rattle.cell_walks.specs.Fitting.{IsSmall}
-use Rattle.cell_statements.specs.Typed.{IsTypedProgram, IsSteadyProgram}
+use Rattle.cell_statements.specs.Typed.{IsTypedProgram}
 
 -- Each part of the program has the rank that its place wants; its statements on locks and events name such, and those
--- that allocate name ALLOCATABLE coarrays; no procedure is called between the event of an EVENT WAIT or EVENT_QUERY and
--- the ask, and the latter names this image's event. The memories of a run have from the start the coarrays that the
--- program declares, none of more cells than an image may have.
+-- that allocate name ALLOCATABLE coarrays. The memories of a run have from the start the coarrays that the program
+-- declares, none of more cells than an image may have.
 pub record IsSound (coarrays : List Declared) (p : checked.Program) : Type 0 where
   pub values : list_all has_first_values coarrays ≡ true
   pub declared : AreDeclaredBy p coarrays
   pub small : Each IsSmall (own_coarrays p)
   pub ranked : IsRankedProgram p
   pub typed : IsTypedProgram coarrays p
-  pub steady : IsSteadyProgram p
   pub allocates : AllocatesAllocatable coarrays p
 
 -- all asks but these four

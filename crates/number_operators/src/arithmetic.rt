@@ -8,9 +8,7 @@ ghost use Rattle.number_operators.specs.Kinds.{IsInteger};
 ghost use Rattle.number_operators.specs.Operators.{as_found};
 
 use caf_base::value::Kind;
-
-/// The number of the run fault Overflow.
-pub const OVERFLOW: u32 = 1;
+use caf_events::fault::OVERFLOW;
 
 /// A result, or the number of a run fault.
 #[derive(Clone, Copy)]

@@ -1,5 +1,6 @@
 //! Quotients and remainders (ISO/IEC 1539-1:2018, 10.1.5.2.2, 16.9.135, 16.9.136).
-//! Programs divide mostly by powers of two, and mostly numbers that aren't negative: those divisions are a shift or a mask.
+//! Programs divide mostly by powers of two, and mostly numbers that aren't negative: those divisions are a shift or a
+//! mask.
 
 ghost use Rattle.std.specs.Prelude.{◌≡◌, ◌<◌, ◌^◌, ◌≤ℤ◌, pos, false, int_div, int_rem};
 ghost use Rattle.std.specs.Option.{IfSome};
@@ -10,11 +11,9 @@ ghost use Rattle.image_acts.specs.Operate.Operators.{in_kind, divided, quotient}
 ghost use Rattle.number_operators.specs.Kinds.{IsInteger};
 ghost use Rattle.number_operators.specs.Operators.{as_found};
 
-use crate::arithmetic::{Computed, OVERFLOW, in_kind, is_zero};
+use crate::arithmetic::{Computed, in_kind, is_zero};
 use caf_base::value::Kind;
-
-/// The number of the run fault DivideByZero.
-const DIVIDE_BY_ZERO: u32 = 2;
+use caf_events::fault::{DIVIDE_BY_ZERO, OVERFLOW};
 
 /// A quotient, truncated toward 0.
 #[inline(always)]
@@ -90,7 +89,8 @@ pub fn modulo(v: i64, w: i64) -> Computed
     }
 }
 
-/// What a division by a number other than 0 leaves. Of a number that isn't negative, a power of two leaves the bits below its own.
+/// What a division by a number other than 0 leaves. Of a number that isn't negative, a power of two leaves the bits
+/// below its own.
 #[tactic(auto, using(crate::proofs::PowersOfTwo::low_bits))]
 #[inline(always)]
 fn rest(v: i64, w: i64) -> i64

@@ -8,9 +8,10 @@ ghost use Rattle.image_acts.specs.Operate.Operators.{in_kind, raised};
 ghost use Rattle.number_operators.specs.Kinds.{IsInteger};
 ghost use Rattle.number_operators.specs.Operators.{as_found};
 
-use crate::arithmetic::{Computed, OVERFLOW, in_kind};
+use crate::arithmetic::{Computed, in_kind};
 use crate::division::quotient;
 use caf_base::value::Kind;
+use caf_events::fault::OVERFLOW;
 
 /// A power. One with a negative exponent is 1 divided by that with the exponent without its sign.
 #[tactic(auto, using(crate::proofs::PowerLaws::raised_faults, crate::proofs::PowerLaws::raised_below, crate::proofs::PowerLaws::raised_above))]
@@ -37,7 +38,8 @@ fn is_negative(n: i64) -> bool
     n < 0
 }
 
-/// A power with a natural exponent. Those of 0, 1 and -1 need no multiplying; of any other number one with an exponent of 64 or more is too large.
+/// A power with a natural exponent. Those of 0, 1 and -1 need no multiplying; of any other number one with an exponent
+/// of 64 or more is too large.
 #[tactic(auto, using(crate::proofs::PowerLaws::too_large))]
 fn natural_power(kind: Kind, x: i64, n: u64) -> Computed
     requires { IsInteger kind }

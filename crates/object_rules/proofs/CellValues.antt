@@ -1,4 +1,5 @@
--- What the cells of a memory hold: each cell of values that is there has a value, and after a history that the memory served it is of the coarray's kind.
+-- What the cells of a memory hold: each cell of values that is there has a value, and after a history that the memory
+-- served it is of the coarray's kind.
 use Rattle.std.proofs.Common.{◌≡◌, ℕ, zero, suc, Bool, true, false, ◌&&◌, cond, List, [], ◌∷◌, ◌++◌, length, inl, inr, refl, ap, sym, ◌∙◌, subst, arith, append_assoc}
 use Rattle.std.specs.Prelude.{ℤ, pos, nat_eq, nat_lt, Option, Some, None, slice_get}
 use Rattle.std.specs.List.{list_all}

@@ -1,4 +1,5 @@
--- The reply that is due at a memory answers its ask: with as many values as cells, each of the coarray's kind, and with a status that the ask can have.
+-- The reply that is due at a memory answers its ask: with as many values as cells, each of the coarray's kind, and with
+-- a status that the ask can have.
 use Rattle.std.proofs.Common.{◌≡◌, ℕ, Bool, true, false, ◌&&◌, cond, List, [], ◌∷◌, length, refl, ap, sym, ◌∙◌, subst, arith}
 use Rattle.std.specs.Prelude.{suc, ℤ, pos, negsuc, nat_eq, nat_lt, Option, Some, None, slice_get}
 use Rattle.std.specs.List.{list_all}

@@ -21,7 +21,8 @@ use Rattle.object_rules.specs.Cells.{Content, of_kind, Declared}
 abbrev pub is_one_of : List ℤ → ℤ → Bool
 is_one_of ss s = list_any (int_eq s) ss
 
--- the members of a team as the replies tell them: all n images for team 1, else those of the last reply that has the team
+-- the members of a team as the replies tell them: all n images for team 1, else those of the last reply that has the
+-- team
 abbrev pub members_in : List ℕ → ℕ → List FormedTeam → List ℕ
 members_in ms t [] = ms
 members_in ms t (x ∷ xs) = members_in (cond (nat_eq x.team.0 t) (numbers_of x.members) ms) t xs

@@ -1,4 +1,5 @@
--- The teams of a run (ISO/IEC 1539-1:2018, 5.3.4, 11.6.9): the initial team, and those that closed rounds of FORM TEAM made.
+-- The teams of a run (ISO/IEC 1539-1:2018, 5.3.4, 11.6.9): the initial team, and those that closed rounds of FORM TEAM
+-- made.
 use Rattle.std.specs.Prelude.{ℕ, suc, ◌-◌, max, ℤ, negsuc, Bool, true, false, ◌&&◌, not, nat_eq, cond, List, [], ◌∷◌, ◌++◌, map, filter, filter_map, slice_get, Option, Some, None}
 use Rattle.std.specs.List.{range_with_len}
 use Rattle.caf_events.specs.declared.ask.Ask.{Ask}
@@ -13,7 +14,8 @@ use Rattle.object_rules.specs.Happenings.{Happening, Class, control, happens, ha
 use Rattle.object_rules.specs.TeamRounds.{is_arrival, arrivals, has_closed, Opening, opening_of, missed_by}
 use Rattle.object_rules.specs.FormedTeams.{FormArg, formed}
 
--- a team: the team and the round of it that made it (0 for the initial team, which has team number -1), its team number, and its members in index order
+-- a team: the team and the round of it that made it (0 for the initial team, which has team number -1), its team
+-- number, and its members in index order
 pub record Team : Type 0 where
   pub parent : ℕ
   pub round : ℕ
@@ -74,7 +76,8 @@ most_joined team (m ∷ ms) hs = max (arrivals team m hs) (most_joined team ms h
 abbrev pub closes_now : ℕ → List ℕ → List Happening → List Happening → ℕ → Bool
 closes_now team members before now round = not (has_closed members team round before) && has_closed members team round now
 
--- these rounds of a team, where each closes with the last entry of f: the teams that they make, in the order of the rounds
+-- these rounds of a team, where each closes with the last entry of f: the teams that they make, in the order of the
+-- rounds
 abbrev pub made_in_rounds : ℕ → List ℕ → List Entry → List ℕ → List Team
 made_in_rounds team members f [] = []
 made_in_rounds team members f (r ∷ rs) = teams_made team r members f ++ made_in_rounds team members f rs

@@ -27,7 +27,8 @@ pub data Content : Type 0 where
   locks : Content
   events : Content
 
--- a declared coarray: a static one has so many cells, with first values where it holds values; an allocatable one has none before its allocation
+-- a declared coarray: a static one has so many cells, with first values where it holds values; an allocatable one has
+-- none before its allocation
 pub record Declared : Type 0 where
   pub content : Content
   pub allocatable : Bool
@@ -53,7 +54,8 @@ abbrev pub first_size : Option Declared → Option ℕ
 first_size None = None
 first_size (Some d) = cond d.allocatable None (Some d.cells)
 
--- how many cells a coarray has after a history: a static one is always there, another one between its allocation and its deallocation
+-- how many cells a coarray has after a history: a static one is always there, another one between its allocation and
+-- its deallocation
 abbrev pub size_after : MadeMemory → List Entry → ℕ → Option ℕ
 size_after m h c = size_from c (first_size (slice_get m.coarrays c)) h
 
@@ -91,7 +93,8 @@ abbrev pub checked : Value → Option Value
 checked (values.Int n) = in_kind_4 n
 checked (values.Bool b) = Some (values.Bool b)
 
--- the value that an atomic action leaves of the one that it finds (16.9.20 to 16.9.30); None where kind 4 can't hold it: an operand may be of kind 8
+-- the value that an atomic action leaves of the one that it finds (16.9.20 to 16.9.30); None where kind 4 can't hold
+-- it: an operand may be of kind 8
 abbrev pub atomic_value : AtomicOp → Value → Value → Value → Option Value
 atomic_value atomics.Define now x y = checked x
 atomic_value atomics.Ref now x y = Some now
@@ -102,7 +105,8 @@ atomic_value atomics.Xor (values.Int a) (values.Int b) y = in_kind_4 (int_bit_xo
 atomic_value atomics.Cas now x y = cond (same_value now x) (checked y) (Some now)
 atomic_value op now x y = Some now
 
--- a cell that was just allocated holds 0 or false: the standard leaves it undefined (19.6.6), and this is the project's choice
+-- a cell that was just allocated holds 0 or false: the standard leaves it undefined (19.6.6), and this is the project's
+-- choice
 abbrev pub zero_of : Content → Value
 zero_of (of_kind kinds.L4) = values.Bool false
 zero_of content = values.Int (pos 0)
@@ -111,7 +115,8 @@ abbrev pub zero_there : Option Declared → Option Value
 zero_there None = None
 zero_there (Some d) = Some (zero_of d.content)
 
--- what an atomic action writes, where its reply tells the value that it found; where its result leaves the kind the old value stays
+-- what an atomic action writes, where its reply tells the value that it found; where its result leaves the kind the old
+-- value stays
 abbrev pub atomic_written : AtomicOp → Value → Value → Reply → Option Value
 atomic_written op x y (replies.Old now) = atomic_value op now x y
 atomic_written op x y reply = None
@@ -127,7 +132,8 @@ value_beside o [] vs = None
 value_beside o (x ∷ xs) [] = None
 value_beside o (x ∷ xs) (v ∷ vs) = or_else (value_beside o xs vs) (cond (int_eq x o) (Some v) None)
 
--- what a step writes to the cell of a coarray at an offset: an allocation writes its cells and no other, a deallocation leaves no value that could be read
+-- what a step writes to the cell of a coarray at an offset: an allocation writes its cells and no other, a deallocation
+-- leaves no value that could be read
 abbrev pub written : MadeMemory → ℕ → ℤ → Ask → Reply → Option Value
 written m c o (asks.Write owner span vs) reply = made_only reply (cond (nat_eq span.coarray c) (value_beside o (offsets_of span) vs) None)
 written m c o (asks.Atomic owner op span x y) reply = cond (nat_eq span.coarray c && int_eq (pos span.start) o) (atomic_written op x y reply) None

@@ -61,14 +61,15 @@ event_from c o n (e ∷ es) = event_from c o (event_turn c o n e.event.ask e.eve
 abbrev pub event_after : ℕ → ℕ → List Entry → ℕ
 event_after c o h = event_from c o 0 h
 
--- the status of LOCK (11.6.10, 11.6.11): 0 where the lock is free, STAT_UNLOCKED_FAILED_IMAGE where its last holder failed, STAT_LOCKED where the image
--- holds it itself; LOCK waits where another image does, and has no status
+-- the status of LOCK (11.6.10, 11.6.11): 0 where the lock is free, STAT_UNLOCKED_FAILED_IMAGE where its last holder
+-- failed, STAT_LOCKED where the image holds it itself; LOCK waits where another image does, and has no status
 abbrev pub lock_status : Hold → ℕ → ℤ
 lock_status free i = pos 0
 lock_status (left_by j) i = pos 6002
 lock_status (held j) i = pos 6003
 
--- the status of UNLOCK: 0 where the image holds the lock, STAT_LOCKED_OTHER_IMAGE where another one does, else STAT_UNLOCKED
+-- the status of UNLOCK: 0 where the image holds the lock, STAT_LOCKED_OTHER_IMAGE where another one does, else
+-- STAT_UNLOCKED
 abbrev pub unlock_status : Hold → ℕ → ℤ
 unlock_status (held j) i = cond (nat_eq j i) (pos 0) (pos 6005)
 unlock_status s i = pos 6004

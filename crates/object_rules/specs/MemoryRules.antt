@@ -1,4 +1,5 @@
--- The memory of an image: which asks fit, which can come, and what is replied (ISO/IEC 1539-1:2018, 9.6, 9.7, 11.6, 16.5, 16.10.2).
+-- The memory of an image: which asks fit, which can come, and what is replied (ISO/IEC 1539-1:2018, 9.6, 9.7, 11.6,
+-- 16.5, 16.10.2).
 use Rattle.std.specs.Prelude.{ℕ, ◌+◌, pos, Bool, true, false, ◌&&◌, ◌||◌, not, nat_eq, nat_le, nat_lt, cond, List, [], ◌∷◌, length, Option, Some, None, slice_get, is_some}
 use Rattle.std.specs.List.{list_all, range_with_len}
 use Rattle.caf_base.specs.declared.place.ImageNo.{ImageNo}
@@ -126,7 +127,8 @@ fits_memory m h i (asks.Query owner span) = is_own m i owner && is_cell_of m is_
 fits_memory m h i (asks.Mark owner) = is_own m i owner
 fits_memory m h i ask = false
 
--- an ask that fits can come now: LOCK waits for another holder, except at a marked memory or where its cell isn't there, and EVENT WAIT for its threshold
+-- an ask that fits can come now: LOCK waits for another holder, except at a marked memory or where its cell isn't
+-- there, and EVENT WAIT for its threshold
 abbrev pub can_come : List Entry → Bool → ℕ → Ask → Bool
 can_come h there i (asks.Lock owner span) = is_marked h || not there || not (is_others (lock_after span.coarray span.start h) i)
 can_come h there i (asks.Wait owner span threshold) = nat_le threshold (event_after span.coarray span.start h)

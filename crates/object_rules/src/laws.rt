@@ -20,14 +20,16 @@ pub fn law_value_more()
         → value_after m (h ++ e ∷ []) coarray offset ≡ or_else (written m coarray offset e.event.ask e.event.reply) (value_after m h coarray offset) }
 {}
 
-/// A round that has closed stays closed, and by the same place, whatever happens then: so its status stays too (ISO/IEC 1539-1:2018, 11.6.11).
+/// A round that has closed stays closed, and by the same place, whatever happens then: so its status stays too (ISO/IEC
+/// 1539-1:2018, 11.6.11).
 pub fn law_closed_stays()
     ensures { (members : List ℕ) (team round : ℕ) (hs front : List Happening) (x : Happening)
         → at_close members team round hs ≡ Some front → at_close members team round (hs ++ x ∷ []) ≡ Some front }
 {}
 
-/// After a history that a memory served the reply that is due answers its ask, whatever the image said and heard before: a read has as many values as cells, and
-/// each value is of its coarray's type and kind. Each static coarray of values has a first value of its kind for each of its cells.
+/// After a history that a memory served the reply that is due answers its ask, whatever the image said and heard
+/// before: a read has as many values as cells, and each value is of its coarray's type and kind. Each static coarray of
+/// values has a first value of its kind for each of its cells.
 pub fn law_memory_answers()
     ensures { (m : MadeMemory) (h : List Entry) → list_all has_first_values m.coarrays ≡ true → Served (memory_ready m) (memory_reply m) [] h
         → (n : ℕ) (before : List (Said Ask Reply)) (i : ℕ) (ask : Ask) → IsTrue (memory_ready m h i ask) → IsTrue (answers m.coarrays n before ask (memory_reply m h i ask)) }

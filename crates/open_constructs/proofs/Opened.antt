@@ -1,4 +1,5 @@
--- Of whole statements that need more the place that their parts tell is that of the innermost construct that is open, in each program to which they go on.
+-- Of whole statements that need more the place that their parts tell is that of the innermost construct that is open,
+-- in each program to which they go on.
 use Rattle.std.proofs.Common.{◌≡◌, true, false, List, ◌++◌, inl, refl, ap, sym, ◌∙◌, subst, arith}
 use Rattle.caf_base.specs.declared.place.Pos.{Pos}
 use Rattle.reader_theory.specs.Refusals.{Reads}

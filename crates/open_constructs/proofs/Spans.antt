@@ -1,4 +1,5 @@
--- Parts one behind the other, of which some open a construct or a procedure and some close one: where the innermost one is that is left open behind some of them.
+-- Parts one behind the other, of which some open a construct or a procedure and some close one: where the innermost one
+-- is that is left open behind some of them.
 use Rattle.std.proofs.Common.{◌≡◌, ℕ, zero, suc, Bool, true, false, not, cond, ◌&&◌, List, [], ◌∷◌, ◌++◌, refl, ap, sym, ◌∙◌}
 use Rattle.caf_base.specs.declared.place.Pos.{Pos}
 use Rattle.fortran_grammar.specs.Tokens.{Token}
@@ -28,7 +29,8 @@ turn (f.end_subroutine_part n at) = closes at
 turn (f.end_function_part n at) = closes at
 turn b = neither
 
--- where the first part is that closes more than so many of those that the parts before it open; else the place that is given
+-- where the first part is that closes more than so many of those that the parts before it open; else the place that is
+-- given
 abbrev pub closing : Turn → (ℕ → Pos) → ℕ → Pos
 closing (opens at) rest n = rest (suc n)
 closing (closes at) rest zero = at

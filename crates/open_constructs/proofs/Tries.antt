@@ -1,4 +1,5 @@
--- Some trees with the places of the words, and which construct is open where they end, worked out by hand: a token stands at column 1 of each line.
+-- Some trees with the places of the words, and which construct is open where they end, worked out by hand: a token
+-- stands at column 1 of each line.
 use Rattle.std.proofs.Common.{◌≡◌, ℕ, true, List, [], ◌∷◌, Some, None, refl}
 use Rattle.caf_base.specs.declared.place.Pos.{Pos}
 use Rattle.fortran_tree.specs.declared.statement.End.{End}
@@ -70,7 +71,8 @@ behind_loop = refl
 behind_procedure : place (1 ∷ 2 ∷ 3 ∷ 4 ∷ 5 ∷ 6 ∷ 7 ∷ []) nested ≡ line 1
 behind_procedure = refl
 
--- line 1: if (..) then; 2: else if (..) then; 3: critical; 4: end critical; 5: else; 6: do; 7: end do; 8: end if; 9: end
+-- line 1: if (..) then; 2: else if (..) then; 3: critical; 4: end critical; 5: else; 6: do; 7: end do; 8: end if; 9:
+-- end
 abbrev branches : Program
 branches =
     let region = s.critical_construct s.absent s.no_statements (line 3) (line 4) in

@@ -6,8 +6,8 @@ use Rattle.program_reader.specs.Unfinished.{Unfinished}
 use Rattle.sequence_reader.specs.Statements.{whole_statements}
 use Rattle.open_constructs.specs.Open.{IsInnermostOpen}
 
--- where whole statements are parts that may follow one another, and more is needed, the place that a reader of parts keeps for what is
--- open innermost is that of the grammar
+-- where whole statements are parts that may follow one another, and more is needed, the place that a reader of parts
+-- keeps for what is open innermost is that of the grammar
 abbrev pub OpenIsTold : Type 0
 OpenIsTold = (ts : List Token) (at : Pos) → whole_statements ts ≡ true → Unfinished 64 ts at → IsInnermostOpen ts at
 

@@ -1,5 +1,6 @@
--- Which construct is open where a source ends too early: in each program to which its words go on, the innermost one that begins among
--- the words and ends behind them (ISO/IEC 1539-1:2018, 11.1; a procedure, 15.6.2; the main program, 14.1).
+-- Which construct is open where a source ends too early: in each program to which its words go on, the innermost one
+-- that begins among the words and ends behind them (ISO/IEC 1539-1:2018, 11.1; a procedure, 15.6.2; the main program,
+-- 14.1).
 use Rattle.std.specs.Prelude.{◌≡◌, Bool, false, not, cond, nat_eq, ◌&&◌, ◌||◌, List, [], ◌∷◌, ◌++◌, Option, Some, None}
 use Rattle.caf_base.specs.declared.place.Pos.{Pos}
 use Rattle.reader_theory.specs.Refusals.{Reads}
@@ -65,8 +66,8 @@ stands (y ∷ ts) p = is_at p y || stands ts p
 abbrev pub is_open : List Token → Extent → Bool
 is_open ts e = stands ts e.from && not (stands ts e.to)
 
--- where the last one that is open begins, else the place that is given: the others that are open go on behind the tokens too, and
--- so they are around it
+-- where the last one that is open begins, else the place that is given: the others that are open go on behind the
+-- tokens too, and so they are around it
 abbrev pub innermost : List Token → List Extent → Pos → Pos
 innermost ts [] outer = outer
 innermost ts (e ∷ es) outer = innermost ts es (cond (is_open ts e) e.from outer)
@@ -82,8 +83,8 @@ pub record GoesOnTo (ts : List Token) (x : Program) : Type 0 where
   pub elsewhere : AreElsewhere ts more
   pub reads : Reads Sources (ts ++ more) x
 
--- The words go on to programs. In each of them the innermost construct that the words begin and don't end begins at this place; where
--- there is none, it is that of the first word, at which the main program begins.
+-- The words go on to programs. In each of them the innermost construct that the words begin and don't end begins at
+-- this place; where there is none, it is that of the first word, at which the main program begins.
 pub record IsInnermostOpen (ts : List Token) (at : Pos) : Type 0 where
   pub some : (x : Program) × GoesOnTo ts x
   pub place : (x : Program) → GoesOnTo ts x → at ≡ innermost ts (extents x) (first_place ts)

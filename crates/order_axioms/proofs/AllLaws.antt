@@ -1,4 +1,5 @@
--- The laws of segment order, of the entries of a trace; and what tells a race with the release of a lock by a failing image.
+-- The laws of segment order, of the entries of a trace; and what tells a race with the release of a lock by a failing
+-- image.
 use Rattle.std.proofs.Common.{◌≡◌, ◌<◌, ◌↔◌, ℕ, true, ◌&&◌, not, nat_lt, List, ◌∷◌, ◌++◌, inl, inr, refl, ap, arith, sym}
 use Rattle.std.specs.Prelude.{Option}
 use Rattle.std.proofs.lemmas.Bool.{lt-ltb, le-ltb, cases_lt, and_parts, not-true, both_ways}
@@ -45,8 +46,9 @@ late_both i j k l h =
     let p = and_parts (not (nat_lt i j)) (not (nat_lt k l)) h in
     ((λ x. both_ways (nat_lt i j) (not-true _ p.0) (lt-ltb i j x)), (λ x. both_ways (nat_lt k l) (not-true _ p.1) (lt-ltb k l x)))
 
--- An allocation or deallocation x, and a later release y of a lock by a failing image, whose segment may precede x's. Where `kept` is the clock of x's image at x and `own` that of y's
--- image at y, the two clocks tell whether the two are a race.
+-- An allocation or deallocation x, and a later release y of a lock by a failing image, whose segment may precede x's.
+-- Where `kept` is the clock of x's image at x and `own` that of y's image at y, the two clocks tell whether the two are
+-- a race.
 module _ (n : ℕ) (t : List Entry) (x y : Stands t) (short : place x < place y) (kept own : ℕ → ℕ) (at_x : TellsOthers (edges n) y.before (segment_of (entries (view n)) x.before x.event) kept)
     (at_y : TellsOthers (edges n) y.before (segment_of (entries (view n)) y.before y.event) own) where
   pub told_by_clocks : (conflict : Conflict (edges n) touches t x y)

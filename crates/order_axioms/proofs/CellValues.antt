@@ -1,4 +1,5 @@
--- What a memory's cells hold: each cell of values that is there has a value, and a read that reaches its cells gives the value of each.
+-- What a memory's cells hold: each cell of values that is there has a value, and a read that reaches its cells gives
+-- the value of each.
 use Rattle.std.proofs.Common.{◌≡◌, ◌⊎◌, ℕ, Bool, true, false, ◌&&◌, IsTrue, cond, List, [], ◌∷◌, inl, inr, refl, ap, sym, ◌∙◌, subst}
 use Rattle.std.specs.Prelude.{ℤ, pos, negsuc, Option, Some, None, slice_get}
 use Rattle.std.specs.List.{list_all}

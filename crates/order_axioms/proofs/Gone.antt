@@ -21,7 +21,8 @@ module _ (closed : List Entry → Bool) (j : ℕ) where
       ap (λ z. (goes j x && not (closed b)) || z) (gone_from_more (b ++ x ∷ []) es e ∙ ap (λ z. gone_from closed j (b ++ x ∷ []) es || (goes j e && not (closed z))) (append_assoc b (x ∷ []) es))
       ∙ or_assoc (goes j x && not (closed b)) (gone_from closed j (b ++ x ∷ []) es) (goes j e && not (closed (b ++ x ∷ es)))
 
-  -- One more entry: the image is gone by the close where it was so before, or is gone by this entry and nothing had closed.
+  -- One more entry: the image is gone by the close where it was so before, or is gone by this entry and nothing had
+  -- closed.
   pub gone_more : (g : List Entry) (e : Entry) → gone_by closed (g ++ e ∷ []) j ≡ (gone_by closed g j || (goes j e && not (closed g)))
   gone_more g e = gone_from_more [] g e
 
@@ -47,7 +48,8 @@ all_falls p q f (m ∷ ms) h = let a = and_parts (p m) (list_all p ms) h in rw (
 arrived_falls : (k a : ℕ) → nat_le (suc k) a ≡ true → nat_le k a ≡ true
 arrived_falls k a h = le-leb k a (let l = leb-true (suc k) a h in omega arith)
 
--- Where a round has closed, so have those before it: one number tells for each team which of its rounds an image's failure came before.
+-- Where a round has closed, so have those before it: one number tells for each team which of its rounds an image's
+-- failure came before.
 pub closed_falls : (n t k : ℕ) (g : List Entry) → round_closed n t (suc k) g ≡ true → round_closed n t k g ≡ true
 closed_falls n t k g h =
     let a = and_parts (list_any (λ j. nat_le (suc k) (joined_by t j g)) (members n t g)) (list_all (has_come t (suc k) g) (members n t g)) h in

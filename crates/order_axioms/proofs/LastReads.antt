@@ -1,4 +1,5 @@
--- The rule of memory, from what a memory's values are after some entries: a value stays while no entry defines its cell, and a read gives the value of its cell.
+-- The rule of memory, from what a memory's values are after some entries: a value stays while no entry defines its
+-- cell, and a read gives the value of its cell.
 use Rattle.std.proofs.Common.{◌≡◌, ◌+◌, ◌<◌, ◌≤◌, Bool, true, false, ◌&&◌, List, [], ◌∷◌, ◌++◌, ◌⊎◌, length, inl, inr, refl, ap, sym, ◌∙◌, subst, arith, append_assoc, length-append}
 use Rattle.std.proofs.lemmas.List.{append-nil}
 use Rattle.std.proofs.lemmas.Bool.{cases_Bool, cases_lt, and_parts, both_ways}

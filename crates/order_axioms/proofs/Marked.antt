@@ -1,4 +1,5 @@
--- In a lawful trace a status that speaks of a memory's owner as failed stands behind the mark that the owner's failure left there.
+-- In a lawful trace a status that speaks of a memory's owner as failed stands behind the mark that the owner's failure
+-- left there.
 use Rattle.std.proofs.Common.{◌≡◌, ℕ, suc, Bool, true, false, nat_eq, cond, List, [], ◌∷◌, ◌++◌, inl, inr, refl, ap, sym, ◌∙◌, subst, IsTrue, append_assoc}
 use Rattle.std.specs.Prelude.{ℤ, pos}
 use Rattle.std.specs.List.{list_any}

@@ -1,4 +1,5 @@
--- The close of a round and of SYNC IMAGES, and the images that were gone by it (ISO/IEC 1539-1:2018, 11.6.3, 11.6.4, 11.6.11).
+-- The close of a round and of SYNC IMAGES, and the images that were gone by it (ISO/IEC 1539-1:2018, 11.6.3, 11.6.4,
+-- 11.6.11).
 use Rattle.std.specs.Prelude.{ℕ, Bool, true, false, ◌&&◌, ◌||◌, not, nat_eq, nat_le, cond, List, [], ◌∷◌, ◌++◌, map}
 use Rattle.std.specs.List.{list_all, filter}
 use Rattle.caf_events.specs.declared.ask.Ask.{Ask}
@@ -60,8 +61,8 @@ round_closed n t k g = has_closed (members n t g) t k (happened control g)
 abbrev pub named : ℕ → List Entry → List ℕ
 named i g = last_named i (happened images g)
 
--- by the entries b the last SYNC IMAGES that image i began in g has closed: it stands there, and each image that it names has
--- named i as often as i has named it, is gone or has stopped
+-- by the entries b the last SYNC IMAGES that image i began in g has closed: it stands there, and each image that it
+-- names has named i as often as i has named it, is gone or has stopped
 abbrev pub pair_closed : List Entry → ℕ → List Entry → Bool
 pair_closed g i b =
     nat_le (pairs_of i (happened images g)) (pairs_of i (happened images b))

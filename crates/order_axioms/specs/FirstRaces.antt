@@ -8,8 +8,8 @@ module _ {E : Type 0} (r : EdgeRules E) (a : Touching E) (t : List E) where
   abbrev pub HasNoRace : Type 0
   HasNoRace = NoRace r a t (length t)
 
-  -- The entries at places p and q, p first, are a race, and this cell is the least one that both touch. None of the entries before q has an
-  -- earlier partner, and none before p is one of q's.
+  -- The entries at places p and q, p first, are a race, and this cell is the least one that both touch. None of the
+  -- entries before q has an earlier partner, and none before p is one of q's.
   pub record IsFirstRace (p q : ℕ) (least : Cell) : Type 0 where
     pub first : Stands t
     pub second : Stands t
@@ -22,7 +22,8 @@ module _ {E : Type 0} (r : EdgeRules E) (a : Touching E) (t : List E) where
     pub shared : SharedCell r a t first second least
     pub least_shared : (c : Cell) → SharedCell r a t first second c → (c.owner ≡ least.owner) × (c.coarray ≡ least.coarray) × (least.offset ≤ c.offset)
 
--- The trace is allowed as far as its first m entries go: no two of them are a race, and each reference among them that isn't atomic is justified.
+-- The trace is allowed as far as its first m entries go: no two of them are a race, and each reference among them that
+-- isn't atomic is justified.
 pub record Allowed {E V : Type 0} (r : EdgeRules E) (a : Accesses E V) (t : List E) (m : ℕ) : Type 0 where
   pub no_race : NoRace r a.touching t m
   pub justified : (x : Stands t) → a.touching.class_of x.event ≡ reads → place x < m → Justified r a t x

@@ -1,4 +1,5 @@
--- How many rounds of a team have closed: one number a team, from which each failed image's part in the statuses of its rounds is told (ISO/IEC 1539-1:2018, 11.6.11).
+-- How many rounds of a team have closed: one number a team, from which each failed image's part in the statuses of its
+-- rounds is told (ISO/IEC 1539-1:2018, 11.6.11).
 use Rattle.std.specs.Prelude.{ℕ, ◌<◌, ◌≡◌, ◌↔◌, max, min, true, cond, List, [], ◌∷◌}
 use Rattle.caf_events.specs.declared.event.Entry.{Entry}
 use Rattle.order_axioms.specs.Closes.{joined_by, is_over, members, round_closed, gone_by}

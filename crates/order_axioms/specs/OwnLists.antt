@@ -1,4 +1,5 @@
--- What is known of each image's own list in a lawful trace, as far as segment order needs it (ISO/IEC 1539-1:2018, 5.3.6, 11.6.2).
+-- What is known of each image's own list in a lawful trace, as far as segment order needs it (ISO/IEC 1539-1:2018,
+-- 5.3.6, 11.6.2).
 use Rattle.std.specs.Prelude.{ℕ, ◌≡◌, Bool, true, false, ◌||◌, List, [], ◌∷◌, ◌++◌}
 use Rattle.trace_theory.specs.Entries.{Each}
 use Rattle.trace_theory.specs.Machines.{Said}
@@ -32,8 +33,8 @@ pub record EndsQuietly (es : List (Said Ask Reply)) : Type 0 where
   pub after_failure : (b a : List (Said Ask Reply)) (e : Said Ask Reply) → es ≡ b ++ e ∷ a → is_failure_step e.ask ≡ true → Each (λ x. (is_failure_step x.ask || is_limit x.ask) ≡ true) a
   pub after_limit : (b a : List (Said Ask Reply)) (e : Said Ask Reply) → es ≡ b ++ e ∷ a → is_limit e.ask ≡ true → a ≡ []
 
--- What segment order needs of a lawful trace of n images: arrivals have their departures, an image that fails or comes to a limit makes no other
--- step, and each image of which a status speaks has begun to fail earlier.
+-- What segment order needs of a lawful trace of n images: arrivals have their departures, an image that fails or comes
+-- to a limit makes no other step, and each image of which a status speaks has begun to fail earlier.
 pub record IsQuiet (n : ℕ) (t : List Entry) : Type 0 where
   pub joins : (i : ℕ) → Joins (said_by i t)
   pub ends : (i : ℕ) → EndsQuietly (said_by i t)

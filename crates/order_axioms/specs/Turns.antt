@@ -13,8 +13,9 @@ ComesTo e u k = (act_of e ≡ arrives u k) ⊎ ((whole : Bool) × (act_of e ≡ 
 abbrev pub HasArrived : List Entry → ℕ → ℕ → Type 0
 HasArrived g u k = (b : List Entry) × (x : Entry) × (h : List Entry) × (g ≡ b ++ x ∷ h) × (act_of x ≡ arrives u k)
 
--- What a lawful trace of n images says of rounds: arrivals are numbered, an image that arrives at a round has left the one before, a departure stands after
--- the close, a round that has closed has waited for each image that comes to the team's rounds, and an image that is over makes no step.
+-- What a lawful trace of n images says of rounds: arrivals are numbered, an image that arrives at a round has left the
+-- one before, a departure stands after the close, a round that has closed has waited for each image that comes to the
+-- team's rounds, and an image that is over makes no step.
 pub record InRounds (n : ℕ) (t : List Entry) : Type 0 where
   pub numbered : (g h : List Entry) (x : Entry) (u k : ℕ) → t ≡ g ++ x ∷ h → act_of x ≡ arrives u k → k ≡ suc (joined_by u x.image.0 g)
   pub left : (g h : List Entry) (x : Entry) (u k : ℕ) → t ≡ g ++ x ∷ h → act_of x ≡ arrives u k → 1 < k

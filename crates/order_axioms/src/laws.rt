@@ -22,7 +22,8 @@ pub fn law_forward()
     ensures { (coarrays : List Declared) (n : ℕ) (t : List Entry) → IsLawfulTrace coarrays n t → Forward (edges n) touches t }
 {}
 
-/// In a lawful trace without a race among the first m entries each reference among them gives the value of the last definition in segment order.
+/// In a lawful trace without a race among the first m entries each reference among them gives the value of the last
+/// definition in segment order.
 pub fn law_reads()
     ensures { (coarrays : List Declared) (n : ℕ) (t : List Entry) → IsLawfulTrace coarrays n t → (m : ℕ) → NoRace (edges n) touches t m
         → (x : Stands t) → class_of x.event ≡ reads → place x < m → Justified (edges n) (accesses (made_memory coarrays)) t x }

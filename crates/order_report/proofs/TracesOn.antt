@@ -1,5 +1,6 @@
 -- The trace of an ordered run from any moment: the events before it, and then its steps.
--- `step_events` and `ordered_events` stand in core_runs (proofs/OrderTraces) too, where no other crate can name them; who needs them above takes them from here.
+-- `step_events` and `ordered_events` stand in core_runs (proofs/OrderTraces) too, where no other crate can name them;
+-- who needs them above takes them from here.
 use Rattle.std.proofs.Common.{◌≡◌, ℕ, zero, suc, List, [], ◌∷◌, ◌++◌, inl, inr, length, refl, ap, sym, ◌∙◌, subst, arith, append_assoc}
 use Rattle.std.specs.Prelude.{map, nat_eq}
 use Rattle.std.proofs.lemmas.Bool.Decides.{eqb_tells}

@@ -1,5 +1,6 @@
--- The report of a run: its trace is a core run, and that of the ordered run where there is an order; its end is that of the trace, a race first, and up to the race each reference
--- that isn't atomic gives the last definition in segment order.
+-- The report of a run: its trace is a core run, and that of the ordered run where there is an order; its end is that of
+-- the trace, a race first, and up to the race each reference that isn't atomic gives the last definition in segment
+-- order.
 use Rattle.std.specs.Prelude.{ℕ, zero, suc, ◌≡◌, ◌<◌, ◌≤◌, ◌⊎◌, List, [], ◌∷◌, ◌++◌, length, Option, Some, Ok}
 use Rattle.caf_base.specs.declared.refusal.NoMemory.{NoMemory}
 use Rattle.caf_events.specs.declared.ask.Ask.{Ask}
@@ -46,13 +47,15 @@ abbrev pub WaitsAs : ℕ → List Waiting → Type 0
 WaitsAs i [] = ⊥
 WaitsAs i (w ∷ ws) = (w.image.0 ≡ i) ⊎ WaitsAs i ws
 
--- the images that wait after a trace, in rising order: each has come to its ask, which isn't ready, and every other image has ended
+-- the images that wait after a trace, in rising order: each has come to its ask, which isn't ready, and every other
+-- image has ended
 pub record AreWaiting {C M B : Type 0} (r : Rules C M B) (b : Beginning C M B) (t : Trace) (ws : List Waiting) : Type 0 where
   pub rises : Rises (λ w. w.image.0) ws
   pub each : Each (λ w. IsWaiting r b t.entries w.image.0 w.line w.ask) ws
   pub all : (i : ℕ) → IsImage b i → HasEndedIn i t.entries ⊎ WaitsAs i ws
 
--- the end of a run with this trace: that of its first ending event; where there is none, Finished where every image has ended, else Stuck
+-- the end of a run with this trace: that of its first ending event; where there is none, Finished where every image has
+-- ended, else Stuck
 pub record IsRunEnd {C M B : Type 0} (r : Rules C M B) (b : Beginning C M B) (t : Trace) (end : End) : Type 0 where
   pub ended : (k : ℕ) → IsFirstEnding t k → end ≡ ending_at t k
   pub open_end : HasNoEnding t → (ws : List Waiting) × AreWaiting r b t ws × (end ≡ end_of_waits ws)
@@ -75,8 +78,9 @@ abbrev pub before_race : Trace → End → ℕ
 before_race t (ends.Raced x) = x.second
 before_race t end = length t.entries
 
--- The report of a run that begins so, over these coarrays: its trace is a core run, and that of the order of a SEED where there is one (that it is a core run follows from an order, by
--- law_order_core; it is said for the reader); its end is that of the trace, and up to the first race each reference that isn't atomic gives the last definition.
+-- The report of a run that begins so, over these coarrays: its trace is a core run, and that of the order of a SEED
+-- where there is one (that it is a core run follows from an order, by law_order_core; it is said for the reader); its
+-- end is that of the trace, and up to the first race each reference that isn't atomic gives the last definition.
 pub record IsRunReport {C M B : Type 0} (r : Rules C M B) (b : Beginning C M B) (coarrays : List Declared) (order : Option ℕ) (report : Report) : Type 0 where
   pub images : report.images ≡ b.images
   pub core : IsCoreRun r b report.trace.entries
@@ -93,13 +97,15 @@ pub record IsEndMoment {C M B : Type 0} (r : Rules C M B) (b : Beginning C M B) 
 abbrev pub GoesNoFurther : {C M B : Type 0} → Rules C M B → Moment C M B → Type 0
 GoesNoFurther r m = HasEnding m.events ⊎ (candidates r m ≡ [])
 
--- an ordered run by these choices from one moment to another, at which it has come to its end: it has no step behind an event that ended the run
+-- an ordered run by these choices from one moment to another, at which it has come to its end: it has no step behind an
+-- event that ended the run
 pub record RunsOn {C M B : Type 0} (r : Rules C M B) (s : Choices) (m m' : Moment C M B) : Type 0 where
   pub last : Choices
   pub end : RunEnd
   pub run : IsOrderRun {E = NoMemory} r s m last m' (Ok end)
 
--- and the trace at that end: each image's entries are its events of the first moment, and then its steps of the ordered run
+-- and the trace at that end: each image's entries are its events of the first moment, and then its steps of the ordered
+-- run
 pub record IsTraceOn {C M B : Type 0} (r : Rules C M B) (s : Choices) (m m' : Moment C M B) (t : List Entry) : Type 0 where
   pub on : RunsOn r s m m'
   pub images : (i : ℕ) → of_image i t ≡ entries_of m.events i ++ of_image i on.run.steps

@@ -18,8 +18,8 @@ use std::alloc::Global;
 /// The most entries of a trace that is searched: no machine has room for more.
 const MOST_ENTRIES: u64 = 1 << 62;
 
-/// The first race of the trace of a run of n images (ISO/IEC 1539-1:2018, 11.6.2); None exactly where the trace has none. Condition: the trace is lawful for
-/// some coarrays.
+/// The first race of the trace of a run of n images (ISO/IEC 1539-1:2018, 11.6.2); None exactly where the trace has
+/// none. Condition: the trace is lawful for some coarrays.
 pub fn first_race(alloc: Global, trace: &Trace, n: u32) -> Result<Option<Race>, NoMemory>
     requires lawful { (coarrays : List Declared) × IsLawfulTrace coarrays n trace.now.entries }
     ensures race { IfOk result (λ o. MatchOption o (HasNoRace (edges n) touches trace.now.entries) (IsRace n trace.now)) }

@@ -50,9 +50,9 @@ fn report_here<M: Walker, O: Object, B: Object>(
     Ok(Report::with_race(n, trace, race, held, names, finals))
 }
 
-/// The run of these parts from before their first step, in the order of a SEED, and its report with these names of the coarrays. Condition: the traces of a run of which
-/// the parts are a moment are lawful for some coarrays.
-pub fn report_order<M: Walker, O: Object, B: Inert>(
+/// The run of these parts from before their first step, in the order of a SEED, and its report with these names of the
+/// coarrays. Condition: the traces of a run of which the parts are a moment are lawful for some coarrays.
+pub fn report_order<M: Walker, O: Inert, B: Inert>(
     alloc: Global,
     parts: &mut PartsOf<M, O, B>,
     seed: u32,
@@ -85,7 +85,7 @@ pub fn report_order<M: Walker, O: Object, B: Inert>(
 }
 
 // The run from where the parts are to its end: by rotation, where no step has ended it.
-fn finish<M: Walker, O: Object, B: Inert>(parts: &mut PartsOf<M, O, B>) -> Result<(), NoMemory>
+fn finish<M: Walker, O: Inert, B: Inert>(parts: &mut PartsOf<M, O, B>) -> Result<(), NoMemory>
     requires sound { AreSound M.Walker O.Object B.Object parts.old }
     ensures sound { AreSound M.Walker O.Object B.Object parts.new }
     ensures kept { (b : Beginning M.Config O.Made B.Made) → IsKept (rules M.Walker O.Object B.Object) b (moment M.Walker O.Object B.Object parts.old)
@@ -97,9 +97,10 @@ fn finish<M: Walker, O: Object, B: Inert>(parts: &mut PartsOf<M, O, B>) -> Resul
     Ok(())
 }
 
-/// The end of the run of these parts from where they are, by rotation where no step has ended it, and its report with these names of the coarrays. Condition: the traces of a run of
-/// which the parts are a moment are lawful for some coarrays.
-pub fn report_rest<M: Walker, O: Object, B: Inert>(
+/// The end of the run of these parts from where they are, by rotation where no step has ended it, and its report with
+/// these names of the coarrays. Condition: the traces of a run of which the parts are a moment are lawful for some
+/// coarrays.
+pub fn report_rest<M: Walker, O: Inert, B: Inert>(
     alloc: Global,
     parts: &mut PartsOf<M, O, B>,
     names: Listing<Text>,

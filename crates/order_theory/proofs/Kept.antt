@@ -68,7 +68,8 @@ module _ (E : Type 0) (r : EdgeRules E) (sound : Sound r) (t : List E) where
         ];
       }
 
-    -- An action on a lock or event outranks only marks of its own class, which it doesn't meet: it is noted without a test.
+    -- An action on a lock or event outranks only marks of its own class, which it doesn't meet: it is noted without a
+    -- test.
     signal_displaces : q.class ≡ signals → (k : Mark) → Within k kept → stays q k ≡ false → Under r t k q
     signal_displaces signal k w out =
         let p = and_parts (outranks q.class k.class) (same_image k q || meets k.class q.class) (not-false _ out) in

@@ -1,4 +1,5 @@
--- What the table of keys says: a segment waits at a key exactly where its entry added it and no later entry cleared the key.
+-- What the table of keys says: a segment waits at a key exactly where its entry added it and no later entry cleared the
+-- key.
 use Rattle.std.proofs.Common.{◌≡◌, ℕ, ◌↔◌, List, [], ◌∷◌, ◌++◌, ◌⊎◌, inl, inr, refl, ap, sym, ◌∙◌, subst, append_assoc}
 use Rattle.std.proofs.lemmas.List.{append-nil}
 use Rattle.order_theory.specs.Order.{Segment, Within, segment_of}

@@ -1,4 +1,5 @@
--- Clocks of segments. A clock is a count for each image, as a function of the image: of its segments it covers the first so many.
+-- Clocks of segments. A clock is a count for each image, as a function of the image: of its segments it covers the
+-- first so many.
 use Rattle.std.specs.Prelude.{ℕ, ◌+◌, ◌<◌, ◌≡◌, ◌↔◌, nat_eq, cond, List}
 use Rattle.order_theory.specs.Order.{Segment, EdgeRules, Within, Precedes, Reaches}
 

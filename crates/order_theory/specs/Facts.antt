@@ -28,12 +28,14 @@ module _ {E : Type 0} (v : View E) (acts : E → Bool) where
   NoneActs [] = Unit {0}
   NoneActs (e ∷ es) = (acts e ≡ false) × NoneActs es
 
-  -- what follows a pause in its image's list: nothing, or first an entry that completes the segment, or nothing that acts
+  -- what follows a pause in its image's list: nothing, or first an entry that completes the segment, or nothing that
+  -- acts
   abbrev pub Settles : List E → Type 0
   Settles [] = Unit {0}
   Settles (e ∷ es) = ((completing (v.act e) ≡ true) × (acts e ≡ false)) ⊎ NoneActs (e ∷ es)
 
-  -- What each image's own list says of pauses and failures (11.6.2, 5.3.6). `fails` are the entries by which an image fails.
+  -- What each image's own list says of pauses and failures (11.6.2, 5.3.6). `fails` are the entries by which an image
+  -- fails.
   pub record OwnFacts (fails : E → Bool) (t : List E) : Type 0 where
     pub settles : (g h : List E) (x : E) → t ≡ g ++ x ∷ h → pausing (v.act x) ≡ true → Settles (own_list v (v.image x) h)
     pub failed_quiet : (g h : List E) (x : E) → t ≡ g ++ x ∷ h → fails x ≡ true → NoneActs (own_list v (v.image x) h)

@@ -9,7 +9,8 @@ pub record Mark : Type 0 where
   pub segment : Segment
   pub class : Class
 
--- whether a mark of the first class may take the place of one of the second: then it meets each class that that one meets
+-- whether a mark of the first class may take the place of one of the second: then it meets each class that that one
+-- meets
 abbrev pub outranks : Class → Class → Bool
 outranks makes m = true
 outranks writes makes = false
@@ -54,8 +55,8 @@ pub record Keeps {E : Type 0} (r : EdgeRules E) (t : List E) (seen kept : List M
   pub enough : (m : Mark) → Within m seen → (k : Mark) × Within k kept × Under r t m k
   pub begun : (m : Mark) → Within m seen → Begun r.entries t m.segment
 
--- What is known where q is to be noted: q's segment has begun, the kept marks suffice, and those of q's image that were seen
--- are of its segment or of earlier ones.
+-- What is known where q is to be noted: q's segment has begun, the kept marks suffice, and those of q's image that were
+-- seen are of its segment or of earlier ones.
 pub record Noting {E : Type 0} (r : EdgeRules E) (t : List E) (q : Mark) (seen kept : List Mark) : Type 0 where
   pub here : Begun r.entries t q.segment
   pub keeps : Keeps r t seen kept

@@ -102,8 +102,8 @@ module _ {E : Type 0} (r : EdgeRules E) (k : Touching E) (t : List E) where
     pub shared : SharedCell x y cell
     pub met : meets (k.class_of x.event) (k.class_of y.event) ≡ true
 
-  -- A race is a conflict of two entries whose segments are unordered. The standard has no such word: a race is a use of cells
-  -- that 11.6.2 forbids.
+  -- A race is a conflict of two entries whose segments are unordered. The standard has no such word: a race is a use of
+  -- cells that 11.6.2 forbids.
   pub record Race (x y : Stands t) : Type 0 where
     pub conflict : Conflict x y
     pub not_before : Precedes r t (segment x) (segment y) → ⊥
@@ -132,8 +132,8 @@ module _ {E : Type 0} (r : EdgeRules E) (k : Touching E) (t : List E) where
       → Precedes r t (segment x) (segment y) → place x < place y
 
 module _ {E V : Type 0} (r : EdgeRules E) (a : Accesses E V) (t : List E) where
-  -- The read x gives the value of the write w, which is ordered before x; each other write that is ordered before x is ordered
-  -- before w, or is atomic as w is and was made before it.
+  -- The read x gives the value of the write w, which is ordered before x; each other write that is ordered before x is
+  -- ordered before w, or is atomic as w is and was made before it.
   pub record IsLatest (x w : Stands t) (c : Cell) : Type 0 where
     pub wrote : Writes r a.touching t w c
     pub ordered : OrderedBefore r a.touching t w x
@@ -142,7 +142,8 @@ module _ {E V : Type 0} (r : EdgeRules E) (a : Accesses E V) (t : List E) where
         (v : Stands t) → Writes r a.touching t v c → OrderedBefore r a.touching t v x → (place v ≡ place w → ⊥)
         → OrderedBefore r a.touching t v w ⊎ ((is_atomic (a.touching.class_of v.event) ≡ true) × (is_atomic (a.touching.class_of w.event) ≡ true) × (place v < place w))
 
-  -- at each cell the read gives the value of the latest write that is ordered before it, or the first value where none is
+  -- at each cell the read gives the value of the latest write that is ordered before it, or the first value where none
+  -- is
   abbrev pub Justified : Stands t → Type 0
   Justified x =
       (c : Cell) → Touches r a.touching t x c

@@ -1,4 +1,5 @@
-//! Readers of statements that are keywords and names alone: those that end constructs and program units, ELSE, CONTAINS, PROGRAM and IMPLICIT NONE.
+//! Readers of statements that are keywords and names alone: those that end constructs and program units, ELSE,
+//! CONTAINS, PROGRAM and IMPLICIT NONE.
 
 ghost use Rattle.std.specs.Prelude.{◌≡◌, ◌++◌, codes};
 ghost use Rattle.action_reader.specs.Beginnings.{one};

@@ -14,6 +14,7 @@ use caf_base::refusal::NoMemory;
 use caf_base::value::{Kind, Value};
 use checked_tree::expr::TypedExpr;
 use fortran_tree::expr::NumberKind;
+use rule_definitions::rule;
 use scope_table::scope::{Denoted, Scope};
 use scope_table::symbol::ConstantValue;
 use std::alloc::Global;
@@ -26,8 +27,8 @@ fn kind_of_constant(alloc: Global, value: ConstantValue, at: Pos) -> Result<Judg
     match value {
         ConstantValue::Unknown => Ok(unknown(alloc)),
         ConstantValue::Scalar(Value::Int(number)) => supported(alloc, number, at),
-        ConstantValue::Scalar(Value::Bool(_)) => refused(alloc, 23, at),
-        ConstantValue::Array(_) => refused(alloc, 37, at),
+        ConstantValue::Scalar(Value::Bool(_)) => refused(alloc, rule::KIND, at),
+        ConstantValue::Array(_) => refused(alloc, rule::ARRAY_FOR_SCALAR, at),
     }
 }
 
@@ -41,17 +42,17 @@ pub fn kind_denoted(
     ensures meaning { IfOk result (λ j. j.meaning ≡ (parts.kind_denoted (option_map meaning_of denoted.entry) at).meaning) }
 {
     let Some(denoted) = denoted else {
-        return refused(alloc, 20, at);
+        return refused(alloc, rule::UNKNOWN_NAME, at);
     };
     match denoted {
         Denoted::ModuleConstant(number) => supported(alloc, number, at),
-        Denoted::ModuleType(_) => refused(alloc, 20, at),
+        Denoted::ModuleType(_) => refused(alloc, rule::UNKNOWN_NAME, at),
         Denoted::Constant(constant) => kind_of_constant(alloc, constant.value, at),
         Denoted::Variable(_)
         | Denoted::Subroutine(_)
         | Denoted::Function(_)
         | Denoted::IntrinsicFunction(_)
-        | Denoted::IntrinsicSubroutine(_) => refused(alloc, 22, at),
+        | Denoted::IntrinsicSubroutine(_) => refused(alloc, rule::INITIAL_VALUE, at),
     }
 }
 

@@ -1,4 +1,5 @@
--- Lines that are statements as they stand (ISO/IEC 1539-1:2018, 6.3.2): no literal, no comment, no continuation, no `;`.
+-- Lines that are statements as they stand (ISO/IEC 1539-1:2018, 6.3.2): no literal, no comment, no continuation, no
+-- `;`.
 use Rattle.std.specs.Prelude.{ℕ, ◌≡◌, ◌≤◌, Bool, true, false, not, ◌&&◌, ◌||◌, nat_eq, nat_le, nat_lt, List, [], ◌∷◌, ◌++◌, length}
 use Rattle.std.specs.List.{list_all, flat_map}
 use Rattle.fortran_lines.specs.Characters.{is_blank, is_quote}

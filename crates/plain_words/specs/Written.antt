@@ -28,7 +28,8 @@ abbrev pub line_of : List Written → List ℕ
 line_of [] = []
 line_of (w ∷ ws) = space w.spaced ++ (w.bytes ++ line_of ws)
 
--- each is the longest token where it begins, within the limits, and no `::` stands within brackets, of which so many are open
+-- each is the longest token where it begins, within the limits, and no `::` stands within brackets, of which so many
+-- are open
 abbrev pub AreFound : ℕ → List Written → Type 0
 AreFound d [] = ⊤
 AreFound d (w ∷ ws) =

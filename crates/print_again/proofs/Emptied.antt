@@ -1,4 +1,5 @@
--- A phrase and the same without its places: each word, its places set to one, is a word of it, and the canonical tokens are the same.
+-- A phrase and the same without its places: each word, its places set to one, is a word of it, and the canonical tokens
+-- are the same.
 use Rattle.std.proofs.Common.{◌≡◌, ℕ, suc, Bool, List, [], ◌∷◌, ◌++◌, Option, Some, None, map, inl, inr, refl, ap, ◌∙◌}
 use Rattle.std.specs.Option.{option_map}
 use Rattle.std.proofs.lemmas.List.{map-append}

@@ -16,7 +16,8 @@ use Rattle.fortran_lines.specs.Lines.{Part, is_nothing, code_part, before_amp, b
 use Rattle.fortran_lines.specs.Faults.{too_long, not_ascii, faults_of_part, faults_from}
 use Rattle.fortran_lines.proofs.LineLemmas.{before_amp-amp, before_amp-other, not_all_blank, amp_no_blank}
 
--- so lines join behind what stands before them, and break no rule: the texts that they end, and what stands before the next line
+-- so lines join behind what stands before them, and break no rule: the texts that they end, and what stands before the
+-- next line
 pub record Runs (ls : List (List PlacedByte)) (b : Before) (t : List PlacedByte) (out : List (List PlacedByte)) (c : Before) (u : List PlacedByte) : Type 0 where
   pub joins : (rest : List (List PlacedByte)) → joined (ls ++ rest) b t ≡ out ++ joined rest c u
   pub clean : (rest : List (List PlacedByte)) → faults_from (ls ++ rest) b ≡ faults_from rest c

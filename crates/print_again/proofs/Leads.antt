@@ -1,4 +1,5 @@
--- Canonical tokens of a phrase that has a word of tokens that a source can have: they go on with a statement, or are whole ones.
+-- Canonical tokens of a phrase that has a word of tokens that a source can have: they go on with a statement, or are
+-- whole ones.
 use Rattle.std.proofs.Common.{◌≡◌, ℕ, suc, ◌+◌, ◌-◌, Bool, true, false, ◌&&◌, List, [], ◌∷◌, ◌++◌, Option, Some, None, inl, inr, refl, ap, sym, ◌∙◌, subst, arith, append_assoc}
 use Rattle.std.specs.List.{list_all}
 use Rattle.std.proofs.lemmas.Bool.{and_parts, and_from}
@@ -24,7 +25,8 @@ is_fit x = is_plain x
 abbrev pub fit_word : List (Mark Token) → Bool
 fit_word w = list_all (λ m. is_fit m.token.tok) w
 
--- from a statement that is begun or isn't, with so many brackets open, the canonical tokens lead to the same behind them
+-- from a statement that is begun or isn't, with so many brackets open, the canonical tokens lead to the same behind
+-- them
 pub record Leads (b : Bool) (m : ℕ) (P : Phrase) (c : Bool) (n : ℕ) : Type 0 where
   pub runs : (l d : ℕ) (w : List (Mark Token)) → Words P l d w → fit_word w ≡ true → (ts : List Tok) → are_statements c n ts ≡ true → are_statements b m (canonical P ++ ts) ≡ true
 

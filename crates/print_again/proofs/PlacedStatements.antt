@@ -1,4 +1,5 @@
--- A word of a declaration's, an action's or a construct's phrase without its places is one of a tree that is the same but for places.
+-- A word of a declaration's, an action's or a construct's phrase without its places is one of a tree that is the same
+-- but for places.
 use Rattle.std.proofs.Common.{◌≡◌, ℕ, zero, suc, Bool, true, ◌&&◌, List, [], ◌∷◌, codes, Option, Some, None, map, inl, inr, ◌⊎◌, refl, ap, sym, ◌∙◌, subst}
 use Rattle.std.specs.Option.{option_map}
 use Rattle.fortran_tree.specs.declared.name.Name.{Name}

@@ -21,7 +21,8 @@ PlacesDontMatter = (limit : ℕ) (x y : Program) (ts us : List Token) → Reads 
 abbrev pub UnplacedIsRead : Type 0
 UnplacedIsRead = (limit : ℕ) (x : Program) (ts : List Token) → Reads (Programs limit) ts x → Reads (Programs limit) (map unplaced.token ts) (unplaced.program x)
 
--- where some tokens spell a program, the same tokens at any other places spell one too, which is the same but for places
+-- where some tokens spell a program, the same tokens at any other places spell one too, which is the same but for
+-- places
 abbrev pub PlacesMayChange : Type 0
 PlacesMayChange = (limit : ℕ) (x : Program) (ts us : List Token) → Reads (Programs limit) ts x → map tok_of us ≡ map tok_of ts
     → (y : Program) × Reads (Programs limit) us y × (unplaced.program y ≡ unplaced.program x)

@@ -39,7 +39,8 @@ abbrev pub depth_past : ℕ → Tok → ℕ
 depth_past d (t.sign s) = depth_behind_sign d s
 depth_past d x = d
 
--- Tokens of whole statements, where one is begun or isn't, and so many brackets are open: each statement has a token, and its end behind the last.
+-- Tokens of whole statements, where one is begun or isn't, and so many brackets are open: each statement has a token,
+-- and its end behind the last.
 abbrev pub are_statements : Bool → ℕ → List Tok → Bool
 are_statements begun d [] = not begun
 are_statements begun d (t.over ∷ ts) = begun && are_statements false 0 ts

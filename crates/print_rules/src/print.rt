@@ -29,6 +29,7 @@ use fortran_tree::expr::Expr;
 use fortran_tree::name::Literal;
 use part_rules::judged::{Judged, fine, joined, keep, ruled};
 use part_rules::part::{Part, plain};
+use rule_definitions::rule;
 use scope_table::scope::Scope;
 use std::alloc::Global;
 
@@ -130,7 +131,7 @@ fn printed(part: Part) -> Result<Judged<TypedExpr>, NoMemory>
         return Ok(value);
     };
     let holds = is_printed(found.of_type);
-    ruled(value, holds, 58, at)
+    ruled(value, holds, rule::PRINTED_TYPE, at)
 }
 
 fn value_of(value: Option<TypedExpr>) -> Option<TypedItem>

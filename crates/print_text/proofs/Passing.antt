@@ -118,7 +118,8 @@ not_left texts text Wrong f g h = refl
 not_left texts text Ended f g h = refl
 not_left texts text (Left items) f g h = absurd (h items refl)
 
--- A descriptor that is there many times takes values, of which there are as few as portions: so its count is exact, though it is kept in 64 bits.
+-- A descriptor that is there many times takes values, of which there are as few as portions: so its count is exact,
+-- though it is kept in 64 bits.
 from_literal : (n more : ℕ) (xs : List Item) → values_ahead (literals_from n more ++ xs) ≡ 0
 from_literal n zero xs = refl
 from_literal n (suc more) xs = refl

@@ -6,7 +6,8 @@ ghost use Rattle.print_text.specs.Items.{text_at};
 use crate::items::Items;
 use caf_base::listing::Text;
 
-/// What a text keeps in one place: an integer, a truth value, or literals: the one with this number in the table of texts, and so many behind it.
+/// What a text keeps in one place: an integer, a truth value, or literals: the one with this number in the table of
+/// texts, and so many behind it.
 #[derive(Clone, Copy)]
 pub enum Portion {
     Integer(i64),
@@ -22,8 +23,8 @@ pub enum Item {
     Literal(usize),
 }
 
-/// What a pass over a format comes to, or a part of one: an item of another type than its descriptor takes; the end of output, where an item is
-/// wanting; or the items that are left.
+/// What a pass over a format comes to, or a part of one: an item of another type than its descriptor takes; the end of
+/// output, where an item is wanting; or the items that are left.
 #[derive(Clone, Copy)]
 pub enum Outcome<'a> {
     Wrong,

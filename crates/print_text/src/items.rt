@@ -6,7 +6,8 @@ ghost use Rattle.print_text.specs.declared.item.Item.TheVariants.{Literal};
 
 use crate::item::{Item, Portion};
 
-/// Literals of a portion that are left: it begins with the one with this number, so many of them are gone, and so many stand behind the first one in all.
+/// Literals of a portion that are left: it begins with the one with this number, so many of them are gone, and so many
+/// stand behind the first one in all.
 #[derive(Clone, Copy)]
 struct Run {
     first: u32,
@@ -65,7 +66,8 @@ impl<'a> Items<'a> {
         }
     }
 
-    /// Those behind the first one; nothing where none is left. So many passes over a format may come behind one with these items.
+    /// Those behind the first one; nothing where none is left. So many passes over a format may come behind one with
+    /// these items.
     pub fn further(self) -> Option<Items<'a>>
         ensures { passes_left result ≡ length (items_left self.entry) }
     {

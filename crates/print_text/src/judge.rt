@@ -85,7 +85,8 @@ fn is_right(format: &[u8], items: Items<'_>) -> bool
     true
 }
 
-/// Whether a PRINT of these portions is a fault: with a format, where an item is of another type than its descriptor takes (13.4). It takes no memory.
+/// Whether a PRINT of these portions is a fault: with a format, where an item is of another type than its descriptor
+/// takes (13.4). It takes no memory.
 pub fn fault_of(texts: &[Text], format: Option<u32>, portions: &[Portion]) -> bool
     ensures faults { IsTrue result → text_of (printing_of texts.now format portions.now) ≡ at_fault format_fault }
     ensures prints { IsFalse result → IsFound (text_of (printing_of texts.now format portions.now)) }

@@ -17,7 +17,8 @@ pub enum DataKind {
     Character,
 }
 
-/// A data edit descriptor so many times, at least once; places that are skipped; or a literal, which stands between two of this delimiter.
+/// A data edit descriptor so many times, at least once; places that are skipped; or a literal, which stands between two
+/// of this delimiter.
 /// Numbers too large for 64 bits are the largest there.
 #[derive(Clone, Copy)]
 pub enum Piece<'a> {
@@ -40,7 +41,8 @@ fn with_digit(number: u64, digit: u64) -> u64
     number.saturating_mul(10).saturating_add(digit)
 }
 
-/// The descriptors whose letter stands before the text, and what stands behind their width and the byte that ends it; nothing where the text ends first.
+/// The descriptors whose letter stands before the text, and what stands behind their width and the byte that ends it;
+/// nothing where the text ends first.
 fn fields(kind: DataKind, times: u64, text: &[u8]) -> Option<(Piece<'_>, &[u8])>
     requires { IsNumeric kind }
     ensures some { IfSome result (λ r. (n : ℕ) → 0 < n → times ≡ kept n → ReadsIn (in_width (is_integer kind) n) 0 text.now r.0 r.1.now) }
@@ -60,7 +62,8 @@ fn fields(kind: DataKind, times: u64, text: &[u8]) -> Option<(Piece<'_>, &[u8])>
     None
 }
 
-/// The literal whose opening delimiter stands before the text (7.4.4), and what stands behind it and one byte more; nothing where the text ends first.
+/// The literal whose opening delimiter stands before the text (7.4.4), and what stands behind it and one byte more;
+/// nothing where the text ends first.
 fn literal(quote: u8, text: &[u8]) -> Option<(Piece<'_>, &[u8])>
     ensures some { IfSome result (λ r. ReadsIn (in_literal quote []) 0 text.now r.0 r.1.now) }
     ensures none { IfNone result (descriptors_in (in_literal quote []) 0 text.now ≡ []) }

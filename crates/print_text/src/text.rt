@@ -68,8 +68,9 @@ fn formatted_text(
     Ok(Text::from_vec(out))
 }
 
-/// The text of a PRINT of these portions, which is no fault: by the format with this number in the table of texts, or list-directed (13.4, 13.10.4). Lines are parted by
-/// the byte 10. A field of 2 ** 32 places and more is want of memory.
+/// The text of a PRINT of these portions, which is no fault: by the format with this number in the table of texts, or
+/// list-directed (13.4, 13.10.4). Lines are parted by the byte 10. A field of 2 ** 32 places and more is want of
+/// memory.
 pub fn text_of(
     alloc: Global,
     texts: &[Text],

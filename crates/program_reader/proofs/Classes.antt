@@ -1,4 +1,5 @@
--- A number of tokens tells of which form a part is that begins with them: its first token, `=` behind the groups there, a colon behind it.
+-- A number of tokens tells of which form a part is that begins with them: its first token, `=` behind the groups there,
+-- a colon behind it.
 use Rattle.std.proofs.Common.{◌≡◌, ℕ, zero, suc, ◌+◌, ◌-◌, Bool, true, false, cond, codes, List, [], ◌∷◌, ◌++◌, inl, inr, refl, ap, sym, ◌∙◌, subst, bytes_eq, nat_lt}
 use Rattle.std.proofs.lemmas.Bool.{cases_Bool, false≢true}
 use Rattle.reader_theory.specs.Words.{Mark, bare, Shallow, Cause, expected, too_deep, Verdict, found, fault}

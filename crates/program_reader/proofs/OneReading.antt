@@ -1,4 +1,5 @@
--- No two parts that a place allows begin one text, each with a rest that its next place allows: so a text is one file at most.
+-- No two parts that a place allows begin one text, each with a rest that its next place allows: so a text is one file
+-- at most.
 use Rattle.std.proofs.Common.{◌≡◌, ℕ, zero, suc, ◌+◌, ◌≤◌, Bool, true, false, cond, codes, List, [], ◌∷◌, ◌++◌, length, Some, ◌⊎◌, inl, inr, refl, ap, sym, ◌∙◌, subst}
 use Rattle.std.proofs.lemmas.Bool.{true≢false, false≢true}
 use Rattle.caf_base.specs.declared.place.Pos.{Pos}

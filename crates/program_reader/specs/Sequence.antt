@@ -1,4 +1,5 @@
--- Which parts may follow which in a program: a place is what is open there and how far its program unit has come (ISO/IEC 1539-1:2018, 5.1 and clause 11).
+-- Which parts may follow which in a program: a place is what is open there and how far its program unit has come
+-- (ISO/IEC 1539-1:2018, 5.1 and clause 11).
 use Rattle.std.specs.Prelude.{ℕ, zero, suc, Bool, true, false, List, [], ◌∷◌, length}
 use Rattle.caf_base.specs.declared.place.Pos.{Pos}
 use Rattle.reader_theory.specs.Words.{Mark, Verdict}

@@ -19,7 +19,8 @@ abbrev pub behind : State → List Part → State
 behind s [] = s
 behind s (b ∷ es) = behind (next s b) es
 
--- the innermost construct that is open, at its first token: a block, else a procedure, else the main program at the file's first token
+-- the innermost construct that is open, at its first token: a block, else a procedure, else the main program at the
+-- file's first token
 abbrev pub innermost : Scope → List Open → Pos → Pos
 innermost k (o ∷ os) first = place_of o
 innermost (q.in_subroutine at t) [] first = at

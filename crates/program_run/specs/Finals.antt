@@ -1,4 +1,5 @@
--- The final values of a run of a checked program: what variables of its main program hold where each image stands after the trace.
+-- The final values of a run of a checked program: what variables of its main program hold where each image stands after
+-- the trace.
 use Rattle.std.specs.Prelude.{ℕ, zero, suc, ◌≡◌, ◌⊎◌, Bool, true, false, List, [], ◌++◌}
 use Rattle.std.specs.List.{list_any}
 use Rattle.walk_theory.specs.Walks.{Config}
@@ -21,8 +22,9 @@ abbrev pub has_failed_in : ℕ → List Entry → Bool
 has_failed_in i t = list_any (λ e. is_failure e.ask) (said_by i t)
 
 module _ (p : checked.Program) (limit : ℕ) (coarrays : List Declared) (n : ℕ) (fails_at : ℕ → ℕ) (words : ℕ) (listed : List Listed) (t : List Entry) where
-  -- What the variables hold on image i: coarrays what its memory holds by the entries that stand there, the others what its program has computed where it stands. That is
-  -- one place, at its next ask or its end: behind a limit, where the limit came.
+  -- What the variables hold on image i: coarrays what its memory holds by the entries that stand there, the others what
+  -- its program has computed where it stands. That is one place, at its next ask or its end: behind a limit, where the
+  -- limit came.
   pub record AreImageFinals (i : ℕ) (own : List Final) : Type 0 where
     pub at : OnLane (Config Act Core)
     pub stands : StandsAfter (program_rules p limit) (program_begins p coarrays n fails_at words) t i at

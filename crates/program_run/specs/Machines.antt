@@ -9,7 +9,8 @@ use Rattle.image_state.specs.declared.state.Rooms.{Rooms}
 use Rattle.image_machine.specs.Engine.{Engine, bare, start_of}
 use Rattle.image_machine.specs.Walk.{ArePlain, machine_step}
 
--- What a machine runs: code whose kinds and ranks, and whose static coarrays, are such as made code has. An image has at most so many coarray cells.
+-- What a machine runs: code whose kinds and ranks, and whose static coarrays, are such as made code has. An image has
+-- at most so many coarray cells.
 pub record IsRunnable (w : Whole) : Type 0 where
   pub plain : ArePlain w.program.steps
   pub coarrays : AreFew w.program.tables.coarrays

@@ -26,8 +26,8 @@ fn machine(alloc: Global, code: &Arc<Code>, k: u32, n: u32, limit: u64) -> Resul
     Ok(machine)
 }
 
-/// The machines of the images from 1 to n, each at its first ask or its end, made one after another. Conditions: there are at most 100,000,000 statements, and the machine
-/// can run the code.
+/// The machines of the images from 1 to n, each at its first ask or its end, made one after another. Conditions: there
+/// are at most 100,000,000 statements, and the machine can run the code.
 pub fn machines(
     alloc: Global,
     code: &Arc<Code>,
@@ -112,8 +112,8 @@ fn machines_at_once<R: Threads + Sync>(
     taken(alloc, code, slots, n, limit)
 }
 
-/// The machines of the images from 1 to n, each at its first ask or its end. What an image does before its first ask touches no other; so where the images run on workers these
-/// do that too, each some of the images.
+/// The machines of the images from 1 to n, each at its first ask or its end. What an image does before its first ask
+/// touches no other; so where the images run on workers these do that too, each some of the images.
 pub(crate) fn first_machines<R: Threads + Sync>(
     rt: &R,
     alloc: Global,

@@ -47,10 +47,13 @@ pub fn told(alloc: Global, ran: Ran<Machine>, listed: &[Listed]) -> Result<Repor
     Ok(with_finals(report, finals))
 }
 
-/// The run of code on n images, in this way, and its report with these names of the coarrays and the final values of the listed variables. Each memory has these coarrays. An image's next statement above
-/// `limit` is its limit; image i fails at its event of the number that `fails` has for it, counted from 1 (0 or no number: it doesn't); with `words` recorded words or
-/// more an image's next step is the limit. Conditions: there are at most 65,536 images and 100,000,000 statements, each static coarray of values has a first value of its
-/// kind for each of its cells, the code has the walks of a checked program, and the machine can run it (`IsRunnable`). On workers the call may wait for them.
+/// The run of code on n images, in this way, and its report with these names of the coarrays and the final values of
+/// the listed variables. Each memory has these coarrays. An image's next statement above `limit` is its limit; image i
+/// fails at its event of the number that `fails` has for it, counted from 1 (0 or no number: it doesn't); with `words`
+/// recorded words or more an image's next step is the limit. Conditions: there are at most 65,536 images and
+/// 100,000,000 statements, each static coarray of values has a first value of its kind for each of its cells, the code
+/// has the walks of a checked program, and the machine can run it (`IsRunnable`). On workers the call may wait for
+/// them.
 pub fn run_code<R: Threads + Wait + Sync, H: Hook + Sync>(
     rt: &R,
     alloc: Global,

@@ -1,5 +1,5 @@
--- What stands beside the code of a program: its literals, its coarrays, and how the frame of its main program begins. And what of it is there when an image
--- starts.
+-- What stands beside the code of a program: its literals, its coarrays, and how the frame of its main program begins.
+-- And what of it is there when an image starts.
 use Rattle.std.specs.Prelude.{ℕ, true, false, cond, List, [], Option, Some, None, map, slice_get}
 use Rattle.caf_base.specs.declared.value.Kind.TheVariants as kinds
 use Rattle.coarray_types.specs.Places.{size_of}

@@ -127,7 +127,8 @@ fn number(value: &Value) -> i64
     }
 }
 
-// The size of an array with these bounds. Behind an empty dimension nothing is counted: there the others may come to any number.
+// The size of an array with these bounds. Behind an empty dimension nothing is counted: there the others may come to
+// any number.
 fn size(dims: &[(i64, i64)]) -> Result<u64, NoMemory>
     ensures { IfOk result (λ n. n ≡ size_of dims.now) }
 {

@@ -1,4 +1,5 @@
-//! What the tables say of the start of an image (ISO/IEC 1539-1:2018, 5.3.5). Each law is the contract of a function that does nothing.
+//! What the tables say of the start of an image (ISO/IEC 1539-1:2018, 5.3.5). Each law is the contract of a function
+//! that does nothing.
 
 ghost use Rattle.std.specs.Prelude.{◌≡◌, map};
 ghost use Rattle.checked_tree.specs.Statements as checked;

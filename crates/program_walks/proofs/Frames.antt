@@ -1,4 +1,5 @@
--- As many frames were begun as bodies are under way: each call of a procedure stands between the beginning of its frame and its end.
+-- As many frames were begun as bodies are under way: each call of a procedure stands between the beginning of its frame
+-- and its end.
 use Rattle.std.proofs.Common.{◌≡◌, ℕ, zero, suc, ◌+◌, ◌≤◌, Bool, true, false, cond, nat_lt, List, [], ◌∷◌, length, min, inl, inr, refl, sym, ap, ◌∙◌, subst, arith}
 use Rattle.std.proofs.lemmas.Bool.{cases_Bool, le-ltb}
 use Rattle.std.specs.Prelude.{ℤ}
@@ -18,7 +19,8 @@ use Rattle.image_acts.specs.Meaning.{effect_of, frames, image_language}
 use Rattle.program_walks.proofs.FrameActs.{ActFits, EffectFits, act_fits}
 
 -- ---- parts
--- Where b bodies are under way and n callers are there, a procedure is entered only where these are as many, and `After` is told of the callers behind the parts.
+-- Where b bodies are under way and n callers are there, a procedure is entered only where these are as many, and
+-- `After` is told of the callers behind the parts.
 abbrev pub PartsFit : ℕ → Parts Act → (ℕ → Type 0) → ℕ → Type 0
 PartsFit b end_parts After n = After n
 PartsFit b (value p q) After n = PartsFit b p (PartsFit b q After) n

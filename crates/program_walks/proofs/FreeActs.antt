@@ -1,5 +1,5 @@
--- Each act but an arrival or a departure may come where nothing is owed, and leaves nothing owed. Each but the beginning and the end of a frame leaves the number
--- of callers as it is.
+-- Each act but an arrival or a departure may come where nothing is owed, and leaves nothing owed. Each but the
+-- beginning and the end of a frame leaves the number of callers as it is.
 use Rattle.std.proofs.Common.{◌≡◌, ℕ, zero, suc, Bool, true, false, cond, List, [], ◌∷◌, refl, sym, subst, ap}
 use Rattle.std.specs.Prelude.{ℤ, pos, ◌+◌, ◌-◌, ◌&&◌, ◌||◌, ◌==◌, not, int_le, min, nat_le, length, nat_lt, take, drop, slice_get, is_some, Option, None, Some}
 use Rattle.std.specs.List.{list_all}

@@ -1,4 +1,5 @@
--- A lane is over only behind a step that ended its image, where its program is over only behind such a step or behind FAIL IMAGE.
+-- A lane is over only behind a step that ended its image, where its program is over only behind such a step or behind
+-- FAIL IMAGE.
 use Rattle.std.proofs.Common.{◌≡◌, ℕ, zero, suc, ◌+◌, false, List, [], ◌∷◌, ◌++◌, inl, inr, refl, sym, ◌∙◌, subst, ap}
 use Rattle.std.specs.Prelude.{◌⊎◌, map, None}
 use Rattle.std.proofs.lemmas.Bool.{cases_Bool, false≢true}
@@ -129,7 +130,8 @@ module _ {C : Type 0} (step : C → Move C Ask Reply) where
   NoneFails [] = Unit {0}
   NoneFails (e ∷ es) = (is_failure e.ask ≡ false) × NoneFails es
 
-  -- the program is over behind these steps, the last one ended the image, or they are the program's and the last one is without recorded words
+  -- the program is over behind these steps, the last one ended the image, or they are the program's and the last one is
+  -- without recorded words
   abbrev Ended : C → List (Said Ask Reply) → Type 0
   Ended x es = ((to : C) × WalkTo step x es to × IsOver (step to) × NoneFails es) ⊎ (HasEndedBy es ⊎ ((to : C) × Walk step x es to × EndsSilent es))
 

@@ -1,5 +1,5 @@
--- A reply may have a form that answers and yet no value to go on with, which no run of lanes brings: then the image comes to the run fault Bounds, and isn't over
--- without a step that ends it.
+-- A reply may have a form that answers and yet no value to go on with, which no run of lanes brings: then the image
+-- comes to the run fault Bounds, and isn't over without a step that ends it.
 use Rattle.std.proofs.Common.{◌≡◌, refl, pos, [], ◌∷◌}
 use Rattle.caf_events.specs.declared.fault.FaultKind.TheVariants as faulty
 use Rattle.checked_tree.specs.Statements as s

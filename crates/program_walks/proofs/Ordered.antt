@@ -53,7 +53,8 @@ pub either_way : (b : Bool) (p q : Parts Act) → Ordered p → Ordered q → Or
 either_way true p q h k = h
 either_way false p q h k = k
 
--- a call: the frame is begun, the procedure's body runs, and the frame ends; beside the beginning of the body and its end no procedure is entered
+-- a call: the frame is begun, the procedure's body runs, and the frame ends; beside the beginning of the body and its
+-- end no procedure is entered
 module _ (k cells arrays need : ℕ) (lays copies results goes_out goes_back : Parts Act) where
   pub ordered_call : Ordered lays → Ordered copies → Ordered results → Ordered goes_out → Ordered goes_back → Plain lays → Plain copies → Plain results → Plain goes_out
       → Ordered (value (value (act (call (a.begin_frame cells arrays need)) end_parts) (value lays copies)) (enter k (value results (value goes_out (value (act (call a.end_frame) end_parts) goes_back)))))

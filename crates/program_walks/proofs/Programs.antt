@@ -1,4 +1,5 @@
--- The walk of a program from its start: it is in order, and over only behind a step that ended its image, or behind FAIL IMAGE.
+-- The walk of a program from its start: it is in order, and over only behind a step that ended its image, or behind
+-- FAIL IMAGE.
 use Rattle.std.proofs.Common.{ℕ, refl, arith}
 use Rattle.std.specs.Prelude.{None}
 use Rattle.walk_theory.specs.Syntax.{body_of}

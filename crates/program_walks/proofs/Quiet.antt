@@ -303,6 +303,6 @@ module _ (e : Environment) where
     quiet_intrinsic (t.image_status i which o) k = both (quiet_as_written o (view.expression e i) (view.team_of e which) (quiet_expression i) (quiet_team which)) (acts tt refl (one tt refl))
     quiet_intrinsic (t.failed_images which) k = both (quiet_team which) (acts tt refl (one tt refl))
     quiet_intrinsic (t.stopped_images which) k = both (quiet_team which) (acts tt refl (one tt refl))
-    quiet_intrinsic (t.number_of_team which) k = both (quiet_team which) (one tt refl)
+    quiet_intrinsic (t.number_of_team which) k = both (quiet_team which) (acts tt refl (one tt refl))
     quiet_intrinsic (t.get_team t.missing) k = one tt refl
     quiet_intrinsic (t.get_team (t.given level)) k = both (quiet_expression level) (one tt refl)

@@ -233,7 +233,7 @@ module _ (e : Environment) where
   quiet_event_wait d until stat order =
       both (quiet_cell d) (both (one tt refl)
       (both (quiet_put_down order (control.or_number e until (pushing (pos 1))) 1 (view.optional_place e stat) (view.optional_size stat) (quiet_or until (pushing (pos 1)) (one tt refl)) (quiet_place e stat))
-      (both (one tt refl) (both (quiet_copying (view.optional_size stat) 2) (both (one tt refl) (both (quiet_settling stat 1 []) (quiet_dropping (view.optional_size stat + 2))))))))
+      (both (quiet_copying (view.optional_size stat) 2) (both (one tt refl) (both (quiet_settling stat 1 []) (quiet_dropping (view.optional_size stat + 2)))))))
 
   quiet_critical : (n : ℕ) (stat : t.OptionalResult) → Ordered (control.critical e n stat)
   quiet_critical n stat = both (quiet_place e stat) (both (one tt refl) (both (quiet_settling stat 1 _) (quiet_dropping (view.optional_size stat))))
@@ -289,8 +289,8 @@ module _ (e : Environment) where
 
   quiet_query : (ps : List Piece) (ds : List ℕ) (d : t.Designator) (count : t.ResultVariable) (stat : t.OptionalResult) → QuietPieces ps → Ordered (sub.query e ps ds d count stat)
   quiet_query ps ds d count stat h =
-      both (quiet_evaluating ps ds h) (both (one tt refl) (both (quiet_fetching ps ds 0 0 2) (both (one tt refl) (both (one tt refl) (both (quiet_storing (depth ps ds 1 + 1) count)
-      (both (one tt refl) (both (quiet_settling stat (depth ps ds 2 + 1) []) (quiet_dropping (sizes ps ds)))))))))
+      both (quiet_evaluating ps ds h) (both (quiet_fetching ps ds 0 0 2) (both (one tt refl) (both (one tt refl) (both (quiet_storing (depth ps ds 1 + 1) count)
+      (both (one tt refl) (both (quiet_settling stat (depth ps ds 2 + 1) []) (quiet_dropping (sizes ps ds))))))))
 
   quiet_as_array : (rank : ℕ) (p : Parts Act) → Ordered p → Ordered (sub.as_array e rank p)
   quiet_as_array zero p h = both (one tt refl) (both h (one tt refl))

@@ -36,7 +36,8 @@ is_last ask reply = false
 abbrev pub due_after : Ask → Reply → Due
 due_after ask reply = cond (is_last ask reply) ended (owing (departure_after ask reply))
 
--- A program asks for no step of a failure but the first one, and for no limit but that of statements: the others are its lane's.
+-- A program asks for no step of a failure but the first one, and for no limit but that of statements: the others are
+-- its lane's.
 abbrev pub IsOfProgram : Ask → Type 0
 IsOfProgram (asks.Mark owner) = ⊥
 IsOfProgram (asks.Free owner span) = ⊥

@@ -1,5 +1,6 @@
--- Parts, forms and blocks that keep the order of arrivals and departures, whatever has been computed and whatever the replies are: what they ask may come, behind
--- them no departure is owed, and they are over only behind the program's last step.
+-- Parts, forms and blocks that keep the order of arrivals and departures, whatever has been computed and whatever the
+-- replies are: what they ask may come, behind them no departure is owed, and they are over only behind the program's
+-- last step.
 use Rattle.std.specs.Prelude.{◌≡◌, List, [], ◌∷◌, None}
 use Rattle.caf_events.specs.declared.ask.Ask.{Ask}
 use Rattle.caf_events.specs.declared.reply.Reply.{Reply}
@@ -16,7 +17,8 @@ use Rattle.program_walks.specs.Dues.{Due, ended, owing, due_after, MayCome}
 abbrev pub IsClear : Due → Core → Type 0
 IsClear due core = due ≡ owing None
 
--- what an act comes to may come, and `After` holds behind it; a run fault comes only where no departure is owed, and behind a last ask nothing more does
+-- what an act comes to may come, and `After` holds behind it; a run fault comes only where no departure is owed, and
+-- behind a last ask nothing more does
 abbrev pub EffectKeeps : Effect Core Ask Reply → (Due → Core → Type 0) → Due → Type 0
 EffectKeeps (goes_to c) After due = After due c
 EffectKeeps (faults k) After due = due ≡ owing None

@@ -19,7 +19,8 @@ NothingAfterFail es = (before after : List (Said Ask Reply)) (e : Said Ask Reply
 abbrev pub HasFailedBy : List (Said Ask Reply) → Type 0
 HasFailedBy es = (before : List (Said Ask Reply)) × (e : Said Ask Reply) × (es ≡ before ++ e ∷ []) × (e.ask ≡ asks.Fail)
 
--- of the walks of a program, whatever the replies are that answer its asks: the steps of its failure behind FAIL IMAGE are its lane's
+-- of the walks of a program, whatever the replies are that answer its asks: the steps of its failure behind FAIL IMAGE
+-- are its lane's
 pub record IsOrdered {C : Type 0} (step : C → Move C Ask Reply) (first : C) : Type 0 where
   pub joins : (es : List (Said Ask Reply)) (c : C) → AllAnswer Answers es → Walk step first es c → Joins es
   pub nothing_after : (es : List (Said Ask Reply)) (c : C) → AllAnswer Answers es → Walk step first es c → NothingAfterEnd es

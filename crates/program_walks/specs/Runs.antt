@@ -16,7 +16,8 @@ use Rattle.core_runs.specs.Moments.{Rules}
 use Rattle.image_lanes.specs.Lanes.{OnLane, lane_step}
 use Rattle.image_lanes.specs.LaneRuns.{lanes_begin}
 
--- The tree's walk goes on with every reply: which replies a machine that runs the program can hear is the machine's own to say.
+-- The tree's walk goes on with every reply: which replies a machine that runs the program can hear is the machine's own
+-- to say.
 abbrev pub program_rules : checked.Program → (limit : ℕ) → Rules (OnLane (Config Act Core)) MadeMemory ℕ
 program_rules p limit = full_rules (lane_step (walk_step p limit)) (λ l reply. Unit {0})
 

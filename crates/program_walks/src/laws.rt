@@ -43,37 +43,41 @@ ghost use Rattle.program_walks.specs.Runs.{program_rules, program_begins, code_r
 use caf_events::walker::Walker;
 use core_runs::order_laws::Choices;
 
-/// Each statement and construct of a program keeps the order of arrivals and departures, whatever has been computed and whatever the replies are.
+/// Each statement and construct of a program keeps the order of arrivals and departures, whatever has been computed and
+/// whatever the replies are.
 pub fn law_bodies_keep()
     ensures { (p : checked.Program) → BodiesKeep (bodies p) }
 {}
 
-/// Each walk of a program is in order: an arrival that joined a round is directly followed by its departure, a departure comes nowhere else, nothing follows
-/// the step that ends the image or begins its failure, and the program asks for none of its lane's steps.
+/// Each walk of a program is in order: an arrival that joined a round is directly followed by its departure, a
+/// departure comes nowhere else, nothing follows the step that ends the image or begins its failure, and the program
+/// asks for none of its lane's steps.
 pub fn law_program_goes_in_order()
     ensures { (p : checked.Program) (limit me images : ℕ) → GoesInOrder (walk_step p limit) (start_of p me images) }
 {}
 
-/// It is over only behind a step that ended its image, or behind FAIL IMAGE, whatever the replies are that answer its asks: it never ends by itself for want of
-/// an operand or of a frame.
+/// It is over only behind a step that ended its image, or behind FAIL IMAGE, whatever the replies are that answer its
+/// asks: it never ends by itself for want of an operand or of a frame.
 pub fn law_program_ends_in_order()
     ensures { (p : checked.Program) (limit me images : ℕ) → EndsInOrder (walk_step p limit) (start_of p me images) }
 {}
 
-/// In the words of runs: such walks are ordered, and nothing follows FAIL IMAGE, which is the only step of a failure that a program makes.
+/// In the words of runs: such walks are ordered, and nothing follows FAIL IMAGE, which is the only step of a failure
+/// that a program makes.
 pub fn law_order_in_words<M: Walker>()
     ensures { (first : M.Config) → GoesInOrder M.step first → IsOrdered M.step first }
 {}
 
-/// A lane over a program whose walks are in order keeps arrivals and departures together, says nothing behind the image's end, and makes the steps of its
-/// failure by the list of them.
+/// A lane over a program whose walks are in order keeps arrivals and departures together, says nothing behind the
+/// image's end, and makes the steps of its failure by the list of them.
 pub fn law_lane_goes_in_order<M: Walker>()
     ensures { (image fails_at limit : ℕ) (first : M.Config) → GoesInOrder M.step first
         → (es : List (Said Ask Reply)) (c : OnLane M.Config) → AllAnswer Answers es → Walk (lane_step M.step) (lane_start image fails_at limit first) es c
         → Joins es × NothingAfterEnd es × FailsFrom image es [] }
 {}
 
-/// It is orderly; and it is over only behind a step that ended its image, where the program is so or behind FAIL IMAGE, and is in order.
+/// It is orderly; and it is over only behind a step that ended its image, where the program is so or behind FAIL IMAGE,
+/// and is in order.
 pub fn law_lane_orderly<M: Walker>()
     ensures orderly { (image fails_at limit : ℕ) (first : M.Config) → GoesInOrder M.step first → IsOrderly (lane_step M.step) (lane_start image fails_at limit first) }
     ensures ends { (image fails_at limit : ℕ) (first : M.Config) → GoesInOrder M.step first → EndsInOrder M.step first → EndsByItself (lane_step M.step) (lane_start image fails_at limit first) }
@@ -85,16 +89,16 @@ pub fn law_objects_answer()
     ensures memory { (made : MadeMemory) (h : List Entry) (i : ℕ) (ask : Ask) → IsTrue (memory_ready made h i ask) → Answers ask (memory_reply made h i ask) }
 {}
 
-/// At each moment of a run of lanes an image hears the reply that is due, where its machine hears every reply; or where it hears those that tell of no team, and
-/// no other is due to a program then.
+/// At each moment of a run of lanes an image hears the reply that is due, where its machine hears every reply; or where
+/// it hears those that tell of no team, and no other is due to a program then.
 pub fn law_lane_hears_due<M: Walker>()
     ensures all { HearsEach M.step M.hears (λ reply. Unit {0}) → (m : Moment (OnLane M.Config) MadeMemory ℕ) → HearsDue (lane_rules M.step M.hears) m }
     ensures no_team { HearsEach M.step M.hears TellsNoTeam
         → (m : Moment (OnLane M.Config) MadeMemory ℕ) → DueToPrograms M.step TellsNoTeam (lane_rules M.step M.hears) m → HearsDue (lane_rules M.step M.hears) m }
 {}
 
-/// A run of lanes over programs whose walks are in order is fit, where their machines hear every reply; or where they hear those that tell of no team, and at each
-/// moment of the run no other is due to a program.
+/// A run of lanes over programs whose walks are in order is fit, where their machines hear every reply; or where they
+/// hear those that tell of no team, and at each moment of the run no other is due to a program.
 pub fn law_lanes_fit<M: Walker>()
     ensures all { (coarrays : List Declared) (n : ℕ) (first : ℕ → M.Config) (fails_at : ℕ → ℕ) (words : ℕ) → ((i : ℕ) → IsOneOf n i → GoesInOrder M.step (first i))
         → HearsEach M.step M.hears (λ reply. Unit {0})
@@ -106,13 +110,14 @@ pub fn law_lanes_fit<M: Walker>()
         → IsFit (lane_rules M.step M.hears) (lanes_begin coarrays n first fails_at words) }
 {}
 
-/// The run of a checked program is fit, on every number of images, with every list of failures and every limit: its traces are core runs, and lawful.
+/// The run of a checked program is fit, on every number of images, with every list of failures and every limit: its
+/// traces are core runs, and lawful.
 pub fn law_program_fit()
     ensures { (p : checked.Program) (limit : ℕ) (coarrays : List Declared) (n : ℕ) (fails_at : ℕ → ℕ) (words : ℕ) → IsFit (program_rules p limit) (program_begins p coarrays n fails_at words) }
 {}
 
-/// So its traces are lawful: the trace of each moment that its steps lead to is a core run, and each core run is a lawful trace, where each static coarray of values
-/// has a first value of its kind for each of its cells.
+/// So its traces are lawful: the trace of each moment that its steps lead to is a core run, and each core run is a
+/// lawful trace, where each static coarray of values has a first value of its kind for each of its cells.
 pub fn law_program_runs()
     ensures kept { (p : checked.Program) (limit : ℕ) (coarrays : List Declared) (n : ℕ) (fails_at : ℕ → ℕ) (words : ℕ) (m : Moment (OnLane (Config Act Core)) MadeMemory ℕ) (t : List Entry)
         → IsKept (program_rules p limit) (program_begins p coarrays n fails_at words) m → IsTraceOf m.events t
@@ -169,7 +174,8 @@ pub fn law_lanes_run_the_same<M: Walker, N: Walker, S: Choices>()
         → IsWaiting (lane_rules N.step N.hears) (lanes_begin coarrays n first' fails_at words) t i line ask }
 {}
 
-/// The runs of a program's code are the runs of the program: a trace is a core run of lanes over the code exactly where it is one of lanes over the tree's walk.
+/// The runs of a program's code are the runs of the program: a trace is a core run of lanes over the code exactly where
+/// it is one of lanes over the tree's walk.
 pub fn law_code_runs()
     ensures onward { (p : checked.Program) (limit : ℕ) (coarrays : List Declared) (n : ℕ) (fails_at : ℕ → ℕ) (words : ℕ) (t : List Entry)
         → IsCoreRun (program_rules p limit) (program_begins p coarrays n fails_at words) t → IsCoreRun (code_rules p limit) (code_begins p coarrays n fails_at words) t }

@@ -22,7 +22,8 @@ pub record Meet (b : List Entry) (x : Entry) (g : List Entry) (e : Entry) : Type
   pub here : Within cell (cells_of g e)
   pub met : meets (class_of x) (class_of e) ≡ true
 
--- The two are a race: they are of different images, conflict, and their segments are unordered (ISO/IEC 1539-1:2018, 11.6.2).
+-- The two are a race: they are of different images, conflict, and their segments are unordered (ISO/IEC 1539-1:2018,
+-- 11.6.2).
 pub record RacesWith (n : ℕ) (b : List Entry) (x : Entry) (g : List Entry) (e : Entry) : Type 0 where
   pub images : x.image.0 ≡ e.image.0 → ⊥
   pub meeting : Meet b x g e

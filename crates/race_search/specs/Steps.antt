@@ -1,4 +1,5 @@
--- What one step is to the close of rounds and of SYNC IMAGES, and how often an image has made such steps (ISO/IEC 1539-1:2018, 11.6.3, 11.6.4).
+-- What one step is to the close of rounds and of SYNC IMAGES, and how often an image has made such steps (ISO/IEC
+-- 1539-1:2018, 11.6.3, 11.6.4).
 use Rattle.std.specs.Prelude.{ℕ, Bool, true, false, ◌&&◌, ◌||◌, not, nat_eq, nat_le, cond, List}
 use Rattle.caf_events.specs.declared.ask.Ask.{Ask}
 use Rattle.caf_events.specs.declared.ask.Ask.TheVariants as asks
@@ -60,7 +61,8 @@ abbrev pub closed_by : ℕ → List Entry → Close → List Entry → Bool
 closed_by n g (closes.Round team round) = round_closed n team round
 closed_by n g (closes.Pairing image) = pair_closed g image
 
--- by the entries b the other image has named this one so often as this one has named it by the entries g, is gone or has stopped
+-- by the entries b the other image has named this one so often as this one has named it by the entries g, is gone or
+-- has stopped
 abbrev pub has_met : ℕ → List Entry → List Entry → ℕ → Bool
 has_met i g b j = nat_le (naming i j (happened images g)) (naming j i (happened images b)) || is_over j b
 

@@ -1,4 +1,5 @@
-//! The close of a round and of SYNC IMAGES, and the images that were gone by it (ISO/IEC 1539-1:2018, 11.6.3, 11.6.4, 11.6.11).
+//! The close of a round and of SYNC IMAGES, and the images that were gone by it (ISO/IEC 1539-1:2018, 11.6.3, 11.6.4,
+//! 11.6.11).
 
 ghost use Rattle.std.specs.Prelude.{◌≡◌, ◌||◌, ◌<◌, ◌≤◌, nat_le, ℕ, List, [], map, filter, IfOk, MatchOption};
 ghost use Rattle.std.specs.List.{list_any, list_all, range_with_len};
@@ -135,7 +136,8 @@ fn round_closed(
     Ok(closed)
 }
 
-// Whether the other image has named this one so often in the entries `then` as this one has named it, is gone or has stopped.
+// Whether the other image has named this one so often in the entries `then` as this one has named it, is gone or has
+// stopped.
 fn has_met(alloc: Global, image: u32, before: &[Entry], then: &[Entry], other: u32) -> bool
     ensures { result ≡ has_met image before.now then.now other }
 {

@@ -27,7 +27,8 @@ pub struct Partner {
     pub cell: CellName,
 }
 
-// Whether neither segment precedes the other: that of x after the entries b, which `again` has recorded, and that of e after the entries g, which `s` has.
+// Whether neither segment precedes the other: that of x after the entries b, which `again` has recorded, and that of e
+// after the entries g, which `s` has.
 fn is_apart(
     n: u32,
     again: &Recorder,
@@ -140,7 +141,8 @@ fn cell_at(
     cell
 }
 
-// The first entry that is a race with e, which touches these cells: the entries are recorded once more, for the clock of each where it stands.
+// The first entry that is a race with e, which touches these cells: the entries are recorded once more, for the clock
+// of each where it stands.
 fn scan(
     alloc: Global,
     n: u32,

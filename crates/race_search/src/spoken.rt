@@ -31,7 +31,8 @@ fn only(alloc: Global, image: Option<u32>) -> Result<Vec<u32>, NoMemory>
     Ok(images)
 }
 
-// The members of the team that were gone by the close of this round: of the initial team they are kept, of others the entries tell.
+// The members of the team that were gone by the close of this round: of the initial team they are kept, of others the
+// entries tell.
 fn missed(
     alloc: Global,
     n: u32,
@@ -168,7 +169,8 @@ fn speaks_by(
     }
 }
 
-/// The failed images of which the status of the entry, which has this ask and reply, speaks, after these entries of a run of n images.
+/// The failed images of which the status of the entry, which has this ask and reply, speaks, after these entries of a
+/// run of n images.
 pub fn spoken(
     alloc: Global,
     n: u32,

@@ -81,8 +81,8 @@ impl Watcher {
         })
     }
 
-    /// The clock that covers the last segments of the failed images of which the status of the entry, which has this ask and reply, speaks (11.6.11), None
-    /// where it speaks of none.
+    /// The clock that covers the last segments of the failed images of which the status of the entry, which has this
+    /// ask and reply, speaks (11.6.11), None where it speaks of none.
     pub fn told(
         &self,
         alloc: Global,
@@ -103,7 +103,8 @@ impl Watcher {
         clock
     }
 
-    /// Records the next entry, which has this ask and reply, and touches this. Condition: no entry so far is unordered with it, or it is no access.
+    /// Records the next entry, which has this ask and reply, and touches this. Condition: no entry so far is unordered
+    /// with it, or it is no access.
     pub fn follow(
         &mut self,
         alloc: Global,

@@ -127,9 +127,9 @@ fn partner_at(
     partner
 }
 
-/// The first race of the trace of a run of n images: the earliest entry that is a race with an earlier one, the earliest such partner, and the least cell
-/// that both touch; None exactly where the trace has no race (ISO/IEC 1539-1:2018, 11.6.2). Condition: the trace is lawful for some coarrays, and has fewer
-/// than 2^62 entries.
+/// The first race of the trace of a run of n images: the earliest entry that is a race with an earlier one, the
+/// earliest such partner, and the least cell that both touch; None exactly where the trace has no race (ISO/IEC
+/// 1539-1:2018, 11.6.2). Condition: the trace is lawful for some coarrays, and has fewer than 2^62 entries.
 pub fn watch(alloc: Global, trace: &[Entry], n: u32) -> Result<Option<Race>, NoMemory>
     requires lawful { (coarrays : List Declared) × IsLawfulTrace coarrays n trace.now }
     requires short { length trace.now < 2 ^ 62 }

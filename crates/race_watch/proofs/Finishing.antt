@@ -1,4 +1,5 @@
--- An entry that completes a segment: its image's clock takes what is released to it, then what it is told of, and counts one more segment.
+-- An entry that completes a segment: its image's clock takes what is released to it, then what it is told of, and
+-- counts one more segment.
 use Rattle.std.proofs.Common.{◌≡◌, ℕ, ◌+◌, ◌-◌, ◌<◌, ◌≤◌, ◌^◌, max, true, List, [], ◌∷◌, ◌++◌, length, get_or, set, map, take, drop, refl, ap, sym, ◌∙◌, subst, arith, length-set, get_or-set_same, Option}
 use Rattle.std.proofs.lemmas.List.{set-set, take-map, drop-map}
 use Rattle.std.specs.List.{flat_map}

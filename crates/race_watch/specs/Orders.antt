@@ -51,12 +51,13 @@ pub record NumberedKept (n : ℕ) (g : List Entry) (key : Key) (q : Numbered) : 
   pub many : length gone ≡ q.first
   pub covers : EachCovered (edges n) g (waiting (view n) key g) (gone ++ map count_of q.clocks)
 
--- Of the SYNC IMAGES of image j that name image h, the clock of the one that corresponds to the last of h that names j is still kept, and so are all behind it.
+-- Of the SYNC IMAGES of image j that name image h, the clock of the one that corresponds to the last of h that names j
+-- is still kept, and so are all behind it.
 abbrev pub Needed : List (List Numbered) → Type 0
 Needed table = (j h : ℕ) → (numbered_at table j h).first ≤ count_in (numbered_at table h j) - 1
 
--- What is kept of segment order after these entries: of each image the clock of its present segment, ticked, how many segments it has completed, and the
--- images that it named last; and the clocks of what waits at each key.
+-- What is kept of segment order after these entries: of each image the clock of its present segment, ticked, how many
+-- segments it has completed, and the images that it named last; and the clocks of what waits at each key.
 pub record Ordered (n : ℕ) (g : List Entry) (s : Order) : Type 0 where
   pub image_count : length s.images.items ≡ n
   pub completed_count : length s.completed.items ≡ n
@@ -102,7 +103,8 @@ pub record Forgets (bound : ℕ) (q q' : Numbered) : Type 0 where
 abbrev pub ForgetsUsed : List (List Numbered) → List (List Numbered) → Type 0
 ForgetsUsed old new = (j h : ℕ) → Forgets (count_in (numbered_at old h j) - 1) (numbered_at old j h) (numbered_at new j h)
 
--- Each key is kept as it is after the turn of an act of image i; of a pair, clocks may be forgotten at which no image has to look any more.
+-- Each key is kept as it is after the turn of an act of image i; of a pair, clocks may be forgotten at which no image
+-- has to look any more.
 pub record Turned (n i : ℕ) (a : Act) (own : List ℕ) (s s' : Order) : Type 0 where
   pub rounds : (t k : ℕ) → clock_at s'.rounds t k ≡ turned_counts (turn (round t k) i a) own (clock_at s.rounds t k)
   pub locks : (c : Cell) → 0 < c.owner → c.owner ≤ n → lock_at n s' c ≡ turned_counts (turn (lock c) i a) own (lock_at n s c)
@@ -135,7 +137,8 @@ pub record GoingOn (n : ℕ) (g : List Entry) (e : Entry) (a : Act) (s : Order) 
   pub act : act_of e ≡ a
   pub ordered : Ordered n g s
 
--- The same where it completes one: these counts cover the last segments of the failed images of which its status speaks.
+-- The same where it completes one: these counts cover the last segments of the failed images of which its status
+-- speaks.
 pub record Completing (n : ℕ) (g : List Entry) (e : Entry) (a : Act) (s : Order) (told : Option (List ℕ)) : Type 0 where
   pub first : 0 < e.image.0
   pub last : e.image.0 ≤ n

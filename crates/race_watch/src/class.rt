@@ -8,7 +8,8 @@ ghost use Rattle.race_watch.specs.Classes.{as_class};
 
 use caf_base::value::AtomicOp;
 
-/// A reference, a definition, an atomic reference, another atomic action, an allocation or deallocation, or an action on a lock or event.
+/// A reference, a definition, an atomic reference, another atomic action, an allocation or deallocation, or an action
+/// on a lock or event.
 #[derive(Clone, Copy, PartialEq, Eq, Debug)]
 pub enum Class {
     Reads,

@@ -194,7 +194,8 @@ impl NumberedTable {
         }
     }
 
-    /// The clock is joined with that of this number, from 0, at a line and place, where there is one. Condition: that one isn't forgotten.
+    /// The clock is joined with that of this number, from 0, at a line and place, where there is one. Condition: that
+    /// one isn't forgotten.
     pub fn look(&self, line: usize, place: usize, number: usize, clock: &mut Clock)
         requires kept { (numbered_at self.now line place).first ≤ number }
         requires sizes { All (λ c. length c ≡ length clock.old) (numbered_at self.now line place).clocks }

@@ -44,10 +44,11 @@ impl Named {
     }
 }
 
-/// Of each image the clock of its present segment, ticked, how many segments it has completed, and whom it named last; and the clocks of the segments that
-/// wait at a round of a team, a lock, a CRITICAL construct, an event, or for the SYNC IMAGES that corresponds. Locks and events are in the line of their
-/// coarray; constructs are in line 0; the SYNC IMAGES of image j that name image h are in line j at place h; of these the clocks are forgotten at
-/// which image h has no more to look.
+/// Of each image the clock of its present segment, ticked, how many segments it has completed, and whom it named last;
+/// and the clocks of the segments that wait at a round of a team, a lock, a CRITICAL construct, an event, or for the
+/// SYNC IMAGES that corresponds. Locks and events are in the line of their coarray; constructs are in line 0; the SYNC
+/// IMAGES of image j that name image h are in line j at place h; of these the clocks are forgotten at which image h has
+/// no more to look.
 #[derive(Drop)]
 pub struct Order {
     pub(crate) images: Vec<Clock>,
@@ -60,7 +61,8 @@ pub struct Order {
     pub(crate) pairs: NumberedTable,
 }
 
-// The image's segment is completed: its clock takes that of the failed images that it was told of, and its next segment begins.
+// The image's segment is completed: its clock takes that of the failed images that it was told of, and its next segment
+// begins.
 fn finish(images: &mut Vec<Clock>, completed: &mut Vec<u64>, image: ImageNo, told: &Option<Clock>)
     requires first { 0 < image.0 }
     requires last { (image.0 ≤ length images.old.items) × (image.0 ≤ length completed.old.items) }
@@ -338,7 +340,8 @@ fn look_each(pairs: &NumberedTable, image: ImageNo, named: &[u32], clock: &mut C
     }
 }
 
-// Of the SYNC IMAGES of each of these images all before the one that corresponds to this image's last are forgotten: it has no more to look at them.
+// Of the SYNC IMAGES of each of these images all before the one that corresponds to this image's last are forgotten: it
+// has no more to look at them.
 fn forget_each(pairs: &mut NumberedTable, image: ImageNo, named: &[u32])
     requires { CanCount pairs.old }
     ensures { ForgetsUsed pairs.old pairs.new }
@@ -434,7 +437,8 @@ impl Order {
         self.completed[(image.0 - 1) as usize]
     }
 
-    /// The next entry of the trace: what its act does. `told` covers the last segments of the failed images of which its status speaks.
+    /// The next entry of the trace: what its act does. `told` covers the last segments of the failed images of which
+    /// its status speaks.
     #[inline(always)]
     pub fn step(
         &mut self,

@@ -163,7 +163,8 @@ impl QueueTable {
         self.rows[line].put(alloc, place, own)
     }
 
-    /// The first `count` segments, or all where there are fewer, are taken from a line and place: the clock is joined with theirs.
+    /// The first `count` segments, or all where there are fewer, are taken from a line and place: the clock is joined
+    /// with theirs.
     pub fn take(&mut self, line: usize, place: usize, count: u64, clock: &mut Clock)
         requires { All (λ c. length c ≡ length clock.old) (queue_at self.old line place) }
         ensures queues { (l k : ℕ) → queue_at self.new l k ≡ cond (nat_eq l line && nat_eq k place) (drop count (queue_at self.old l k)) (queue_at self.old l k) }

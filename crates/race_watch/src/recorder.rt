@@ -28,8 +28,8 @@ use caf_events::reply::Reply;
 use segment_clock::clock::Clock;
 use std::alloc::Global;
 
-/// The clocks of images and of what waits, the marks of cells, what is handed on by flags, and for each line how many cells its
-/// coarray was last given.
+/// The clocks of images and of what waits, the marks of cells, what is handed on by flags, and for each line how many
+/// cells its coarray was last given.
 #[derive(Drop)]
 pub struct Recorder {
     pub(crate) order: Order,
@@ -198,7 +198,8 @@ impl Recorder {
         touch_by(alloc, n, before, ask, reply, made)
     }
 
-    /// Whether an entry so far conflicts with the next one, which touches this, and stands in a segment that doesn't precede its segment.
+    /// Whether an entry so far conflicts with the next one, which touches this, and stands in a segment that doesn't
+    /// precede its segment.
     pub fn clash(&self, n: u32, before: &[Entry], e: &Entry, touch: &Option<Touch>) -> bool
         requires fits { FitsRun n before.now e.now }
         requires recorded { IsRecorded n before.now self.now }
@@ -348,8 +349,8 @@ impl Recorder {
         }
     }
 
-    /// Records the next entry, which has this ask and reply, and touches this. `told` covers the last segments of the failed images of which its status
-    /// speaks. Condition: no entry so far is unordered with it, or it is no access.
+    /// Records the next entry, which has this ask and reply, and touches this. `told` covers the last segments of the
+    /// failed images of which its status speaks. Condition: no entry so far is unordered with it, or it is no access.
     pub fn record(
         &mut self,
         alloc: Global,

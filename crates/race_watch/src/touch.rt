@@ -91,7 +91,8 @@ fn makes(
     }))
 }
 
-/// What an ask with its reply touches after these entries of a run of n images; `made` is the number of cells that the coarray of a deallocation has.
+/// What an ask with its reply touches after these entries of a run of n images; `made` is the number of cells that the
+/// coarray of a deallocation has.
 #[inline(always)]
 pub fn touch_by(
     alloc: Global,

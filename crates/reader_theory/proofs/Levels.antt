@@ -1,4 +1,5 @@
--- Tokens that are marked by their level: one token, what stands behind one or between two, and where no level is left for these.
+-- Tokens that are marked by their level: one token, what stands behind one or between two, and where no level is left
+-- for these.
 use Rattle.std.proofs.Common.{◌≡◌, ℕ, suc, ◌-◌, ◌≤◌, Bool, true, false, List, [], ◌∷◌, ◌++◌, refl, ap, sym, ◌∙◌, subst, arith, zero, length}
 use Rattle.std.proofs.lemmas.Bool.{le-ltb, lt-ltb}
 use Rattle.reader_theory.specs.Words.{Mark, bare, Shallow, ◌⟫◌, Verdict}

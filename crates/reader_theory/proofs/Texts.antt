@@ -124,7 +124,8 @@ module _ {T A S I : Type 0} (L : I → A → List (Mark T) → Type 0) (p : I �
         (let g = alive s f in subst (λ js. Answers (Ways L forms next final s js) ts (tries p next (from_here p forms next final n) s js ts)) (sym g.2) (tries_answer (from_here p forms next final n) s g.0 g.1 ts (λ r us k. exact_rest_of_text n r us (omega arith)))))
   ]
 
--- Each text has one reading, where no two parts that a place allows begin one text with rests that they allow, and each is longer than none.
+-- Each text has one reading, where no two parts that a place allows begin one text with rests that they allow, and each
+-- is longer than none.
 module _ {T A S I : Type 0} (L : I → A → List (Mark T) → Type 0) (forms : S → List I) (next : S → A → S) (final : S → Bool) (longer : (s : S) (a : A) (w : List (Mark T)) → AnyOf L (forms s) a w → 1 ≤ length (bare w)) (one_part : OnePart L forms next final) where
   not_none : (s : S) (a : A) (u v : List (Mark T)) → AnyOf L (forms s) a u → [] ≡ bare u ++ bare v → ⊥
   not_none s a u v h e = let l = longer s a u h in let k = ap length e ∙ length-append (bare u) (bare v) in absurd (omega arith)

@@ -1,5 +1,6 @@
--- When a reader is exact: what it finds is a word, each word is found, and a fault stands at the first token with which no
--- word goes on. It says nothing of the negative side: that no word goes on follows for a whole text, once, from these equations.
+-- When a reader is exact: what it finds is a word, each word is found, and a fault stands at the first token with which
+-- no word goes on. It says nothing of the negative side: that no word goes on follows for a whole text, once, from
+-- these equations.
 use Rattle.std.specs.Prelude.{◌≡◌, Bool, true, false, cond, List, [], ◌∷◌, ◌++◌}
 use Rattle.reader_theory.specs.Words.{Mark, Language, bare, Shallow, expected, too_deep, Verdict, found, fault}
 use Rattle.reader_theory.specs.Readers.{rest_of}

@@ -105,7 +105,8 @@ RepetitionIsExact {T} {A} {S} L =
     (p : S → List T → Verdict T A) (next : S → A → S) (test first more : T → Bool) → ((s : S) → Exact (L s) first (p s)) → ((s : S) → HeadedBy (L s) test)
     → Wider more first → Wider more test → ((x : T) → test x ≡ true → first x ≡ false) → (s : S) → Exact (λ es w. Items_by L next es s w) more (many_by test p next s)
 
--- no level is left: each word begins with a token that passes, at which a level too deep begins; and each such token begins a word
+-- no level is left: each word begins with a token that passes, at which a level too deep begins; and each such token
+-- begins a word
 abbrev pub SunkIsExact : {T A : Type 0} → Language T A → Type 0
 SunkIsExact {T} {A} L =
     (test : T → Bool) (some : A) (w : List (Mark T)) → L some w → ((a : A) (w : List (Mark T)) → L a w → Sunken test w)
@@ -141,7 +142,8 @@ BetterIsExact {T} {A} L M K = IsEither L M K → (ts : List T) (v u : Verdict T 
 abbrev pub BetterReadsOnce : {T A : Type 0} → Language T A → Language T A → Language T A → Type 0
 BetterReadsOnce {T} {A} L M K = IsEither L M K → OneReading L → OneReading M → ((ts : List T) (a b : A) → Reads L ts a → Reads M ts b → ⊥) → OneReading K
 
--- a part, then a whole text: where the part is read, the rest is a whole text by itself; the text behind any part can be some word
+-- a part, then a whole text: where the part is read, the rest is a whole text by itself; the text behind any part can
+-- be some word
 abbrev pub TailIsExact : {T A B C : Type 0} → Language T A → (A → Language T B) → (A → B → C) → Type 0
 TailIsExact {T} {A} {B} L M f =
     (p : List T → Verdict T A) (q : A → List T → Verdict T B) (more : T → Bool) → Exact L more p → ((a : A) (b : B) (w : List (Mark T)) → M a b w → Stops more (bare w))

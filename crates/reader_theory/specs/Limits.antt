@@ -1,6 +1,6 @@
--- Why a text is refused, judged by all words, those with levels too deep among them: no word goes on so at all, or each that
--- does has a token too deep, and the place is that of the first such token. (`StopsAt` says so where a level's first token
--- can begin nothing else; where it can, as a keyword that may also be a name, it stops further on.)
+-- Why a text is refused, judged by all words, those with levels too deep among them: no word goes on so at all, or each
+-- that does has a token too deep, and the place is that of the first such token. (`StopsAt` says so where a level's
+-- first token can begin nothing else; where it can, as a keyword that may also be a name, it stops further on.)
 use Rattle.std.specs.Prelude.{ℕ, ◌≡◌, ◌+◌, ◌-◌, ◌<◌, Bool, true, false, cond, min, List, [], ◌∷◌, ◌++◌, length, Option, Some, None}
 use Rattle.reader_theory.specs.Words.{Mark, Language, bare, Shallow, expected, too_deep, Verdict, found, fault}
 use Rattle.reader_theory.specs.Refusals.{Reads, Begins}
@@ -19,7 +19,8 @@ abbrev pub FirstSunk : {T A : Type 0} → Language T A → List T → Option ℕ
 FirstSunk L front None = (d : ℕ) → SinksAt L front d → ⊥
 FirstSunk L front (Some d) = SinksAt L front d × ((e : ℕ) → e < d → SinksAt L front e → ⊥)
 
--- why no word goes on: none begins so, whatever its levels; or some do, and the first token too deep among them has so many before it
+-- why no word goes on: none begins so, whatever its levels; or some do, and the first token too deep among them has so
+-- many before it
 pub data Reason : Type 0 where
   no_word : Reason
   level_at : ℕ → Reason
@@ -41,7 +42,8 @@ pub record RefusedFor {T A : Type 0} (L : Language T A) (ts : List T) (why : Rea
   pub begins : Begins L front
   pub stops : Halts L front why rest
 
--- How the place is found: from the answers under the limit, and whether under a limit that is out of reach a word goes on.
+-- How the place is found: from the answers under the limit, and whether under a limit that is out of reach a word goes
+-- on.
 
 -- how many tokens stand before the fault, where a level too deep begins at it and the text goes on in some word
 abbrev pub place_of : {T A : Type 0} → Bool → List T → Verdict T A → Option ℕ

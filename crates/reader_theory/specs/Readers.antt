@@ -73,8 +73,8 @@ ahead one two p q ts = cond (two_pass one two ts) (p ts) (q ts)
 abbrev pub optional : {T A : Type 0} → (T → Bool) → (List T → Verdict T A) → List T → Verdict T (Option A)
 optional test p = pick test (mapped Some p) (found None)
 
--- Repetition: an item more as long as the next token passes the test. What the items so far make of the state decides what
--- the next may be; there are no more items than tokens.
+-- Repetition: an item more as long as the next token passes the test. What the items so far make of the state decides
+-- what the next may be; there are no more items than tokens.
 abbrev pub more_of : {A : Type 0} → A → List A → List A
 more_of a es = a ∷ es
 
@@ -101,7 +101,8 @@ ended_by (fault c rest) = fault c rest
 abbrev pub ended : {T A : Type 0} → (List T → Verdict T A) → List T → Verdict T A
 ended p ts = ended_by (p ts)
 
--- The better of two answers to a text: what was read; else the fault further on; at one place, that a level is too deep.
+-- The better of two answers to a text: what was read; else the fault further on; at one place, that a level is too
+-- deep.
 abbrev pub worse : Cause → Cause → Cause
 worse expected d = d
 worse too_deep d = too_deep

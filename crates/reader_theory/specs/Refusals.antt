@@ -10,12 +10,13 @@ Reads {T} L ts a = (w : List (Mark T)) × L a w × Shallow w × (ts ≡ bare w)
 abbrev pub Begins : {T A : Type 0} → Language T A → List T → Type 0
 Begins {T} {A} L front = (a : A) × (w v : List (Mark T)) × L a (w ++ v) × Shallow w × (front ≡ bare w)
 
--- some word begins with these tokens, with no level too deep, and goes on with this one, at which a level too deep begins
+-- some word begins with these tokens, with no level too deep, and goes on with this one, at which a level too deep
+-- begins
 abbrev pub Opens : {T A : Type 0} → Language T A → List T → T → Type 0
 Opens {T} {A} L front x = (a : A) × (w v : List (Mark T)) × L a (w ++ record { token = x; deep = true } ∷ v) × Shallow w × (front ≡ bare w)
 
--- Behind front the text is no front of a word any more: no word goes on with the rest's first token, be it that none has it there or that
--- a level too deep begins at it; or there is no rest, and words only go on.
+-- Behind front the text is no front of a word any more: no word goes on with the rest's first token, be it that none
+-- has it there or that a level too deep begins at it; or there is no rest, and words only go on.
 abbrev pub StopsAt : {T A : Type 0} → Language T A → List T → Cause → List T → Type 0
 StopsAt {T} {A} L front c [] = (c ≡ expected) × ((a : A) → Reads L front a → ⊥)
 StopsAt L front expected (x ∷ rest) = (Begins L (front ++ x ∷ []) → ⊥) × (Opens L front x → ⊥)

@@ -1,4 +1,5 @@
--- What is proved of texts of parts, and of the reason of a refusal: each statement is a clause of a function of the crate.
+-- What is proved of texts of parts, and of the reason of a refusal: each statement is a clause of a function of the
+-- crate.
 use Rattle.std.specs.Prelude.{ℕ, ◌≡◌, ◌≤◌, Bool, true, false, List, [], ◌∷◌, ◌++◌, length, Option}
 use Rattle.reader_theory.specs.Words.{Mark, Language, bare, Shallow, Cause, Verdict, found}
 use Rattle.reader_theory.specs.Refusals.{Reads, Begins, Refused, Answers}
@@ -14,7 +15,8 @@ use Rattle.reader_theory.specs.Laws.{IsEither, OneReading}
 abbrev pub NoneEmpty : {T A I : Type 0} → (I → Language T A) → Type 0
 NoneEmpty {T} {A} {I} L = (i : I) (a : A) (w : List (Mark T)) → L i a w → 1 ≤ length (bare w)
 
--- A text of parts is answered exactly, where each place is one at which the text may end, or allows a form; and from each place on some text ends.
+-- A text of parts is answered exactly, where each place is one at which the text may end, or allows a form; and from
+-- each place on some text ends.
 abbrev pub TextsAreExact : {T A S I : Type 0} → (I → Language T A) → (S → List I) → (S → A → S) → (S → Bool) → Type 0
 TextsAreExact {T} {A} {S} {I} L forms next final =
     (p : I → List T → Verdict T A) → ((i : I) → Exact (L i) never (p i)) → NoneEmpty L

@@ -1,4 +1,5 @@
--- A text of parts, each of one of the forms that its place allows; the part that is read makes the next place of this one.
+-- A text of parts, each of one of the forms that its place allows; the part that is read makes the next place of this
+-- one.
 use Rattle.std.specs.Prelude.{ℕ, zero, suc, ◌≡◌, Bool, true, cond, List, [], ◌∷◌, ◌⊎◌, Option, None}
 use Rattle.reader_theory.specs.Limits.{place_by, nearer}
 use Rattle.reader_theory.specs.Words.{Mark, Language, ◌⟫◌, expected, Verdict, found, fault}

@@ -30,7 +30,8 @@ pub data Cause : Type 0 where
   expected : Cause
   too_deep : Cause
 
--- what was read and what stands behind it; or why nothing was, and what stands from the first token on with which no word goes on
+-- what was read and what stands behind it; or why nothing was, and what stands from the first token on with which no
+-- word goes on
 pub data Verdict (T A : Type 0) : Type 0 where
   found : A → List T → Verdict T A
   fault : Cause → List T → Verdict T A

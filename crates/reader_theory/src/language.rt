@@ -13,7 +13,8 @@ pub trait Family<T, K, A> {
     ghost words: { K → A → List (Mark T) → Type 0 };
 }
 
-/// The places of a text of parts: which forms a place allows, which place a part makes of it, and where the text may end.
+/// The places of a text of parts: which forms a place allows, which place a part makes of it, and where the text may
+/// end.
 pub trait Places<S, I, A> {
     ghost forms: { S → List I };
 

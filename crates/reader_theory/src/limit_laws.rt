@@ -4,7 +4,8 @@ ghost use Rattle.reader_theory.specs.TextLaws.{AnswerTellsFront, PlaceOfWhole, P
 
 use crate::language::{Family, Language, Places};
 
-/// A refusal has its reason by where the tokens sink up to its place; what is refused isn't read; place and reason are one.
+/// A refusal has its reason by where the tokens sink up to its place; what is refused isn't read; place and reason are
+/// one.
 pub fn reason_of_refusal<T, A, L: Language<T, A>>()
     ensures inside { RefusalHasReason L.words }
     ensures at_end { RefusalAtEnd L.words }

@@ -33,8 +33,8 @@ pub trait ReadsForms {
     fn condition() -> Self::Name
         ensures { form result ≡ f.condition_form };
 
-    /// Reads a part of a form from the first word on, where so many levels may still be opened, and keeps only how it ends: the words behind
-    /// it, or where and why reading stops. There is no other error than want of memory.
+    /// Reads a part of a form from the first word on, where so many levels may still be opened, and keeps only how it
+    /// ends: the words behind it, or where and why reading stops. There is no other error than want of memory.
     fn end<'a>(
         name: Self::Name,
         alloc: Global,

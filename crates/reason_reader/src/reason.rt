@@ -64,7 +64,8 @@ fn earlier(a: Option<usize>, b: Option<usize>) -> Option<usize>
     Some(first.max(second))
 }
 
-/// Where a form comes to a level too deep, if it goes on so: the number of words from there on; behind its condition, where an action does.
+/// Where a form comes to a level too deep, if it goes on so: the number of words from there on; behind its condition,
+/// where an action does.
 #[cycle(placing)]
 #[tactic(auto, using(crate::proofs::Ends::place_laws))]
 fn form_place<R: ReadsForms>(
@@ -114,9 +115,10 @@ fn action_place<R: ReadsForms>(
     Ok(earlier(assignment, earlier(keyword, condition)))
 }
 
-/// Where a statement of one of these forms comes to a level too deep first, of all forms that go on with these words, whatever their levels: the
-/// number of words from there on, or none where none does. `left` is how many levels may be opened at the statement's place; the last word is the one
-/// at which the statement fails. A form is read once more with as many levels as there are words, so readers go as deep as the words nest.
+/// Where a statement of one of these forms comes to a level too deep first, of all forms that go on with these words,
+/// whatever their levels: the number of words from there on, or none where none does. `left` is how many levels may be
+/// opened at the statement's place; the last word is the one at which the statement fails. A form is read once more
+/// with as many levels as there are words, so readers go as deep as the words nest.
 #[tactic(auto, using(crate::proofs::Ends::place_laws))]
 pub fn statement_place<R: ReadsForms>(
     names: &[R::Name],

@@ -1,5 +1,6 @@
--- No two parts of different forms that a place allows begin the same tokens, where each is followed, if by anything that its next place asks for, by the beginning of that; as `program_reader` has it
--- of two whole files (its proofs/OneReading), here of the front of one and of any tokens behind it.
+-- No two parts of different forms that a place allows begin the same tokens, where each is followed, if by anything
+-- that its next place asks for, by the beginning of that; as `program_reader` has it of two whole files (its
+-- proofs/OneReading), here of the front of one and of any tokens behind it.
 use Rattle.std.proofs.Common.{◌≡◌, ℕ, zero, suc, ◌+◌, Bool, true, false, cond, codes, List, [], ◌∷◌, ◌++◌, length, Some, ◌⊎◌, inl, inr, refl, ap, sym, ◌∙◌, subst}
 use Rattle.std.proofs.lemmas.Bool.{true≢false, false≢true}
 use Rattle.caf_base.specs.declared.place.Pos.{Pos}

@@ -41,7 +41,8 @@ place_in limit s [] = None
 place_in limit s (y ∷ us) = nearest (place_behind limit (length s.blocks) (length us) (suc s.conditions)) limit (forms s) (y ∷ us)
 
 -- by the levels that are left
--- how many tokens stand before the first that is too deep: in a form that goes through all of them where as many levels are left
+-- how many tokens stand before the first that is too deep: in a form that goes through all of them where as many levels
+-- are left
 abbrev pub form_before : (List Token → Option ℕ) → ℕ → Form → List Token → Option ℕ
 form_before later left i us = place_by (form_goes (length us) i us) us (λ b. later) (form_reader i left us)
 

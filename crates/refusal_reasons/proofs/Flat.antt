@@ -1,4 +1,5 @@
--- No token of a part stands more than one level further in than there are tokens before it, but for the conditions that it stands behind.
+-- No token of a part stands more than one level further in than there are tokens before it, but for the conditions that
+-- it stands behind.
 use Rattle.std.proofs.Common.{◌≡◌, ℕ, zero, suc, ◌-◌, ◌≤◌, Bool, true, false, cond, max, codes, List, [], ◌∷◌, Option, Some, None, refl, arith}
 use Rattle.caf_base.specs.declared.place.Pos.{Pos}
 use Rattle.fortran_tokens.specs.declared.token.Sign.TheVariants as sign

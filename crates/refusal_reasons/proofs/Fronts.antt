@@ -1,4 +1,5 @@
--- Behind whole statements that are read, each word that begins with their tokens, whatever its levels, has these statements first: so what is behind them tells which tokens are too deep.
+-- Behind whole statements that are read, each word that begins with their tokens, whatever its levels, has these
+-- statements first: so what is behind them tells which tokens are too deep.
 use Rattle.std.proofs.Common.{◌≡◌, ℕ, zero, suc, ◌+◌, ◌≤◌, true, List, [], ◌∷◌, ◌++◌, length, Option, Some, None, inl, inr, refl, ap, sym, ◌∙◌, subst, arith, append_assoc}
 use Rattle.std.proofs.lemmas.Bool.{false≢true, true≢false}
 use Rattle.std.proofs.lemmas.List.{append_cancel_right, length-append}

@@ -1,4 +1,5 @@
--- The rest of a file under another limit: the same tokens, none of the first ones too deep where the limit is out of their reach.
+-- The rest of a file under another limit: the same tokens, none of the first ones too deep where the limit is out of
+-- their reach.
 use Rattle.std.proofs.Common.{◌≡◌, ℕ, zero, suc, ◌+◌, ◌-◌, ◌≤◌, max, List, [], ◌∷◌, ◌++◌, length, inl, inr, refl, subst, arith}
 use Rattle.reader_theory.specs.Words.{Mark}
 use Rattle.reader_theory.specs.Levels.{Moved}

@@ -1,4 +1,5 @@
--- Where the first token too deep stands in some fronts of statements, worked out by hand; each ends with the token at which it is refused.
+-- Where the first token too deep stands in some fronts of statements, worked out by hand; each ends with the token at
+-- which it is refused.
 use Rattle.std.proofs.Common.{◌≡◌, ℕ, zero, suc, List, [], ◌∷◌, ◌++◌, Some, None, refl, codes}
 use Rattle.fortran_grammar.proofs.Trying.{cut}
 use Rattle.fortran_grammar.proofs.SmallTrees.{here}

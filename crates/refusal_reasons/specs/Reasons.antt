@@ -1,4 +1,5 @@
--- The reason of a refusal, told by the readers of parts: by each form that a place allows, where its reader comes to a level too deep, and whether the form goes on behind it at all.
+-- The reason of a refusal, told by the readers of parts: by each form that a place allows, where its reader comes to a
+-- level too deep, and whether the form goes on behind it at all.
 use Rattle.std.specs.Prelude.{ℕ, zero, suc, ◌+◌, max, Bool, true, false, ◌||◌, List, [], ◌∷◌, length, Option}
 use Rattle.reader_theory.specs.Words.{Verdict, found, fault}
 use Rattle.reader_theory.specs.Limits.{is_empty}
@@ -39,7 +40,8 @@ out_of_reach s i n = max (levels_before i) (levels_at s) + n
 abbrev pub goes : State → Place → List Token → Bool
 goes s i us = through (λ b. goes_from (out_of_reach s i (length us)) (length us) (next s b)) (part_reader (out_of_reach s i (length us)) i us)
 
--- How many of the tokens stand before the first that is too deep, if there is one: the nearest one of those at which the forms
--- that go through all tokens come to a level too deep; behind a part that is read, of those that its next place allows.
+-- How many of the tokens stand before the first that is too deep, if there is one: the nearest one of those at which
+-- the forms that go through all tokens come to a level too deep; behind a part that is read, of those that its next
+-- place allows.
 abbrev pub place_at : ℕ → State → List Token → Option ℕ
 place_at limit s us = place_here (part_reader limit) forms next goes (length us) s us

@@ -1,4 +1,5 @@
--- The same for the tokens of one statement, of which a part leaves something only behind the condition of a one-line IF: by the forms of its place, each with its own reader, and the number of levels that are left.
+-- The same for the tokens of one statement, of which a part leaves something only behind the condition of a one-line
+-- IF: by the forms of its place, each with its own reader, and the number of levels that are left.
 use Rattle.std.specs.Prelude.{ℕ, zero, suc, ◌-◌, max, Bool, true, false, cond, ◌||◌, List, [], ◌∷◌, length, Option, Some, None}
 use Rattle.reader_theory.specs.Words.{expected, too_deep, Verdict, found, fault}
 use Rattle.fortran_grammar.specs.Tokens.{Token}
@@ -28,7 +29,8 @@ action_goes_on (suc left) us = forms_go (action_goes_on left) left action_forms 
 abbrev pub form_goes : ℕ → Form → List Token → Bool
 form_goes left i us = through (λ b. action_goes_on left) (form_reader i left us)
 
--- how many tokens stand from the first that is too deep on, where a form goes through all: at its fault, or behind its part
+-- how many tokens stand from the first that is too deep on, where a form goes through all: at its fault, or behind its
+-- part
 abbrev pub place_from : Bool → (List Token → Option ℕ) → Verdict Token Part → Option ℕ
 place_from goes later (found b r) = later r
 place_from goes later (fault expected r) = None

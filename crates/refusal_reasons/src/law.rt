@@ -2,8 +2,9 @@
 
 ghost use Rattle.refusal_reasons.specs.Laws.{PartsAreFlat, RestsSinkThere, LastStatementTells, StatementsAlone, StatementTells, OneReason};
 
-/// No token of a part stands further in than its place, the conditions before it, the tokens before it and one allow; so the
-/// readers of parts tell which token is too deep first among all words that begin with some tokens, whatever their levels;
+/// No token of a part stands further in than its place, the conditions before it, the tokens before it and one allow;
+/// so the readers of parts tell which token is too deep first among all words that begin with some tokens, whatever
+/// their levels;
 /// and the statement that fails tells alone why a file is refused, for one reason.
 pub fn reasons_exactly()
     ensures flat { PartsAreFlat }

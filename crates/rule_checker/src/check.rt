@@ -13,8 +13,9 @@ use fortran_tree::unit::Program;
 use rule_definitions::broken::Broken;
 use std::alloc::Global;
 
-/// The checked program that a program is accepted as, or the first rule that it breaks; or want of memory, which judging alone may
-/// meet: once a program is judged, one that breaks nothing has its checked program. The program stays as it is.
+/// The checked program that a program is accepted as, or the first rule that it breaks; or want of memory, which
+/// judging alone may meet: once a program is judged, one that breaks nothing has its checked program. The program stays
+/// as it is.
 pub fn check_tree(alloc: Global, program: &Program) -> Result<Checked, Refusal<Broken>>
     ensures accepted { IfOk result (λ c. Accepts (tree.program program.now) (typed.program c)) }
     ensures broken { IfErr result (λ refusal. IfCause refusal (λ b. first_break (tree.program program.now) ≡ Some b)) }
@@ -31,7 +32,8 @@ pub fn check_tree(alloc: Global, program: &Program) -> Result<Checked, Refusal<B
     Ok(checked)
 }
 
-/// The checked program that a program is accepted as, or the first rule that it breaks; or want of memory, as `check_tree` says.
+/// The checked program that a program is accepted as, or the first rule that it breaks; or want of memory, as
+/// `check_tree` says.
 pub fn check(alloc: Global, program: Program) -> Result<Checked, Refusal<Broken>>
     ensures accepted { IfOk result (λ c. Accepts (tree.program program) (typed.program c)) }
     ensures broken { IfErr result (λ refusal. IfCause refusal (λ b. first_break (tree.program program) ≡ Some b)) }

@@ -8,6 +8,7 @@ ghost use Rattle.rule_checker.specs.Noted.{noted};
 
 use fortran_tree::name::Name;
 use rule_definitions::broken::Broken;
+use rule_definitions::rule;
 use scope_table::broken::note;
 
 /// Notes the first of the rules that were noted apart.
@@ -19,7 +20,8 @@ pub fn note_apart(first: &mut Option<Broken>, apart: Option<Broken>)
     }
 }
 
-/// Whether the name behind END, where one is written, is this one (ISO/IEC 1539-1:2018, 14.1, 15.6.2); else rule 41 is noted at it.
+/// Whether the name behind END, where one is written, is this one (ISO/IEC 1539-1:2018, 14.1, 15.6.2); else rule 41 is
+/// noted at it.
 pub fn judge_end(first: &mut Option<Broken>, name: Option<&Name>, end: &Option<Name>) -> bool
     ensures first { first.new ≡ first_of first.old (end_breaks (maybe_name name.entry) end.now) }
     ensures fine { result ≡ is_nothing (end_breaks (maybe_name name.entry) end.now) }
@@ -30,7 +32,7 @@ pub fn judge_end(first: &mut Option<Broken>, name: Option<&Name>, end: &Option<N
     if is_named(name, end) {
         return true;
     }
-    note(first, 41, end.at);
+    note(first, rule::CONSTRUCT_NAME, end.at);
     false
 }
 

@@ -38,7 +38,8 @@ pub struct Common<'a> {
     pub constants: &'a [Constant],
 }
 
-/// What units have given so far: the first of the rules that their statements break, what stands in these, and the procedures, none where one has no meaning.
+/// What units have given so far: the first of the rules that their statements break, what stands in these, and the
+/// procedures, none where one has no meaning.
 #[derive(Drop)]
 pub struct Gone {
     pub first: Option<Broken>,

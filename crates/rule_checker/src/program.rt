@@ -39,7 +39,8 @@ use unit_scopes::limit::judge_limits;
 use unit_scopes::program::{Procedures, procedures_in};
 use unit_scopes::scopes::{Scopes, find_interfaces, read_scopes};
 
-/// What the statements of a program give: the main program, none where it has no meaning, and what it and the procedures give besides.
+/// What the statements of a program give: the main program, none where it has no meaning, and what it and the
+/// procedures give besides.
 #[derive(Drop)]
 pub struct Judged {
     pub main: Option<Unit>,
@@ -254,7 +255,8 @@ fn form_maybe(
     Some(form(program, coarrays, constants, counts, main, procedures))
 }
 
-// All that is judged of a program with these scopes; the rules that it breaks besides are noted behind those of its statements.
+// All that is judged of a program with these scopes; the rules that it breaks besides are noted behind those of its
+// statements.
 fn judge_scoped(
     alloc: Global,
     outside: &Outside<'_>,

@@ -111,7 +111,8 @@ refused_59_1 : answers (record { name = None; uses = []; body = (record { implic
 unfolding judged_statements
 refused_59_1 = refl
 
--- contains; recursive integer function f(n) result(r); integer, intent(in) :: n; r = 1; if (n > 0) r = f(n - 1); end function; end
+-- contains; recursive integer function f(n) result(r); integer, intent(in) :: n; r = 1; if (n > 0) r = f(n - 1); end
+-- function; end
 accepted_8 : accepted (record { name = None; uses = []; body = (record { implicit_none = None; declarations = []; statements = s.no_statements }); procedures = (Some ((record { heading = (u.function ((u.recursive) ∷ (u.result_type (s.integer None)) ∷ []) (n (codes "f") 2 28) ((n (codes "n") 2 30) ∷ []) (Some (n (codes "r") 2 40))); body = (record { implicit_none = None; declarations = ((record { type_spec = (s.integer None); attributes = ((s.intent intents.In) ∷ []); entities = ((record { name = (n (codes "n") 3 24); dimensions = []; coshape = None; initial = None }) ∷ []); at = (p 3 1) }) ∷ []); statements = (s.more_statements (s.action (s.assignment (f.part_ref (n (codes "r") 4 1) f.no_section_subscripts f.no_image_selector) (f.number 1 kinds.Unstated (p 4 5))) (p 4 1)) (s.more_statements (s.action (s.if_statement (f.binary operators.Greater (f.designator (f.part_ref (n (codes "n") 5 5) f.no_section_subscripts f.no_image_selector)) (f.number 0 kinds.Unstated (p 5 9)) (p 5 5)) (s.assignment (f.part_ref (n (codes "r") 5 12) f.no_section_subscripts f.no_image_selector) (f.designator (f.part_ref (n (codes "f") 5 16) (f.more_section_subscripts (f.subscript (f.binary operators.Subtract (f.designator (f.part_ref (n (codes "n") 5 18) f.no_section_subscripts f.no_image_selector)) (f.number 1 kinds.Unstated (p 5 22)) (p 5 18))) f.no_section_subscripts) f.no_image_selector))) (p 5 12)) (p 5 1)) s.no_statements)) }); end = (record { name = None; at = (p 6 1) }); at = (p 2 1) }) ∷ [])); end = (record { name = None; at = (p 7 1) }) }) ≡ true
 unfolding judged_statements
 accepted_8 = refl
@@ -126,7 +127,8 @@ accepted_9 : accepted (record { name = None; uses = []; body = (record { implici
 unfolding judged_statements
 accepted_9 = refl
 
--- integer :: x(2)[*]; integer(8) :: o; logical :: l[*], b; call atomic_add(x(1), 1_8); call atomic_fetch_add(x(2)[1], 1, o); call atomic_cas(l, b, .true., .false.); end
+-- integer :: x(2)[*]; integer(8) :: o; logical :: l[*], b; call atomic_add(x(1), 1_8); call atomic_fetch_add(x(2)[1],
+-- 1, o); call atomic_cas(l, b, .true., .false.); end
 accepted_10 : accepted (record { name = None; uses = []; body = (record { implicit_none = None; declarations = ((record { type_spec = (s.integer None); attributes = []; entities = ((record { name = (n (codes "x") 1 12); dimensions = ((s.explicit (record { lower = None; upper = (f.number 2 kinds.Unstated (p 1 14)) })) ∷ []); coshape = (Some (s.explicit_coshape [] None)); initial = None }) ∷ []); at = (p 1 1) }) ∷ (record { type_spec = (s.integer (Some (f.number 8 kinds.Unstated (p 2 9)))); attributes = []; entities = ((record { name = (n (codes "o") 2 15); dimensions = []; coshape = None; initial = None }) ∷ []); at = (p 2 1) }) ∷ (record { type_spec = (s.logical None); attributes = []; entities = ((record { name = (n (codes "l") 3 12); dimensions = []; coshape = (Some (s.explicit_coshape [] None)); initial = None }) ∷ (record { name = (n (codes "b") 3 18); dimensions = []; coshape = None; initial = None }) ∷ []); at = (p 3 1) }) ∷ []); statements = (s.more_statements (s.action (s.call (n (codes "atomic_add") 4 6) (Some (f.more_arguments None (f.designator (f.part_ref (n (codes "x") 4 17) (f.more_section_subscripts (f.subscript (f.number 1 kinds.Unstated (p 4 19))) f.no_section_subscripts) f.no_image_selector)) (f.more_arguments None (f.number 1 kinds.Eight (p 4 23)) f.no_arguments)))) (p 4 1)) (s.more_statements (s.action (s.call (n (codes "atomic_fetch_add") 5 6) (Some (f.more_arguments None (f.designator (f.part_ref (n (codes "x") 5 23) (f.more_section_subscripts (f.subscript (f.number 2 kinds.Unstated (p 5 25))) f.no_section_subscripts) (f.image_selector (f.more_expressions (f.number 1 kinds.Unstated (p 5 28)) f.no_expressions) f.no_specifiers))) (f.more_arguments None (f.number 1 kinds.Unstated (p 5 32)) (f.more_arguments None (f.designator (f.part_ref (n (codes "o") 5 35) f.no_section_subscripts f.no_image_selector)) f.no_arguments))))) (p 5 1)) (s.more_statements (s.action (s.call (n (codes "atomic_cas") 6 6) (Some (f.more_arguments None (f.designator (f.part_ref (n (codes "l") 6 17) f.no_section_subscripts f.no_image_selector)) (f.more_arguments None (f.designator (f.part_ref (n (codes "b") 6 20) f.no_section_subscripts f.no_image_selector)) (f.more_arguments None (f.logical true (p 6 23)) (f.more_arguments None (f.logical false (p 6 31)) f.no_arguments)))))) (p 6 1)) s.no_statements))) }); procedures = None; end = (record { name = None; at = (p 7 1) }) }) ≡ true
 unfolding judged_statements
 accepted_10 = refl
@@ -156,7 +158,8 @@ refused_51_1 : answers (record { name = None; uses = []; body = (record { implic
 unfolding judged_statements
 refused_51_1 = refl
 
--- use iso_fortran_env; type(team_type) :: t, u; t = get_team(); u = t; t = (u); print *, team_number(t), team_number(get_team(level=parent_team)); end
+-- use iso_fortran_env; type(team_type) :: t, u; t = get_team(); u = t; t = (u); print *, team_number(t),
+-- team_number(get_team(level=parent_team)); end
 accepted_12 : accepted (record { name = None; uses = ((record { nature = natures.Unstated; module_name = (n (codes "iso_fortran_env") 1 5); only = None; at = (p 1 1) }) ∷ []); body = (record { implicit_none = None; declarations = ((record { type_spec = (s.derived (n (codes "team_type") 2 6)); attributes = []; entities = ((record { name = (n (codes "t") 2 20); dimensions = []; coshape = None; initial = None }) ∷ (record { name = (n (codes "u") 2 23); dimensions = []; coshape = None; initial = None }) ∷ []); at = (p 2 1) }) ∷ []); statements = (s.more_statements (s.action (s.assignment (f.part_ref (n (codes "t") 3 1) f.no_section_subscripts f.no_image_selector) (f.function_reference (n (codes "get_team") 3 5) f.no_arguments)) (p 3 1)) (s.more_statements (s.action (s.assignment (f.part_ref (n (codes "u") 4 1) f.no_section_subscripts f.no_image_selector) (f.designator (f.part_ref (n (codes "t") 4 5) f.no_section_subscripts f.no_image_selector))) (p 4 1)) (s.more_statements (s.action (s.assignment (f.part_ref (n (codes "t") 5 1) f.no_section_subscripts f.no_image_selector) (f.parenthesized (f.designator (f.part_ref (n (codes "u") 5 6) f.no_section_subscripts f.no_image_selector)) (p 5 5))) (p 5 1)) (s.more_statements (s.action (s.print s.free ((s.value (f.designator (f.part_ref (n (codes "team_number") 6 10) (f.more_section_subscripts (f.subscript (f.designator (f.part_ref (n (codes "t") 6 22) f.no_section_subscripts f.no_image_selector))) f.no_section_subscripts) f.no_image_selector))) ∷ (s.value (f.designator (f.part_ref (n (codes "team_number") 6 26) (f.more_section_subscripts (f.subscript (f.function_reference (n (codes "get_team") 6 38) (f.more_arguments (Some (n (codes "level") 6 47)) (f.designator (f.part_ref (n (codes "parent_team") 6 53) f.no_section_subscripts f.no_image_selector)) f.no_arguments))) f.no_section_subscripts) f.no_image_selector))) ∷ [])) (p 6 1)) s.no_statements)))) }); procedures = None; end = (record { name = None; at = (p 7 1) }) }) ≡ true
 unfolding judged_statements
 accepted_12 = refl

@@ -46,7 +46,8 @@ twice_in_two : answers (record { name = None; uses = ([]); body = (record { impl
 unfolding judged_statements
 twice_in_two = refl
 
--- a procedure may declare the name anew: integer :: a; a = 1; contains; subroutine s(); logical :: a; a = .true.; end subroutine; end
+-- a procedure may declare the name anew: integer :: a; a = 1; contains; subroutine s(); logical :: a; a = .true.; end
+-- subroutine; end
 own_in_procedure : accepted (record { name = None; uses = ([]); body = (record { implicit_none = None; declarations = ((record { type_spec = (s.integer None); attributes = ([]); entities = ((record { name = (n (codes "a") 1 12); dimensions = ([]); coshape = None; initial = None }) ∷ []); at = (p 1 1) }) ∷ []); statements = (s.more_statements (s.action (s.assignment (f.part_ref (n (codes "a") 2 1) f.no_section_subscripts f.no_image_selector) (f.number 1 kinds.Unstated (p 2 5))) (p 2 1)) s.no_statements) }); procedures = (Some ((record { heading = (u.subroutine recursions.Unstated (n (codes "s") 4 12) (Some ([]))); body = (record { implicit_none = None; declarations = ((record { type_spec = (s.logical None); attributes = ([]); entities = ((record { name = (n (codes "a") 5 12); dimensions = ([]); coshape = None; initial = None }) ∷ []); at = (p 5 1) }) ∷ []); statements = (s.more_statements (s.action (s.assignment (f.part_ref (n (codes "a") 6 1) f.no_section_subscripts f.no_image_selector) (f.logical true (p 6 5))) (p 6 1)) s.no_statements) }); end = record { name = None; at = (p 7 1) }; at = (p 4 1) }) ∷ [])); end = record { name = None; at = (p 8 1) } }) ≡ true
 unfolding judged_statements
 own_in_procedure = refl

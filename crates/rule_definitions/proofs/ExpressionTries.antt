@@ -67,7 +67,8 @@ selector_of_constant : answers (record { name = None; uses = ([]); body = (recor
 unfolding judged_statements
 selector_of_constant = refl
 
--- TEAM= and TEAM_NUMBER=: use iso_fortran_env; type(team_type) :: t; integer :: x[*]; print *, x[1, team=t, team_number=1]; end
+-- TEAM= and TEAM_NUMBER=: use iso_fortran_env; type(team_type) :: t; integer :: x[*]; print *, x[1, team=t,
+-- team_number=1]; end
 two_teams : answers (record { name = None; uses = ((record { nature = natures.Unstated; module_name = (n (codes "iso_fortran_env") 1 5); only = None; at = (p 1 1) }) ∷ []); body = (record { implicit_none = None; declarations = ((record { type_spec = (s.derived (n (codes "team_type") 2 6)); attributes = ([]); entities = ((record { name = (n (codes "t") 2 20); dimensions = ([]); coshape = None; initial = None }) ∷ []); at = (p 2 1) }) ∷ (record { type_spec = (s.integer None); attributes = ([]); entities = ((record { name = (n (codes "x") 3 12); dimensions = ([]); coshape = (Some (s.explicit_coshape ([]) None)); initial = None }) ∷ []); at = (p 3 1) }) ∷ []); statements = (s.more_statements (s.action (s.print s.free (s.value (f.designator (f.part_ref (n (codes "x") 4 10) f.no_section_subscripts (f.image_selector (f.more_expressions (f.number 1 kinds.Unstated (p 4 12)) f.no_expressions) (f.more_specifiers (n (codes "team") 4 15) (f.designator (f.part_ref (n (codes "t") 4 20) f.no_section_subscripts f.no_image_selector)) (f.more_specifiers (n (codes "team_number") 4 23) (f.number 1 kinds.Unstated (p 4 35)) f.no_specifiers))))) ∷ [])) (p 4 1)) s.no_statements) }); procedures = None; end = record { name = None; at = (p 5 1) } }) 35 4 23 ≡ true
 unfolding judged_statements
 two_teams = refl
@@ -107,12 +108,14 @@ few_arguments : answers (record { name = None; uses = ([]); body = (record { imp
 unfolding judged_statements
 few_arguments = refl
 
--- one of another kind: print *, f(1_8); contains; integer function f(a); integer, intent(in) :: a; f = a; end function; end
+-- one of another kind: print *, f(1_8); contains; integer function f(a); integer, intent(in) :: a; f = a; end function;
+-- end
 other_kind : answers (record { name = None; uses = ([]); body = (record { implicit_none = None; declarations = ([]); statements = (s.more_statements (s.action (s.print s.free (s.value (f.designator (f.part_ref (n (codes "f") 1 10) (f.more_section_subscripts (f.subscript (f.number 1 kinds.Eight (p 1 12))) f.no_section_subscripts) f.no_image_selector)) ∷ [])) (p 1 1)) s.no_statements) }); procedures = (Some ((record { heading = (u.function (u.result_type (s.integer None) ∷ []) (n (codes "f") 3 18) ((n (codes "a") 3 20) ∷ []) None); body = (record { implicit_none = None; declarations = ((record { type_spec = (s.integer None); attributes = ((s.intent intents.In) ∷ []); entities = ((record { name = (n (codes "a") 4 24); dimensions = ([]); coshape = None; initial = None }) ∷ []); at = (p 4 1) }) ∷ []); statements = (s.more_statements (s.action (s.assignment (f.part_ref (n (codes "f") 5 1) f.no_section_subscripts f.no_image_selector) (f.designator (f.part_ref (n (codes "a") 5 5) f.no_section_subscripts f.no_image_selector))) (p 5 1)) s.no_statements) }); end = record { name = None; at = (p 6 1) }; at = (p 3 1) }) ∷ [])); end = record { name = None; at = (p 7 1) } }) 45 1 12 ≡ true
 unfolding judged_statements
 other_kind = refl
 
--- one of another extent: integer :: b(3); print *, f(b); contains; integer function f(a); integer, intent(in) :: a(2); f = a(1); end function; end
+-- one of another extent: integer :: b(3); print *, f(b); contains; integer function f(a); integer, intent(in) :: a(2);
+-- f = a(1); end function; end
 other_extent : answers (record { name = None; uses = ([]); body = (record { implicit_none = None; declarations = ((record { type_spec = (s.integer None); attributes = ([]); entities = ((record { name = (n (codes "b") 1 12); dimensions = ((s.explicit (record { lower = None; upper = (f.number 3 kinds.Unstated (p 1 14)) })) ∷ []); coshape = None; initial = None }) ∷ []); at = (p 1 1) }) ∷ []); statements = (s.more_statements (s.action (s.print s.free (s.value (f.designator (f.part_ref (n (codes "f") 2 10) (f.more_section_subscripts (f.subscript (f.designator (f.part_ref (n (codes "b") 2 12) f.no_section_subscripts f.no_image_selector))) f.no_section_subscripts) f.no_image_selector)) ∷ [])) (p 2 1)) s.no_statements) }); procedures = (Some ((record { heading = (u.function (u.result_type (s.integer None) ∷ []) (n (codes "f") 4 18) ((n (codes "a") 4 20) ∷ []) None); body = (record { implicit_none = None; declarations = ((record { type_spec = (s.integer None); attributes = ((s.intent intents.In) ∷ []); entities = ((record { name = (n (codes "a") 5 24); dimensions = ((s.explicit (record { lower = None; upper = (f.number 2 kinds.Unstated (p 5 26)) })) ∷ []); coshape = None; initial = None }) ∷ []); at = (p 5 1) }) ∷ []); statements = (s.more_statements (s.action (s.assignment (f.part_ref (n (codes "f") 6 1) f.no_section_subscripts f.no_image_selector) (f.designator (f.part_ref (n (codes "a") 6 5) (f.more_section_subscripts (f.subscript (f.number 1 kinds.Unstated (p 6 7))) f.no_section_subscripts) f.no_image_selector))) (p 6 1)) s.no_statements) }); end = record { name = None; at = (p 7 1) }; at = (p 4 1) }) ∷ [])); end = record { name = None; at = (p 8 1) } }) 45 2 12 ≡ true
 unfolding judged_statements
 other_extent = refl
@@ -122,12 +125,14 @@ called_right : accepted (record { name = None; uses = ([]); body = (record { imp
 unfolding judged_statements
 called_right = refl
 
--- a value for what a procedure may define: call s(1); contains; subroutine s(a); integer :: a; a = 1; end subroutine; end
+-- a value for what a procedure may define: call s(1); contains; subroutine s(a); integer :: a; a = 1; end subroutine;
+-- end
 value_for_out : answers (record { name = None; uses = ([]); body = (record { implicit_none = None; declarations = ([]); statements = (s.more_statements (s.action (s.call (n (codes "s") 1 6) (Some (f.more_arguments None (f.number 1 kinds.Unstated (p 1 8)) f.no_arguments))) (p 1 1)) s.no_statements) }); procedures = (Some ((record { heading = (u.subroutine recursions.Unstated (n (codes "s") 3 12) (Some ((n (codes "a") 3 14) ∷ []))); body = (record { implicit_none = None; declarations = ((record { type_spec = (s.integer None); attributes = ([]); entities = ((record { name = (n (codes "a") 4 12); dimensions = ([]); coshape = None; initial = None }) ∷ []); at = (p 4 1) }) ∷ []); statements = (s.more_statements (s.action (s.assignment (f.part_ref (n (codes "a") 5 1) f.no_section_subscripts f.no_image_selector) (f.number 1 kinds.Unstated (p 5 5))) (p 5 1)) s.no_statements) }); end = record { name = None; at = (p 6 1) }; at = (p 3 1) }) ∷ [])); end = record { name = None; at = (p 7 1) } }) 46 1 8 ≡ true
 unfolding judged_statements
 value_for_out = refl
 
--- a coarray for it: integer :: x[*]; call s(x); contains; subroutine s(a); integer, intent(out) :: a; a = 1; end subroutine; end
+-- a coarray for it: integer :: x[*]; call s(x); contains; subroutine s(a); integer, intent(out) :: a; a = 1; end
+-- subroutine; end
 coarray_for_out : answers (record { name = None; uses = ([]); body = (record { implicit_none = None; declarations = ((record { type_spec = (s.integer None); attributes = ([]); entities = ((record { name = (n (codes "x") 1 12); dimensions = ([]); coshape = (Some (s.explicit_coshape ([]) None)); initial = None }) ∷ []); at = (p 1 1) }) ∷ []); statements = (s.more_statements (s.action (s.call (n (codes "s") 2 6) (Some (f.more_arguments None (f.designator (f.part_ref (n (codes "x") 2 8) f.no_section_subscripts f.no_image_selector)) f.no_arguments))) (p 2 1)) s.no_statements) }); procedures = (Some ((record { heading = (u.subroutine recursions.Unstated (n (codes "s") 4 12) (Some ((n (codes "a") 4 14) ∷ []))); body = (record { implicit_none = None; declarations = ((record { type_spec = (s.integer None); attributes = ((s.intent intents.Out) ∷ []); entities = ((record { name = (n (codes "a") 5 25); dimensions = ([]); coshape = None; initial = None }) ∷ []); at = (p 5 1) }) ∷ []); statements = (s.more_statements (s.action (s.assignment (f.part_ref (n (codes "a") 6 1) f.no_section_subscripts f.no_image_selector) (f.number 1 kinds.Unstated (p 6 5))) (p 6 1)) s.no_statements) }); end = record { name = None; at = (p 7 1) }; at = (p 4 1) }) ∷ [])); end = record { name = None; at = (p 8 1) } }) 46 2 8 ≡ true
 unfolding judged_statements
 coarray_for_out = refl

@@ -227,7 +227,8 @@ refused_25_1 : answers (record { name = None; uses = []; body = (record { implic
 unfolding judged_statements
 refused_25_1 = refl
 
--- contains; subroutine s(); integer :: a(f(@.true.)); end subroutine; integer function f(i); integer, intent(in) :: i; f = i; end function; end
+-- contains; subroutine s(); integer :: a(f(@.true.)); end subroutine; integer function f(i); integer, intent(in) :: i;
+-- f = i; end function; end
 refused_45_5 : answers (record { name = None; uses = []; body = (record { implicit_none = None; declarations = []; statements = s.no_statements }); procedures = (Some ((record { heading = (u.subroutine recursions.Unstated (n (codes "s") 2 12) (Some [])); body = (record { implicit_none = None; declarations = ((record { type_spec = (s.integer None); attributes = []; entities = ((record { name = (n (codes "a") 3 12); dimensions = ((s.explicit (record { lower = None; upper = (f.designator (f.part_ref (n (codes "f") 3 14) (f.more_section_subscripts (f.subscript (f.logical true (p 3 16))) f.no_section_subscripts) f.no_image_selector)) })) ∷ []); coshape = None; initial = None }) ∷ []); at = (p 3 1) }) ∷ []); statements = s.no_statements }); end = (record { name = None; at = (p 4 1) }); at = (p 2 1) }) ∷ (record { heading = (u.function ((u.result_type (s.integer None)) ∷ []) (n (codes "f") 5 18) ((n (codes "i") 5 20) ∷ []) None); body = (record { implicit_none = None; declarations = ((record { type_spec = (s.integer None); attributes = ((s.intent intents.In) ∷ []); entities = ((record { name = (n (codes "i") 6 24); dimensions = []; coshape = None; initial = None }) ∷ []); at = (p 6 1) }) ∷ []); statements = (s.more_statements (s.action (s.assignment (f.part_ref (n (codes "f") 7 1) f.no_section_subscripts f.no_image_selector) (f.designator (f.part_ref (n (codes "i") 7 5) f.no_section_subscripts f.no_image_selector))) (p 7 1)) s.no_statements) }); end = (record { name = None; at = (p 8 1) }); at = (p 5 1) }) ∷ [])); end = (record { name = None; at = (p 9 1) }) }) 45 3 16 ≡ true
 unfolding judged_statements
 refused_45_5 = refl
@@ -257,7 +258,8 @@ refused_22_3 : answers (record { name = None; uses = []; body = (record { implic
 unfolding judged_statements
 refused_22_3 = refl
 
--- select case (1); case (@huge(f(1))); end select; contains; integer function f(i); integer, intent(in) :: i; f = i; end function; end
+-- select case (1); case (@huge(f(1))); end select; contains; integer function f(i); integer, intent(in) :: i; f = i;
+-- end function; end
 refused_44_2 : answers (record { name = None; uses = []; body = (record { implicit_none = None; declarations = []; statements = (s.more_statements (s.case_construct (f.number 1 kinds.Unstated (p 1 14)) (s.more_case_blocks (s.ranges ((s.single (f.designator (f.part_ref (n (codes "huge") 2 7) (f.more_section_subscripts (f.subscript (f.designator (f.part_ref (n (codes "f") 2 12) (f.more_section_subscripts (f.subscript (f.number 1 kinds.Unstated (p 2 14))) f.no_section_subscripts) f.no_image_selector))) f.no_section_subscripts) f.no_image_selector))) ∷ [])) s.no_statements (p 2 1) s.no_case_blocks) (p 1 1) (p 3 1)) s.no_statements) }); procedures = (Some ((record { heading = (u.function ((u.result_type (s.integer None)) ∷ []) (n (codes "f") 5 18) ((n (codes "i") 5 20) ∷ []) None); body = (record { implicit_none = None; declarations = ((record { type_spec = (s.integer None); attributes = ((s.intent intents.In) ∷ []); entities = ((record { name = (n (codes "i") 6 24); dimensions = []; coshape = None; initial = None }) ∷ []); at = (p 6 1) }) ∷ []); statements = (s.more_statements (s.action (s.assignment (f.part_ref (n (codes "f") 7 1) f.no_section_subscripts f.no_image_selector) (f.designator (f.part_ref (n (codes "i") 7 5) f.no_section_subscripts f.no_image_selector))) (p 7 1)) s.no_statements) }); end = (record { name = None; at = (p 8 1) }); at = (p 5 1) }) ∷ [])); end = (record { name = None; at = (p 9 1) }) }) 44 2 7 ≡ true
 unfolding judged_statements
 refused_44_2 = refl
@@ -267,7 +269,8 @@ refused_20_20 : answers (record { name = None; uses = []; body = (record { impli
 unfolding judged_statements
 refused_20_20 = refl
 
--- integer :: i, a(2); integer, parameter :: c(2) = [1, 2]; integer, parameter :: k = huge(i) - huge(x=a(i)) + huge(c) - huge(c(1) + 1); select case (k); case (huge(a)); end select; end
+-- integer :: i, a(2); integer, parameter :: c(2) = [1, 2]; integer, parameter :: k = huge(i) - huge(x=a(i)) + huge(c) -
+-- huge(c(1) + 1); select case (k); case (huge(a)); end select; end
 accepted_1 : accepted (record { name = None; uses = []; body = (record { implicit_none = None; declarations = ((record { type_spec = (s.integer None); attributes = []; entities = ((record { name = (n (codes "i") 1 12); dimensions = []; coshape = None; initial = None }) ∷ (record { name = (n (codes "a") 1 15); dimensions = ((s.explicit (record { lower = None; upper = (f.number 2 kinds.Unstated (p 1 17)) })) ∷ []); coshape = None; initial = None }) ∷ []); at = (p 1 1) }) ∷ (record { type_spec = (s.integer None); attributes = (s.parameter ∷ []); entities = ((record { name = (n (codes "c") 2 23); dimensions = ((s.explicit (record { lower = None; upper = (f.number 2 kinds.Unstated (p 2 25)) })) ∷ []); coshape = None; initial = (Some (f.array_constructor (f.more_expressions (f.number 1 kinds.Unstated (p 2 31)) (f.more_expressions (f.number 2 kinds.Unstated (p 2 34)) f.no_expressions)) (p 2 30))) }) ∷ []); at = (p 2 1) }) ∷ (record { type_spec = (s.integer None); attributes = (s.parameter ∷ []); entities = ((record { name = (n (codes "k") 3 23); dimensions = []; coshape = None; initial = (Some (f.binary operators.Subtract (f.binary operators.Add (f.binary operators.Subtract (f.designator (f.part_ref (n (codes "huge") 3 27) (f.more_section_subscripts (f.subscript (f.designator (f.part_ref (n (codes "i") 3 32) f.no_section_subscripts f.no_image_selector))) f.no_section_subscripts) f.no_image_selector)) (f.function_reference (n (codes "huge") 3 37) (f.more_arguments (Some (n (codes "x") 3 42)) (f.designator (f.part_ref (n (codes "a") 3 44) (f.more_section_subscripts (f.subscript (f.designator (f.part_ref (n (codes "i") 3 46) f.no_section_subscripts f.no_image_selector))) f.no_section_subscripts) f.no_image_selector)) f.no_arguments)) (p 3 27)) (f.designator (f.part_ref (n (codes "huge") 3 52) (f.more_section_subscripts (f.subscript (f.designator (f.part_ref (n (codes "c") 3 57) f.no_section_subscripts f.no_image_selector))) f.no_section_subscripts) f.no_image_selector)) (p 3 27)) (f.designator (f.part_ref (n (codes "huge") 3 62) (f.more_section_subscripts (f.subscript (f.binary operators.Add (f.designator (f.part_ref (n (codes "c") 3 67) (f.more_section_subscripts (f.subscript (f.number 1 kinds.Unstated (p 3 69))) f.no_section_subscripts) f.no_image_selector)) (f.number 1 kinds.Unstated (p 3 74)) (p 3 67))) f.no_section_subscripts) f.no_image_selector)) (p 3 27))) }) ∷ []); at = (p 3 1) }) ∷ []); statements = (s.more_statements (s.case_construct (f.designator (f.part_ref (n (codes "k") 4 14) f.no_section_subscripts f.no_image_selector)) (s.more_case_blocks (s.ranges ((s.single (f.designator (f.part_ref (n (codes "huge") 5 7) (f.more_section_subscripts (f.subscript (f.designator (f.part_ref (n (codes "a") 5 12) f.no_section_subscripts f.no_image_selector))) f.no_section_subscripts) f.no_image_selector))) ∷ [])) s.no_statements (p 5 1) s.no_case_blocks) (p 4 1) (p 6 1)) s.no_statements) }); procedures = None; end = (record { name = None; at = (p 7 1) }) }) ≡ true
 unfolding judged_statements
 accepted_1 = refl

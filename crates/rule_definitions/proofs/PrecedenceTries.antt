@@ -1,4 +1,5 @@
--- Sources in which two rules are broken, at one place or in a part and in the form around it; `@` in a remark stands before the place that is told.
+-- Sources in which two rules are broken, at one place or in a part and in the form around it; `@` in a remark stands
+-- before the place that is told.
 use Rattle.std.proofs.Common.{◌≡◌, true, [], ◌∷◌, refl, codes, Some, None}
 use Rattle.fortran_tree.specs.declared.expr.NumberKind.TheVariants as kinds
 use Rattle.fortran_tree.specs.declared.expr.Operator.TheVariants as operators

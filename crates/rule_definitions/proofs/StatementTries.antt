@@ -185,7 +185,8 @@ query_coindexed : answers (record { name = None; uses = ((record { nature = natu
 unfolding judged_statements
 query_coindexed = refl
 
--- EVENT POST may have it: use iso_fortran_env; type(event_type) :: e[*]; event post (e[1]); event wait (e, until_count=2); end
+-- EVENT POST may have it: use iso_fortran_env; type(event_type) :: e[*]; event post (e[1]); event wait (e,
+-- until_count=2); end
 post_coindexed : accepted (record { name = None; uses = ((record { nature = natures.Unstated; module_name = (n (codes "iso_fortran_env") 1 5); only = None; at = (p 1 1) }) ∷ []); body = (record { implicit_none = None; declarations = ((record { type_spec = (s.derived (n (codes "event_type") 2 6)); attributes = ([]); entities = ((record { name = (n (codes "e") 2 21); dimensions = ([]); coshape = (Some (s.explicit_coshape ([]) None)); initial = None }) ∷ []); at = (p 2 1) }) ∷ []); statements = (s.more_statements (s.action (s.event_post (f.part_ref (n (codes "e") 3 13) f.no_section_subscripts (f.image_selector (f.more_expressions (f.number 1 kinds.Unstated (p 3 15)) f.no_expressions) f.no_specifiers)) f.no_specifiers) (p 3 1)) (s.more_statements (s.action (s.event_wait (f.part_ref (n (codes "e") 4 13) f.no_section_subscripts f.no_image_selector) (f.more_specifiers (n (codes "until_count") 4 16) (f.number 2 kinds.Unstated (p 4 28)) f.no_specifiers)) (p 4 1)) s.no_statements)) }); procedures = None; end = record { name = None; at = (p 5 1) } }) ≡ true
 unfolding judged_statements
 post_coindexed = refl
@@ -210,7 +211,8 @@ atom_of_eight : answers (record { name = None; uses = ([]); body = (record { imp
 unfolding judged_statements
 atom_of_eight = refl
 
--- atomic calls: integer :: a[*], o; logical :: b[*]; call atomic_fetch_add(a[1], 1, o); call atomic_define(b, .true.); end
+-- atomic calls: integer :: a[*], o; logical :: b[*]; call atomic_fetch_add(a[1], 1, o); call atomic_define(b, .true.);
+-- end
 atoms : accepted (record { name = None; uses = ([]); body = (record { implicit_none = None; declarations = ((record { type_spec = (s.integer None); attributes = ([]); entities = ((record { name = (n (codes "a") 1 12); dimensions = ([]); coshape = (Some (s.explicit_coshape ([]) None)); initial = None }) ∷ (record { name = (n (codes "o") 1 18); dimensions = ([]); coshape = None; initial = None }) ∷ []); at = (p 1 1) }) ∷ (record { type_spec = (s.logical None); attributes = ([]); entities = ((record { name = (n (codes "b") 2 12); dimensions = ([]); coshape = (Some (s.explicit_coshape ([]) None)); initial = None }) ∷ []); at = (p 2 1) }) ∷ []); statements = (s.more_statements (s.action (s.call (n (codes "atomic_fetch_add") 3 6) (Some (f.more_arguments None (f.designator (f.part_ref (n (codes "a") 3 23) f.no_section_subscripts (f.image_selector (f.more_expressions (f.number 1 kinds.Unstated (p 3 25)) f.no_expressions) f.no_specifiers))) (f.more_arguments None (f.number 1 kinds.Unstated (p 3 29)) (f.more_arguments None (f.designator (f.part_ref (n (codes "o") 3 32) f.no_section_subscripts f.no_image_selector)) f.no_arguments))))) (p 3 1)) (s.more_statements (s.action (s.call (n (codes "atomic_define") 4 6) (Some (f.more_arguments None (f.designator (f.part_ref (n (codes "b") 4 20) f.no_section_subscripts f.no_image_selector)) (f.more_arguments None (f.logical true (p 4 23)) f.no_arguments)))) (p 4 1)) s.no_statements)) }); procedures = None; end = record { name = None; at = (p 5 1) } }) ≡ true
 unfolding judged_statements
 atoms = refl
@@ -245,7 +247,8 @@ deallocate_of_none : answers (record { name = None; uses = ([]); body = (record 
 unfolding judged_statements
 deallocate_of_none = refl
 
--- ALLOCATE of both: integer, allocatable :: a(:), x(:)[:]; integer :: s; allocate (a(2), x(0:3)[*], stat=s); deallocate (x, a); end
+-- ALLOCATE of both: integer, allocatable :: a(:), x(:)[:]; integer :: s; allocate (a(2), x(0:3)[*], stat=s); deallocate
+-- (x, a); end
 allocated : accepted (record { name = None; uses = ([]); body = (record { implicit_none = None; declarations = ((record { type_spec = (s.integer None); attributes = (s.allocatable ∷ []); entities = ((record { name = (n (codes "a") 1 25); dimensions = ((s.deferred (p 1 27)) ∷ []); coshape = None; initial = None }) ∷ (record { name = (n (codes "x") 1 31); dimensions = ((s.deferred (p 1 33)) ∷ []); coshape = (Some (s.deferred_coshape 1)); initial = None }) ∷ []); at = (p 1 1) }) ∷ (record { type_spec = (s.integer None); attributes = ([]); entities = ((record { name = (n (codes "s") 2 12); dimensions = ([]); coshape = None; initial = None }) ∷ []); at = (p 2 1) }) ∷ []); statements = (s.more_statements (s.action (s.allocate ((record { name = (n (codes "a") 3 11); bounds = ((s.explicit (record { lower = None; upper = (f.number 2 kinds.Unstated (p 3 13)) })) ∷ []); cobounds = None }) ∷ (record { name = (n (codes "x") 3 17); bounds = ((s.explicit (record { lower = (Some (f.number 0 kinds.Unstated (p 3 19))); upper = (f.number 3 kinds.Unstated (p 3 21)) })) ∷ []); cobounds = (Some (s.explicit_coshape ([]) None)) }) ∷ []) (f.more_specifiers (n (codes "stat") 3 28) (f.designator (f.part_ref (n (codes "s") 3 33) f.no_section_subscripts f.no_image_selector)) f.no_specifiers)) (p 3 1)) (s.more_statements (s.action (s.deallocate ((n (codes "x") 4 13) ∷ (n (codes "a") 4 16) ∷ []) f.no_specifiers) (p 4 1)) s.no_statements)) }); procedures = None; end = record { name = None; at = (p 5 1) } }) ≡ true
 unfolding judged_statements
 allocated = refl
@@ -290,7 +293,8 @@ unknown_specifier : answers (record { name = None; uses = ([]); body = (record {
 unfolding judged_statements
 unknown_specifier = refl
 
--- teams: use iso_fortran_env; type(team_type) :: t; integer :: s; form team (1, t, new_index=1, stat=s); change team (t); sync team (t); end team (stat=s); end
+-- teams: use iso_fortran_env; type(team_type) :: t; integer :: s; form team (1, t, new_index=1, stat=s); change team
+-- (t); sync team (t); end team (stat=s); end
 teams_formed : accepted (record { name = None; uses = ((record { nature = natures.Unstated; module_name = (n (codes "iso_fortran_env") 1 5); only = None; at = (p 1 1) }) ∷ []); body = (record { implicit_none = None; declarations = ((record { type_spec = (s.derived (n (codes "team_type") 2 6)); attributes = ([]); entities = ((record { name = (n (codes "t") 2 20); dimensions = ([]); coshape = None; initial = None }) ∷ []); at = (p 2 1) }) ∷ (record { type_spec = (s.integer None); attributes = ([]); entities = ((record { name = (n (codes "s") 3 12); dimensions = ([]); coshape = None; initial = None }) ∷ []); at = (p 3 1) }) ∷ []); statements = (s.more_statements (s.action (s.form_team (f.number 1 kinds.Unstated (p 4 12)) (n (codes "t") 4 15) (f.more_specifiers (n (codes "new_index") 4 18) (f.number 1 kinds.Unstated (p 4 28)) (f.more_specifiers (n (codes "stat") 4 31) (f.designator (f.part_ref (n (codes "s") 4 36) f.no_section_subscripts f.no_image_selector)) f.no_specifiers))) (p 4 1)) (s.more_statements (s.change_team_construct (f.designator (f.part_ref (n (codes "t") 5 14) f.no_section_subscripts f.no_image_selector)) f.no_specifiers (s.more_statements (s.action (s.sync_team (f.designator (f.part_ref (n (codes "t") 6 12) f.no_section_subscripts f.no_image_selector)) f.no_specifiers) (p 6 1)) s.no_statements) (s.present (n (codes "stat") 7 11) (f.designator (f.part_ref (n (codes "s") 7 16) f.no_section_subscripts f.no_image_selector))) (p 5 1) (p 7 1)) s.no_statements)) }); procedures = None; end = record { name = None; at = (p 8 1) } }) ≡ true
 unfolding judged_statements
 teams_formed = refl

@@ -56,12 +56,14 @@ end_of_program : answers (record { name = (Some (n (codes "a") 1 9)); uses = ([]
 unfolding judged_statements
 end_of_program = refl
 
--- a function that stands further down: print *, f(2); contains; recursive integer function f(n) result(r); integer, intent(in) :: n; r = g(n); end function; integer function g(n); integer :: n; g = n; n = 0; end function; end
+-- a function that stands further down: print *, f(2); contains; recursive integer function f(n) result(r); integer,
+-- intent(in) :: n; r = g(n); end function; integer function g(n); integer :: n; g = n; n = 0; end function; end
 procedure_below : accepted (record { name = None; uses = ([]); body = (record { implicit_none = None; declarations = ([]); statements = (s.more_statements (s.action (s.print s.free (s.value (f.designator (f.part_ref (n (codes "f") 1 10) (f.more_section_subscripts (f.subscript (f.number 2 kinds.Unstated (p 1 12))) f.no_section_subscripts) f.no_image_selector)) ∷ [])) (p 1 1)) s.no_statements) }); procedures = (Some ((record { heading = (u.function (u.result_type (s.integer None) ∷ []) (n (codes "f") 3 28) ((n (codes "n") 3 30) ∷ []) (Some (n (codes "r") 3 40))); body = (record { implicit_none = None; declarations = ((record { type_spec = (s.integer None); attributes = ((s.intent intents.In) ∷ []); entities = ((record { name = (n (codes "n") 4 24); dimensions = ([]); coshape = None; initial = None }) ∷ []); at = (p 4 1) }) ∷ []); statements = (s.more_statements (s.action (s.assignment (f.part_ref (n (codes "r") 5 1) f.no_section_subscripts f.no_image_selector) (f.designator (f.part_ref (n (codes "g") 5 5) (f.more_section_subscripts (f.subscript (f.designator (f.part_ref (n (codes "n") 5 7) f.no_section_subscripts f.no_image_selector))) f.no_section_subscripts) f.no_image_selector))) (p 5 1)) s.no_statements) }); end = record { name = None; at = (p 6 1) }; at = (p 3 1) }) ∷ (record { heading = (u.function (u.result_type (s.integer None) ∷ []) (n (codes "g") 7 18) ((n (codes "n") 7 20) ∷ []) None); body = (record { implicit_none = None; declarations = ((record { type_spec = (s.integer None); attributes = ([]); entities = ((record { name = (n (codes "n") 8 12); dimensions = ([]); coshape = None; initial = None }) ∷ []); at = (p 8 1) }) ∷ []); statements = (s.more_statements (s.action (s.assignment (f.part_ref (n (codes "g") 9 1) f.no_section_subscripts f.no_image_selector) (f.designator (f.part_ref (n (codes "n") 9 5) f.no_section_subscripts f.no_image_selector))) (p 9 1)) (s.more_statements (s.action (s.assignment (f.part_ref (n (codes "n") 10 1) f.no_section_subscripts f.no_image_selector) (f.number 0 kinds.Unstated (p 10 5))) (p 10 1)) s.no_statements)) }); end = record { name = None; at = (p 11 1) }; at = (p 7 1) }) ∷ [])); end = record { name = None; at = (p 12 1) } }) ≡ true
 unfolding judged_statements
 procedure_below = refl
 
--- the main program's variables are seen in a procedure: integer :: a(2); call s(); contains; subroutine s(); a(1) = a(2); end subroutine; end
+-- the main program's variables are seen in a procedure: integer :: a(2); call s(); contains; subroutine s(); a(1) =
+-- a(2); end subroutine; end
 host_seen : accepted (record { name = None; uses = ([]); body = (record { implicit_none = None; declarations = ((record { type_spec = (s.integer None); attributes = ([]); entities = ((record { name = (n (codes "a") 1 12); dimensions = ((s.explicit (record { lower = None; upper = (f.number 2 kinds.Unstated (p 1 14)) })) ∷ []); coshape = None; initial = None }) ∷ []); at = (p 1 1) }) ∷ []); statements = (s.more_statements (s.action (s.call (n (codes "s") 2 6) (Some f.no_arguments)) (p 2 1)) s.no_statements) }); procedures = (Some ((record { heading = (u.subroutine recursions.Unstated (n (codes "s") 4 12) (Some ([]))); body = (record { implicit_none = None; declarations = ([]); statements = (s.more_statements (s.action (s.assignment (f.part_ref (n (codes "a") 5 1) (f.more_section_subscripts (f.subscript (f.number 1 kinds.Unstated (p 5 3))) f.no_section_subscripts) f.no_image_selector) (f.designator (f.part_ref (n (codes "a") 5 8) (f.more_section_subscripts (f.subscript (f.number 2 kinds.Unstated (p 5 10))) f.no_section_subscripts) f.no_image_selector))) (p 5 1)) s.no_statements) }); end = record { name = None; at = (p 6 1) }; at = (p 4 1) }) ∷ [])); end = record { name = None; at = (p 7 1) } }) ≡ true
 unfolding judged_statements
 host_seen = refl

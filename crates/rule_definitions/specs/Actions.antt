@@ -27,14 +27,16 @@ use Rattle.rule_definitions.specs.Expressions.{judged_designator, judged_bracket
 use Rattle.rule_definitions.specs.Declarations.{is_like}
 use Rattle.rule_definitions.specs.Formats.{descriptors, format_breaks}
 
--- a construct around a statement (11.1): a loop with its name and its variable, a SELECT, or one that no branch may leave
+-- a construct around a statement (11.1): a loop with its name and its variable, a SELECT, or one that no branch may
+-- leave
 pub data Around : Type 0 where
   loop : Option Name → Option Local → Around
   selection : Around
   critical : Around
   team_change : Around
 
--- where a statement stands: its scope, the constructs around it, outermost first, and how many literals stand before it in the program
+-- where a statement stands: its scope, the constructs around it, outermost first, and how many literals stand before it
+-- in the program
 pub record Site : Type 0 where
   pub scope : Scope
   pub around : List Around
@@ -89,7 +91,8 @@ abbrev pub is_listed_value : Option t.Expression → Bool
 is_listed_value None = false
 is_listed_value (Some v) = is_listed v
 
--- Rule 32 (10.2.1.2, 8.5.10, 11.1.7.4.3), at the statement; where a list of images is assigned rule 56 or 38 speaks alone
+-- Rule 32 (10.2.1.2, 8.5.10, 11.1.7.4.3), at the statement; where a list of images is assigned rule 56 or 38 speaks
+-- alone
 abbrev pub definable_breaks : Site → Pos → Option t.Expression → t.Expression → List Broken
 definable_breaks x p v e = unless (is_definable x e || is_listed_value v) 32 p
 
@@ -99,7 +102,8 @@ is_plain_array (t.typed (t.designator d) y r) = true
 is_plain_array (t.typed (t.array_constructor es) y r) = true
 is_plain_array e = false
 
--- Rule 32 (10.2.1.2): unlike types, at the statement. Rule 37: an array for a scalar; rule 38: of another rank, or that is computed; at the value
+-- Rule 32 (10.2.1.2): unlike types, at the statement. Rule 37: an array for a scalar; rule 38: of another rank, or that
+-- is computed; at the value
 abbrev pub kindred_breaks : Pos → Pos → t.Expression → t.Expression → List Broken
 kindred_breaks p q x v = cond (is_like (type_of x) (type_of v))
     (cond (nat_eq (rank_of v) 0) [] (cond (nat_eq (rank_of x) 0) (breaks 37 q) (unless (nat_eq (rank_of v) (rank_of x) && is_plain_array v) 38 q)))
@@ -310,7 +314,8 @@ shape_breaks zero (x ∷ xs) p = breaks (cond (has_colon (x ∷ xs)) 55 33) p
 shape_breaks r [] p = breaks 55 p
 shape_breaks r (x ∷ xs) p = cond (has_colon (x ∷ xs)) (breaks 55 p) (unless (nat_eq (length (x ∷ xs)) r) 33 p)
 
--- Rule 55 (9.7.1.1): a coarray without cobounds; rule 34: cobounds of what is no coarray; rule 33: another number of them
+-- Rule 55 (9.7.1.1): a coarray without cobounds; rule 34: cobounds of what is no coarray; rule 33: another number of
+-- them
 abbrev pub cobounds_breaks : ℕ → Option fs.CoarraySpec → Pos → List Broken
 cobounds_breaks zero None p = []
 cobounds_breaks zero (Some c) p = breaks 34 p
@@ -388,7 +393,8 @@ written_if s (Some ps) = judged_specifiers s ps
 
 -- Image control statements (11.6)
 
--- Rule 52 (11.6.4): a set that is neither a scalar integer nor an integer array of rank one without a selector; rule 51 for a team
+-- Rule 52 (11.6.4): a set that is neither a scalar integer nor an integer array of rank one without a selector; rule 51
+-- for a team
 abbrev pub is_image_set : t.Expression → Bool
 is_image_set x = is_integer (type_of x) && (nat_eq (rank_of x) 0 || (nat_eq (rank_of x) 1 && not (is_coindexed_form x)))
 

@@ -1,4 +1,5 @@
--- Actual arguments (15.5.2): those of the procedures of the program by position, those of intrinsic procedures by position or keyword (15.5.2.1).
+-- Actual arguments (15.5.2): those of the procedures of the program by position, those of intrinsic procedures by
+-- position or keyword (15.5.2.1).
 use Rattle.std.specs.Prelude.{ℕ, suc, Bool, true, false, not, cond, nat_eq, nat_le, bytes_eq, ◌+◌, List, [], ◌∷◌, ◌++◌, ◌||◌, ◌&&◌, Option, Some, None, map, length}
 use Rattle.caf_base.specs.declared.place.Pos.{Pos}
 use Rattle.fortran_tree.specs.declared.name.Name.{Name}
@@ -102,7 +103,8 @@ paired_all s [] as' = surplus as'
 paired_all s ds [] = fine t.no_arguments
 paired_all s (d ∷ ds) (a ∷ rest) = made_of_both t.more_arguments (paired s d a) (paired_all s ds rest)
 
--- Rule 45: too few arguments, at the procedure's name; a break of the reference, as an argument that doesn't match is one
+-- Rule 45: too few arguments, at the procedure's name; a break of the reference, as an argument that doesn't match is
+-- one
 abbrev pub number_breaks : List Symbol → List Actual → Pos → List Broken
 number_breaks ds as' p = cond (is_nothing (breaks_in_all as')) (unless (nat_le (length ds) (length as')) 45 p) []
 

@@ -23,8 +23,9 @@ use Rattle.checked_tree.specs.declared.expr.LogicalOperator.TheVariants as logic
 use Rattle.rule_definitions.specs.Names.{KnownBounds, Scope, Symbol, Interface, symbol_of}
 use Rattle.rule_definitions.specs.Judgements.{item_at, made}
 
--- what an expression stands for before the run: a scalar, an array (its extents and its elements in array element order), or nothing, where a part of it
--- isn't constant or the evaluation would leave its kind, divide by zero or pass a bound
+-- what an expression stands for before the run: a scalar, an array (its extents and its elements in array element
+-- order), or nothing, where a part of it isn't constant or the evaluation would leave its kind, divide by zero or pass
+-- a bound
 pub data Constancy : Type 0 where
   value : Value → Constancy
   values : List ℕ → List Value → Constancy
@@ -385,7 +386,8 @@ abbrev pub is_constant : Constancy → Bool
 is_constant no_constant = false
 is_constant c = true
 
--- an inquiry is constant of a variable and of a constant expression alone (10.1.12): a part of a named constant is constant where its subscripts are
+-- an inquiry is constant of a variable and of a constant expression alone (10.1.12): a part of a named constant is
+-- constant where its subscripts are
 abbrev pub inquired_bounds : t.Expression → Known → List KnownBounds
 inquired_bounds (t.typed (t.designator (t.part (objects.Constant n) ss c)) y r) k = cond (is_constant k.constancy) k.bounds []
 inquired_bounds (t.typed (t.designator d) y r) k = k.bounds

@@ -1,4 +1,5 @@
--- What breaks in declarations (8), and the scopes that they make: a fold over the entities in order, each of which sees the scope so far.
+-- What breaks in declarations (8), and the scopes that they make: a fold over the entities in order, each of which sees
+-- the scope so far.
 use Rattle.std.specs.Prelude.{ℕ, ℤ, pos, ◌-ℤ◌, ◌+ℤ◌, int_lt, Bool, true, false, not, cond, nat_eq, nat_lt, nat_le, bytes_eq, ◌+◌, List, [], ◌∷◌, ◌++◌, ◌||◌, ◌&&◌, Option, Some, None, map, length}
 use Rattle.caf_base.specs.declared.place.Pos.{Pos}
 use Rattle.caf_base.specs.declared.value.Kind.{Kind}
@@ -29,14 +30,16 @@ use Rattle.rule_definitions.specs.Constants.{Constancy, value, values, no_consta
 use Rattle.rule_definitions.specs.Parts.{place_of, plain, integer_kind, logical_kind, kind_value, logical_array_breaks, type_of}
 use Rattle.rule_definitions.specs.Expressions.{judged, placed}
 
--- where declarations stand: in the main program or in a procedure with these dummies and this result, which the heading may have typed
+-- where declarations stand: in the main program or in a procedure with these dummies and this result, which the heading
+-- may have typed
 pub record Unit' : Type 0 where
   pub is_procedure : Bool
   pub dummies : List (List ℕ)
   pub answer : Option (List ℕ)
   pub is_answer_typed : Bool
 
--- Functions of the program aren't constant (10.1.12): a reference to one is judged, but what stands around it has no value
+-- Functions of the program aren't constant (10.1.12): a reference to one is judged, but what stands around it has no
+-- value
 
 abbrev pub is_function : Option Meaning → Bool
 is_function (Some (Names.function n)) = true
@@ -68,7 +71,8 @@ is_subscript_inquired s (f.more_section_subscripts (f.subscript e) rest) = is_in
 is_subscript_inquired s ss = true
 
 abbrev mutual
-  -- no constant expression, whatever values its parts have: it references a function of the program, or HUGE of what is no variable and isn't constant
+  -- no constant expression, whatever values its parts have: it references a function of the program, or HUGE of what is
+  -- no variable and isn't constant
   pub lacks_value : Scope → f.Expression → Bool
   lacks_value s (f.number n k p) = false
   lacks_value s (f.logical b p) = false
@@ -262,7 +266,8 @@ coshape_known s (Some (d.explicit_coshape bs l)) = coshape_of_bounds (all_bounds
 abbrev pub rank_breaks : ℕ → ℕ → Pos → List Broken
 rank_breaks rank corank p = unless (nat_le rank 3 && nat_le corank 3) 24 p
 
--- Rule 26 (8.5.3, 8.5.8.4, 8.5.6.2): an allocatable has deferred shape and coshape and isn't a scalar without a coshape; nothing else has them
+-- Rule 26 (8.5.3, 8.5.8.4, 8.5.6.2): an allocatable has deferred shape and coshape and isn't a scalar without a
+-- coshape; nothing else has them
 abbrev pub is_shaped : Bool → List d.Dimension → Option d.CoarraySpec → Bool
 is_shaped true [] None = false
 is_shaped true ds None = all_deferred ds
@@ -343,7 +348,8 @@ abbrev pub is_special : Option DataType → Bool
 is_special None = false
 is_special (Some y) = not (is_intrinsic y)
 
--- Rule 27: an initial value of an event, a lock or a team. Rule 28 (8.4, 8.5.16): of a variable in a procedure. Rule 22: of an allocatable
+-- Rule 27: an initial value of an event, a lock or a team. Rule 28 (8.4, 8.5.16): of a variable in a procedure. Rule
+-- 22: of an allocatable
 abbrev pub initialized_breaks : Unit' → Bool → Bool → Option DataType → Pos → List Broken
 initialized_breaks u is_named allocates y p = unless (not (is_special y)) 27 p ++ (unless (is_named || not u.is_procedure) 28 p ++ unless (not allocates) 22 p)
 
@@ -378,7 +384,8 @@ abbrev pub count_coarrays : List Symbol → ℕ
 count_coarrays [] = 0
 count_coarrays (x ∷ xs) = cond (nat_eq x.corank 0) (count_coarrays xs) (count_coarrays xs + 1)
 
--- variables are numbered in declared order in their scope, coarrays among the coarrays; a result that its prefix types stands last
+-- variables are numbered in declared order in their scope, coarrays among the coarrays; a result that its prefix types
+-- stands last
 abbrev pub object_of : Scope → ℕ → Object
 object_of s corank = cond (nat_eq corank 0) (objects.Local (record { home = Own; variable = length (variables_of s.own) })) (objects.Coarray (count_coarrays (variables_of s.own)))
 
@@ -454,7 +461,8 @@ entity_breaks s u a y e ds c =
 abbrev pub is_declared : Unit' → Scope → List ℕ → Bool
 is_declared u s n = is_there (denoted_in s.own n) || (u.is_answer_typed && is_answer u n)
 
--- Rule 21 (19.3.1): a name that is declared in this scope already; of that entity nothing more is said than what breaks in its expressions
+-- Rule 21 (19.3.1): a name that is declared in this scope already; of that entity nothing more is said than what breaks
+-- in its expressions
 abbrev pub repeated_breaks : Scope → d.Entity → List d.Dimension → Option d.CoarraySpec → List Broken
 repeated_breaks s e ds c = cond (is_nothing (raw_entity_breaks s e ds c)) (breaks 21 e.name.at) (raw_entity_breaks s e ds c)
 
@@ -499,7 +507,8 @@ abbrev pub names_declared : List d.Declaration → List (List ℕ)
 names_declared [] = []
 names_declared (x ∷ xs) = names_of x.entities ++ names_declared xs
 
--- Rule 30 (a limit of this profile): static coarrays, or local variables of the main program, of more than 65,536 cells; at the variable that passes it
+-- Rule 30 (a limit of this profile): static coarrays, or local variables of the main program, of more than 65,536
+-- cells; at the variable that passes it
 
 abbrev pub cells_of : Symbol → ℕ
 cells_of x = cond x.is_allocatable 0 (elim (all_bounds x.bounds) [ None ↦ 0 | Some ds ↦ size_of ds ])

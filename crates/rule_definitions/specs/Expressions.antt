@@ -45,7 +45,8 @@ rank_behind r (a ∷ rest) = triplets_in (a ∷ rest)
 abbrev pub subscript_breaks : ℕ → ℕ → Pos → List Broken
 subscript_breaks rank k p = unless (nat_eq k 0 || nat_eq k rank) 33 p
 
--- Rule 34 (9.6): an image selector on what is no coarray. Rule 33 (9.6): as many cosubscripts as the corank; a coindexed array has subscripts
+-- Rule 34 (9.6): an image selector on what is no coarray. Rule 33 (9.6): as many cosubscripts as the corank; a
+-- coindexed array has subscripts
 abbrev pub selection_breaks : ℕ → ℕ → ℕ → Option ℕ → Pos → List Broken
 selection_breaks rank corank k None p = []
 selection_breaks rank corank k (Some m) p = cond (nat_eq corank 0) (breaks 34 p) (unless (nat_eq m corank && (not (nat_eq k 0) || nat_eq rank 0)) 33 p)

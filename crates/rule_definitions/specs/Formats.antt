@@ -11,7 +11,8 @@ pub data Piece : Type 0 where
   sign : ℕ → Piece
   quoted : List ℕ → Piece
 
--- how far a format is read: outside of literals; in one with this delimiter and these characters; behind a delimiter that may be doubled
+-- how far a format is read: outside of literals; in one with this delimiter and these characters; behind a delimiter
+-- that may be doubled
 pub data Reading : Type 0 where
   outside : Reading
   inside : ℕ → List ℕ → Reading

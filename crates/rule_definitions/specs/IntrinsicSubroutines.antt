@@ -97,7 +97,8 @@ is_own_variable (t.typed (t.designator (t.part (objects.Constant n) ss c)) y r) 
 is_own_variable (t.typed (t.designator (t.part o ss t.no_selector)) y r) = true
 is_own_variable x = false
 
--- Rule 54: what is coindexed, is no variable, or is logical in other than CO_BROADCAST; rule 59 for an event or a lock, rule 51 for a team
+-- Rule 54: what is coindexed, is no variable, or is logical in other than CO_BROADCAST; rule 59 for an event or a lock,
+-- rule 51 for a team
 abbrev pub collected_breaks : Bool → Pos → t.Expression → List Broken
 collected_breaks takes_logicals p x = cond (is_own_variable x && (takes_logicals || not (is_logical (type_of x))))
     (cond (is_integer (type_of x) || is_logical (type_of x)) [] (unlike_breaks 59 (type_of x) p)) (breaks 54 p)

@@ -26,8 +26,8 @@ use Rattle.rule_definitions.specs.Judgements.{or_else}
 abbrev pub KnownBounds : Type 0
 KnownBounds = Option (ℤ × ℤ)
 
--- what a variable is in its procedure: a dummy argument (with its intent, where one is written), one that nothing declares, the result of a
--- function, or none of these
+-- what a variable is in its procedure: a dummy argument (with its intent, where one is written), one that nothing
+-- declares, the result of a function, or none of these
 pub data Role : Type 0 where
   plain : Role
   dummy : Option Intent → Role
@@ -127,8 +127,9 @@ abbrev pub is_among : List (List ℕ) → List ℕ → Bool
 is_among [] n = false
 is_among (x ∷ xs) n = bytes_eq x n || is_among xs n
 
--- a scope: the names that are declared in it so far, and those that its declarations further down declare; those of the host (19.5.1.4); the
--- procedures' names; the names that USE made accessible (14.2.2); the interfaces, none as long as they are looked for; the array constants so far
+-- a scope: the names that are declared in it so far, and those that its declarations further down declare; those of the
+-- host (19.5.1.4); the procedures' names; the names that USE made accessible (14.2.2); the interfaces, none as long as
+-- they are looked for; the array constants so far
 pub record Scope : Type 0 where
   pub own : List Named
   pub pending : List (List ℕ)
@@ -199,7 +200,8 @@ module_names =
     ∷ named (codes "stat_locked_other_image") (module_constant (pos 6005))
     ∷ []
 
--- what a name stands for outside of the scope's own declarations: the host's, the procedures, what USE made accessible, the intrinsic procedures
+-- what a name stands for outside of the scope's own declarations: the host's, the procedures, what USE made accessible,
+-- the intrinsic procedures
 abbrev pub denoted_outside : Scope → List ℕ → Option Meaning
 denoted_outside s n = or_else (denoted_in s.host n) (or_else (denoted_in s.procedures n) (or_else (denoted_in s.accessible n) (denoted_in intrinsic_procedures n)))
 

@@ -1,4 +1,5 @@
--- Specifiers, NAME = value: of image selectors (9.6), of ALLOCATE and DEALLOCATE (9.7), of image control statements (11.6) and constructs (11.1).
+-- Specifiers, NAME = value: of image selectors (9.6), of ALLOCATE and DEALLOCATE (9.7), of image control statements
+-- (11.6) and constructs (11.1).
 use Rattle.std.specs.Prelude.{ℕ, Bool, false, not, cond, bytes_eq, codes, List, [], ◌∷◌, ◌++◌, ◌||◌, ◌&&◌, Option, Some, None}
 use Rattle.fortran_tree.specs.declared.name.Name.{Name}
 use Rattle.checked_tree.specs.Expressions as t
@@ -26,7 +27,8 @@ has_team (n ∷ ns) = is_team_name n || has_team ns
 abbrev pub is_repeated : List (List ℕ) → List ℕ → Bool
 is_repeated seen n = is_among seen n || (is_team_name n && has_team seen)
 
--- Rule 35 (9.6, 9.7.1.1, 11.6.11): a specifier that the statement hasn't, one twice, or both TEAM= and TEAM_NUMBER=; at the later name
+-- Rule 35 (9.6, 9.7.1.1, 11.6.11): a specifier that the statement hasn't, one twice, or both TEAM= and TEAM_NUMBER=; at
+-- the later name
 abbrev pub name_breaks : List (List ℕ) → List (List ℕ) → Written → List Broken
 name_breaks allowed seen w = cond (is_nothing (plain w.value).breaks) (unless (is_among allowed w.name.text && not (is_repeated seen w.name.text)) 35 w.name.at) []
 

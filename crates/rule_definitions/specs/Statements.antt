@@ -1,4 +1,5 @@
--- What breaks in statements and constructs (11.1), and the typed ones that they stand for; critical constructs and literals are numbered in source order.
+-- What breaks in statements and constructs (11.1), and the typed ones that they stand for; critical constructs and
+-- literals are numbered in source order.
 use Rattle.std.specs.Prelude.{ℕ, ℤ, pos, int_le, Bool, true, false, not, cond, nat_eq, nat_le, length, List, [], ◌∷◌, ◌++◌, ◌+◌, ◌||◌, ◌&&◌, bytes_eq, Option, Some, None}
 use Rattle.caf_base.specs.declared.place.Pos.{Pos}
 use Rattle.caf_base.specs.declared.value.Kind.{Kind}

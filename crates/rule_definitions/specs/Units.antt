@@ -1,4 +1,5 @@
--- What breaks in a program (5.2, 14.1, 15.6.2), and the checked program that it stands for: all scopes first, then the statements of each unit in order.
+-- What breaks in a program (5.2, 14.1, 15.6.2), and the checked program that it stands for: all scopes first, then the
+-- statements of each unit in order.
 use Rattle.std.specs.Prelude.{ℕ, Bool, true, false, not, cond, nat_eq, length, List, [], ◌∷◌, ◌++◌, ◌+◌, ◌||◌, ◌&&◌, bytes_eq, codes, Option, Some, None, map}
 use Rattle.caf_base.specs.declared.place.Pos.{Pos}
 use Rattle.fortran_tree.specs.Statements as fs
@@ -352,7 +353,8 @@ program_declared p d = ruled (program_opened p (record d.scope { pending = [] })
 abbrev pub main_declared : u.Program → List Interface → Declared
 main_declared p is = declared_all main_unit p.body.declarations (record (first_scope p) { interfaces = is })
 
--- the interfaces of the procedures. References to functions give declarations no values, so these are found without them
+-- the interfaces of the procedures. References to functions give declarations no values, so these are found without
+-- them
 abbrev pub interfaces_of : u.Program → List Interface
 interfaces_of p = map interface_of (opened_procedures (record (main_declared p []).scope { pending = [] }) (procedures_of p))
 

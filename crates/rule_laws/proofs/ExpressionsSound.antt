@@ -1,4 +1,5 @@
--- Each expression of a known scope is judged soundly, where it references no function of the program or each has a typed result.
+-- Each expression of a known scope is judged soundly, where it references no function of the program or each has a
+-- typed result.
 use Rattle.std.proofs.Common.{◌≡◌, ◌∙◌, ℕ, Bool, true, false, List, [], ◌∷◌, inl, inr, refl, sym, ap}
 use Rattle.std.specs.Prelude.{◌&&◌, ◌||◌, Some}
 use Rattle.fortran_tree.specs.Expressions as f

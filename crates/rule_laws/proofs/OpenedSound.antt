@@ -1,4 +1,5 @@
--- Procedures whose headings and declarations break nothing have scopes that are filled with known names, and functions have typed results.
+-- Procedures whose headings and declarations break nothing have scopes that are filled with known names, and functions
+-- have typed results.
 use Rattle.std.proofs.Common.{◌≡◌, ◌∙◌, ℕ, Bool, true, false, List, [], ◌∷◌, ◌++◌, ◌⊎◌, inl, inr, refl, sym, subst}
 use Rattle.std.specs.Prelude.{cond, not, nat_eq, bytes_eq, ◌&&◌, ◌||◌, Option, Some, None, length, map}
 use Rattle.std.specs.Bool.{Decides}

@@ -15,7 +15,7 @@ pub fn law_first_break_is_a_break()
     ensures none { (p : Program) → (first_break p ≡ None) ↔ ((program_judged p).breaks ≡ []) }
 {}
 
-/// Each break is of a rule from 20 to 59 (docs/REFUSALS.md).
+/// Each break is of a rule from 20 to 59 (docs/use/REFUSALS.md).
 pub fn law_rules_are_numbered()
     ensures { (p : Program) (r : ℕ) (at : Pos) → Breaks p r at → IsRule r }
 {}

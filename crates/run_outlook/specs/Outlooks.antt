@@ -8,7 +8,8 @@ use Rattle.run_outlook.specs.declared.image_set.ImageSet.{ImageSet}
 use Rattle.run_outlook.specs.declared.outlook.Outlook.{Outlook}
 use Rattle.run_outlook.specs.ImageSets.{has}
 
--- the object at a place has its files at k, where there are so many files: those of the board are at 0, those of the memory of image k at k
+-- the object at a place has its files at k, where there are so many files: those of the board are at 0, those of the
+-- memory of image k at k
 abbrev pub IsFileOf : ℕ → Place → ℕ → Type 0
 IsFileOf files Own k = ⊥
 IsFileOf files Board k = (k ≡ 0) × (0 < files)

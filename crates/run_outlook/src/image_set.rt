@@ -71,7 +71,8 @@ impl ImageSet {
         ((self.words[(from / 64) as usize] >> (from % 64)) % 256).count_ones()
     }
 
-    /// The first number of the byte in which the number stands that is at a place of the set, and how many of the byte stand before that.
+    /// The first number of the byte in which the number stands that is at a place of the set, and how many of the byte
+    /// stand before that.
     pub fn byte_of(&self, place: u32) -> (u32, u32)
         requires { 64 * length self.now.words.items < 2 ^ 32 - 64 }
         ensures { result.1 + length (filter (has self.now.words.items) (range_with_len 0 result.0)) ≡ place }

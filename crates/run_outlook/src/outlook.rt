@@ -13,7 +13,8 @@ use caf_base::place::{ImageNo, Place};
 use caf_base::refusal::NoMemory;
 use std::alloc::Global;
 
-/// Which images can step, as far as it is known. Of the stale ones it isn't; each other one is filed at the object of its next ask, since a step there may change it.
+/// Which images can step, as far as it is known. Of the stale ones it isn't; each other one is filed at the object of
+/// its next ask, since a step there may change it.
 /// What an image asks next only its own step changes, so its next ask is kept until then.
 #[derive(Drop)]
 pub struct Outlook {
@@ -96,7 +97,8 @@ impl Outlook {
         }
     }
 
-    /// It isn't known any more whether this image can step; it is taken out of the file of a place. What is known of others stays.
+    /// It isn't known any more whether this image can step; it is taken out of the file of a place. What is known of
+    /// others stays.
     pub fn forget_image(&mut self, image: ImageNo, place: Place)
         requires well { IsWell self.old }
         requires image { (0 < image.0) × (image.0 ≤ self.old.images) }

@@ -18,9 +18,10 @@ ghost use Rattle.checked_run.specs.Reports.{IsRunOf};
 ghost use Rattle.trace_forms.specs.Files.{Written};
 ghost use Rattle.lawful_texts.specs.Ranges.{IsInRange};
 
-/// What a run writes with its trace is written for that trace: the text of the report of a run of a program that a source is read and accepted as, on 1 to 256
-/// images, where fewer than 2 to the 32nd teams are made, and where the numbers of its entries are those of the code's types and its arrivals at ALLOCATE and
-/// DEALLOCATE name declared coarrays. By `law_written_once` it is written for no other trace.
+/// What a run writes with its trace is written for that trace: the text of the report of a run of a program that a
+/// source is read and accepted as, on 1 to 256 images, where fewer than 2 to the 32nd teams are made, and where the
+/// numbers of its entries are those of the code's types and its arrivals at ALLOCATE and DEALLOCATE name declared
+/// coarrays. By `law_written_once` it is written for no other trace.
 pub fn law_run_is_written()
     ensures { (bytes : List ℕ) (x : tree.Program) (p : Program) (told : Told) (fails_at : ℕ → ℕ) (r : Report) (shown : Shown)
         → IsRead bytes x → Accepts x p → IsRunOf p told fails_at r → shown.trace ≡ true → 1 ≤ told.images → told.images ≤ 256

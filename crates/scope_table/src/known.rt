@@ -1,4 +1,5 @@
-//! Names that aren't declared in a scope: procedures, what USE makes accessible, and the intrinsic procedures. The first of a name holds.
+//! Names that aren't declared in a scope: procedures, what USE makes accessible, and the intrinsic procedures. The
+//! first of a name holds.
 
 ghost use Rattle.std.specs.Prelude.{◌≡◌, ◌++◌, ◌∷◌, [], cond, length, vec_len, vec_capacity, OnOk, OnErr};
 ghost use Rattle.std.specs.Option.{option_map};

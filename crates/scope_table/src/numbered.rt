@@ -40,7 +40,8 @@ fn numbered<'a>(entries: &'a [Entry], places: &[usize], number: u32) -> Option<&
     }
 }
 
-/// The variable among entries that an object is, seen from their scope or from a procedure of it: by its number, where the variables have theirs.
+/// The variable among entries that an object is, seen from their scope or from a procedure of it: by its number, where
+/// the variables have theirs.
 pub(crate) fn symbol_found<'a>(
     entries: &'a [Entry],
     places: &[usize],

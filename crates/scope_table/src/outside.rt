@@ -151,7 +151,8 @@ const MODULE: [(&[u8], Known); 16] = [
     (b"stat_locked_other_image", Known::ModuleConstant(6005)),
 ];
 
-/// The names of a program's procedures, those that its USE statements make accessible (14.2.2), and those of the intrinsic procedures.
+/// The names of a program's procedures, those that its USE statements make accessible (14.2.2), and those of the
+/// intrinsic procedures.
 #[derive(Drop)]
 pub struct Outside<'a> {
     uses: &'a [Use],

@@ -19,7 +19,8 @@ use crate::table::Table;
 use checked_tree::data::{Constant, DataType, Home, Object};
 use std::marker::Model;
 
-/// A variable as it is seen from a scope: its own one, or that of the main program by host association (ISO/IEC 1539-1:2018, 19.5.1.4).
+/// A variable as it is seen from a scope: its own one, or that of the main program by host association (ISO/IEC
+/// 1539-1:2018, 19.5.1.4).
 #[derive(Clone, Copy)]
 pub struct Visible<'a> {
     pub symbol: &'a Symbol,
@@ -41,8 +42,9 @@ pub enum Denoted<'a> {
     IntrinsicSubroutine(SubroutineName),
 }
 
-/// A scope: the names that are declared in it so far, those that its declarations further down declare, and those of its host, with a function's result that
-/// its heading types; what else the program knows; the interfaces, none as long as they are looked for; the array constants so far.
+/// A scope: the names that are declared in it so far, those that its declarations further down declare, and those of
+/// its host, with a function's result that its heading types; what else the program knows; the interfaces, none as long
+/// as they are looked for; the array constants so far.
 #[derive(Drop)]
 pub struct Scope<'a> {
     pub own: &'a Table,

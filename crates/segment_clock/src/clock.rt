@@ -43,7 +43,8 @@ impl Clock {
         }
     }
 
-    /// Whether the segment with this number, from 0, is below the count of the image, which is one from 1 to the number of counts.
+    /// Whether the segment with this number, from 0, is below the count of the image, which is one from 1 to the number
+    /// of counts.
     pub fn covers(&self, image: ImageNo, segment: u64) -> bool
         requires first { 0 < image.0 }
         requires last { image.0 ≤ length self.now }

@@ -142,7 +142,8 @@ module _ (limit : ℕ) where
     pub then_wins_first : better (goes limit n s c y) (goes limit n s b x) ≡ goes limit n s b x
     then_wins_first = let short = shorter limit (placed s f.if_form) ts b x one in late_loses_first (length x) (goes limit n s b x) (goes limit n s c y) (goes_within n s b x (omega arith)) condition_late
 
-  -- two parts that a place allows and that are read from one text: the one that is no condition of a one-line IF has the better answer
+  -- two parts that a place allows and that are read from one text: the one that is no condition of a one-line IF has
+  -- the better answer
   module _ (n : ℕ) (s : State) (ts : List Token) (enough : length ts ≤ suc n) (b c : Part) (x y : List Token) (h : Came limit s ts b x) (k : Came limit s ts c y) where
     beside_both : Beside h.form k.form
     beside_both = beside limit s ts h.form k.form (among_in h.form (allowed s) h.may) (among_in k.form (allowed s) k.may) b c x y h.reads k.reads (word_behind s ts b x h) (word_behind s ts c y k)

@@ -1,4 +1,5 @@
--- Which forms that a place allows read one text: one at most, but for the condition of a one-line IF beside IF with THEN.
+-- Which forms that a place allows read one text: one at most, but for the condition of a one-line IF beside IF with
+-- THEN.
 use Rattle.std.proofs.Common.{◌≡◌, ℕ, zero, suc, ◌+◌, Bool, true, false, cond, codes, List, [], ◌∷◌, ◌++◌, length, Some, ◌⊎◌, inl, inr, refl, ap, sym, ◌∙◌, subst}
 use Rattle.std.proofs.lemmas.Bool.{true≢false, false≢true}
 use Rattle.caf_base.specs.declared.place.Pos.{Pos}
@@ -363,7 +364,8 @@ module _ (limit : ℕ) where
           (λ left. subst (λ w. Gives_up (form_reader f.else_if_form left (bare w ++ x))) (sym (split ∙ (ap (λ w. w ++ z) k ∙ ap (λ w. mark limit d (record { tok = t.word (codes "else"); at = p1 }) ∷ w) g))) (gives left p1 p2)) e
   else_or_else_if s b c u x r o e = absurd (false≢true o.0)
 
-  -- IF with a condition and THEN, and the same condition of a one-line IF: THEN and the end of its statement stand behind it
+  -- IF with a condition and THEN, and the same condition of a one-line IF: THEN and the end of its statement stand
+  -- behind it
   pub then_behind : (s : State) (b c : Part) (u v : List (Mark Token)) (x y : List Token) → Words (formed f.if_form s.conditions b) limit (length s.blocks) u → Words (formed f.condition_form s.conditions c) limit (length s.blocks) v → begins is_word y ≡ true → bare u ++ x ≡ bare v ++ y
       → (at there : Pos) × (y ≡ record { tok = t.word (codes "then"); at = at } ∷ record { tok = t.over; at = there } ∷ x)
   then_behind s (f.if_part e at) (f.condition_part e2 at2) u v x y (i1, o1) (i2, o2) h same =

@@ -91,7 +91,8 @@ Comes look limit s ts (Some x) = Came limit s ts (look x).0 (look x).1
 abbrev pub Enough : List Token → ℕ → Type 0
 Enough ts n = length ts ≤ suc n
 
--- what the forms that were tried make, for every number of parts that may follow: a form of the place reads what was found, and no fault stands just past whole statements
+-- what the forms that were tried make, for every number of parts that may follow: a form of the place reads what was
+-- found, and no fault stands just past whole statements
 pub record Tries {X : Type 0} (look : X → Part × List Token) (limit : ℕ) (s : State) (ts : List Token) (v : ℕ → Answer) (tried : Option X) (e : Stop) : Type 0 where
   pub came : Comes look limit s ts tried
   pub late : Before_the_end ts e
@@ -101,7 +102,8 @@ pub record Tries {X : Type 0} (look : X → Part × List Token) (limit : ℕ) (s
 abbrev pub depth : State → ℕ
 depth s = s.conditions + length s.blocks
 
--- what a whole text is answered, from the parts read so far, the furthest fault so far, and a place from which the rest is to be read
+-- what a whole text is answered, from the parts read so far, the furthest fault so far, and a place from which the rest
+-- is to be read
 pub record Reached (limit : ℕ) (all : Answer) (s : State) (bs : List Part) (e : Stop) (ts : List Token) : Type 0 where
   pub fuel : ℕ
   pub enough : length ts ≤ fuel

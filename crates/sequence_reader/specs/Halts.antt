@@ -29,7 +29,8 @@ file_answer ts = rest_reader 64 (length ts) start ts
 abbrev pub Leads_to : List Token → State → Type 0
 Leads_to every s = (bs : List Part) × Walked 64 every s bs []
 
--- the fault is that of the reader of files, and stands at a token where they are whole statements; where the file ends too early, the fault stands just past the last token, and the place is that of what is open innermost
+-- the fault is that of the reader of files, and stands at a token where they are whole statements; where the file ends
+-- too early, the fault stands just past the last token, and the place is that of what is open innermost
 abbrev pub Halts : Halt → List Token → Type 0
 Halts halts.Memory ts = Unit {0}
 Halts (halts.Stopped s) ts = Stands s (file_answer ts) × Before_the_end ts s

@@ -51,7 +51,8 @@ pub fn further(a: Stop, b: Stop) -> Stop
     }
 }
 
-/// What the forms that were tried at a place make: the part that one of them reads with the words behind it, and the furthest fault of the others.
+/// What the forms that were tried at a place make: the part that one of them reads with the words behind it, and the
+/// furthest fault of the others.
 #[derive(Drop)]
 pub struct Tried<'a> {
     pub found: Option<(Part, &'a [Word])>,
@@ -87,7 +88,8 @@ fn read_here<'a>(
     read_form(form, alloc, words, left(state))
 }
 
-/// Tries a form more. Where two forms read a part, one is the condition of a one-line IF, and the other one's answer is the better.
+/// Tries a form more. Where two forms read a part, one is the condition of a one-line IF, and the other one's answer is
+/// the better.
 fn attempt<'a>(
     alloc: Global,
     state: &State,

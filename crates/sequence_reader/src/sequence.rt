@@ -71,7 +71,8 @@ pub enum Halt {
     Memory,
     /// No file goes on with this word, or the 65th level begins at it. Of whole statements there is always a word left.
     Stopped(Stop),
-    /// The words are whole statements, and more were needed: what is open innermost, a construct, a procedure or the main program, begins here.
+    /// The words are whole statements, and more were needed: what is open innermost, a construct, a procedure or the
+    /// main program, begins here.
     Unfinished { stop: Stop, at: Pos },
 }
 
@@ -169,8 +170,9 @@ fn walk(alloc: Global, words: &[Word]) -> Result<Progress, ReadError>
     Ok(progress)
 }
 
-/// The parts of a file, whose words these are (ISO/IEC 1539-1:2018, R501), in their order. Reading stops at the first word with which no
-/// file goes on, or at which the 65th level begins; where the file ends too early, it is told what is open.
+/// The parts of a file, whose words these are (ISO/IEC 1539-1:2018, R501), in their order. Reading stops at the first
+/// word with which no file goes on, or at which the 65th level begins; where the file ends too early, it is told what
+/// is open.
 pub fn read_parts(alloc: Global, words: &[Word]) -> Result<Vec<Part>, Halt>
     ensures { MatchResult result (λ v. halts.file_answer (tokens_of words.now) ≡ found (map held.part v.items) []) (λ e. halts.Halts e (tokens_of words.now)) }
 {

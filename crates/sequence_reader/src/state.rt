@@ -240,7 +240,8 @@ pub fn step(state: &mut State, part: &Part) -> Result<(), ReadError>
     Ok(())
 }
 
-/// The forms that a place allows: those of its unit or of the construct that is open innermost, those at a unit's beginning, and statements.
+/// The forms that a place allows: those of its unit or of the construct that is open innermost, those at a unit's
+/// beginning, and statements.
 pub struct Allowed {
     pub own: &'static [Form],
     pub early: &'static [Form],

@@ -1,4 +1,5 @@
--- Forms of expressions, seen through what stands in memory, and what the rules say of them by the designator that they are.
+-- Forms of expressions, seen through what stands in memory, and what the rules say of them by the designator that they
+-- are.
 use Rattle.std.proofs.Common.{◌≡◌, ℕ, zero, suc, Bool, true, false, nat_eq, List, [], ◌∷◌, refl, arith}
 use Rattle.std.specs.Prelude.{Option, Some, None}
 use Rattle.caf_base.specs.declared.value.Kind.TheVariants.{L4}

@@ -17,6 +17,7 @@ use expr_rules::expr::judge_part;
 use fortran_tree::expr::Expr;
 use part_rules::judged::{Judged, fine};
 use part_rules::operand::{integer, wanted};
+use rule_definitions::rule;
 use rule_definitions::taken::Taken;
 use scope_table::scope::Scope;
 use std::alloc::Global;
@@ -41,7 +42,7 @@ pub fn scalar_integer(
     ensures meaning { IfOk result (λ j. option_map expression j.meaning ≡ (parts.integer 39 (placed scope.now (written expr.now))).meaning) }
 {
     let part = judge_part(alloc, scope, expr)?;
-    integer(39, part)
+    integer(rule::CONDITION, part)
 }
 
 /// A scalar integer, where one is written.
@@ -63,7 +64,8 @@ pub fn maybe_integer(
     })
 }
 
-/// The code of STOP or ERROR STOP (11.4), where one is written: rule 39 for another type than integer, rule 37 for an array.
+/// The code of STOP or ERROR STOP (11.4), where one is written: rule 39 for another type than integer, rule 37 for an
+/// array.
 pub fn maybe_code(
     alloc: Global,
     scope: &Scope<'_>,

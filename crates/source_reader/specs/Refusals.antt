@@ -1,4 +1,5 @@
--- How a source is refused: lines are judged first, over the whole file, then tokens, statement by statement, then statements.
+-- How a source is refused: lines are judged first, over the whole file, then tokens, statement by statement, then
+-- statements.
 use Rattle.std.specs.Prelude.{ℕ, List}
 use Rattle.caf_base.specs.declared.place.Pos.{Pos}
 use Rattle.fortran_lines.specs.declared.fault.LineFault.{LineFault}

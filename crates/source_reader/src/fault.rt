@@ -30,7 +30,8 @@ pub enum ReadFault {
     /// An integer literal above 9,223,372,036,854,775,807, at its first digit.
     #[error("NumberTooWide at {}:{}", .at.line, .at.col)]
     NumberTooWide { at: Pos },
-    /// A token with which no statement that the grammar allows there goes on, or just past the statement where more was needed.
+    /// A token with which no statement that the grammar allows there goes on, or just past the statement where more was
+    /// needed.
     #[error("Expected at {}:{}", .at.line, .at.col)]
     Expected { at: Pos },
     /// A construct that is open where the file ends, at its first token: the innermost one.
@@ -41,7 +42,7 @@ pub enum ReadFault {
     TooDeep { at: Pos },
 }
 
-/// The number under which a refusal is told, from 1 (docs/REFUSALS.md).
+/// The number under which a refusal is told, from 1 (docs/use/REFUSALS.md).
 pub fn number(fault: ReadFault) -> u32
     ensures { result ≡ spec.number fault }
 {

@@ -50,7 +50,8 @@ pub fn source_words(alloc: Global, bytes: &[u8]) -> Result<Vec<Word>, Refusal<Re
     }
 }
 
-/// The parts that the words of a source spell. Places among words are numbers below 4,294,967,295: for more words memory is wanting.
+/// The parts that the words of a source spell. Places among words are numbers below 4,294,967,295: for more words
+/// memory is wanting.
 fn parts_of(alloc: Global, words: &[Word]) -> Result<Vec<Part>, Refusal<ReadFault>>
     requires { whole_statements (tokens_of words.now) ≡ true }
     ensures parts { IfOk result (λ parts. rest_reader 64 (length (tokens_of words.now)) start (tokens_of words.now) ≡ found (map held.part parts.items) []) }

@@ -15,6 +15,7 @@ use checked_tree::expr::WrittenOrder;
 use part_rules::judged::note_unless;
 use part_rules::part::is_plain;
 use rule_definitions::broken::Broken;
+use rule_definitions::rule;
 
 /// Whether a name is among these.
 fn is_among(names: &[&[u8]], name: &[u8]) -> bool
@@ -72,7 +73,7 @@ fn name_rule(
         return Ok(());
     }
     let holds = may_stand(allowed, earlier, next.name.text.as_slice());
-    note_unless(breaks, holds, 35, next.name.at)
+    note_unless(breaks, holds, rule::SPECIFIER, next.name.at)
 }
 
 /// The rule on the names of specifiers: one that isn't allowed, one twice, or both TEAM= and TEAM_NUMBER=.

@@ -20,6 +20,7 @@ use checked_tree::expr::{Designator, ResultVariable, Subscript, TypedExpr};
 use part_rules::judged::{Judged, refused};
 use part_rules::part::{Part, plain};
 use part_rules::types::takes;
+use rule_definitions::rule;
 use rule_definitions::taken::Taken;
 use std::alloc::Global;
 
@@ -136,7 +137,7 @@ fn result_found(
             breaks,
             meaning: Some(variable),
         }),
-        None => missing(breaks, 36, at),
+        None => missing(breaks, rule::RESULT_VARIABLE, at),
     }
 }
 
@@ -152,7 +153,7 @@ pub fn result_variable(
     let at = part.at;
     if part.is_procedure {
         drop(part);
-        return refused(alloc, 36, at);
+        return refused(alloc, rule::RESULT_VARIABLE, at);
     }
     let value = plain(part)?;
     result_found(alloc, wanted, value, at)

@@ -1,4 +1,5 @@
-//! The values of specifiers, each under the rule of its name: rule 36 for STAT= and ACQUIRED_LOCK=, rule 51 for TEAM=, rule 39 for the numbers.
+//! The values of specifiers, each under the rule of its name: rule 36 for STAT= and ACQUIRED_LOCK=, rule 51 for TEAM=,
+//! rule 39 for the numbers.
 
 ghost use Rattle.std.specs.Prelude.{◌≡◌, ◌++◌, IfOk, OnOk, [], map};
 ghost use Rattle.rule_definitions.specs.Specifiers.{all_breaks, value_breaks, values_breaks};
@@ -16,10 +17,12 @@ use part_rules::judged::{Judged, add_all};
 use part_rules::operand::integer;
 use part_rules::part::plain;
 use rule_definitions::broken::Broken;
+use rule_definitions::rule;
 use rule_definitions::taken::Taken;
 use std::alloc::Global;
 
-/// What the specifiers of a statement stand for. In each there is nothing where it isn't written; there is no meaning where its value breaks a rule.
+/// What the specifiers of a statement stand for. In each there is nothing where it isn't written; there is no meaning
+/// where its value breaks a rule.
 #[derive(Drop)]
 pub struct Values {
     pub stat: Option<Option<ResultVariable>>,
@@ -90,15 +93,15 @@ fn take_value(
             take(breaks, &mut values.team, value)
         }
         Some(Keyword::TeamNumber) => {
-            let value = integer(39, value)?;
+            let value = integer(rule::CONDITION, value)?;
             take(breaks, &mut values.team_number, value)
         }
         Some(Keyword::NewIndex) => {
-            let value = integer(39, value)?;
+            let value = integer(rule::CONDITION, value)?;
             take(breaks, &mut values.new_index, value)
         }
         Some(Keyword::UntilCount) => {
-            let value = integer(39, value)?;
+            let value = integer(rule::CONDITION, value)?;
             take(breaks, &mut values.until_count, value)
         }
         None => {
@@ -142,7 +145,8 @@ pub struct Meanings {
     pub values: Values,
 }
 
-/// The specifiers of a statement that has those with these names: rule 35 for their names, then rules 36, 39 and 51 for their values.
+/// The specifiers of a statement that has those with these names: rule 35 for their names, then rules 36, 39 and 51 for
+/// their values.
 pub fn judge_specifiers(
     alloc: Global,
     allowed: &[&[u8]],

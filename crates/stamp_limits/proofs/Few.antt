@@ -1,4 +1,5 @@
--- A trace in which the stamp due to an own step is one more than the image's last has no stamp above the number of its entries.
+-- A trace in which the stamp due to an own step is one more than the image's last has no stamp above the number of its
+-- entries.
 use Rattle.std.proofs.Common.{◌≡◌, ℕ, zero, suc, ◌+◌, ◌≤◌, max, List, [], ◌∷◌, ◌++◌, length, refl, ap, sym, ◌∙◌, subst, arith, append_assoc}
 use Rattle.std.proofs.lemmas.List.{append-nil, length-append}
 use Rattle.trace_theory.specs.Entries.{of, Each, last_or}

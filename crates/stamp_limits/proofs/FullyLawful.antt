@@ -1,4 +1,5 @@
--- A run of fit programs that ends at limits of stamps is lawful: its images make the steps of their failures, and nothing follows a limit.
+-- A run of fit programs that ends at limits of stamps is lawful: its images make the steps of their failures, and
+-- nothing follows a limit.
 use Rattle.std.proofs.Common.{◌≡◌, ℕ, zero, suc, true, List, [], ◌∷◌, inl, inr, refl, ap, sym, subst, arith}
 use Rattle.std.specs.Prelude.{map, not}
 use Rattle.std.specs.List.{filter, list_all}

@@ -1,4 +1,5 @@
--- The trace of a run as that of programs which say what it has: so what is known of core runs holds of each lawful trace in which nothing follows an end.
+-- The trace of a run as that of programs which say what it has: so what is known of core runs holds of each lawful
+-- trace in which nothing follows an end.
 use Rattle.std.proofs.Common.{ℕ, IsTrue, List, [], ◌∷◌, ◌++◌, refl}
 use Rattle.caf_events.specs.declared.ask.Ask.{Ask}
 use Rattle.caf_events.specs.declared.reply.Reply.{Reply}

@@ -40,8 +40,9 @@ abbrev pub IsWordLimit : Ask → Type 0
 IsWordLimit (forms.LimitWords number) = Unit {0}
 IsWordLimit ask = ⊥
 
--- A limit of stamps with this number stands for the next step of image i at this line: the image's program comes to an ask at this line before which a limit
--- of stamps is due, other than a limit of recorded words, which goes first; and the number is the last stamp before that ask.
+-- A limit of stamps with this number stands for the next step of image i at this line: the image's program comes to an
+-- ask at this line before which a limit of stamps is due, other than a limit of recorded words, which goes first; and
+-- the number is the last stamp before that ask.
 pub record StandsForNext {C M B : Type 0} (r : Rules C M B) (b : Beginning C M B) (before : List Entry) (i line number : ℕ) : Type 0 where
   pub config : C
   pub walks : Walk r.step (b.first i) (said_by i before) config
@@ -52,8 +53,8 @@ pub record StandsForNext {C M B : Type 0} (r : Rules C M B) (b : Beginning C M B
   pub due : IsStampLimitDue before i ask
   pub number_is : number ≡ last_stamp before i ask
 
--- image i may make this ask at this line after these entries: a limit of stamps in place of its next step, a limit of recorded words wherever its program asks
--- it, and whatever else its program asks where no limit of stamps is due
+-- image i may make this ask at this line after these entries: a limit of stamps in place of its next step, a limit of
+-- recorded words wherever its program asks it, and whatever else its program asks where no limit of stamps is due
 abbrev pub MayStand : {C M B : Type 0} → Rules C M B → Beginning C M B → List Entry → ℕ → ℕ → Ask → Type 0
 MayStand r b before i line (forms.LimitStamp number) = StandsForNext r b before i line number
 MayStand r b before i line (forms.LimitWords number) = Unit {0}
@@ -72,8 +73,9 @@ is_stamp_limit ask = false
 abbrev pub said_by_program : ℕ → List Entry → List (Said Ask Reply)
 said_by_program i t = filter (λ e. not (is_stamp_limit e.ask)) (said_by i t)
 
--- A run that ends at limits of stamps: a lawful trace in which each image's events are a walk of its program, but for a limit of stamps, which stands where it is
--- due and nowhere else; and nothing follows a step that ends the image, as a limit does.
+-- A run that ends at limits of stamps: a lawful trace in which each image's events are a walk of its program, but for a
+-- limit of stamps, which stands where it is due and nowhere else; and nothing follows a step that ends the image, as a
+-- limit does.
 pub record IsStampLimitedRun {C M B : Type 0} (r : Rules C M B) (b : Beginning C M B) (t : List Entry) : Type 0 where
   pub lawful : IsLawful r b t
   pub walks : (i : ℕ) → IsImage b i → (c : C) × Walk r.step (b.first i) (said_by_program i t) c

@@ -21,15 +21,17 @@ ghost use Rattle.stamp_limits.specs.StampLimits.{most_stamp, IsStampLimitDue, Ha
 use caf_events::object::Object;
 use caf_events::walker::Walker;
 
-/// In a lawful trace without a limit of stamps the stamp of each entry is at most its number in the trace, counted from 1.
+/// In a lawful trace without a limit of stamps the stamp of each entry is at most its number in the trace, counted
+/// from 1.
 pub fn law_stamps_are_few<M: Walker, O: Object, B: Object>()
     ensures { (b : Beginning M.Config O.Made B.Made) (t before after : List Entry) (x : Entry)
         → IsLawful (rules M.Walker O.Object B.Object) b t → HasNoStampLimit t
         → t ≡ before ++ x ∷ after → stamp_of x ≤ suc (length before) }
 {}
 
-/// A core run of fit programs with at most 2 to the 62nd entries, or with no stamp above that, is a run that ends at limits of stamps; before none of so few entries
-/// such a limit is due, nor, where there are fewer, before whatever an image asks after them.
+/// A core run of fit programs with at most 2 to the 62nd entries, or with no stamp above that, is a run that ends at
+/// limits of stamps; before none of so few entries such a limit is due, nor, where there are fewer, before whatever an
+/// image asks after them.
 pub fn law_no_stamp_limit_is_due<M: Walker, O: Object, B: Object>()
     ensures few { (b : Beginning M.Config O.Made B.Made) (t : List Entry) → IsFit (rules M.Walker O.Object B.Object) b
         → IsCoreRun (rules M.Walker O.Object B.Object) b t → length t ≤ most_stamp
@@ -45,7 +47,8 @@ pub fn law_no_stamp_limit_is_due<M: Walker, O: Object, B: Object>()
         → (i : ℕ) (ask : Ask) → IsStampLimitDue t i ask → ⊥ }
 {}
 
-/// Conversely a run that ends at limits of stamps, with at most 2 to the 62nd entries or with no stamp above that, is a core run: it has no such limit.
+/// Conversely a run that ends at limits of stamps, with at most 2 to the 62nd entries or with no stamp above that, is a
+/// core run: it has no such limit.
 pub fn law_stamp_limited_run_is_core_run<M: Walker, O: Object, B: Object>()
     ensures few { (b : Beginning M.Config O.Made B.Made) (t : List Entry) → IsStampLimitedRun (rules M.Walker O.Object B.Object) b t
         → length t ≤ most_stamp → IsCoreRun (rules M.Walker O.Object B.Object) b t }
@@ -53,8 +56,8 @@ pub fn law_stamp_limited_run_is_core_run<M: Walker, O: Object, B: Object>()
         → Each (λ x. stamp_of x ≤ most_stamp) t → IsCoreRun (rules M.Walker O.Object B.Object) b t }
 {}
 
-/// In a run that ends at limits of stamps each of these has the bound as its number, no stamp but that of a limit is above the bound, and that of a limit is at most one
-/// above it.
+/// In a run that ends at limits of stamps each of these has the bound as its number, no stamp but that of a limit is
+/// above the bound, and that of a limit is at most one above it.
 pub fn law_bound_is_kept<M: Walker, O: Object, B: Object>()
     ensures numbers { (b : Beginning M.Config O.Made B.Made) (t before after : List Entry) (x : Entry) (number : ℕ)
         → IsStampLimitedRun (rules M.Walker O.Object B.Object) b t
@@ -65,8 +68,8 @@ pub fn law_bound_is_kept<M: Walker, O: Object, B: Object>()
         → Each (λ x. stamp_of x ≤ suc most_stamp) t }
 {}
 
-/// Where a limit of stamps is due before the next step of an image that hasn't ended, a run that ends at limits of stamps goes on with it: with its entry at the end, where all
-/// others are before it in the order of a trace.
+/// Where a limit of stamps is due before the next step of an image that hasn't ended, a run that ends at limits of
+/// stamps goes on with it: with its entry at the end, where all others are before it in the order of a trace.
 pub fn law_stamp_limit_comes<M: Walker, O: Object, B: Object>()
     ensures { (b : Beginning M.Config O.Made B.Made) (t : List Entry) (x : Entry) (number : ℕ)
         → IsStampLimitedRun (rules M.Walker O.Object B.Object) b t
@@ -84,8 +87,9 @@ pub fn law_stamp_limited_front<M: Walker, O: Object, B: Object>()
         → IsStampLimitedRun (rules M.Walker O.Object B.Object) b front }
 {}
 
-/// A run of fit programs that ends at limits of stamps is lawful, where its memories and its control board are those of the language and each static coarray of values has a
-/// first value of its kind for each of its cells: who knows that a trace is one can cite the laws of lawful traces.
+/// A run of fit programs that ends at limits of stamps is lawful, where its memories and its control board are those of
+/// the language and each static coarray of values has a first value of its kind for each of its cells: who knows that a
+/// trace is one can cite the laws of lawful traces.
 pub fn law_stamp_limited_run_lawful<M: Walker>()
     ensures { (coarrays : List Declared) (n : ℕ) (first : ℕ → M.Config) (t : List Entry)
         → list_all has_first_values coarrays ≡ true

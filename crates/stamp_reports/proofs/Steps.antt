@@ -1,4 +1,5 @@
--- How many steps a lane makes at most: each ask lowers a bound, which is twice the limit of recorded words and four at first.
+-- How many steps a lane makes at most: each ask lowers a bound, which is twice the limit of recorded words and four at
+-- first.
 use Rattle.std.proofs.Common.{◌≡◌, ℕ, zero, suc, ◌+◌, ◌-◌, ◌*◌, ◌<◌, ◌≤◌, Bool, true, false, cond, List, [], ◌∷◌, length, refl, ap, sym, subst, arith, length-append}
 use Rattle.std.specs.Prelude.{map}
 use Rattle.std.proofs.lemmas.Bool.{leb-false}
@@ -26,7 +27,8 @@ some_words : (ask : Ask) (reply : Reply) → counts_words ask ≡ true → 4 ≤
 some_words ask reply e = subst (λ b. 4 ≤ cond b (4 + ask_words ask + reply_words reply) 0) (sym e) (omega arith)
 
 module _ {C : Type 0} where
-  -- at most so many asks are still to come: by the program each records words, of which there is a limit, and may get one lock, which a failure frees
+  -- at most so many asks are still to come: by the program each records words, of which there is a limit, and may get
+  -- one lock, which a failure frees
   abbrev pub at_most : OnLane C → ℕ
   at_most l = 2 * (l.limit - l.words) + length l.held + 4
 

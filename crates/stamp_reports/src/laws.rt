@@ -10,8 +10,9 @@ ghost use Rattle.checked_tree.specs.Statements.{Program};
 ghost use Rattle.program_walks.specs.Runs.{program_rules, program_begins};
 ghost use Rattle.stamp_limits.specs.StampLimits.{IsStampLimitDue, HasNoStampLimit, IsStampLimitedRun};
 
-/// No report's trace has a limit of stamps, and where its images times twice its words and four are below 2 to the 62nd none is due before whatever an image asks behind it: the
-/// steps of a run are so many at most, since each that goes on records words and gets one lock at most, and no stamp is above their number. The command's numbers, 1 to 256 images
+/// No report's trace has a limit of stamps, and where its images times twice its words and four are below 2 to the 62nd
+/// none is due before whatever an image asks behind it: the steps of a run are so many at most, since each that goes on
+/// records words and gets one lock at most, and no stamp is above their number. The command's numbers, 1 to 256 images
 /// with an equal share of 16,777,216 words each, are far below.
 pub fn law_no_report_meets_a_stamp_limit()
     ensures few { (p : Program) (told : Told) (fails_at : ℕ → ℕ) (report : Report) → IsRunOf p told fails_at report

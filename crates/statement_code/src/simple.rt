@@ -311,8 +311,8 @@ fn error_stop(
     draft.push(Step::Ask(AskStep::ErrorStop), line)
 }
 
-/// Appends the code of a simple statement. Of EXIT, CYCLE, RETURN and constructs nothing is appended, and nothing said. After want of memory nothing is
-/// said of the draft.
+/// Appends the code of a simple statement. Of EXIT, CYCLE, RETURN and constructs nothing is appended, and nothing said.
+/// After want of memory nothing is said of the draft.
 #[tactic(auto, using(checked_tree::specs::StatementViews::typed_statement_forms))]
 pub fn push_simple(
     draft: &mut Draft,

@@ -1,4 +1,5 @@
--- No statement that begins with a keyword has `=` behind its first token and the bracket groups there; an assignment has. So no text is both.
+-- No statement that begins with a keyword has `=` behind its first token and the bracket groups there; an assignment
+-- has. So no text is both.
 use Rattle.std.proofs.Common.{◌≡◌, ℕ, zero, suc, Bool, true, false, cond, codes, List, [], ◌∷◌, ◌++◌, Option, Some, None, inl, inr, refl, ap, sym, ◌∙◌, subst}
 use Rattle.std.proofs.lemmas.Bool.{true≢false, false≢true}
 use Rattle.reader_theory.specs.Words.{Mark, bare}

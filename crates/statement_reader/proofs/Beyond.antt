@@ -1,4 +1,5 @@
--- Where more levels are open than may be, each token is too deep, and so a language is read exactly by refusing its first token.
+-- Where more levels are open than may be, each token is too deep, and so a language is read exactly by refusing its
+-- first token.
 use Rattle.std.proofs.Common.{◌≡◌, ℕ, suc, ◌<◌, Bool, true, List, [], ◌∷◌, ◌++◌, inl, inr, ap, sym, subst, arith}
 use Rattle.std.proofs.lemmas.Bool.{lt-ltb}
 use Rattle.reader_theory.specs.Words.{Mark}

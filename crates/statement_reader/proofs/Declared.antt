@@ -1,4 +1,5 @@
--- Type declaration statements are read exactly: `::` may be missing only where there are no attributes and no initial values.
+-- Type declaration statements are read exactly: `::` may be missing only where there are no attributes and no initial
+-- values.
 use Rattle.std.proofs.Common.{◌≡◌, ℕ, Bool, true, false, ◌||◌, ◌&&◌, List, [], ◌∷◌, ◌++◌, Option, Some, None, inl, inr, refl, ap, sym, ◌∙◌, subst, append_assoc, append-nil}
 use Rattle.std.proofs.lemmas.Bool.{false≢true}
 use Rattle.caf_base.specs.declared.place.Pos.{Pos}

@@ -60,7 +60,8 @@ module _ {A : Type 0} (X : A → Phrase) (more : Token → Bool) (r : Family A) 
   pub each_ended : Everywhere (Of (λ b. X b ▸ p.over)) never (with r an_end)
   each_ended = each_with X p.over more never r an_end x each_over (λ l d w rest (at, o) st. subst (λ z. Stops more (bare z ++ rest)) (sym o) (stops at))
 
--- What is a level from its first token on: each word begins with a token that passes, and each such token begins a word.
+-- What is a level from its first token on: each word begins with a token that passes, and each such token begins a
+-- word.
 module _ {A : Type 0} (X : A → Phrase) (test more : Token → Bool) (r : Family A) (x : Everywhere (Of X) more r) (heads : (l d : ℕ) (b : A) (w : List (Mark Token)) → Words (X b) l d w → Heads test w) (marked : (l d : ℕ) (b : A) (w : List (Mark Token)) → Words (X b) l (suc d) w → l ≤ d → Sunken test w) (begins : (l d : ℕ) (y : Token) → test y ≡ true → (b : A) × (v : List (Mark Token)) × Words (X b) l d (mark l d y ∷ v)) where
   pub each_deeper : Everywhere (Of (λ b. p.deeper (X b))) more (deepened test r)
   each_deeper limit zero level h =

@@ -1,4 +1,5 @@
--- Readers of bounds, dimensions and codimensions (ISO/IEC 1539-1:2018, 8.5.8 and 8.5.6), and of the objects of ALLOCATE.
+-- Readers of bounds, dimensions and codimensions (ISO/IEC 1539-1:2018, 8.5.8 and 8.5.6), and of the objects of
+-- ALLOCATE.
 use Rattle.std.specs.Prelude.{Bool, true, false, List, [], ◌∷◌, length, Option, Some, None}
 use Rattle.reader_theory.specs.Readers.{token, both, many_by, mapped, pick, optional, behind, pair}
 use Rattle.fortran_tokens.specs.declared.token.Sign.{Sign}
@@ -42,7 +43,8 @@ dimensions_of (Some ds) = ds
 abbrev pub maybe_dimensions : Family (List Dimension)
 maybe_dimensions left = mapped dimensions_of (optional (is_sign sign.OpenRound) (rounded (λ l. list_of (a_dimension l)) left))
 
--- Cobounds that are written: expressions, of which each ends with a comma or, as a lower cobound, with a colon; behind them the asterisk.
+-- Cobounds that are written: expressions, of which each ends with a comma or, as a lower cobound, with a colon; behind
+-- them the asterisk.
 abbrev pub Bound : Type 0
 Bound = Expression × Bool
 

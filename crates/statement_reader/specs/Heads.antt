@@ -1,4 +1,5 @@
--- Readers of the statements that begin, divide and end constructs (ISO/IEC 1539-1:2018, 11.1), each with the end of its statement.
+-- Readers of the statements that begin, divide and end constructs (ISO/IEC 1539-1:2018, 11.1), each with the end of its
+-- statement.
 use Rattle.std.specs.Prelude.{ℕ, zero, suc, Bool, true, false, codes, List, ◌++◌, Option, Some, None}
 use Rattle.caf_base.specs.declared.place.Pos.{Pos}
 use Rattle.reader_theory.specs.Words.{found}

@@ -12,7 +12,8 @@ use Rattle.statement_reader.specs.Forms.{Place, part_reader}
 abbrev pub Part_at : ℕ → Place → Part → List (Mark Token) → Type 0
 Part_at limit i b w = Words (formed i.form i.conditions b) limit i.level w
 
--- each text of tokens gets the answer that is due: the part that it is, or the first token with which none goes on and why
+-- each text of tokens gets the answer that is due: the part that it is, or the first token with which none goes on and
+-- why
 abbrev pub PartsAnswered : Type 0
 PartsAnswered = (limit : ℕ) (i : Place) → AnswersAll (Part_at limit i) (ended (part_reader limit i))
 

@@ -1,4 +1,5 @@
--- Objects behind one another and specifiers behind them, as ALLOCATE and DEALLOCATE have them (ISO/IEC 1539-1:2018, 9.7.1 and 9.7.3).
+-- Objects behind one another and specifiers behind them, as ALLOCATE and DEALLOCATE have them (ISO/IEC 1539-1:2018,
+-- 9.7.1 and 9.7.3).
 use Rattle.std.specs.Prelude.{Bool, true, false, List, [], ◌∷◌}
 use Rattle.reader_theory.specs.Readers.{both, many_by, mapped, ahead, behind, pair}
 use Rattle.fortran_tokens.specs.declared.token.Sign.TheVariants as sign

@@ -1,4 +1,5 @@
--- The parts of a program: its statements, each with its end; of a construct those that begin, divide and end it, of a one-line IF its condition and its action.
+-- The parts of a program: its statements, each with its end; of a construct those that begin, divide and end it, of a
+-- one-line IF its condition and its action.
 use Rattle.std.specs.Prelude.{ℕ, zero, suc, Bool, true, false, codes, Option, Some, None}
 use Rattle.caf_base.specs.declared.place.Pos.{Pos}
 use Rattle.fortran_tree.specs.declared.name.Name.{Name}
@@ -139,7 +140,8 @@ is_of end_function_form (end_function_part n at) = true
 is_of end_program_form (end_program_part n at) = true
 is_of f b = false
 
--- an action behind the conditions of so many one-line IFs, each of which is a level: the end of the statement stands in none of them
+-- an action behind the conditions of so many one-line IFs, each of which is a level: the end of the statement stands in
+-- none of them
 abbrev pub line : ℕ → Part → Phrase
 line n (action_part f at) = within n (a.action f at) ▸ p.over
 line n b = p.never

@@ -1,4 +1,5 @@
--- Readers of USE and IMPLICIT NONE, of the headings of procedures, and of what begins, divides and ends program units (ISO/IEC 1539-1:2018, 14 and 15.6).
+-- Readers of USE and IMPLICIT NONE, of the headings of procedures, and of what begins, divides and ends program units
+-- (ISO/IEC 1539-1:2018, 14 and 15.6).
 use Rattle.std.specs.Prelude.{Bool, codes, List, [], ◌∷◌, Option}
 use Rattle.caf_base.specs.declared.place.Pos.{Pos}
 use Rattle.reader_theory.specs.Words.{found}

@@ -2,7 +2,8 @@
 
 ghost use Rattle.statement_reader.specs.Laws.{PartsAnswered, PartsOnce};
 
-/// The reader of each form of parts answers each text of tokens as the grammar wants; and no text is two parts of one form.
+/// The reader of each form of parts answers each text of tokens as the grammar wants; and no text is two parts of one
+/// form.
 pub fn parts_exactly()
     ensures answered { PartsAnswered }
     ensures once { PartsOnce }

@@ -39,6 +39,7 @@ use fortran_tree::name::Name;
 use fortran_tree::statement::{BracketedSpecifier, LoopControl};
 use numbering_rules::numbering::count_literals;
 use part_rules::judged::{Judged, ruled};
+use rule_definitions::rule;
 use scope_table::scope::Scope;
 use specifier_rules::condition::{condition, team};
 use specifier_rules::specifier::Specified;
@@ -302,7 +303,7 @@ fn controlled(
     ensures meaning { IfOk result (λ j. option_map statement_form j.meaning ≡ (controlled_by (rules.site_of (seen position.entry)) at (judgement statement_form form)).meaning) }
 {
     let holds = !is_in_critical(position.around);
-    ruled(form, holds, 43, at)
+    ruled(form, holds, rule::IN_CRITICAL, at)
 }
 
 fn specified(alloc: Global, scope: &Scope<'_>, specifier: &Specifier) -> Result<Specified, NoMemory>

@@ -37,6 +37,7 @@ use fortran_tree::name::Name;
 use fortran_tree::statement::LoopControl;
 use numbering_rules::numbering::one_more;
 use part_rules::judged::{Judged, fine, refused, ruled, unknown};
+use rule_definitions::rule;
 use scope_table::object::{is_same_local, object_from};
 use scope_table::scope::{Denoted, Scope, Visible};
 use scope_table::symbol::Role;
@@ -141,7 +142,12 @@ fn inactive(
 {
     let is_counting = is_counting(counter.variable, position.around);
     let is_input = is_input(found);
-    ruled(fine(alloc, counter), !(is_counting || is_input), 32, at)
+    ruled(
+        fine(alloc, counter),
+        !(is_counting || is_input),
+        rule::ASSIGNMENT,
+        at,
+    )
 }
 
 // A variable as the counter of a loop.
@@ -156,14 +162,14 @@ fn judge_variable(
     ensures meaning { IfOk result (λ j. option_map counter_seen j.meaning ≡ (rules.counter_symbol (seen position.entry) (visible found.entry) at).meaning) }
 {
     let Object::Local(variable) = object_from(found.home, found.symbol.object) else {
-        return refused(alloc, 40, at);
+        return refused(alloc, rule::DO_VARIABLE, at);
     };
     let Some(of_type) = found.symbol.of_type else {
         return Ok(unknown(alloc));
     };
     match counter_typed(variable, found.symbol.bounds.len(), of_type) {
         Some(counter) => inactive(alloc, position, found, at, counter),
-        None => refused(alloc, 40, at),
+        None => refused(alloc, rule::DO_VARIABLE, at),
     }
 }
 
@@ -186,8 +192,8 @@ fn judge_counter(
             | Denoted::ModuleType(_)
             | Denoted::IntrinsicFunction(_)
             | Denoted::IntrinsicSubroutine(_),
-        ) => refused(alloc, 40, name.at),
-        None => refused(alloc, 20, name.at),
+        ) => refused(alloc, rule::DO_VARIABLE, name.at),
+        None => refused(alloc, rule::UNKNOWN_NAME, name.at),
     }
 }
 
@@ -379,7 +385,12 @@ pub fn ended<T: Drop>(
     ensures meaning { IfOk result (λ j. j.meaning ≡ cond (is_nothing (rules.end_breaks construct.now end.now)) part.meaning None) }
 {
     match end {
-        Some(name) => ruled(part, is_same_name(construct, name), 41, name.at),
+        Some(name) => ruled(
+            part,
+            is_same_name(construct, name),
+            rule::CONSTRUCT_NAME,
+            name.at,
+        ),
         None => Ok(part),
     }
 }

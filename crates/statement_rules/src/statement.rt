@@ -41,7 +41,8 @@ use part_rules::judged::Judged;
 use scope_table::scope::Scope;
 use std::alloc::Global;
 
-/// Where a list of statements stands: its scope, the constructs around it, outermost first, and how many critical constructs and literals stand before it.
+/// Where a list of statements stands: its scope, the constructs around it, outermost first, and how many critical
+/// constructs and literals stand before it.
 #[derive(Clone, Copy)]
 pub struct Position<'a> {
     pub scope: &'a Scope<'a>,
@@ -296,7 +297,8 @@ fn judge_select(
     select_statement(position, selector, selected, at)
 }
 
-// A CASE statement (11.1.9.1) with its block, behind the earlier ones: how many critical constructs and literals stand before what follows it.
+// A CASE statement (11.1.9.1) with its block, behind the earlier ones: how many critical constructs and literals stand
+// before what follows it.
 #[cycle(judge)]
 fn judge_case(
     case: &CaseBlock,

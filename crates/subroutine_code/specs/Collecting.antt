@@ -18,7 +18,8 @@ use Rattle.subroutine_code.specs.declared.collective.Beneath.{Beneath}
 use Rattle.subroutine_code.specs.declared.collective.Root.{Root}
 use Rattle.subroutine_code.specs.declared.collective.Root.TheVariants as roots
 
--- the root of a collective, whose index stands beneath so many numbers, and behind the status beneath so many; and whether the result comes to this image
+-- the root of a collective, whose index stands beneath so many numbers, and behind the status beneath so many; and
+-- whether the result comes to this image
 abbrev pub root_of : Root → Parts Act
 root_of roots.Nobody = pushing (pos 0)
 root_of (roots.Only depth behind) = copying depth 1

@@ -20,8 +20,8 @@ use expr_code::expr::{push_expr, push_result_place};
 use expr_code::piece::{push_copy, result_size};
 use expr_code::shape::sum;
 
-/// An argument of an intrinsic subroutine: a value, one that may be missing, a result variable, STAT=, the cell of an atom or an event, or the argument
-/// of a collective.
+/// An argument of an intrinsic subroutine: a value, one that may be missing, a result variable, STAT=, the cell of an
+/// atom or an event, or the argument of a collective.
 #[derive(Clone, Copy)]
 pub enum ArgumentOf<'a> {
     Value(&'a TypedExpr),

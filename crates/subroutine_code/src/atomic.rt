@@ -22,7 +22,8 @@ use expr_code::piece::{push_copy, push_drop, push_store, result_size};
 use expr_code::shape::sum;
 use image_code::step::{AskStep, Step};
 
-/// A call of an atomic subroutine: the action, on the atom; the dummies of its operands; the variable that gets the old value; and STAT=.
+/// A call of an atomic subroutine: the action, on the atom; the dummies of its operands; the variable that gets the old
+/// value; and STAT=.
 #[derive(Clone, Copy)]
 pub struct AtomicCall<'a> {
     pub atom: &'a Designator,
@@ -188,7 +189,6 @@ pub fn push_query(
 {
     let coarray = coarray_of(env, event);
     push_evaluating(draft, env, arguments, dummies, line)?;
-    draft.push(Step::NeedsOwn(coarray), line)?;
     push_fetching(draft, env, arguments, dummies, 0, 0, 2, line)?;
     push_drop(draft, 1, line)?;
     draft.push(Step::Ask(AskStep::Query(coarray)), line)?;

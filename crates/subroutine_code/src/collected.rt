@@ -72,7 +72,8 @@ fn push_local(
     push_loaded(draft, env, scope, array, rank, line)
 }
 
-/// It is put down: of a local variable its values, as the top array, and the place of an array; of a coarray the place, and above it the owner.
+/// It is put down: of a local variable its values, as the top array, and the place of an array; of a coarray the place,
+/// and above it the owner.
 #[tactic(auto, using(expr_code::proofs::Forms::laws))]
 pub fn push_collected(
     draft: &mut Draft,
@@ -117,7 +118,8 @@ pub fn collected_size(env: &Env<'_>, collected: &Collected) -> Result<u32, NoMem
     }
 }
 
-// Of a coarray the values as the top array, by its place, which stands beneath `depth` numbers; those of a local variable are there.
+// Of a coarray the values as the top array, by its place, which stands beneath `depth` numbers; those of a local
+// variable are there.
 #[tactic(auto, using(expr_code::proofs::Forms::laws, crate::proofs::Collecting::same_cells))]
 pub fn push_collected_value(
     draft: &mut Draft,

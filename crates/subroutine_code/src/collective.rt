@@ -27,7 +27,8 @@ use expr_code::shape::{narrow, sum};
 use image_code::step::{AskStep, Step};
 use std::alloc::Global;
 
-/// The root of a collective: nobody, where each image gets the result; the only image that gets it; or the source of a broadcast, which each image gets.
+/// The root of a collective: nobody, where each image gets the result; the only image that gets it; or the source of a
+/// broadcast, which each image gets.
 /// Its index stands beneath so many numbers, and behind the status beneath so many.
 #[derive(Clone, Copy)]
 pub enum Root {
@@ -36,7 +37,8 @@ pub enum Root {
     Source(u32),
 }
 
-/// The place of the argument of a collective, of so many numbers: beneath how many numbers it stands before the round, and behind the status.
+/// The place of the argument of a collective, of so many numbers: beneath how many numbers it stands before the round,
+/// and behind the status.
 #[derive(Clone, Copy)]
 pub struct Beneath {
     pub value: u32,

@@ -15,6 +15,7 @@ use checked_tree::expr::{Designator, TypedExpr};
 use part_rules::judged::{Judged, breaking};
 use part_rules::part::{Part, plain};
 use part_rules::types::{is_team_type, takes};
+use rule_definitions::rule;
 use rule_definitions::taken::Taken;
 use specifier_rules::variable::{designator_in, missing};
 
@@ -99,7 +100,7 @@ pub fn an_atom(taken: Taken, part: Part) -> Result<Judged<Atom>, NoMemory>
             breaks,
             meaning: Some(atom),
         }),
-        None => missing(breaks, 53, at),
+        None => missing(breaks, rule::ATOM, at),
     }
 }
 
@@ -130,13 +131,13 @@ pub fn an_atom_value(taken: Taken, part: Part) -> Result<Judged<TypedExpr>, NoMe
     let value = if takes(taken, found.of_type) {
         value
     } else if is_team_type(found.of_type) {
-        breaking(value, 51, at)?
+        breaking(value, rule::TEAM, at)?
     } else {
-        breaking(value, 59, at)?
+        breaking(value, rule::INTRINSIC_ARGUMENT, at)?
     };
     if is_scalar {
         Ok(value)
     } else {
-        breaking(value, 37, at)
+        breaking(value, rule::ARRAY_FOR_SCALAR, at)
     }
 }

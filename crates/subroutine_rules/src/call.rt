@@ -199,7 +199,8 @@ fn bound_call(
     })
 }
 
-/// A call of this subroutine, whose name stands at this place: rule 59 for the binding of its arguments, and the rules of each of them.
+/// A call of this subroutine, whose name stands at this place: rule 59 for the binding of its arguments, and the rules
+/// of each of them.
 #[tactic(auto, using(crate::proofs::Calls::call_found))]
 pub fn intrinsic_call(
     alloc: Global,

@@ -17,6 +17,7 @@ use checked_tree::expr::{Designator, TypedExpr};
 use part_rules::judged::{Judged, breaking};
 use part_rules::part::{Part, plain};
 use part_rules::types::{is_integer_type, is_logical_type, is_team_type};
+use rule_definitions::rule;
 use specifier_rules::variable::{as_designator, designator_in};
 
 /// Whether a designator is a part of a variable without an image selector.
@@ -44,8 +45,8 @@ fn is_own_variable(value: &TypedExpr) -> bool
     }
 }
 
-/// The rules on what a collective takes: rule 54 for what is coindexed, is no variable, or is logical where no logical is taken; rule 51 for a
-/// team, rule 59 for an event or a lock.
+/// The rules on what a collective takes: rule 54 for what is coindexed, is no variable, or is logical where no logical
+/// is taken; rule 51 for a team, rule 59 for an event or a lock.
 fn collectable(
     takes_logicals: bool,
     value: Judged<TypedExpr>,
@@ -59,7 +60,7 @@ fn collectable(
     };
     let of_type = found.of_type;
     if !is_own_variable(found) {
-        return breaking(value, 54, at);
+        return breaking(value, rule::COLLECTIVE_ARGUMENT, at);
     }
     if is_integer_type(of_type) {
         return Ok(value);
@@ -68,12 +69,12 @@ fn collectable(
         if takes_logicals {
             return Ok(value);
         }
-        return breaking(value, 54, at);
+        return breaking(value, rule::COLLECTIVE_ARGUMENT, at);
     }
     if is_team_type(of_type) {
-        return breaking(value, 51, at);
+        return breaking(value, rule::TEAM, at);
     }
-    breaking(value, 59, at)
+    breaking(value, rule::INTRINSIC_ARGUMENT, at)
 }
 
 /// An expression as the argument of a collective, where it is a variable of a type with a kind.

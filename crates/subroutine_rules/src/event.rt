@@ -12,6 +12,7 @@ use checked_tree::data::DataType;
 use checked_tree::expr::{Designator, TypedExpr};
 use part_rules::judged::{Judged, ruled};
 use part_rules::part::{Part, plain};
+use rule_definitions::rule;
 use specifier_rules::variable::{as_designator, designator_in, missing};
 
 /// Whether a type is EVENT_TYPE (16.10.2.10).
@@ -76,7 +77,7 @@ pub fn an_event(part: Part) -> Result<Judged<Designator>, NoMemory>
             breaks,
             meaning: Some(event),
         }),
-        None => missing(breaks, 49, at),
+        None => missing(breaks, rule::EVENT, at),
     }
 }
 
@@ -99,7 +100,7 @@ pub fn an_own_event(part: Part) -> Result<Judged<Designator>, NoMemory>
             breaks,
             meaning: Some(event),
         },
-        None => missing(breaks, 49, at)?,
+        None => missing(breaks, rule::EVENT, at)?,
     };
-    ruled(found, is_own, 50, at)
+    ruled(found, is_own, rule::COINDEXED_EVENT, at)
 }

@@ -1,4 +1,5 @@
-//! The arguments of a call, each under the rule of its dummy. What breaks in one is put behind what breaks in those before it.
+//! The arguments of a call, each under the rule of its dummy. What breaks in one is put behind what breaks in those
+//! before it.
 
 ghost use Rattle.std.specs.Prelude.{◌≡◌, ◌++◌, IfOk, OnOk};
 ghost use Rattle.std.specs.Option.{option_map};
@@ -21,6 +22,7 @@ use checked_tree::expr::{Designator, ResultVariable, TypedExpr};
 use part_rules::operand::integer;
 use part_rules::part::Part;
 use rule_definitions::broken::Broken;
+use rule_definitions::rule;
 use rule_definitions::taken::Taken;
 use specifier_rules::result::result_variable;
 use std::alloc::Global;
@@ -109,7 +111,7 @@ pub fn given_image(
     ensures meaning { IfOk result (λ m. option_map expression m ≡ (given an_integer (option_map placed part)).meaning) }
 {
     match part {
-        Some(part) => noted(breaks, integer(59, part)?),
+        Some(part) => noted(breaks, integer(rule::INTRINSIC_ARGUMENT, part)?),
         None => Ok(None),
     }
 }
@@ -125,7 +127,7 @@ pub fn given_number(
     let Some(part) = part else {
         return Ok(Some(None));
     };
-    match noted(breaks, integer(59, part)?)? {
+    match noted(breaks, integer(rule::INTRINSIC_ARGUMENT, part)?)? {
         Some(number) => Ok(Some(Some(number))),
         None => Ok(None),
     }

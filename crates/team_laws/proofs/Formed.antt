@@ -1,4 +1,5 @@
--- The teams that a FORM TEAM makes: each has a member, and nobody stands in them oftener than among those who gave a number.
+-- The teams that a FORM TEAM makes: each has a member, and nobody stands in them oftener than among those who gave a
+-- number.
 use Rattle.std.proofs.Common.{◌≡◌, ℕ, suc, ◌+◌, ◌≤◌, Bool, true, false, ◌||◌, cond, List, [], ◌∷◌, ◌++◌, length, inl, inr, refl, sym, subst, arith}
 use Rattle.std.specs.Prelude.{ℤ, pos, int_lt, int_le, nat_eq, nat_le, map}
 use Rattle.std.specs.List.{list_any, list_all, filter}

@@ -15,7 +15,8 @@ use Rattle.team_laws.proofs.Formed.{has_members, formed_there}
 use Rattle.team_laws.proofs.FormArgs.{made_few}
 use Rattle.team_laws.proofs.Departures.{made_or_none, as_team, forms_made}
 
--- a team that a round of this one made: it has a member, and nobody stands oftener in it than among the members of its parent
+-- a team that a round of this one made: it has a member, and nobody stands oftener in it than among the members of its
+-- parent
 record IsMade (team : ℕ) (ms : List ℕ) (x : Team) : Type 0 where
   parent : x.parent ≡ team
   some : nat_le 1 (length x.members) ≡ true

@@ -29,7 +29,8 @@ module _ (n : ℕ) (h : List Entry) (team round : ℕ) where
   abbrev status_by : List Entry → ℤ
   status_by f = control_result team round ms f (opening_of team round (happened control f))
 
-  -- the teams that a departure with this status tells where it tells any: its round is one of FORM TEAM, the status is 0 or that an image failed, and the teams are such as it makes
+  -- the teams that a departure with this status tells where it tells any: its round is one of FORM TEAM, the status is
+  -- 0 or that an image failed, and the teams are such as it makes
   pub record FormsTeams (status : ℤ) (teams : List FormedTeam) : Type 0 where
     pub form : is_form (opening_of team round (happened control h)) ≡ true
     pub good : is_one_of (pos 0 ∷ pos 6001 ∷ []) status ≡ true
@@ -44,7 +45,8 @@ module _ (n : ℕ) (h : List Entry) (team round : ℕ) where
       let at = ap (opening_of team round) q ∙ opening_stays (happened control f) (happened control c.0) team round o.0 o.1 in
       subst (λ z. is_form z ≡ true) (sym at) o.2
 
-  -- the teams that the round made, where it made any, are those of its close; no image is twice a member of the round's team
+  -- the teams that the round made, where it made any, are those of its close; no image is twice a member of the round's
+  -- team
   pub record AtClose : Type 0 where
     pub front : List Entry
     pub closed : closing control team round ms h ≡ Some front

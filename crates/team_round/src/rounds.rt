@@ -230,8 +230,8 @@ impl Rounds {
         }
     }
 
-    /// The status with which the round of the team after the last one that the image has joined closes by its arrival, 6000, 6001 or 0 by the
-    /// members that have ended; None where it doesn't close.
+    /// The status with which the round of the team after the last one that the image has joined closes by its arrival,
+    /// 6000, 6001 or 0 by the members that have ended; None where it doesn't close.
     pub fn closing_by_arrival(&self, t: TeamNo, image: ImageNo) -> Option<i32>
         requires team { (0 < t.0) × (t.0 ≤ length self.now.teams) }
         requires state { (x : TeamState) → slice_get self.now.teams (t.0 - 1) ≡ Some x → CanClose self.now.ended x image.0 }

@@ -177,7 +177,8 @@ impl TeamRounds {
         }
     }
 
-    // The status with which the round after the last one that the image has joined closes by its arrival; None where it doesn't close.
+    // The status with which the round after the last one that the image has joined closes by its arrival; None where it
+    // doesn't close.
     pub(crate) fn closing_by_arrival(&self, endings: &Endings, image: ImageNo) -> Option<i32>
         requires { CanClose endings.now self.now image.0 }
         ensures { (t : ℕ) (kind : RoundKind) (line : ℕ) (hs : List Happening) → IsTold t self.now endings.now hs

@@ -9,14 +9,10 @@ ghost use Rattle.image_state.specs.Kept.{table_of};
 ghost use Rattle.team_tables.specs.Tables.{with_noted, with_teams};
 ghost use Rattle.team_tables.specs.Steps.{own_team, with_team_in};
 
+use caf_events::fault::{NO_TEAM, ROOM};
 use image_code::step::Scope;
 use image_state::state::{Acting, ImageState};
 use team_tables::named::team_of;
-
-/// The numbers of the run faults NoTeam and Room.
-const NO_TEAM: u32 = 8;
-
-const ROOM: u32 = 11;
 
 /// Does the step `ChildTeam`.
 #[tactic(auto, using(image_state::proofs::Taking::none_taken, crate::proofs::CurrentSteps::child_is, crate::proofs::CurrentSteps::child_not))]

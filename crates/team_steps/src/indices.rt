@@ -8,11 +8,9 @@ ghost use Rattle.image_acts.specs.Teams.{current_team, members, is_index_of, dif
 ghost use Rattle.image_acts.specs.Operate.Bounds.{bounds_effect};
 ghost use Rattle.image_state.specs.Acting.{Acts};
 
+use caf_events::fault::ROOM;
 use image_state::state::{Acting, ImageState};
 use number_operators::operators::truth;
-
-/// The number of the run fault Room.
-const ROOM: u32 = 11;
 
 /// How many images the current team has.
 fn current_size(image: &ImageState) -> usize

@@ -1,16 +1,15 @@
-//! Teams that a program names, and what it asks about them (ISO/IEC 1539-1:2018, GET_TEAM, NUM_IMAGES, TEAM_NUMBER and THIS_IMAGE in 16.9).
+//! Teams that a program names, and what it asks about them (ISO/IEC 1539-1:2018, GET_TEAM, NUM_IMAGES, TEAM_NUMBER and
+//! THIS_IMAGE in 16.9).
 
 ghost use Rattle.std.specs.Prelude.{◌≡◌, ◌<◌, length};
 ghost use Rattle.image_acts.specs.Acts as acts;
 ghost use Rattle.image_acts.specs.Operate.Selecting.{selector_effect};
 ghost use Rattle.image_state.specs.Acting.{Acts};
 
+use caf_events::fault::NO_TEAM;
 use image_state::state::{Acting, ImageState};
 use number_operators::operators::truth;
 use team_tables::named::team_of;
-
-/// The number of the run fault NoTeam.
-const NO_TEAM: u32 = 8;
 
 /// Does the step `ThisTeam`.
 pub fn this_team(image: &mut ImageState) -> Acting

@@ -51,8 +51,8 @@ entry_of t s = record { team = t.team.0; parent = 0; round = 0; number = t.numbe
 abbrev pub first_entry : ℕ → Entry
 first_entry n = record { team = 1; parent = 0; round = 0; number = negsuc 0; start = 0; end = n }
 
--- The teams of an image in memory: the members of the known ones stand up to a place, those of the formed ones behind it. There is room for all current teams,
--- for the teams that a round forms, and for these among the known ones.
+-- The teams of an image in memory: the members of the known ones stand up to a place, those of the formed ones behind
+-- it. There is room for all current teams, for the teams that a round forms, and for these among the known ones.
 pub record AreKept (current : List ℕ) (known formed : List Entry) (members : List ℕ) (placed images current_room known_room formed_room : ℕ) : Type 0 where
   pub small : AreSmall current
   pub deep : 32768 ≤ current_room

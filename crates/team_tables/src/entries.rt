@@ -7,7 +7,8 @@ ghost use Rattle.image_acts.specs.Teams.{is_in, team_in, sibling_in};
 ghost use Rattle.team_tables.specs.Entries.{AreWithin, IsWithin, formed_by, known_in, members_at, team_at};
 ghost use Rattle.team_tables.specs.Tables.{team_with};
 
-/// A team in a row: its number in the run, its parent, the round of the parent that formed it, its team number, and from where to where its members stand.
+/// A team in a row: its number in the run, its parent, the round of the parent that formed it, its team number, and
+/// from where to where its members stand.
 #[derive(Clone, Copy)]
 pub struct Entry {
     pub team: u32,

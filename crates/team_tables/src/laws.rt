@@ -7,7 +7,8 @@ pub fn law_table_says_what_a_core_says()
     ensures { SaysOfTeams }
 {}
 
-/// The steps on the current team, the one that notes teams and the reply of a `leave` do to a core what they do to its table.
+/// The steps on the current team, the one that notes teams and the reply of a `leave` do to a core what they do to its
+/// table.
 pub fn law_steps_change_the_table()
     ensures { DoesToTeams }
 {}

@@ -130,7 +130,8 @@ impl Teams {
         }
     }
 
-    /// Whether the result of a collective comes to this image: by the root's index in the current team, 0 for all images.
+    /// Whether the result of a collective comes to this image: by the root's index in the current team, 0 for all
+    /// images.
     pub fn is_root(&self, index: i64) -> bool
         ensures { result ≡ is_root self.now index }
     {

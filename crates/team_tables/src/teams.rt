@@ -20,8 +20,8 @@ use std::marker::Model;
 /// The most current teams.
 const MOST_TEAMS: usize = 32_768;
 
-/// The teams that one image knows: the current ones, the initial team and those that FORM TEAM made, and the teams of the last reply of `leave`, until they
-/// are noted.
+/// The teams that one image knows: the current ones, the initial team and those that FORM TEAM made, and the teams of
+/// the last reply of `leave`, until they are noted.
 #[derive(Drop)]
 pub struct Teams {
     pub(crate) current: Vec<u64>,
@@ -145,7 +145,8 @@ impl Teams {
         let _ = self.current.pop();
     }
 
-    /// Makes room for the teams that the reply to a `leave` brings, and for noting them. After want of memory the teams are as before.
+    /// Makes room for the teams that the reply to a `leave` brings, and for noting them. After want of memory the teams
+    /// are as before.
     pub fn reserve(&mut self) -> Result<(), NoMemory>
         ensures room { OnOk result (HasRoom self.new) }
         ensures same { self.new ≡ record self.old { room = self.new.room } }
@@ -156,7 +157,8 @@ impl Teams {
         Ok(())
     }
 
-    /// Takes over the teams that a round formed, in place of those that weren't noted, as far as they fit. It takes no memory.
+    /// Takes over the teams that a round formed, in place of those that weren't noted, as far as they fit. It takes no
+    /// memory.
     pub fn hear_formed(&mut self, teams: &[FormedTeam])
         requires { HasRoom self.old }
         ensures { self.new ≡ record self.old { formed = fitting (2 * self.old.images) teams.now } }
@@ -167,7 +169,8 @@ impl Teams {
         add_teams(&mut self.formed, &mut self.members, &teams[..count]);
     }
 
-    /// Notes the teams that were formed, by this round of the current team, and says which one has this image. It takes no memory.
+    /// Notes the teams that were formed, by this round of the current team, and says which one has this image. It takes
+    /// no memory.
     pub fn note_teams(&mut self, round: u64) -> Option<u32>
         ensures own { result ≡ option_map (λ k. k.team) (team_with self.old.me (newly_known round self.old)) }
         ensures noted { self.new ≡ with_noted round self.old }

@@ -22,7 +22,8 @@ abbrev pub last_end : Cut → List Cut → ℕ
 last_end t [] = t.to
 last_end t (u ∷ us) = last_end u us
 
--- What a statement with these tokens stands for: one token of the grammar for each, and behind them the end, just past the last byte of the last. Where there is no token there is no statement.
+-- What a statement with these tokens stands for: one token of the grammar for each, and behind them the end, just past
+-- the last byte of the last. Where there is no token there is no statement.
 abbrev pub AreSeen : Stmt → List Cut → List Token → Type 0
 AreSeen s [] ys = ys ≡ []
 AreSeen s (t ∷ ts) ys = (p : Pos) × (slice_get s.at (last_end t ts - 1) ≡ Some p) × (ys ≡ seen s.text (just_past p) (t ∷ ts))

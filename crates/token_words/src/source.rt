@@ -90,7 +90,8 @@ fn push_statement(
     Ok(())
 }
 
-/// What the statements of a source stand for in the grammar. A refusal is that of the first statement that can't be cut into tokens; want of memory may come at any time.
+/// What the statements of a source stand for in the grammar. A refusal is that of the first statement that can't be cut
+/// into tokens; want of memory may come at any time.
 pub fn words(alloc: Global, stmts: &[Stmt]) -> Result<Vec<Word>, Refusal<TokenFault>>
     requires { All (λ s. length s.text < 4294967295) stmts.now }
     ensures words { IfOk result (λ words. spec.AreWords stmts.now (tokens_of words.items)) }

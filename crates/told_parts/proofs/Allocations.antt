@@ -1,4 +1,5 @@
--- ALLOCATE and DEALLOCATE: what is allocated isn't there and has room, and what is deallocated is there, by the tests directly before.
+-- ALLOCATE and DEALLOCATE: what is allocated isn't there and has room, and what is deallocated is there, by the tests
+-- directly before.
 use Rattle.std.proofs.Common.{◌≡◌, ℕ, suc, ◌+◌, ◌-◌, ◌≤◌, Bool, true, false, cond, ◌&&◌, not, List, [], ◌∷◌, take, drop, length, slice_get, slice_set, refl, sym, subst, ap, ◌∙◌, nat_le, nat_eq, arith}
 use Rattle.std.specs.Prelude.{ℤ, pos, int_le, Option, None, Some, is_some}
 use Rattle.std.proofs.lemmas.Bool.{and_parts, or_parts, eq-eqb}

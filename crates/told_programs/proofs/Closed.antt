@@ -1,4 +1,5 @@
--- A property of parts that all statements of a program have, where parts that are put together of such parts have it, and those at which a team, images or own coarrays are named.
+-- A property of parts that all statements of a program have, where parts that are put together of such parts have it,
+-- and those at which a team, images or own coarrays are named.
 use Rattle.std.proofs.Common.{ℕ, ◌+◌, List, [], ◌∷◌}
 use Rattle.std.specs.Prelude.{pos}
 use Rattle.checked_tree.specs.declared.data.Object.{Object}

@@ -1,5 +1,6 @@
--- Each act but an arrival, a departure, an inquiry of a team's images, SYNC IMAGES, what allocates or deallocates a coarray, and what CHANGE TEAM, END TEAM and FORM TEAM do
--- themselves names no team, and leaves the teams and the coarrays of a core as they are.
+-- Each act but an arrival, a departure, an inquiry of a team's images, SYNC IMAGES, what allocates or deallocates a
+-- coarray, and what CHANGE TEAM, END TEAM and FORM TEAM do themselves names no team, and leaves the teams and the
+-- coarrays of a core as they are.
 use Rattle.std.proofs.Common.{◌≡◌, ℕ, zero, suc, Bool, true, false, cond, List, [], ◌∷◌, refl}
 use Rattle.std.specs.Prelude.{ℤ, pos, ◌+◌, ◌-◌, ◌&&◌, ◌||◌, ◌==◌, not, int_le, min, nat_le, length, take, drop, slice_get, is_some, Option, None, Some}
 use Rattle.std.specs.List.{list_all}
@@ -431,7 +432,8 @@ said n a f m k = record { calm = (m, k) }
 last : (n : Known) (a : Ask) → IsCalm a → Fine n (ends_with a)
 last n a m = record { calm = m }
 
--- an ask that names neither a team by a number of the stack nor images by indices of it, and neither allocates nor deallocates
+-- an ask that names neither a team by a number of the stack nor images by indices of it, and neither allocates nor
+-- deallocates
 abbrev pub IsFreeAsk : a.AskAct → Type 0
 IsFreeAsk a.arrive_sync = ⊥
 IsFreeAsk a.arrive_form = ⊥

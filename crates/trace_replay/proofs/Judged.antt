@@ -1,4 +1,5 @@
--- The verdict on a trace by machines whose code has the walks of a program, and the report of the run that goes on behind it, are those of the program.
+-- The verdict on a trace by machines whose code has the walks of a program, and the report of the run that goes on
+-- behind it, are those of the program.
 use Rattle.std.proofs.Common.{◌≡◌, ℕ, ◌<◌, true, inl, inr, List, [], length, refl, ap, sym, subst}
 use Rattle.std.specs.Prelude.{map, take, Some, None}
 use Rattle.std.specs.List.{list_all}

@@ -1,4 +1,5 @@
--- The run that goes on behind a trace that was given: the images take their turns as they stand in it, and then by rotation.
+-- The run that goes on behind a trace that was given: the images take their turns as they stand in it, and then by
+-- rotation.
 use Rattle.std.specs.Prelude.{ℕ, ◌≡◌, ◌<◌, ◌⊎◌, List, [], ◌∷◌, ◌++◌, map}
 use Rattle.caf_events.specs.declared.ask.Ask.{Ask}
 use Rattle.caf_events.specs.declared.event.Entry.{Entry}
@@ -46,8 +47,8 @@ pub record HasFronts (t t' : List Entry) : Type 0 where
 abbrev pub IsIdle : {C M B : Type 0} → Rules C M B → Beginning C M B → List Entry → ℕ → Type 0
 IsIdle r b t i = HasEndedIn i t ⊎ ((line : ℕ) × (ask : Ask) × IsWaiting r b t i line ask)
 
--- The trace of the run that goes on behind a core run: that itself, where one of its events ended the run; else that of the run in which the images take turns as they stand in it, and then by
--- rotation from 0, to the end of the run.
+-- The trace of the run that goes on behind a core run: that itself, where one of its events ended the run; else that of
+-- the run in which the images take turns as they stand in it, and then by rotation from 0, to the end of the run.
 pub record GoesOn {C M B : Type 0} (r : Rules C M B) (b : Beginning C M B) (t t' : List Entry) : Type 0 where
   pub fronts : HasFronts t t'
   pub ended : (NoneEnds t → ⊥) → t' ≡ t

@@ -62,10 +62,12 @@ fn first_parts(
     Ok(parts)
 }
 
-/// The parts of the run of code on n images behind a trace, at the moment to which its steps lead; where it is the trace of no run, the first step at which it is none. Each memory has these
-/// coarrays. An image's next statement above `limit` is its limit; image i fails at its event of the number that `fails` has for it, counted from 1 (0 or no number: it doesn't); with `words` recorded
-/// words or more an image's next step is the limit. Conditions: there are at most 65,536 images and 100,000,000 statements, each static coarray of values has a first value of its kind for each of its
-/// cells, the code has the walks of a checked program, and the machine can run it (`IsRunnable`).
+/// The parts of the run of code on n images behind a trace, at the moment to which its steps lead; where it is the
+/// trace of no run, the first step at which it is none. Each memory has these coarrays. An image's next statement above
+/// `limit` is its limit; image i fails at its event of the number that `fails` has for it, counted from 1 (0 or no
+/// number: it doesn't); with `words` recorded words or more an image's next step is the limit. Conditions: there are at
+/// most 65,536 images and 100,000,000 statements, each static coarray of values has a first value of its kind for each
+/// of its cells, the code has the walks of a checked program, and the machine can run it (`IsRunnable`).
 pub fn parts_behind(
     alloc: Global,
     code: &Arc<Code>,
@@ -94,8 +96,8 @@ pub fn parts_behind(
     }
 }
 
-/// The first race of a trace of a run of code on n images (ISO/IEC 1539-1:2018, 11.6.2), or None; where it is the trace of no run, the first step at which it is none. What is given, and the conditions,
-/// are as of `parts_behind`.
+/// The first race of a trace of a run of code on n images (ISO/IEC 1539-1:2018, 11.6.2), or None; where it is the trace
+/// of no run, the first step at which it is none. What is given, and the conditions, are as of `parts_behind`.
 pub fn judge_code(
     alloc: Global,
     code: &Arc<Code>,

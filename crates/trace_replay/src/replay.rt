@@ -31,8 +31,10 @@ use program_run::running::told;
 use std::alloc::Global;
 use std::sync::Arc;
 
-/// The run of code on n images behind a trace: its further steps by rotation from 0, where no event of the trace ended the run, and its report with these names of the coarrays and the final values of the
-/// listed variables; where it is the trace of no run, the first step at which it is none. What else is given, and the conditions, are as of `parts_behind`.
+/// The run of code on n images behind a trace: its further steps by rotation from 0, where no event of the trace ended
+/// the run, and its report with these names of the coarrays and the final values of the listed variables; where it is
+/// the trace of no run, the first step at which it is none. What else is given, and the conditions, are as of
+/// `parts_behind`.
 pub fn replay_code(
     alloc: Global,
     code: &Arc<Code>,

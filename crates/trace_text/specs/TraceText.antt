@@ -1,4 +1,5 @@
--- The line of a step in the text of a trace: the image, what it asked and what the reply was, with a text for each team that an ask names.
+-- The line of a step in the text of a trace: the image, what it asked and what the reply was, with a text for each team
+-- that an ask names.
 use Rattle.std.specs.Ordering.{int_eq}
 use Rattle.std.specs.Prelude.{ℕ, ℤ, pos, ◌==◌, cond, Bool, true, false, List, [], ◌∷◌, ◌++◌, Option, None, Some, codes, flat_map, slice_get}
 use Rattle.caf_base.specs.declared.place.Place.{Place}

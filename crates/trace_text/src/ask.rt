@@ -168,7 +168,8 @@ fn push_printed(out: &mut Vec<u8>, text: &[u8]) -> Result<(), NoMemory>
     Ok(())
 }
 
-// Appends the operands of an ask at the control board or of a step of the image alone; those of an ask at a memory are left out.
+// Appends the operands of an ask at the control board or of a step of the image alone; those of an ask at a memory are
+// left out.
 fn push_control(
     out: &mut Vec<u8>,
     names: &[Text],

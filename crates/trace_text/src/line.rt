@@ -77,8 +77,8 @@ fn push_exchange(
     push_replied(out, numbers, &event.reply(alloc))
 }
 
-/// Appends the line of a step: stamp, image, line, object, ask and reply, with the team numbers that the table has. It puts
-/// those that the reply gives into the table.
+/// Appends the line of a step: stamp, image, line, object, ask and reply, with the team numbers that the table has. It
+/// puts those that the reply gives into the table.
 pub fn push_entry(
     alloc: Global,
     out: &mut Vec<u8>,

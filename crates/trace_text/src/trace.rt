@@ -25,8 +25,8 @@ fn push_entries(
     Ok(())
 }
 
-/// Appends the lines of a trace in the second form, with the names of the coarrays by their numbers from 0. After want of
-/// memory a part of them may stand there.
+/// Appends the lines of a trace in the second form, with the names of the coarrays by their numbers from 0. After want
+/// of memory a part of them may stand there.
 pub fn push_trace(
     alloc: Global,
     out: &mut Vec<u8>,

@@ -54,7 +54,8 @@ module _ (C D A R : Type 0) (answers : A → R → Type 0) (alike : C → D → 
     advance_both (asks b l j) d h m = tt
     advance_both over d h m = tt
 
-    -- where each step of the source takes the target a step or more, and the target's walks come to an ask or end, both have the same walks
+    -- where each step of the source takes the target a step or more, and the target's walks come to an ask or end, both
+    -- have the same walks
     pub same_walks_over : (c : C) (d : D) → alike c d → Lasts answers target d → SameWalks answers after near source c target d
     same_walks_over c d a h =
         same_walks C D A R answers Both after near source c target d

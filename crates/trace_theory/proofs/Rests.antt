@@ -130,6 +130,7 @@ module _ (C D A R : Type 0) (alike : C → D → Type 0) (source : C → Move C 
   ends_within zero (suc k) c d l h s = absurd (omega arith)
   ends_within (suc n) k c d l h s = ends_step n k c d (λ j x y. ends_within n j x y) l s (source c) refl (on c d h)
 
-  -- where each step of the source takes the target a step or more, the source comes to an ask or ends where the target does
+  -- where each step of the source takes the target a step or more, the source comes to an ask or ends where the target
+  -- does
   pub ends_before : (c : C) (d : D) → alike c d → ComesToRest target d → ComesToRest source c
   ends_before c d h (k, s) = ends_within k k c d (omega arith) h s

@@ -52,7 +52,8 @@ Rests over = Unit {0}
 abbrev pub ComesToRest : {C A R : Type 0} → (C → Move C A R) → C → Type 0
 ComesToRest step c = (n : ℕ) × Rests (go step n c)
 
--- after a step from c that asks nothing all is still well, and either less is left to do or one more is counted below the limit
+-- after a step from c that asks nothing all is still well, and either less is left to do or one more is counted below
+-- the limit
 abbrev pub Falls : {C A R : Type 0} → (Well : C → Type 0) → (count rest : C → ℕ) → (limit : ℕ) → C → Move C A R → Type 0
 Falls Well count rest limit c (goes d) = Well d × (((count d ≡ count c) × (rest d < rest c)) ⊎ ((count d ≡ count c + 1) × (count c < limit)))
 Falls Well count rest limit c (asks a l k) = Unit {0}

@@ -7,14 +7,15 @@ abbrev pub place_last : {E : Type 0} → (E → ℕ) → ℕ → List E → ℕ
 place_last stamp zero h = 0
 place_last stamp (suc o) h = last_or stamp 0 h
 
--- The stamp that is due to an entry: at its image's own place the one that `own` makes of the image's last stamp, at an object one more than the greater of
--- the last stamps of its image and of that object.
+-- The stamp that is due to an entry: at its image's own place the one that `own` makes of the image's last stamp, at an
+-- object one more than the greater of the last stamps of its image and of that object.
 abbrev pub due : {E : Type 0} → (E → ℕ → ℕ) → ℕ → E → ℕ → ℕ → ℕ
 due own zero e mine there = own e mine
 due own (suc o) e mine there = suc (max mine there)
 
--- The images' lists and the objects' histories are of one run: stamps rise in each list, an image and an object have the same
--- entries of one another in the same order, and each stamp is the one that is due after those before it in its lists.
+-- The images' lists and the objects' histories are of one run: stamps rise in each list, an image and an object have
+-- the same entries of one another in the same order, and each stamp is the one that is due after those before it in its
+-- lists.
 pub record Woven {E : Type 0} (image place stamp : E → ℕ) (own : E → ℕ → ℕ) (events histories : ℕ → List E) : Type 0 where
   pub mine : (i : ℕ) → Each (λ e. image e ≡ i) (events i)
   pub there : (o : ℕ) → Each (λ e. place e ≡ suc o) (histories (suc o))
@@ -24,8 +25,8 @@ pub record Woven {E : Type 0} (image place stamp : E → ℕ) (own : E → ℕ �
   pub fits : (i o : ℕ) (g g' h h' : List E) (e : E) → events i ≡ g ++ e ∷ g' → histories (suc o) ≡ h ++ e ∷ h' → stamp e ≡ suc (max (last_or stamp 0 g) (last_or stamp 0 h))
   pub own_fits : (i : ℕ) (g g' : List E) (e : E) → place e ≡ 0 → events i ≡ g ++ e ∷ g' → stamp e ≡ own e (last_or stamp 0 g)
 
--- The new lists are the old ones with one more entry, at the end of its image's list and of its object's history, with the stamp that is due to it; it is
--- above the image's last one, also where `own` says less.
+-- The new lists are the old ones with one more entry, at the end of its image's list and of its object's history, with
+-- the stamp that is due to it; it is above the image's last one, also where `own` says less.
 pub record Adds {E : Type 0} (image place stamp : E → ℕ) (own : E → ℕ → ℕ) (events histories events' histories' : ℕ → List E) (e : E) : Type 0 where
   pub image_more : events' (image e) ≡ events (image e) ++ e ∷ []
   pub image_same : (i : ℕ) → (image e ≡ i → ⊥) → events' i ≡ events i

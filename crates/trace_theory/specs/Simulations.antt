@@ -23,7 +23,8 @@ SameRest (goes c) m = ⊥
 SameRest {C} {D} {A} {R} (asks a l j) m = (k : R → D) × (m ≡ asks a l k)
 SameRest over m = m ≡ over
 
--- wherever they stand alike and the source is at rest, the target comes without an ask to a place near it where it rests in the same way
+-- wherever they stand alike and the source is at rest, the target comes without an ask to a place near it where it
+-- rests in the same way
 abbrev pub RestsNear : {C D A R : Type 0} → (alike near : C → D → Type 0) → (C → Move C A R) → (D → Move D A R) → Type 0
 RestsNear {C} {D} alike near source target =
     (c : C) (d : D) → alike c d → Rests (source c) → (n : ℕ) × (e : D) × (go target n d ≡ goes e) × near c e × SameRest (source c) (target e)

@@ -3,8 +3,8 @@
 ghost use Rattle.std.specs.Prelude.{◌≡◌, ℕ, suc, List, [], ◌∷◌, ◌+◌, ◌++◌};
 ghost use Rattle.trace_theory.specs.Machines.{Move, goes, asks, Said, goes_on, go, Comes, Walk, WalkTo, OneNextAsk, ComesToRest, Falls, Onward};
 
-/// A machine: its configurations, what it asks, what it hears, and its step; where all is well with it, what it counts, and what is left
-/// to do before the next count.
+/// A machine: its configurations, what it asks, what it hears, and its step; where all is well with it, what it counts,
+/// and what is left to do before the next count.
 pub trait Machine {
     ghost Config: { Type 0 };
 

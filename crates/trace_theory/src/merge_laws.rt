@@ -11,7 +11,8 @@ pub fn law_merges_start<E: Entries>()
     ensures { (events : ℕ → List E.Entry) → ((i : ℕ) → Rises E.stamp (events i)) → Merges E.image E.stamp events events [] }
 {}
 
-/// A merge goes on by the least of the first entries, and by the one of the least image where their stamps are the same.
+/// A merge goes on by the least of the first entries, and by the one of the least image where their stamps are the
+/// same.
 pub fn law_merges_more<E: Entries>()
     ensures { (events rest rest' : ℕ → List E.Entry) (out : List E.Entry) (e : E.Entry) → Merges E.image E.stamp events rest out
         → Takes E.image E.stamp rest rest' e → Merges E.image E.stamp events rest' (out ++ e ∷ []) }

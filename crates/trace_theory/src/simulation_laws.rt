@@ -5,8 +5,8 @@ ghost use Rattle.trace_theory.specs.Machines.{Move, Said, Walk, WalkTo, Rests, C
 ghost use Rattle.trace_theory.specs.Equivalence.{SameWalks, Lasts};
 ghost use Rattle.trace_theory.specs.Simulations.{Simulates, AllAnswer, SameRest, RestsNear, Advances};
 
-/// Two machines with the same asks and replies, when they stand alike, what is the same of them after each reply and where
-/// both stop, and which reply answers which ask.
+/// Two machines with the same asks and replies, when they stand alike, what is the same of them after each reply and
+/// where both stop, and which reply answers which ask.
 pub trait Pair {
     ghost Source: { Type 0 };
 
@@ -35,7 +35,8 @@ pub fn law_simulated<P: Pair>()
         → AllAnswer P.answers es → P.alike c d → Walk P.source c es e → (f : P.Target) × P.alike e f × Walk P.target d es f }
 {}
 
-/// What the target says and hears, the source says and hears, where the source comes to an ask or ends wherever they stand alike.
+/// What the target says and hears, the source says and hears, where the source comes to an ask or ends wherever they
+/// stand alike.
 pub fn law_simulated_back<P: Pair>()
     ensures { Simulates P.alike P.answers P.source P.target → ((c : P.Source) (d : P.Target) → P.alike c d → ComesToRest P.source c)
         → (c : P.Source) (d f : P.Target) (es : List (Said P.Ask P.Reply)) → AllAnswer P.answers es → P.alike c d → Walk P.target d es f
@@ -49,8 +50,8 @@ pub fn law_rests_onward<P: Pair>()
         → Rests (P.source c') → (d' : P.Target) × WalkTo P.target d es d' × P.near c' d' × SameRest (P.source c') (P.target d') }
 {}
 
-/// Where the target walks to a stop, the source walks to the same stop near it, where the source comes to an ask or ends wherever
-/// they stand alike.
+/// Where the target walks to a stop, the source walks to the same stop near it, where the source comes to an ask or
+/// ends wherever they stand alike.
 pub fn law_rests_backward<P: Pair>()
     ensures { Simulates P.alike P.answers P.source P.target → RestsNear P.alike P.near P.source P.target
         → ((c : P.Source) (d : P.Target) → P.alike c d → ComesToRest P.source c)
@@ -64,7 +65,8 @@ pub fn law_ends_too<P: Pair>()
         → ComesToRest P.target d }
 {}
 
-/// Where the target comes to an ask or ends, the source does, if each step of the source takes the target a step or more.
+/// Where the target comes to an ask or ends, the source does, if each step of the source takes the target a step or
+/// more.
 pub fn law_ends_before<P: Pair>()
     ensures { ((c : P.Source) (d : P.Target) → P.alike c d → Advances P.alike P.target (P.source c) d) → (c : P.Source) (d : P.Target)
         → P.alike c d → ComesToRest P.target d → ComesToRest P.source c }
@@ -89,8 +91,8 @@ pub fn law_lasts_too<P: Pair>()
         → (c : P.Source) (d : P.Target) → P.alike c d → Lasts P.answers P.target d }
 {}
 
-/// A source each step of which takes the target a step or more has the same walks as the target, where each walk of the target
-/// comes to an ask or ends.
+/// A source each step of which takes the target a step or more has the same walks as the target, where each walk of the
+/// target comes to an ask or ends.
 pub fn law_same_walks_over<P: Pair>()
     ensures { Simulates P.alike P.answers P.source P.target → RestsNear P.alike P.near P.source P.target
         → ((c : P.Source) (d : P.Target) → P.alike c d → Advances P.alike P.target (P.source c) d)

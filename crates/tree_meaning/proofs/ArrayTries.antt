@@ -37,8 +37,9 @@ again = refl
 wrong_format : said (record (program [] [] 0 ((1, s.print (s.written 0 []) (s.value (t.typed (t.logical true) log 0) ∷ [])) ∷ []) 2) { literals = codes "(i0)" ∷ [] }) 100 1 1 [] ≡ (faults faulty.Format, 1) ∷ []
 wrong_format = refl
 
--- an array without elements whose other extents come to more than 2 ** 63: `integer :: a(1:0, -2147483647:2147483647, -2147483647:2147483647)`, `a(:, 1, 1) = 1`,
--- `print *, size(a(:, 1, 1))`; a subscript out of bounds is one there too
+-- an array without elements whose other extents come to more than 2 ** 63:
+-- `integer :: a(1:0, -2147483647:2147483647, -2147483647:2147483647)`, `a(:, 1, 1) = 1`, `print *, size(a(:, 1, 1))`; a
+-- subscript out of bounds is one there too
 empty_row : ℕ → t.Designator
 empty_row n =
     t.part (objects.Local (own 0)) (t.more_subscripts (t.triplet t.missing t.missing t.missing) (t.more_subscripts (t.element (num (pos 1))) (t.more_subscripts (t.element (num (pos n))) t.no_subscripts))) t.no_selector
@@ -50,7 +51,8 @@ no_elements : said
 unfolding empty_row digits
 no_elements = refl
 
--- a section of a failed image: `integer :: x(4)[*] = 9, v(2), s`, `if (this_image() == 2) fail image`, `sync all (stat=s)`, `v = x(1:4:3)[2, stat=s]`, `print *, v, s`, `end`
+-- a section of a failed image: `integer :: x(4)[*] = 9, v(2), s`, `if (this_image() == 2) fail image`,
+-- `sync all (stat=s)`, `v = x(1:4:3)[2, stat=s]`, `print *, v, s`, `end`
 nines : Variable
 nines = var int ((pos 1, pos 4) ∷ []) co1 (initials.All (values.Int (pos 9)))
 
@@ -83,7 +85,8 @@ failing : said failed_section 100 2 2 (done ∷ []) ≡ (asks.Fail, 2) ∷ []
 unfolding failed_section nines section_of to whole
 failing = refl
 
--- sections of a coarray: `if (this_image() == 2) x(1:4:3) = 5`, `sync all`, `if (this_image() == 1) v = x(1:2)[2]`, `if (this_image() == 1) print *, v, x(4)[2]`, `end`
+-- sections of a coarray: `if (this_image() == 2) x(1:4:3) = 5`, `sync all`, `if (this_image() == 1) v = x(1:2)[2]`,
+-- `if (this_image() == 1) print *, v, x(4)[2]`, `end`
 sections : s.Program
 sections = program (nines ∷ array int (pos 2) ∷ []) (0 ∷ []) 0
     ((2, if_then (eq me (num (pos 2))) 2 (s.assign (section_of (num (pos 1)) (num (pos 4)) (t.given (num (pos 3))) t.no_selector) int 1 (num (pos 5)))) ∷ (3, sync)
@@ -137,14 +140,16 @@ ring = program (array int (pos 4) ∷ coscalar int ∷ scalar int ∷ scalar int
     ∷ (26, s.call_intrinsic (s.combine combinations.Sum (record { variable = target 8; kind = kinds.I4; rank = 0 }) t.missing t.no_result) (record { dummies = 0 ∷ 0 ∷ 0 ∷ 0 ∷ 0 ∷ []; count = 1 }))
     ∷ (27, if_then (eq (v 2) (num (pos 1))) 27 (print (s.value (v 7) ∷ s.value (v 8) ∷ []))) ∷ []) 28
 
--- u is 1 2 3 4 and becomes 8 1 2 3, which sum to 14; the other image's are 5 6 7 8, then 4 5 6 7, and the sum of both is 36
+-- u is 1 2 3 4 and becomes 8 1 2 3, which sum to 14; the other image's are 5 6 7 8, then 4 5 6 7, and the sum of both
+-- is 36
 exchange : said ring 1000 1 2 (done ∷ round 1 ∷ left 0 ∷ found (ints (8 ∷ [])) ∷ round 2 ∷ left 0 ∷ round 1 ∷ replies.Taken (pos 0) (ints (36 ∷ [])) ∷ done ∷ [])
     ≡ (writes 1 (at 0 0) (ints (4 ∷ [])), 12) ∷ (arrives 1 arrivals.Sync, 13) ∷ (leaves 1 1, 13) ∷ (reads 2 (at 0 0), 14) ∷ (arrives 1 arrivals.Sync, 15) ∷ (leaves 1 2, 15)
     ∷ (asks.Gather (record { 0 = 1 }) gathers.Sum 0 kinds.I4 (ints (14 ∷ [])), 26) ∷ (asks.Take (record { 0 = 1 }) 1, 26) ∷ (prints (codes "14 36"), 27) ∷ (stops, 28) ∷ []
 unfolding ring do_over digits
 exchange = refl
 
--- the counts: lines 4 to 7 and the action of line 7 make 5, the loop of line 8 makes 1 + 4 + 4, line 11 and its iteration 2, line 12 one: 17; line 13 is the 18th
+-- the counts: lines 4 to 7 and the action of line 7 make 5, the loop of line 8 makes 1 + 4 + 4, line 11 and its
+-- iteration 2, line 12 one: 17; line 13 is the 18th
 few_counts : said ring 17 1 2 (done ∷ []) ≡ (writes 1 (at 0 0) (ints (4 ∷ [])), 12) ∷ (asks.LimitStatements 18, 13) ∷ []
 unfolding ring do_over
 few_counts = refl

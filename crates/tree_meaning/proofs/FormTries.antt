@@ -1,4 +1,5 @@
--- Each form of statement and each intrinsic procedure that the other tries don't use: what the walk of one image says, worked out by hand.
+-- Each form of statement and each intrinsic procedure that the other tries don't use: what the walk of one image says,
+-- worked out by hand.
 use Rattle.std.proofs.Common.{◌≡◌, refl, ℕ, ℤ, pos, negsuc, true, false, List, [], ◌∷◌, map, codes}
 use Rattle.std.specs.Fmt.{digits}
 use Rattle.caf_base.specs.declared.value.Kind.TheVariants as kinds
@@ -107,7 +108,8 @@ too_great_for_int : said (program [] [] 0 ((1, shown (by (t.int (t.typed (t.numb
 unfolding shown by
 too_great_for_int = refl
 
--- `integer :: u(0:4, 2:3)`: size(u), size(u, 2), lbound(u, 1), ubound(u, 2), lbound(u(1:2, 2), 1), ubound(u(1:2, 2), 1); size(u, 3) has no such dimension
+-- `integer :: u(0:4, 2:3)`: size(u), size(u, 2), lbound(u, 1), ubound(u, 2), lbound(u(1:2, 2), 1), ubound(u(1:2, 2),
+-- 1); size(u, 3) has no such dimension
 two_dimensions : Variable
 two_dimensions = var int ((pos 0, pos 4) ∷ (pos 2, pos 3) ∷ []) codimensions.Absent initials.Unstated
 
@@ -127,7 +129,8 @@ sizes : said (program (two_dimensions ∷ []) [] 0
 unfolding two_dimensions shown by whole column digits
 sizes = refl
 
--- this_image(x, 1), this_image(x, 2) of `integer :: x[0:1, *]` on image 4 of 5, num_images(-1), get_team(3)'s team_number; and this_image(x, 3)
+-- this_image(x, 1), this_image(x, 2) of `integer :: x[0:1, *]` on image 4 of 5, num_images(-1), get_team(3)'s
+-- team_number; and this_image(x, 3)
 two_codimensions : Variable
 two_codimensions = var int [] (codimensions.Explicit (record { lower = pos 0 ∷ pos 1 ∷ []; extent = pos 2 ∷ [] })) initials.Unstated
 
@@ -149,7 +152,8 @@ no_such_status : said (program [] [] 0 ((1, shown (by (t.image_status (num (pos 
 unfolding shown by
 no_such_status = refl
 
--- `integer, allocatable :: w(:)`: `w = failed_images()`, `print *, w, size(stopped_images())`, `print *, lbound(w, 1), allocated(w)`
+-- `integer, allocatable :: w(:)`: `w = failed_images()`, `print *, w, size(stopped_images())`,
+-- `print *, lbound(w, 1), allocated(w)`
 listed : Variable
 listed = record { name = []; of_type = int; dimensions = dimensions.Deferred 1; codimensions = codimensions.Absent; is_allocatable = true; initial = initials.Unstated }
 

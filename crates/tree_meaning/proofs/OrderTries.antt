@@ -1,11 +1,14 @@
--- Which of two faults comes first, and when the argument of a collective is read: what the walks of small programs ask, worked out by hand.
-use Rattle.std.proofs.Common.{◌≡◌, refl, ℕ, pos, true, List, [], ◌∷◌, codes, Some}
+-- Which of two faults comes first, and when the argument of a collective is read: what the walks of small programs ask,
+-- worked out by hand.
+use Rattle.std.proofs.Common.{◌≡◌, refl, ℕ, pos, true, List, [], ◌∷◌, ◌++◌, codes, Some}
 use Rattle.std.specs.Fmt.{digits}
 use Rattle.caf_base.specs.declared.value.Kind.TheVariants as kinds
 use Rattle.caf_base.specs.declared.value.Value.TheVariants as values
 use Rattle.caf_events.specs.declared.ask.Ask.{Ask}
 use Rattle.caf_events.specs.declared.ask.Ask.TheVariants as asks
 use Rattle.caf_events.specs.declared.fault.FaultKind.TheVariants as faulty
+use Rattle.caf_events.specs.declared.reply.Reply.{Reply}
+use Rattle.caf_events.specs.declared.round.Arriving.TheVariants as arrivals
 use Rattle.caf_events.specs.declared.round.GatherOp.TheVariants as gathers
 use Rattle.walk_theory.specs.Language as language
 use Rattle.checked_tree.specs.declared.action.Combination.TheVariants as combinations
@@ -15,6 +18,7 @@ use Rattle.checked_tree.specs.declared.data.Dimensions.TheVariants as dimensions
 use Rattle.checked_tree.specs.declared.data.Initial.TheVariants as initials
 use Rattle.checked_tree.specs.declared.data.Object.TheVariants as objects
 use Rattle.checked_tree.specs.declared.data.Variable.{Variable}
+use Rattle.checked_tree.specs.declared.expr.WrittenOrder.TheVariants as orders
 use Rattle.checked_tree.specs.declared.program.Dummy.{Dummy}
 use Rattle.checked_tree.specs.Expressions as t
 use Rattle.checked_tree.specs.Statements as s
@@ -24,7 +28,7 @@ use Rattle.image_acts.specs.Faults.{shape_fault, not_allocated}
 use Rattle.image_acts.specs.Operate.Variables.{variable_effect}
 use Rattle.tree_meaning.specs.Start.{first_core}
 use Rattle.tree_meaning.proofs.SmallTrees.{int, var, scalar, array, own, of_host, num, v, target, el, one, set, print, unit, program}
-use Rattle.tree_meaning.proofs.SmallAsks.{ints, prints, stops, faults, done, round, took}
+use Rattle.tree_meaning.proofs.SmallAsks.{ints, at, arrives, leaves, prints, stops, faults, done, round, left, took}
 use Rattle.tree_meaning.proofs.Trying.{said, values_there}
 
 allocatable : Variable
@@ -42,9 +46,9 @@ no_cells : variable_effect (a.load a.here 0 1) (five_cells_of allocatable) ≡ l
 unfolding five_cells_of allocatable
 no_cells = refl
 
--- The argument of a collective is allocated anew while another argument is evaluated: its values were read before, and where they should go it has
--- another shape. `integer, allocatable :: a(:)`, `allocate (a(5))`, `call co_sum(a, f())`, `contains`, `integer function f()`, `deallocate (a)`,
--- `allocate (a(2))`, `f = 1`, `end`, `end`; and without line 7.
+-- The argument of a collective is allocated anew while another argument is evaluated: its values were read before, and
+-- where they should go it has another shape. `integer, allocatable :: a(:)`, `allocate (a(5))`, `call co_sum(a, f())`,
+-- `contains`, `integer function f()`, `deallocate (a)`, `allocate (a(2))`, `f = 1`, `end`, `end`; and without line 7.
 upto : ℕ → s.AllocatedBounds
 upto n = record { lower = t.missing; upper = num (pos n) }
 
@@ -80,7 +84,42 @@ deallocated : said (summing (function_of [] (scalar int ∷ []) 0 ((6, frees) �
 unfolding allocatable upto frees function_of summed f_of summing gathers_five
 deallocated = refl
 
--- A scalar argument that the other one changes: `integer :: a = 1`, `call co_sum(a, f(a))`, `print *, a`, where f has `x = 5`, `f = 1`, gathers and prints 1.
+-- The event of an EVENT WAIT is allocated anew while its count is evaluated: the ask is for its cell as it is then, and
+-- where there is none it is a fault. `type(event_type), allocatable :: e(:)[:]`, `allocate (e(3)[*])`,
+-- `event wait (e(3), until_count=f())`, `contains`, `integer function f()`, `deallocate (e)`, `allocate (e(n)[*])`,
+-- `f = 1`, `end`, `end`, with n = 3 and n = 1.
+events : Variable
+events = record { name = []; of_type = types.Event; dimensions = dimensions.Deferred 1; codimensions = codimensions.Deferred 1; is_allocatable = true; initial = initials.Unstated }
+
+makes_events : ℕ → s.StatementForm
+makes_events n = s.allocate (s.allocate_coarray 0 (upto n ∷ []) [] t.missing ∷ []) t.no_result
+
+waiting : ℕ → s.Program
+waiting n = record (program (events ∷ []) (0 ∷ []) 0
+    ((2, makes_events 3) ∷ (3, s.event_wait (t.part (objects.Coarray 0) (t.more_subscripts (t.element (num (pos 3))) t.no_subscripts) t.no_selector) (t.given (f_of t.no_arguments)) t.no_result orders.Same) ∷ []) 10) {
+      procedures = function_of [] (scalar int ∷ []) 0 ((6, s.deallocate (objects.Coarray 0 ∷ []) t.no_result) ∷ (7, makes_events n) ∷ (8, set 0 (num (pos 1))) ∷ []) ∷ [];
+    }
+
+-- what n events say that are allocated by round r on line l
+made : (n r l : ℕ) → List (Ask × ℕ)
+made n r l = (asks.Create (record { 0 = 1 }) 0 n, l) ∷ (arrives 1 (arrivals.Allocate (record { coarray = 0; dims = (pos 1, pos n) ∷ []; codims = []; last = pos 1 } ∷ [])), l) ∷ (leaves 1 r, l) ∷ []
+
+freed : List (Ask × ℕ)
+freed = (arrives 1 (arrivals.Deallocate (0 ∷ [])), 6) ∷ (leaves 1 2, 6) ∷ (asks.Delete (record { 0 = 1 }) 0, 6) ∷ []
+
+all_made : List Reply
+all_made = done ∷ round 1 ∷ left 0 ∷ round 2 ∷ left 0 ∷ done ∷ done ∷ round 3 ∷ left 0 ∷ []
+
+event_anew : said (waiting 3) 100 1 1 all_made ≡ made 3 1 2 ++ (freed ++ (made 3 3 7 ++ (asks.Wait (record { 0 = 1 }) (at 0 2) 1, 3) ∷ []))
+unfolding events upto makes_events function_of f_of waiting made freed all_made
+event_anew = refl
+
+event_gone : said (waiting 1) 100 1 1 all_made ≡ made 3 1 2 ++ (freed ++ (made 1 3 7 ++ (faults faulty.NotAllocated, 3) ∷ []))
+unfolding events upto makes_events function_of f_of waiting made freed all_made
+event_gone = refl
+
+-- A scalar argument that the other one changes: `integer :: a = 1`, `call co_sum(a, f(a))`, `print *, a`, where f has
+-- `x = 5`, `f = 1`, gathers and prints 1.
 changed : s.Program
 changed = record (program (var int [] codimensions.Absent (initials.All (values.Int (pos 1))) ∷ []) [] 0
     ((2, summed 0 (f_of (t.more_arguments (t.variable (target 0)) t.no_arguments))) ∷ (3, print (s.value (v 0) ∷ [])) ∷ []) 10) {
@@ -92,8 +131,8 @@ read_as_written : said changed 100 1 1 (round 1 ∷ took (1 ∷ []) ∷ done ∷
 unfolding changed function_of summed f_of digits
 read_as_written = refl
 
--- A root that is no index of the team is a bad argument, and no value of the argument is left behind. `integer :: u(2), s`, `call co_sum(u, 2, stat=s)`,
--- `print *, u, s`
+-- A root that is no index of the team is a bad argument, and no value of the argument is left behind.
+-- `integer :: u(2), s`, `call co_sum(u, 2, stat=s)`, `print *, u, s`
 no_root : s.Program
 no_root = program (array int (pos 2) ∷ scalar int ∷ []) [] 0
     ((
@@ -111,7 +150,8 @@ nothing_left : values_there no_root 100 1 1 (done ∷ []) ≡ 0 ∷ []
 unfolding no_root
 nothing_left = refl
 
--- Overflow comes before NotAllocated: `integer, allocatable :: a(:)` with `a = 3000000000_8`, `a(1) = 3000000000_8`, `a = [3000000000_8]`, `a(1) = 1_8`
+-- Overflow comes before NotAllocated: `integer, allocatable :: a(:)` with `a = 3000000000_8`, `a(1) = 3000000000_8`,
+-- `a = [3000000000_8]`, `a(1) = 1_8`
 wide : ℕ → t.Expression
 wide n = t.typed (t.number (pos n)) (types.Intrinsic kinds.I8) 0
 
@@ -137,7 +177,8 @@ not_there : said (assigning allocatable (el 0 (num (pos 1))) 0 (wide 1)) 100 1 1
 unfolding assigning allocatable wide
 not_there = refl
 
--- and behind Bounds, which are told with the subscripts: `integer :: u(2)` with `u(9) = 3000000000_8`, `u(2) = 3000000000_8`, `u(2) = 7_8`
+-- and behind Bounds, which are told with the subscripts: `integer :: u(2)` with `u(9) = 3000000000_8`,
+-- `u(2) = 3000000000_8`, `u(2) = 7_8`
 past_bounds : said (assigning (array int (pos 2)) (el 0 (num (pos 9))) 0 (wide 3000000000)) 100 1 1 [] ≡ (faults faulty.Bounds, 2) ∷ []
 unfolding assigning wide
 past_bounds = refl

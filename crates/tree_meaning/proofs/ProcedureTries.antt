@@ -45,7 +45,8 @@ too_deep : said_in 10000 (record (program [] [] 0 ((1, print (s.value (call_1 0 
 unfolding endless in_dummy call_1
 too_deep = refl
 
--- `subroutine swap(a, b)` of two dummies without INTENT: `call swap(u(1), u(2))` with u = 5, 7; and of an array and its copy
+-- `subroutine swap(a, b)` of two dummies without INTENT: `call swap(u(1), u(2))` with u = 5, 7; and of an array and its
+-- copy
 swap : s.Procedure
 swap = record { name = []; dummies = inout 0 ∷ inout 1 ∷ []; answer = None; unit = unit (scalar int ∷ scalar int ∷ scalar int ∷ []) 0 ((8, set 2 (v 0)) ∷ (9, set 0 (v 1)) ∷ (10, set 1 (v 2)) ∷ []) }
 
@@ -93,7 +94,8 @@ selecting : said (program [] [] 1 ((1, picked (pos 9)) ∷ (6, picked (pos 7)) �
 unfolding picked digits
 selecting = refl
 
--- EXIT of the outer loop out of the inner one, and CYCLE: `do i = 1, 3`, `do j = 1, 3`, `if (j == 2) cycle outer`, `if (i == 3) exit outer`, `k = k + 10 * i + j`
+-- EXIT of the outer loop out of the inner one, and CYCLE: `do i = 1, 3`, `do j = 1, 3`, `if (j == 2) cycle outer`,
+-- `if (i == 3) exit outer`, `k = k + 10 * i + j`
 loops : s.Program
 loops = program (scalar int ∷ scalar int ∷ scalar int ∷ []) [] 2
     ((
@@ -119,8 +121,8 @@ past_the_end = refl
 else_if_line : said (program [] [] 0 ((1, s.if (eq (num (pos 1)) (num (pos 2))) s.no_statements (s.more_else_ifs (eq (t.typed (t.intrinsic (t.remainder (num (pos 1)) (num (pos 0)) orders.Same)) int 0) (num (pos 1))) s.no_statements 2 s.no_else_ifs) s.no_statements) ∷ []) 4) 100 1 1 [] ≡ (faults faulty.DivideByZero, 2) ∷ []
 else_if_line = refl
 
--- evaluation cells: `print *, [1, 2, 3], g(5)`, where g prints its argument; then `sync memory`. The three of the constructor are in use while g runs, and the
--- one of its PRINT is free again before the one of the item.
+-- evaluation cells: `print *, [1, 2, 3], g(5)`, where g prints its argument; then `sync memory`. The three of the
+-- constructor are in use while g runs, and the one of its PRINT is free again before the one of the item.
 telling : s.Procedure
 telling = record { name = []; dummies = in_dummy 0 ∷ []; answer = Some 1; unit = unit (scalar int ∷ scalar int ∷ []) 0 ((5, print (s.value (v 0) ∷ [])) ∷ (6, set 1 (v 0)) ∷ []) }
 

@@ -1,4 +1,5 @@
--- Programs of several images, as the walk of one of them says them, worked out by hand: each ask with its line, for the replies that the image hears.
+-- Programs of several images, as the walk of one of them says them, worked out by hand: each ask with its line, for the
+-- replies that the image hears.
 use Rattle.std.proofs.Common.{◌≡◌, refl, ℕ, ℤ, pos, true, List, [], ◌∷◌, map, codes}
 use Rattle.std.specs.Fmt.{digits}
 use Rattle.caf_base.specs.declared.value.Kind.TheVariants as kinds
@@ -38,7 +39,8 @@ on_image z body = s.if (eq me (num z)) (block body) s.no_else_ifs s.no_statement
 shown : List t.Expression → s.StatementForm
 shown es = print (map (λ e. s.value e) es)
 
--- an image without a partner: `if (this_image() == 1) sync images (2)` on lines 1 and 2, `if (this_image() == 2) sync images (1)`, `end`
+-- an image without a partner: `if (this_image() == 1) sync images (2)` on lines 1 and 2,
+-- `if (this_image() == 2) sync images (1)`, `end`
 no_partner : s.Program
 no_partner = program [] [] 0
     ((1, if_then (eq me (num (pos 1))) 1 (s.sync_images (s.images (num (pos 2))) t.no_result)) ∷ (2, if_then (eq me (num (pos 1))) 2 (s.sync_images (s.images (num (pos 2))) t.no_result))
@@ -61,7 +63,8 @@ barrier_with_stat = refl
 barrier_without_stat : said (program [] [] 0 ((1, sync) ∷ []) 2) 100 4 4 (round 1 ∷ left 6001 ∷ []) ≡ (arrives 1 arrivals.Sync, 1) ∷ (leaves 1 1, 1) ∷ (error_stops 6001, 1) ∷ []
 barrier_without_stat = refl
 
--- a failure after the round closed, on image 4: line 2 `if (this_image() == 4) then`, `do k = 1, 3`, `x = k`, `end do`, `end if`, `sync all (stat=s)`, `print *, s`
+-- a failure after the round closed, on image 4: line 2 `if (this_image() == 4) then`, `do k = 1, 3`, `x = k`, `end do`,
+-- `end if`, `sync all (stat=s)`, `print *, s`
 late_failure : s.Program
 late_failure = program (coscalar int ∷ scalar int ∷ scalar int ∷ []) (0 ∷ []) 1
     ((2, on_image (pos 4) ((3, s.do_counted (own 2) kinds.I4 (num (pos 1)) (num (pos 3)) t.missing 0 (block ((4, put 0 (v 2)) ∷ []))) ∷ [])) ∷ (7, s.sync_all (to 1)) ∷ (8, shown (v 1 ∷ [])) ∷ []) 9
@@ -72,7 +75,8 @@ three_writes : said late_failure 100 4 4 (done ∷ done ∷ done ∷ round 1 ∷
 unfolding late_failure on_image to shown digits
 three_writes = refl
 
--- stopped before failed: line 2 `if (this_image() == 2) stop`, `if (this_image() == 3) fail image`, `sync all (stat=s)`, `print *, s`, `end`
+-- stopped before failed: line 2 `if (this_image() == 2) stop`, `if (this_image() == 3) fail image`,
+-- `sync all (stat=s)`, `print *, s`, `end`
 one_stops_one_fails : s.Program
 one_stops_one_fails = program (scalar int ∷ []) [] 0
     ((2, if_then (eq me (num (pos 2))) 2 (s.stop t.missing)) ∷ (3, if_then (eq me (num (pos 3))) 3 s.fail_image) ∷ (4, s.sync_all (to 0)) ∷ (5, shown (v 0 ∷ [])) ∷ []) 6
@@ -89,7 +93,8 @@ failed : said one_stops_one_fails 100 3 3 (done ∷ []) ≡ (asks.Fail, 3) ∷ [
 unfolding one_stops_one_fails
 failed = refl
 
--- a survivor overwrites: line 2 `if (this_image() == 3) then`, `y[1] = 5`, `fail image`, `end if`, `sync all (stat=s)`, `if (this_image() == 1) then`, `y = 6`, `print *, s, y`
+-- a survivor overwrites: line 2 `if (this_image() == 3) then`, `y[1] = 5`, `fail image`, `end if`, `sync all (stat=s)`,
+-- `if (this_image() == 1) then`, `y = 6`, `print *, s, y`
 overwriting : s.Program
 overwriting = program (coscalar int ∷ scalar int ∷ []) (0 ∷ []) 0
     ((2, on_image (pos 3) ((3, s.assign (cell_at 0 (pos 1)) int 0 (num (pos 5))) ∷ (4, s.fail_image) ∷ [])) ∷ (6, s.sync_all (to 1))
@@ -104,7 +109,8 @@ overwrites : said overwriting 100 1 3 (round 1 ∷ left 6001 ∷ done ∷ found 
 unfolding overwriting on_image to shown digits
 overwrites = refl
 
--- unlike rounds, image 2: line 3 `if (this_image() == 1) sync all`, `if (this_image() == 2) form team (1, t)`, `end`; the clash ends the walk
+-- unlike rounds, image 2: line 3 `if (this_image() == 1) sync all`, `if (this_image() == 2) form team (1, t)`, `end`;
+-- the clash ends the walk
 unlike_rounds : said (program (scalar types.Team ∷ []) [] 0
     ((3, if_then (eq me (num (pos 1))) 3 sync) ∷ (4, if_then (eq me (num (pos 2))) 4 (s.form_team (num (pos 1)) (own 0) t.missing t.no_result orders.Same)) ∷ []) 5) 100 2 2
     (replies.Clash (record { 0 = 1 }) 3 ∷ []) ≡ (arrives 1 (arrivals.Form (pos 1) (pos 0)), 4) ∷ []
@@ -115,8 +121,8 @@ waiting : said (program (coscalar types.Event ∷ []) (0 ∷ []) 0 ((3, if_then 
     ≡ (asks.Wait (record { 0 = 1 }) (at 0 0) 1, 3) ∷ []
 waiting = refl
 
--- the lock of a failed holder: line 4 `if (this_image() == 2) then`, `lock (l[1])`, `fail image`, `end if`, `sync all (stat=s)`, `if (this_image() == 1) then`, `lock (l[1], stat=s)`,
--- `print *, s, size(failed_images())`
+-- the lock of a failed holder: line 4 `if (this_image() == 2) then`, `lock (l[1])`, `fail image`, `end if`,
+-- `sync all (stat=s)`, `if (this_image() == 1) then`, `lock (l[1], stat=s)`, `print *, s, size(failed_images())`
 orphan : s.Program
 orphan = program (coscalar types.Lock ∷ scalar int ∷ []) (0 ∷ []) 0
     ((4, on_image (pos 2) ((5, s.lock (cell_at 0 (pos 1)) t.no_result t.no_result orders.Same) ∷ (6, s.fail_image) ∷ [])) ∷ (8, s.sync_all (to 1))
@@ -150,7 +156,8 @@ two_writes : said (program (coscalar int ∷ []) (0 ∷ []) 0 ((2, put 0 (num (p
     ≡ (writes 2 (at 0 0) (ints (1 ∷ [])), 2) ∷ (writes 2 (at 0 0) (ints (2 ∷ [])), 3) ∷ (stops, 4) ∷ []
 two_writes = refl
 
--- a critical construct, image 2 of 4: `integer :: c[*]`, `critical`, `c[1] = c[1] + 1`, `end critical`, `sync all`, `if (this_image() == 1) print *, c`; the same where the last holder failed inside
+-- a critical construct, image 2 of 4: `integer :: c[*]`, `critical`, `c[1] = c[1] + 1`, `end critical`, `sync all`,
+-- `if (this_image() == 1) print *, c`; the same where the last holder failed inside
 counter : s.Program
 counter = program (coscalar int ∷ []) (0 ∷ []) 0
     ((2, s.critical 1 t.no_result (block ((3, s.assign (cell_at 0 (pos 1)) int 0 (add (at_image 0 (one (num (pos 1)))) (num (pos 1)))) ∷ [])) 4) ∷ (5, sync) ∷ (6, if_then (eq me (num (pos 1))) 6 (shown (co 0 ∷ []))) ∷ []) 7
@@ -237,7 +244,8 @@ the_root : said greatest 100 2 3 (round 1 ∷ took (3 ∷ []) ∷ done ∷ [])
 unfolding greatest shown digits
 the_root = refl
 
--- `a = this_image()`, `call co_broadcast(a, 3, s)`, `print *, a, s` on image 1 of 2: no such source, and no step; with 2 it gets that image's value
+-- `a = this_image()`, `call co_broadcast(a, 3, s)`, `print *, a, s` on image 1 of 2: no such source, and no step; with
+-- 2 it gets that image's value
 spread : ℤ → s.Program
 spread z = program (scalar int ∷ scalar int ∷ []) [] 0
     ((2, set 0 me) ∷ (3, s.call_intrinsic (s.broadcast (record { variable = target 0; kind = kinds.I4; rank = 0 }) (num z) (to 1)) (record { dummies = 0 ∷ 1 ∷ 2 ∷ 0 ∷ 0 ∷ []; count = 3 })) ∷ (4, shown (v 0 ∷ v 1 ∷ [])) ∷ []) 5
@@ -251,7 +259,8 @@ a_source : said (spread (pos 2)) 100 1 2 (round 1 ∷ took (2 ∷ []) ∷ done �
 unfolding spread to shown digits
 a_source = refl
 
--- line 2 `x = 4`, `sync all (stat=s)`, `v = x[2]`, `print *, v, s, image_status(2)` on image 1 of 2, where image 2 has failed
+-- line 2 `x = 4`, `sync all (stat=s)`, `v = x[2]`, `print *, v, s, image_status(2)` on image 1 of 2, where image 2 has
+-- failed
 dead_neighbour : said (program (coscalar int ∷ scalar int ∷ scalar int ∷ []) (0 ∷ []) 0
     ((2, put 0 (num (pos 4))) ∷ (3, s.sync_all (to 1)) ∷ (4, set 2 (at_image 0 (one (num (pos 2)))))
     ∷ (5, shown (v 2 ∷ v 1 ∷ t.typed (t.intrinsic (t.image_status (num (pos 2)) t.missing orders.Same)) int 0 ∷ [])) ∷ []) 6) 100 1 2 (done ∷ round 1 ∷ left 6001 ∷ replies.Dead ∷ status 6001 ∷ done ∷ [])
@@ -259,7 +268,8 @@ dead_neighbour : said (program (coscalar int ∷ scalar int ∷ scalar int ∷ [
 unfolding to shown digits
 dead_neighbour = refl
 
--- two readers: line 2 `if (this_image() /= 3) t = x[3]`, `if (this_image() == 2) sync images (3)`, `if (this_image() == 3) then`, `sync images (2)`, `x = 1`
+-- two readers: line 2 `if (this_image() /= 3) t = x[3]`, `if (this_image() == 2) sync images (3)`,
+-- `if (this_image() == 3) then`, `sync images (2)`, `x = 1`
 two_readers : s.Program
 two_readers = program (coscalar int ∷ scalar int ∷ []) (0 ∷ []) 0
     ((2, if_then (t.typed (t.relation relations.NotEqual me (num (pos 3))) log 0) 2 (set 1 (at_image 0 (one (num (pos 3)))))) ∷ (3, if_then (eq me (num (pos 2))) 3 (s.sync_images (s.images (num (pos 3))) t.no_result))
@@ -273,8 +283,9 @@ the_writer : said two_readers 100 3 3 (done ∷ status 0 ∷ done ∷ []) ≡ (p
 unfolding two_readers on_image
 the_writer = refl
 
--- a flag: line 2 `if (this_image() == 2) then`, `x = 5`, `sync memory`, `call atomic_define(f[1], 1)`, `end if`, `if (this_image() == 1) then`, `v = 0`, `do while (v == 0)`,
--- `call atomic_ref(v, f)`, `end do`, `sync memory`, `print *, x[2]`
+-- a flag: line 2 `if (this_image() == 2) then`, `x = 5`, `sync memory`, `call atomic_define(f[1], 1)`, `end if`,
+-- `if (this_image() == 1) then`, `v = 0`, `do while (v == 0)`, `call atomic_ref(v, f)`, `end do`, `sync memory`,
+-- `print *, x[2]`
 flag : s.Program
 flag = program (coscalar int ∷ coscalar int ∷ scalar int ∷ []) (0 ∷ 1 ∷ []) 0
     ((

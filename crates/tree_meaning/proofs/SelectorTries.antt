@@ -61,8 +61,9 @@ columns : said rank_two 100 1 1 (found (ints (8 ∷ 9 ∷ [])) ∷ done ∷ done
 unfolding rank_two table dims two_subs all stepped digits
 columns = refl
 
--- Teams inside a team, image 2 of 4: the initial team forms 2 (images 1 2) and 3 (images 3 4), team 2 forms 4 (image 2) and 5 (image 1). In team 4: `x[1]` is this image's,
--- `x[1, team=t]` image 1's, `x[1, team_number=8]` image 1's by the sibling, `x[2, team=get_team(1)]` image 2's; team number 1 is no sibling's.
+-- Teams inside a team, image 2 of 4: the initial team forms 2 (images 1 2) and 3 (images 3 4), team 2 forms 4 (image 2)
+-- and 5 (image 1). In team 4: `x[1]` is this image's, `x[1, team=t]` image 1's, `x[1, team_number=8]` image 1's by the
+-- sibling, `x[2, team=get_team(1)]` image 2's; team number 1 is no sibling's.
 team_in : ℕ → t.Expression
 team_in n = t.typed (t.designator (target n)) types.Team 0
 

@@ -59,12 +59,22 @@ fails_inside : said two_teams 100 2 6 (round 1 ∷ formed ∷ round 1 ∷ left 0
 unfolding two_teams formed to team_var both
 fails_inside = refl
 
+-- TEAM_NUMBER is of kind 4, whatever FORM TEAM's number is: of a team with number 3000000000 it is Overflow
+wide_number : said (program (scalar types.Team ∷ []) [] 0
+    ((4, s.form_team (t.typed (t.number (pos 3000000000)) (types.Intrinsic kinds.I8) 0) (own 0) t.missing t.no_result orders.Same)
+    ∷ (5, s.change_team (team_var 0) t.no_result (block ((6, print (s.value (t.typed (t.intrinsic (t.number_of_team t.missing)) int 0) ∷ [])) ∷ [])) t.no_result 7) ∷ []) 8) 100 1 1
+    (round 1 ∷ replies.Left (pos 0) (record { team = record { 0 = 2 }; number = pos 3000000000; members = record { 0 = 1 } ∷ [] } ∷ []) ∷ round 1 ∷ left 0 ∷ [])
+    ≡ (arrives 1 (arrivals.Form (pos 3000000000) (pos 0)), 4) ∷ (leaves 1 1, 4) ∷ (arrives 2 arrivals.Change, 5) ∷ (leaves 2 1, 5) ∷ (faults faulty.Overflow, 6) ∷ []
+unfolding team_var
+wide_number = refl
+
 -- CHANGE TEAM of a team variable that was never set
 no_team : said (program (scalar types.Team ∷ []) [] 0 ((1, s.change_team (team_var 0) t.no_result s.no_statements t.no_result 2) ∷ []) 3) 100 1 2 [] ≡ (faults faulty.NoTeam, 1) ∷ []
 unfolding team_var
 no_team = refl
 
--- lock statuses, on image 1: `lock (l[1])`, `lock (l[1], stat=s)`, `print *, s`, and `sync all` behind; on image 2 `unlock (l[1], stat=s)`
+-- lock statuses, on image 1: `lock (l[1])`, `lock (l[1], stat=s)`, `print *, s`, and `sync all` behind; on image 2
+-- `unlock (l[1], stat=s)`
 lock_at_1 : t.Designator
 lock_at_1 = t.part (objects.Coarray 0) t.no_subscripts (t.selector (one (num (pos 1))) t.current t.no_result)
 
@@ -92,7 +102,8 @@ marked : said two_locks 100 1 2 (status 6001 ∷ done ∷ []) ≡ (asks.Lock (re
 unfolding two_locks lock_at_1 to
 marked = refl
 
--- `lock (l[1, stat=u(2)], stat=u(3), acquired_lock=b)`, `print *, u, b` with the reply `busy`, and with 6002: the places of u are found before the step
+-- `lock (l[1, stat=u(2)], stat=u(3), acquired_lock=b)`, `print *, u, b` with the reply `busy`, and with 6002: the
+-- places of u are found before the step
 to_element : ℕ → ℤ → t.OptionalResult
 to_element n z = t.result (t.result_variable (own n) (one (num z)) kinds.I4)
 
@@ -113,7 +124,8 @@ on_marked_memory : said tried 100 2 2 (status 6001 ∷ done ∷ []) ≡ (asks.Tr
 unfolding tried to_element digits
 on_marked_memory = refl
 
--- two posts of one image, on images 1 and 3: `d = 7`, `event post (e[1])`; `event wait (e, until_count=2)`, `print *, d[3]`
+-- two posts of one image, on images 1 and 3: `d = 7`, `event post (e[1])`; `event wait (e, until_count=2)`,
+-- `print *, d[3]`
 two_posts : s.Program
 two_posts = program (coscalar types.Event ∷ coscalar int ∷ []) (0 ∷ 1 ∷ []) 0
     ((6, s.if (eq me (num (pos 3))) (block ((7, put 1 (num (pos 7))) ∷ (8, s.event_post lock_at_1 t.no_result) ∷ [])) s.no_else_ifs s.no_statements)
@@ -127,7 +139,8 @@ waits : said two_posts 100 1 3 (status 0 ∷ found (ints (7 ∷ [])) ∷ done �
 unfolding two_posts lock_at_1 digits
 waits = refl
 
--- `integer, allocatable :: x(:)[:], v(:)`, `integer :: s`: ALLOCATE of both inside a team, an access, and END TEAM deletes x; a second ALLOCATE finds 6006
+-- `integer, allocatable :: x(:)[:], v(:)`, `integer :: s`: ALLOCATE of both inside a team, an access, and END TEAM
+-- deletes x; a second ALLOCATE finds 6006
 allocatable_co : Variable
 allocatable_co = record { name = []; of_type = int; dimensions = dimensions.Deferred 1; codimensions = codimensions.Deferred 1; is_allocatable = true; initial = initials.Unstated }
 

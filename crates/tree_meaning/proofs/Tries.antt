@@ -29,7 +29,8 @@ overflow = refl
 limit : said (program [] [] 0 ((1, s.do_forever s.no_statements) ∷ []) 3) 10 1 1 [] ≡ (asks.LimitStatements 11, 1) ∷ []
 limit = refl
 
--- the neighbour read: `integer :: x[*]`, `x = this_image()`, `sync all`, `if (this_image() == 1) print *, x[4]`, `end`, images 1 and 2 of 4
+-- the neighbour read: `integer :: x[*]`, `x = this_image()`, `sync all`, `if (this_image() == 1) print *, x[4]`, `end`,
+-- images 1 and 2 of 4
 neighbour_read : s.Program
 neighbour_read = program (coscalar int ∷ []) (0 ∷ []) 0 ((2, put 0 me) ∷ (3, sync) ∷ (4, if_then (eq me (num (pos 1))) 4 (print (s.value (at_image 0 (one (num (pos 4)))) ∷ []))) ∷ []) 5
 
@@ -53,7 +54,8 @@ clash : said neighbour_read 100 2 4 (done ∷ replies.Clash (record { 0 = 1 }) 7
 unfolding neighbour_read digits
 clash = refl
 
--- cobounds: `integer :: x[0:1,*]`; image_index(x, [0, 3]) and (x, [1, 3]) on image 1 of 5 are 5 and 0; then `x[1, 3]` names no image
+-- cobounds: `integer :: x[0:1,*]`; image_index(x, [0, 3]) and (x, [1, 3]) on image 1 of 5 are 5 and 0; then `x[1, 3]`
+-- names no image
 two_codimensions : Codimensions
 two_codimensions = codimensions.Explicit (record { lower = pos 0 ∷ pos 1 ∷ []; extent = pos 2 ∷ [] })
 

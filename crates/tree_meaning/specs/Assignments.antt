@@ -1,5 +1,5 @@
--- Assignment and output (ISO/IEC 1539-1:2018, 10.2.1, 12.6). The right side comes first, then the subscripts and the selector of the left side, then the store or
--- the write.
+-- Assignment and output (ISO/IEC 1539-1:2018, 10.2.1, 12.6). The right side comes first, then the subscripts and the
+-- selector of the left side, then the store or the write.
 use Rattle.std.specs.Prelude.{ℕ, zero, suc, ◌+◌, ◌==◌, cond, pos, Bool, true, false, List, [], ◌∷◌}
 use Rattle.caf_base.specs.declared.value.Kind.{Kind}
 use Rattle.caf_base.specs.declared.value.Kind.TheVariants as kinds
@@ -39,8 +39,8 @@ fitting from to (suc r) depth = cond (narrows from to) (doing (operator (a.fits_
 abbrev pub sectioning : a.Scope → (a form : ℕ) → Parts Act
 sectioning x n form = doing (bounded (a.section x n form) ∷ [])
 
--- The place, and behind it the test that the value beneath is of the variable's kind. The subscripts of an array that isn't allocated have no
--- bounds: then the value is tested first, and the section is a fault.
+-- The place, and behind it the test that the value beneath is of the variable's kind. The subscripts of an array that
+-- isn't allocated have no bounds: then the value is tested first, and the section is a fault.
 abbrev pub fitting_section : Kind → Kind → ℕ → a.Scope → (a form rank : ℕ) → Parts Act
 fitting_section from to value_rank x n form rank = cond (narrows from to)
     (doing (bounded (a.is_there x n) ∷ [])
@@ -71,7 +71,8 @@ abbrev pub writing : ℕ → ℕ → ℕ → Kind → Parts Act
 writing value_rank c zero k = written value_rank c 0 k
 writing value_rank c (suc r) k = doing (bounded (a.some_cells 1 (suc r)) ∷ []) ▸ choosing (written value_rank c (suc r) k) (dropping (place_size (suc r) + 1) ▸ dropping_value value_rank ▸ pushing (pos 0))
 
--- where the place of the selector's STAT= variable stands between a scalar and the place of the write, the scalar comes once more beneath the latter
+-- where the place of the selector's STAT= variable stands between a scalar and the place of the write, the scalar comes
+-- once more beneath the latter
 abbrev pub lifting : ℕ → ℕ → ℕ → Parts Act
 lifting zero size place = cond (size == 0) nothing (copying (place + size) 1 ▸ bringing 1 place)
 lifting (suc r) size place = nothing

@@ -63,8 +63,8 @@ local_cells_of v = cond (is_coarray v.codimensions) 0 (cells_of_bounds (declared
 abbrev pub total_cells : List Variable → ℕ
 total_cells vs = sum_by local_cells_of vs
 
--- A frame has a cell and a place of an array for each variable of its unit, by its number, and behind these cells two hidden ones for each of its
--- constructs that are open at one time.
+-- A frame has a cell and a place of an array for each variable of its unit, by its number, and behind these cells two
+-- hidden ones for each of its constructs that are open at one time.
 abbrev pub cells_in_frame : Unit' → ℕ
 cells_in_frame u = length u.variables + (2 * u.hidden)
 

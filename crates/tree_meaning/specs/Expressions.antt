@@ -1,5 +1,6 @@
--- What an expression does, in order (ISO/IEC 1539-1:2018, 10.1.4, 10.1.5; 9.5, 9.6; 15.5; 16.9). Operands are evaluated from left to right. A designator evaluates
--- its subscripts, its cosubscripts and its team, makes one access, and sets its STAT= variable.
+-- What an expression does, in order (ISO/IEC 1539-1:2018, 10.1.4, 10.1.5; 9.5, 9.6; 15.5; 16.9). Operands are evaluated
+-- from left to right. A designator evaluates its subscripts, its cosubscripts and its team, makes one access, and sets
+-- its STAT= variable.
 use Rattle.std.specs.Prelude.{ℕ, zero, suc, ◌+◌, ◌*◌, ◌==◌, cond, ℤ, Bool, true, false, ◌&&◌, not, List, [], ◌∷◌, ◌++◌, length, Option, Some, None}
 use Rattle.caf_base.specs.declared.value.Kind.{Kind}
 use Rattle.walk_theory.specs.Syntax.{Parts, end_parts, enter, either}
@@ -94,8 +95,8 @@ abbrev pub element_form : t.Expressions → ℕ
 element_form t.no_expressions = 0
 element_form (t.more_expressions e es) = 1 + (10 * element_form es)
 
--- A result variable: how many numbers its place is (none for a scalar variable), and the store of the number on top, where the place stands
--- beneath so many numbers.
+-- A result variable: how many numbers its place is (none for a scalar variable), and the store of the number on top,
+-- where the place stands beneath so many numbers.
 abbrev pub result_size : t.ResultVariable → ℕ
 result_size (t.result_variable v t.no_expressions k) = 0
 result_size (t.result_variable v (t.more_expressions e es) k) = 1
@@ -122,7 +123,8 @@ abbrev pub has_selector : t.Selector → Bool
 has_selector t.no_selector = false
 has_selector (t.selector cs which stat) = true
 
--- An access without a selector to an array is one to this image's, which has to be there; a scalar's access tells that itself.
+-- An access without a selector to an array is one to this image's, which has to be there; a scalar's access tells that
+-- itself.
 abbrev pub needing_own : ℕ → Bool → t.Selector → Parts Act
 needing_own c is_scalar_coarray sel = cond (not is_scalar_coarray && not (has_selector sel)) (doing (bounded (a.needs_own c) ∷ [])) nothing
 
@@ -140,7 +142,8 @@ abbrev pub taking_cells : ℕ → Parts Act
 taking_cells zero = nothing
 taking_cells (suc r) = doing (stack a.take_cells ∷ [])
 
--- an argument of a procedure, as it was passed: its dummy's number and rank, where it goes back to, and how many numbers its place is
+-- an argument of a procedure, as it was passed: its dummy's number and rank, where it goes back to, and how many
+-- numbers its place is
 pub record Passed : Type 0 where
   pub dummy : ℕ
   pub rank : ℕ
@@ -324,8 +327,8 @@ module _ (e : Environment) where
     selected_team (t.team x) = expression x ▸ doing (selector a.team_value ∷ [])
     selected_team (t.team_number x) = expression x ▸ doing (selector a.sibling_team ∷ [])
 
-    -- The image of a section of this rank, whose place is on top: the owner comes on top of the place. The place of the selector's STAT= variable, an
-    -- element, comes beneath both.
+    -- The image of a section of this rank, whose place is on top: the owner comes on top of the place. The place of the
+    -- selector's STAT= variable, an element, comes beneath both.
     pub owner : ℕ → ℕ → t.Selector → Parts Act
     owner c rank t.no_selector = doing (selector (a.own_image rank) ∷ [])
     owner c rank (t.selector cs which stat) =
@@ -410,6 +413,6 @@ module _ (e : Environment) where
     intrinsic (t.image_status i which o) k = as_written o (expression i) (team_of which) ▸ doing (selector a.team_value ∷ ask a.status ∷ [])
     intrinsic (t.failed_images which) k = team_of which ▸ doing (ask a.failed ∷ stack a.take_cells ∷ [])
     intrinsic (t.stopped_images which) k = team_of which ▸ doing (ask a.stopped ∷ stack a.take_cells ∷ [])
-    intrinsic (t.number_of_team which) k = team_of which ▸ doing (selector a.team_number ∷ [])
+    intrinsic (t.number_of_team which) k = team_of which ▸ doing (selector a.team_number ∷ operator (a.fits k 0) ∷ [])
     intrinsic (t.get_team t.missing) k = doing (selector a.this_team ∷ [])
     intrinsic (t.get_team (t.given level)) k = expression level ▸ doing (selector a.get_team ∷ [])

@@ -1,4 +1,5 @@
--- What becomes of a statement's status (ISO/IEC 1539-1:2018, 11.6.11): STAT= gets it, last of all; without STAT= a status other than 0 starts error termination.
+-- What becomes of a statement's status (ISO/IEC 1539-1:2018, 11.6.11): STAT= gets it, last of all; without STAT= a
+-- status other than 0 starts error termination.
 use Rattle.std.specs.Prelude.{ℕ, ℤ, pos, Bool, false, ◌||◌, List, [], ◌∷◌}
 use Rattle.std.specs.Ordering.{int_eq}
 use Rattle.walk_theory.specs.Syntax.{Parts}

@@ -1,4 +1,5 @@
--- Calls of intrinsic subroutines: atomic subroutines, EVENT_QUERY and collectives (ISO/IEC 1539-1:2018, 16.5, 16.6, 16.9).
+-- Calls of intrinsic subroutines: atomic subroutines, EVENT_QUERY and collectives (ISO/IEC 1539-1:2018, 16.5, 16.6,
+-- 16.9).
 use Rattle.std.specs.Prelude.{ℕ, zero, suc, ◌+◌, cond, pos, List, [], ◌∷◌}
 use Rattle.caf_base.specs.declared.value.Kind.{Kind}
 use Rattle.caf_base.specs.declared.value.Kind.TheVariants as kinds
@@ -61,12 +62,14 @@ module _ (e : Environment) where
   abbrev pub cell_piece : t.Designator → Piece
   cell_piece d = record { parts = cell e d; size = cell_size e d }
 
-  -- the old value, on top, goes into the result variable whose place stands beneath so many numbers; on a marked memory it stays as it was
+  -- the old value, on top, goes into the result variable whose place stands beneath so many numbers; on a marked memory
+  -- it stays as it was
   abbrev pub fetched : t.OptionalResult → ℕ → Parts Act
   fetched t.no_result depth = nothing
   fetched (t.result r) depth = succeeded 0 ▸ choosing (copying 1 1 ▸ storing depth r) nothing
 
-  -- an atomic action with the atom of dummy `atom`, the operands that x and y put down, and a result variable where there is one
+  -- an atomic action with the atom of dummy `atom`, the operands that x and y put down, and a result variable where
+  -- there is one
   abbrev pub atomic : List Piece → List ℕ → (atom : ℕ) → t.Designator → AtomicOp → Kind → (x y : Parts Act) → (result : t.OptionalResult) → (result_dummy : ℕ) → (stat : t.OptionalResult) → (stat_dummy : ℕ) → Parts Act
   atomic ps ds atom d op k x y old rd stat sd =
       evaluating ps ds ▸ cell_there e d ▸ fetching ps ds atom 0 2 ▸ x ▸ y ▸ doing (ask (a.atomic op (cell_coarray e d) k) ∷ stack a.accessed ∷ [])
@@ -78,7 +81,7 @@ module _ (e : Environment) where
   -- EVENT_QUERY (16.9.72) of this image's event
   abbrev pub query : List Piece → List ℕ → t.Designator → t.ResultVariable → t.OptionalResult → Parts Act
   query ps ds d count stat =
-      evaluating ps ds ▸ doing (bounded (a.needs_own (cell_coarray e d)) ∷ []) ▸ fetching ps ds 0 0 2 ▸ dropping 1 ▸ doing (ask (a.query (cell_coarray e d)) ∷ [])
+      evaluating ps ds ▸ fetching ps ds 0 0 2 ▸ dropping 1 ▸ doing (ask (a.query (cell_coarray e d)) ∷ [])
       ▸ storing (depth ps ds 1 + 1) count ▸ pushing (pos 0) ▸ settling stat (depth ps ds 2 + 1) [] ▸ dropping (sizes ps ds)
 
   -- an array takes its evaluation cells; a scalar becomes an array of one element
@@ -90,8 +93,8 @@ module _ (e : Environment) where
   taking_cells zero = nothing
   taking_cells (suc r) = doing (stack a.take_cells ∷ [])
 
-  -- The argument of a collective: of a local variable its values, as the top array, and the place of an array; of a coarray the place, and above it the
-  -- owner.
+  -- The argument of a collective: of a local variable its values, as the top array, and the place of an array; of a
+  -- coarray the place, and above it the owner.
   abbrev pub collected_piece : t.Designator → ℕ → Piece
   collected_piece (t.part (objects.Local v) ss sel) rank =
       cond (is_scalar ss rank) (record { parts = as_array 0 (doing (variable (a.cell (scope_of v.home) v.variable) ∷ [])); size = 0 }) (record {
@@ -102,7 +105,8 @@ module _ (e : Environment) where
   collected_piece (t.part (objects.Coarray c) ss sel) rank = record { parts = subscripts e ss ▸ doing (bounded (a.co_section c (form_of ss rank)) ∷ []) ▸ owner e c rank sel; size = place_size rank + 1 }
   collected_piece (t.part (objects.Constant n) ss sel) rank = no_piece
 
-  -- the values of a coarray argument as the top array, where its place is fetched by these parts; those of a local variable are there
+  -- the values of a coarray argument as the top array, where its place is fetched by these parts; those of a local
+  -- variable are there
   abbrev pub collected_value : t.Designator → ℕ → Parts Act → Parts Act
   collected_value (t.part (objects.Local v) ss sel) rank place = nothing
   collected_value (t.part (objects.Coarray c) ss sel) rank place =
@@ -126,8 +130,8 @@ module _ (e : Environment) where
   abbrev pub place_in : s.Collected → List Piece → List ℕ → ℕ → Parts Act
   place_in x ps ds above = fetching ps ds 0 above (collected_piece x.variable x.rank).size
 
-  -- The round of a collective (16.6): the values, the arrival with the root that these parts put down, the departure, and where the status is 0 and
-  -- the test says so, the change.
+  -- The round of a collective (16.6): the values, the arrival with the root that these parts put down, the departure,
+  -- and where the status is 0 and the test says so, the change.
   abbrev pub combined : s.Collected → GatherOp → List Piece → List ℕ → (root : Parts Act) → (comes_here : Parts Act) → Parts Act
   combined x op ps ds root comes_here =
       collected_value x.variable x.rank (place_in x ps ds 0) ▸ root ▸ doing (ask (a.gather op x.kind) ∷ ask a.take ∷ []) ▸ succeeded 0

@@ -1,5 +1,5 @@
--- The value of an expression of numbers, scalar variables and operators: a recursion over the tree that knows no stack and no order of steps but that of
--- faults (ISO/IEC 1539-1:2018, 10.1.4, 10.1.5).
+-- The value of an expression of numbers, scalar variables and operators: a recursion over the tree that knows no stack
+-- and no order of steps but that of faults (ISO/IEC 1539-1:2018, 10.1.4, 10.1.5).
 use Rattle.std.specs.Prelude.{ℕ, zero, ℤ, pos, ◌+ℤ◌, ◌-ℤ◌, ◌*ℤ◌, ◌≡◌, Bool, not, ◌&&◌, ◌||◌, int_lt, int_le, Option, None, Some, slice_get}
 use Rattle.std.specs.Ordering.{int_eq}
 use Rattle.caf_base.specs.declared.value.Kind.{Kind}
@@ -105,7 +105,8 @@ abbrev mutual
   form_value (t.relation o x y) k rank vs = of_two (value_of x vs) (value_of y vs) (λ v w. found (truth (relation_value o v w)))
   form_value (t.logic o x y) k rank vs = of_two (value_of x vs) (value_of y vs) (λ v w. found (truth (logic_value o v w)))
 
--- an evaluation at this core puts the value down and changes nothing else; at a fault nothing but what was being evaluated has changed
+-- an evaluation at this core puts the value down and changes nothing else; at a fault nothing but what was being
+-- evaluated has changed
 abbrev pub Leaves : Valued → Core → Outcome Core → Type 0
 Leaves (is v) c o = o ≡ leaves (pushed v c)
 Leaves (fault k) c o = (d : Core) × (o ≡ faulted k d) × (forgotten d ≡ forgotten c)

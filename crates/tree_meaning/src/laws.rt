@@ -25,13 +25,14 @@ ghost use Rattle.tree_meaning.specs.Values.{variables, value_of, Leaves};
 ghost use Rattle.tree_meaning.specs.DoLoops.{iterations_left, do_loop};
 ghost use Rattle.tree_meaning.specs.Start.{walk_step};
 
-/// Each configuration of a program's walk comes to an ask or ends, whatever it has computed: between two asks an image does finitely much.
+/// Each configuration of a program's walk comes to an ask or ends, whatever it has computed: between two asks an image
+/// does finitely much.
 pub fn law_walk_comes_to_an_ask_or_ends()
     ensures { (p : checked.Program) (limit : ℕ) (c : Config Act Core) → ComesToRest (walk_step p limit) c }
 {}
 
-/// A DO construct's loop has an iteration count (ISO/IEC 1539-1:2018, 11.1.7.4): its body is begun where an iteration is left, and each iteration takes
-/// one away.
+/// A DO construct's loop has an iteration count (ISO/IEC 1539-1:2018, 11.1.7.4): its body is begun where an iteration
+/// is left, and each iteration takes one away.
 pub fn law_do_is_counted()
     ensures { (l : ℕ) (s : Scope) (x t : ℕ) (k : Kind) (body : Steps Act) → IsCounted image_language (iterations_left t) (do_loop l s x t k body) }
 {}
@@ -43,14 +44,14 @@ pub fn law_do_begins()
         → iterations_left t d ≡ Some (min (iterations first last step) most_iterations) }
 {}
 
-/// An expression of numbers, scalar variables and operators leaves its value, or its first fault, operands from left to right (10.1.4). What its value is
-/// says a recursion over the tree.
+/// An expression of numbers, scalar variables and operators leaves its value, or its first fault, operands from left to
+/// right (10.1.4). What its value is says a recursion over the tree.
 pub fn law_expression_leaves_its_value()
     ensures { (e : Environment) (x : t.Expression) (c : Core) → Leaves (value_of x (variables c)) c (outcome image_language (expression e x) c) }
 {}
 
-/// Without STAT= an image control statement goes on with the status 0 and with those that it accepts, and any other starts error termination with the status as
-/// its code (11.6.11).
+/// Without STAT= an image control statement goes on with the status 0 and with those that it accepts, and any other
+/// starts error termination with the status as its code (11.6.11).
 pub fn law_status_without_stat()
     ensures accepted { (procedures : ℕ → Steps Act) (limit : ℕ) (accepted : List ℤ) (status : ℤ) (c : Core) (l n depth : ℕ) (ts : List (Task Act)) → is_accepted accepted status ≡ true
         → Comes (step image_language procedures limit) (at_parts l (settling t.no_result depth accepted) ts (pushed status c) n) (goes (to ts c n)) }

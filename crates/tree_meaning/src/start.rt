@@ -19,7 +19,8 @@ use checked_tree::program::Checked;
 use coarray_types::shape::Shape;
 use std::alloc::Global;
 
-/// An array of the running image that is there: its lower and upper bounds, and its elements in array element order, truth values as 1 and 0.
+/// An array of the running image that is there: its lower and upper bounds, and its elements in array element order,
+/// truth values as 1 and 0.
 #[derive(Drop)]
 pub struct LocalArray {
     pub bounds: Short<(i64, i64), 3>,
@@ -34,8 +35,9 @@ pub struct OwnCoarray {
     pub extents: Short<i64, 2>,
 }
 
-/// The start of a program on one image of a run (ISO/IEC 1539-1:2018, 5.3.5): the main program's scalars with its hidden cells, its arrays with
-/// those of the constants, the coarrays in declared order, and how many local cells and coarray cells are in use.
+/// The start of a program on one image of a run (ISO/IEC 1539-1:2018, 5.3.5): the main program's scalars with its
+/// hidden cells, its arrays with those of the constants, the coarrays in declared order, and how many local cells and
+/// coarray cells are in use.
 #[derive(Drop)]
 pub struct TreeConfig {
     pub me: ImageNo,
@@ -48,7 +50,8 @@ pub struct TreeConfig {
     pub coarray_cells: u64,
 }
 
-/// The start of a checked program on image `me` of `n`. Where a number of cells leaves 64 bits there is no memory for it.
+/// The start of a checked program on image `me` of `n`. Where a number of cells leaves 64 bits there is no memory for
+/// it.
 pub fn first(alloc: Global, checked: &Checked, me: ImageNo, n: u32) -> Result<TreeConfig, NoMemory>
     ensures { IfOk result (λ t. config_of t ≡ start_of (program checked.now) me.0 n) }
 {
@@ -264,7 +267,8 @@ fn coarray_size(coarray: &Option<OwnCoarray>) -> Result<u64, NoMemory>
     }
 }
 
-// The size of an array with these bounds. Behind an empty dimension nothing is counted: there the others may come to any number.
+// The size of an array with these bounds. Behind an empty dimension nothing is counted: there the others may come to
+// any number.
 fn size(dims: &[(i64, i64)]) -> Result<u64, NoMemory>
     ensures { IfOk result (λ n. n ≡ size_of dims.now) }
 {

@@ -16,7 +16,8 @@ kept_image x = x.image
 abbrev pub AreBack : List Entry → List Kept → Type 0
 AreBack history back = Each (λ (x : Kept). (of image_of x.image history ≡ x.own) × StartsWith history x.seen) back
 
--- what is known of the object at the end: it is like the first one, its history is a recorded one, and it has no other entries than those of the passes
+-- what is known of the object at the end: it is like the first one, its history is a recorded one, and it has no other
+-- entries than those of the passes
 pub record Closes {O : Type 0} (history : O → List Entry) (like : O → Type 0) (recorded : List Entry → Type 0) (images : List ℕ) (kept : List Kept) (object : O) : Type 0 where
   pub is_like : like object
   pub good : recorded (history object)

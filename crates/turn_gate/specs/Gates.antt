@@ -61,7 +61,8 @@ pub record Desk (log : List Entry) (f : View) : Type 0 where
   pub known : Each (λ x. NotIn x.image f.images → ⊥) f.kept
   pub others : (i : ℕ) → NotIn i f.images → of image_of i log ≡ []
 
--- no seat holds the slot: the word is twice the number of entries, the object is in the slot, and its history is the recorded one
+-- no seat holds the slot: the word is twice the number of entries, the object is in the slot, and its history is the
+-- recorded one
 pub record AtHome {O : Type 0} (history : O → List Entry) (like : O → Type 0) (log : List Entry) (s : State (Option O) View) : Type 0 where
   pub word : s.words ≡ 2 * length log ∷ []
   pub object : O

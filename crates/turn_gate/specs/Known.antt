@@ -5,7 +5,8 @@ use Rattle.turn_gate.specs.declared.view.View.{View}
 use Rattle.turn_gate.specs.Gates.{first_view}
 use Rattle.atomic_table.specs.Seated.{TableId}
 
--- the gate that it is of, its image (0 for the first pass), the history that it has seen, its image's entries, and for the first pass the images that were split from it
+-- the gate that it is of, its image (0 for the first pass), the history that it has seen, its image's entries, and for
+-- the first pass the images that were split from it
 pub record Known : Type 0 where
   pub gate : TableId
   pub image : ℕ

@@ -36,7 +36,8 @@ noted_by (Full back last) image v = rested v
 noted_by (NoMemory back) image v = rested v
 
 module _ {M : Type 0} (ready : M → List Entry → ℕ → Ask → Bool) (reply : M → List Entry → ℕ → Ask → Reply) (made : M) where
-  -- the event of an ask for which the object was ready after the history h: the reply that is due there, and a stamp above both last ones
+  -- the event of an ask for which the object was ready after the history h: the reply that is due there, and a stamp
+  -- above both last ones
   pub record Steps (h : List Entry) (image : ℕ) (ask : Ask) (line after : ℕ) (e : EventParts) : Type 0 where
     pub below : IsBelow after h
     pub was_ready : IsTrue (ready made h image ask)
@@ -56,8 +57,9 @@ module _ {M : Type 0} (ready : M → List Entry → ℕ → Ask → Bool) (reply
   MayRecord seen image (Full back last) = Unit {0}
   MayRecord seen image (NoMemory back) = Unit {0}
 
-  -- what a turn tells a pass: there is a history of the object that begins with all that the pass had seen and in which the image's entries
-  -- are the pass's own list; the answer is the one that is due there; the pass has then seen that history, and its own entry where there is one
+  -- what a turn tells a pass: there is a history of the object that begins with all that the pass had seen and in which
+  -- the image's entries are the pass's own list; the answer is the one that is due there; the pass has then seen that
+  -- history, and its own entry where there is one
   pub record Tells (image : ℕ) (seen own seen' own' : List Entry) (ask : Ask) (line after : ℕ) (turn : Turn) : Type 0 where
     pub history : List Entry
     pub longer : StartsWith history seen

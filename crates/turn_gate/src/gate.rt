@@ -39,8 +39,8 @@ impl<O: Object> Model for Gate<O> {
 }
 
 impl<O: Object> Gate<O> {
-    /// A gate for images 1 to `images` round an object without entries, and its first pass, which belongs to no image and has split none. On
-    /// refusal the object is given up.
+    /// A gate for images 1 to `images` round an object without entries, and its first pass, which belongs to no image
+    /// and has split none. On refusal the object is given up.
     pub fn new(alloc: Global, object: O, images: u32) -> Result<(Gate<O>, Pass), NoMemory>
     where
         O: Drop,
@@ -56,8 +56,8 @@ impl<O: Object> Gate<O> {
         Ok((Gate { lock, images }, pass))
     }
 
-    /// A pass for an image, which has made no entry; the image joins the first pass's list. Conditions: the pass is this gate's first one, and
-    /// the image is one of the gate's and not in that list.
+    /// A pass for an image, which has made no entry; the image joins the first pass's list. Conditions: the pass is
+    /// this gate's first one, and the image is one of the gate's and not in that list.
     pub fn split(&self, pass: &mut Pass, image: ImageNo) -> Pass
         requires gate { IsPassOf self.now pass.old }
         requires first { pass.old.image ≡ 0 }
@@ -74,8 +74,9 @@ impl<O: Object> Gate<O> {
         }
     }
 
-    /// One ask of the pass's image at the object, in turn; the call may wait for the turns of others. Conditions: the pass is of this gate, and
-    /// of an image. After every other answer than `Done` the object is as before, and the ask comes back.
+    /// One ask of the pass's image at the object, in turn; the call may wait for the turns of others. Conditions: the
+    /// pass is of this gate, and of an image. After every other answer than `Done` the object is as before, and the ask
+    /// comes back.
     pub fn turn<R: Wait, H: Hook>(
         &self,
         rt: &R,
@@ -99,8 +100,9 @@ impl<O: Object> Gate<O> {
         turn
     }
 
-    /// The object, once all passes are back: the entries of each image are those of its pass, in order, and no other image has one; each pass has
-    /// seen a beginning of the history. Condition: the passes are this gate's first one, and then one for each image of its list, in any order.
+    /// The object, once all passes are back: the entries of each image are those of its pass, in order, and no other
+    /// image has one; each pass has seen a beginning of the history. Condition: the passes are this gate's first one,
+    /// and then one for each image of its list, in any order.
     pub fn close(self, mut passes: Vec<Pass>) -> O
         requires { AllOf self passes.items }
         ensures made { O.made result ≡ O.made self.start }

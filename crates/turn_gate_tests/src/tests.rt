@@ -1,4 +1,5 @@
-//! A gate over the memory of image 1 of `integer :: x[*]`, `type(event_type) :: e[*]`, on one thread, with passes of images 1 and 2.
+//! A gate over the memory of image 1 of `integer :: x[*]`, `type(event_type) :: e[*]`, on one thread, with passes of
+//! images 1 and 2.
 
 ghost use Rattle.std.specs.Prelude.{◌≡◌, []};
 

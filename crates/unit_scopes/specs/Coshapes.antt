@@ -1,4 +1,5 @@
--- Coshapes of entities, by what is asked of their expressions: the words of the definitions of declarations (8.5.6), without the scope.
+-- Coshapes of entities, by what is asked of their expressions: the words of the definitions of declarations (8.5.6),
+-- without the scope.
 use Rattle.std.specs.Prelude.{ℕ, Bool, true, false, List, [], ◌∷◌, ◌++◌, Option, Some, None, map}
 use Rattle.std.specs.Option.{option_map}
 use Rattle.fortran_tree.specs.Statements as d

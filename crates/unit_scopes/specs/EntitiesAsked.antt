@@ -1,4 +1,5 @@
--- Entities, by what is asked of their expressions: the words of the definitions of declarations (8.2, 8.4, 8.5), without the scope.
+-- Entities, by what is asked of their expressions: the words of the definitions of declarations (8.2, 8.4, 8.5),
+-- without the scope.
 use Rattle.std.specs.Prelude.{ℕ, Bool, cond, length, nat_eq, List, [], ◌∷◌, ◌++◌, Option, Some, None, map}
 use Rattle.caf_base.specs.declared.place.Pos.{Pos}
 use Rattle.fortran_tree.specs.Statements as d

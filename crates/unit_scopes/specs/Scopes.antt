@@ -13,7 +13,8 @@ use Rattle.scope_table.specs.Symbols.{interface}
 use Rattle.unit_scopes.specs.declared.program.Procedures.{Procedures}
 use Rattle.scope_table.specs.declared.table.Table.{Table}
 
--- the first of the rules that procedures break, the array constants behind them, their scopes without interfaces and constants, their interfaces
+-- the first of the rules that procedures break, the array constants behind them, their scopes without interfaces and
+-- constants, their interfaces
 pub record Passed : Type 0 where
   pub first : Option Broken
   pub constants : List Constant

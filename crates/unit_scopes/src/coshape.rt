@@ -203,7 +203,8 @@ fn judge_explicit(
     Ok(codimensions)
 }
 
-/// The rules on the cobounds of an entity, of an allocatable only what breaks in the expressions; and what is known of its coshape.
+/// The rules on the cobounds of an entity, of an allocatable only what breaks in the expressions; and what is known of
+/// its coshape.
 pub fn judge_coshape(
     alloc: Global,
     first: &mut Option<Broken>,

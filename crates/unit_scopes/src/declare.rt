@@ -1,4 +1,5 @@
-//! Type declaration statements (ISO/IEC 1539-1:2018, 8.2): a fold over the entities in order, each of which sees the scope so far.
+//! Type declaration statements (ISO/IEC 1539-1:2018, 8.2): a fold over the entities in order, each of which sees the
+//! scope so far.
 
 ghost use Rattle.std.specs.Prelude.{◌≡◌, ◌++◌, ◌||◌, ◌&&◌, Some, None, map, IfOk, OnOk};
 ghost use Rattle.std.specs.Option.{option_map};
@@ -28,6 +29,7 @@ use declaration_rules::kind::{KindOf, kind_of};
 use fortran_tree::declaration::{Attribute, Coshape, Declaration, Dimension, Entity, TypeSpec};
 use fortran_tree::expr::Expr;
 use rule_definitions::broken::Broken;
+use rule_definitions::rule;
 use scope_table::broken::note;
 use scope_table::scope::{Denoted, Scope};
 use scope_table::table::Table;
@@ -64,7 +66,7 @@ fn judge_derived(
     ensures of_type { result ≡ (type_denoted (option_map meaning_of denoted.entry) at).meaning }
 {
     let Some(denoted) = denoted else {
-        note(first, 20, at);
+        note(first, rule::UNKNOWN_NAME, at);
         return None;
     };
     match denoted {
@@ -76,7 +78,7 @@ fn judge_derived(
         | Denoted::ModuleConstant(_)
         | Denoted::IntrinsicFunction(_)
         | Denoted::IntrinsicSubroutine(_) => {
-            note(first, 20, at);
+            note(first, rule::UNKNOWN_NAME, at);
             None
         }
     }
@@ -205,7 +207,7 @@ fn note_repeated(first: &mut Option<Broken>, asked: &AskedEntity, at: Pos)
     ensures { first.new ≡ first_of first.old (repeated_asked (asked_entity asked.now) at) }
 {
     if note_raw_entity(first, asked) {
-        note(first, 21, at);
+        note(first, rule::DECLARED_TWICE, at);
     }
 }
 

@@ -34,8 +34,8 @@ use scope_table::symbol::{ConstantSymbol, ConstantValue, Entry, KnownBounds, Rol
 use scope_table::table::Table;
 use std::alloc::Global;
 
-/// What is known of an entity: its bounds, its coshape, and what was found of its initial value: nothing where it was refused, and no value where none is
-/// written.
+/// What is known of an entity: its bounds, its coshape, and what was found of its initial value: nothing where it was
+/// refused, and no value where none is written.
 #[derive(Drop)]
 pub struct Facts<'a> {
     pub bounds: Listing<KnownBounds>,
@@ -338,7 +338,8 @@ fn add_constant(
     Ok(())
 }
 
-/// Puts a new entity behind the names of a scope; an array that is a named constant goes behind the constants of the program.
+/// Puts a new entity behind the names of a scope; an array that is a named constant goes behind the constants of the
+/// program.
 #[tactic(auto, using(crate::proofs::Facts::constant_told, crate::proofs::Facts::variable_scope))]
 pub fn add_entity(
     alloc: Global,

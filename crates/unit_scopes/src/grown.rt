@@ -13,7 +13,8 @@ use scope_table::symbol::{Interface, Symbol};
 use scope_table::table::Table;
 use std::marker::Model;
 
-/// What declarations have made so far: the first of the rules that they break, the names that they declare, and the array constants of the whole program.
+/// What declarations have made so far: the first of the rules that they break, the names that they declare, and the
+/// array constants of the whole program.
 #[derive(Drop)]
 pub struct Grown {
     pub first: Option<Broken>,
@@ -67,7 +68,8 @@ impl<'a> Setting<'a> {
         }
     }
 
-    /// The setting inside of a procedure, whose host has these names: its own names that come later, and its result where its heading types it.
+    /// The setting inside of a procedure, whose host has these names: its own names that come later, and its result
+    /// where its heading types it.
     pub fn inside<'b>(
         &'b self,
         pending: &'b Pending<'b>,

@@ -19,6 +19,7 @@ use fortran_tree::declaration::TypeSpec;
 use fortran_tree::name::Name;
 use fortran_tree::unit::{Heading, Prefix};
 use rule_definitions::broken::Broken;
+use rule_definitions::rule;
 use scope_table::broken::note;
 use scope_table::dummy::Dummies;
 use scope_table::names::Names;
@@ -165,7 +166,7 @@ fn judge_second_type(first: &mut Option<Broken>, prefixes: &[Prefix], at: Pos)
     ensures { first.new ≡ first_of first.old (second_type_breaks (types_of (map prefix_spec prefixes.now)) at) }
 {
     if has_second_type(prefixes) {
-        note(first, 21, at);
+        note(first, rule::DECLARED_TWICE, at);
     }
 }
 
@@ -207,7 +208,7 @@ fn judge_answer(
     ensures { first.new ≡ first_of first.old (unless (names_itself || not (is_among dummies.now answer.now.text)) 21 answer.now.at) }
 {
     if !names_itself && dummies.contains(answer.text.as_slice()) {
-        note(first, 21, answer.at);
+        note(first, rule::DECLARED_TWICE, answer.at);
     }
 }
 

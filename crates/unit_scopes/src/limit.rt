@@ -1,4 +1,5 @@
-//! Rule 30, a limit of this profile: static coarrays, or local variables of the main program, of more than 65,536 cells.
+//! Rule 30, a limit of this profile: static coarrays, or local variables of the main program, of more than 65,536
+//! cells.
 
 ghost use Rattle.std.specs.Prelude.{◌≡◌, ◌≤◌, ◌*◌, ◌+◌, true, map};
 ghost use Rattle.coarray_types.specs.Places.{extent_of};
@@ -9,14 +10,16 @@ ghost use Rattle.rule_definitions.specs.Names.{variables_of};
 ghost use Rattle.scope_table.specs.Symbols.{entry, symbol as symbol_seen};
 ghost use Rattle.unit_scopes.specs.Limits.{capped, cells_from, chosen, is_chosen, next_breaks, next_sum, with_extent};
 
+use caf_base::limits::COARRAY_CELLS;
 use caf_base::place::Pos;
 use rule_definitions::broken::Broken;
+use rule_definitions::rule;
 use scope_table::broken::note;
 use scope_table::symbol::{Entry, KnownBounds, Symbol};
 use scope_table::table::Table;
 
-/// The most cells that static coarrays, or the local variables of the main program, may have.
-const LIMIT: u64 = 65_536;
+/// The most cells that static coarrays may have, and as many may the local variables of the main program.
+const LIMIT: u64 = COARRAY_CELLS as u64;
 
 // How many subscripts lie between bounds.
 fn extent_between(bounds: (i64, i64)) -> u64
@@ -104,7 +107,7 @@ fn note_passing(first: &mut Option<Broken>, sum: u64, more: u64, at: Pos)
         return;
     }
     if more > LIMIT - sum {
-        note(first, 30, at);
+        note(first, rule::TOO_MANY_CELLS, at);
     }
 }
 

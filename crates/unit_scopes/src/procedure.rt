@@ -1,4 +1,5 @@
-//! The scope of a procedure (ISO/IEC 1539-1:2018, 15.6.2, 19.5.1.4): its declarations, its dummy arguments and its result.
+//! The scope of a procedure (ISO/IEC 1539-1:2018, 15.6.2, 19.5.1.4): its declarations, its dummy arguments and its
+//! result.
 
 ghost use Rattle.std.specs.Prelude.{◌≡◌, ◌+◌, ◌++◌, ◌∷◌, [], List, length, IfOk, OnOk};
 ghost use Rattle.checked_tree.specs.declared.data.Constant.{Constant as ConstantKept};
@@ -136,7 +137,8 @@ fn with_more(count: u32, more: usize) -> Result<u32, NoMemory>
     }
 }
 
-// Puts a result behind the names of its scope. Where its heading types it no declaration declares it, so that it isn't there.
+// Puts a result behind the names of its scope. Where its heading types it no declaration declares it, so that it isn't
+// there.
 fn add_result(own: &mut Table, answer: Symbol) -> Result<(), NoMemory>
     ensures { OnOk result (own.new ≡ own.old ++ named answer.name (n.variable (symbol_seen answer)) ∷ []) }
 {
@@ -226,7 +228,8 @@ fn judge_heading_in(
     judge_first_type(alloc, &scope, prefixes_in(heading))
 }
 
-// The declarations of a procedure, where names that are declared further down stand for nothing yet, and the host's names are seen.
+// The declarations of a procedure, where names that are declared further down stand for nothing yet, and the host's
+// names are seen.
 fn declare_inside(
     alloc: Global,
     setting: &Setting<'_>,
@@ -253,7 +256,8 @@ fn declare_inside(
     Ok(())
 }
 
-/// Reads a procedure of a program whose main program has these names: the rules that its heading and its declarations break, and its names and array constants.
+/// Reads a procedure of a program whose main program has these names: the rules that its heading and its declarations
+/// break, and its names and array constants.
 pub fn open_procedure(
     alloc: Global,
     setting: &Setting<'_>,

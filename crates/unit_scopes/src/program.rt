@@ -1,4 +1,5 @@
-//! The scopes of a program: the main program's, and those of its procedures in order, whose array constants follow those of the units before them.
+//! The scopes of a program: the main program's, and those of its procedures in order, whose array constants follow
+//! those of the units before them.
 
 ghost use Rattle.std.specs.Prelude.{◌≡◌, [], None, map, IfOk, OnOk};
 ghost use Rattle.fortran_tree.specs.DeclarationViews.{declaration as declaration_seen};
@@ -30,8 +31,8 @@ use scope_table::table::Table;
 use std::alloc::Global;
 use std::mem;
 
-/// The procedures of a program: the names of each, its interface; the first of the rules that they break, and the array constants so far. Between two of
-/// them no names have grown.
+/// The procedures of a program: the names of each, its interface; the first of the rules that they break, and the array
+/// constants so far. Between two of them no names have grown.
 #[derive(Drop)]
 pub struct Procedures {
     pub grown: Grown,

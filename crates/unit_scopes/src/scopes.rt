@@ -1,4 +1,5 @@
-//! The scopes of a whole program. Interfaces are found first, without interfaces; then the declarations are read again with them.
+//! The scopes of a whole program. Interfaces are found first, without interfaces; then the declarations are read again
+//! with them.
 
 ghost use Rattle.std.specs.Prelude.{◌≡◌, [], None, map, IfOk};
 ghost use Rattle.fortran_tree.specs.UnitViews.{program as program_seen, use_statement};
@@ -19,8 +20,8 @@ use scope_table::symbol::Interface;
 use scope_table::table::Table;
 use std::alloc::Global;
 
-/// The scopes of a program: the first of the rules that the main program's declarations break, the main program's names, and the procedures, whose last array
-/// constants are those of the whole program.
+/// The scopes of a program: the first of the rules that the main program's declarations break, the main program's
+/// names, and the procedures, whose last array constants are those of the whole program.
 #[derive(Drop)]
 pub struct Scopes {
     pub first: Option<Broken>,
@@ -68,7 +69,8 @@ pub fn read_scopes(
     })
 }
 
-/// The interfaces of the procedures (15.4). References to functions give declarations no values, so that these are found without them.
+/// The interfaces of the procedures (15.4). References to functions give declarations no values, so that these are
+/// found without them.
 pub fn find_interfaces(
     alloc: Global,
     outside: &Outside<'_>,

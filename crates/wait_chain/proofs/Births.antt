@@ -1,4 +1,5 @@
--- How a team came to be: the entry that made it closed its round of FORM TEAM, and each of its members had arrived in that round by then.
+-- How a team came to be: the entry that made it closed its round of FORM TEAM, and each of its members had arrived in
+-- that round by then.
 use Rattle.std.proofs.Common.{◌≡◌, ℕ, suc, ◌+◌, ◌≤◌, Bool, true, false, nat_eq, ◌&&◌, ◌||◌, not, cond, List, [], ◌∷◌, ◌++◌, map, inl, inr, refl, ap, sym, ◌∙◌, subst, arith, append_assoc}
 use Rattle.std.specs.Prelude.{Option, Some, None, is_some, slice_get}
 use Rattle.std.specs.List.{filter, cons_option, range_with_len}
@@ -109,8 +110,8 @@ filter_tested : (test : ℕ → Bool) (rs : List ℕ) → Each (λ r. test r ≡
 filter_tested test [] = tt
 filter_tested test (r ∷ rs) = elim (cases_Bool (test r)) [ inl t ↦ rw t (t, filter_tested test rs) | inr f ↦ rw f (filter_tested test rs) ]
 
--- The entry e, behind those before it, made the team, whose parent is one of these, of which the first has the own number t: it closed the team's round, in which each
--- of its members has arrived.
+-- The entry e, behind those before it, made the team, whose parent is one of these, of which the first has the own
+-- number t: it closed the team's round, in which each of its members has arrived.
 pub record IsBorn (t : ℕ) (ts : List Team) (before : List Entry) (e : Entry) (x : Team) : Type 0 where
   pub place : ℕ
   pub parent : Team

@@ -13,12 +13,14 @@ use Rattle.object_rules.specs.ImagePairs.{names}
 use Rattle.core_runs.specs.Beginnings.{IsOneOf, numbers_to}
 use Rattle.core_runs.specs.CoreRuns.{at_board}
 use Rattle.wait_reason.specs.WaitsFor.{waits_with}
-use Rattle.wait_reason.specs.Chains.{Wait, Close, post, stopped, cycle, IsAmong, AsksThere, IsEventWait, Stopped, IsLeft, IsNext, WaitsForPost, GoesOn, IsChain}
+use Rattle.wait_reason.specs.Chains.{Wait, Close, post, stopped, cycle, IsAmong, AsksThere, IsEventWait, Stopped, IsLeft, IsNext, GoesOn, IsChain}
 use Rattle.wait_reason.proofs.Waiting.{some_waits}
 use Rattle.wait_chain.specs.declared.links.Behind.{Behind}
 use Rattle.wait_chain.specs.declared.links.Behind.TheVariants as behinds
 use Rattle.wait_chain.specs.Stuck.{IsHeld, IsStuck}
 use Rattle.wait_chain.specs.Awaited.{awaited_by, awaited_in, awaits, IsLeast}
+use Rattle.wait_chain.specs.Counts.{is_left}
+use Rattle.wait_chain.specs.ToldChains.{IsNextTold, GoesTo, ToldOn, NoneLeft, IsToldChain}
 use Rattle.wait_chain.specs.Links.{close_of, last_link, last_of, behind, Leads, IsOpen, ComesBehind}
 use Rattle.wait_chain.proofs.Awaiting.{awaits_same}
 use Rattle.wait_chain.proofs.Blocked.{waits_left}
@@ -81,13 +83,7 @@ first_lowest test a (suc m) i rest h = elim (cases_Bool (test a)) [
       })
 ]
 
--- the ask of an image in the list
-pub asks_among : (i : ℕ) (ws : List Wait) → IsAmong i (map (λ (w : Wait). w.image) ws) → (a : Ask) × AsksThere ws i a
-asks_among i [] h = absurd h
-asks_among i (w ∷ ws) (inl e) = (w.ask, inl (sym e, refl))
-asks_among i (w ∷ ws) (inr h) = let r = asks_among i ws h in (r.0, inr r.1)
-
--- what it waits for with it
+-- the ask of an image in the list, and what it waits for with it
 asked_among : (i : ℕ) (ws : List Wait) → IsAmong i (map (λ (w : Wait). w.image) ws) → (a : Ask) × AsksThere ws i a × (awaited_in ws i ≡ awaited_by a)
 asked_among i [] h = absurd h
 asked_among i (w ∷ ws) h = elim (cases_Bool (nat_eq w.image i)) [
@@ -112,46 +108,38 @@ last_more (i ∷ js) j = behind_links i js j
 module _ (n : ℕ) (t : List Entry) (waits : List Wait) where
   -- what is known of the end of a chain with these links, of which this is the last one
   abbrev pub Ends : List ℕ → ℕ → Close → Type 0
-  Ends ls i post = WaitsForPost n t waits i
-  Ends ls i (stopped j) = IsNext n t waits i j × Stopped n t waits j
-  Ends ls i (cycle j) = IsNext n t waits i j × (has_stopped j (happened control (at_board t)) ≡ false) × IsAmong j ls
+  Ends ls i post = IsNextTold n t waits i None
+  Ends ls i (stopped j) = IsNextTold n t waits i (Some j) × Stopped n t waits j
+  Ends ls i (cycle j) = GoesTo n t waits i j × IsAmong j ls
 
-  closes_here : (before : List ℕ) (i : ℕ) (close : Close) → Ends (before ++ i ∷ []) i close → GoesOn n t waits before i [] close
+  closes_here : (before : List ℕ) (i : ℕ) (close : Close) → Ends (before ++ i ∷ []) i close → ToldOn n t waits before i [] close
   closes_here before i post e = e
   closes_here before i (stopped j) e = e
   closes_here before i (cycle j) e = e
 
-  leads_close : (before : List ℕ) (i : ℕ) (js : List ℕ) (close : Close) → Leads n t waits before i js → Ends (before ++ i ∷ js) (last_link i js) close → GoesOn n t waits before i js close
+  leads_close : (before : List ℕ) (i : ℕ) (js : List ℕ) (close : Close) → Leads n t waits before i js → Ends (before ++ i ∷ js) (last_link i js) close → ToldOn n t waits before i js close
   leads_close before i [] close l e = closes_here before i close e
-  leads_close before i (j ∷ js) close l e = (l.0, l.1, l.2, leads_close (before ++ i ∷ []) j js close l.3 (subst (λ z. Ends z (last_link j js) close) (sym (append_assoc before (i ∷ []) (j ∷ js))) e))
+  leads_close before i (j ∷ js) close l e = (l.0, l.1, leads_close (before ++ i ∷ []) j js close l.2 (subst (λ z. Ends z (last_link j js) close) (sym (append_assoc before (i ∷ []) (j ∷ js))) e))
 
-  leads_more : (before : List ℕ) (i : ℕ) (js : List ℕ) (j : ℕ) → Leads n t waits before i js → IsNext n t waits (last_link i js) j → has_stopped j (happened control (at_board t)) ≡ false → (IsAmong j (before ++ i ∷ js) → ⊥) → IsLeft n t waits j → Leads n t waits before i (js ++ j ∷ [])
-  leads_more before i [] j l next goes out left = (next, goes, out, left)
-  leads_more before i (k ∷ js) j l next goes out left = (l.0, l.1, l.2, leads_more (before ++ i ∷ []) k js j l.3 next goes (λ a. out (subst (IsAmong j) (append_assoc before (i ∷ []) (k ∷ js)) a)) left)
-
-  leads_last : (before : List ℕ) (i : ℕ) (js : List ℕ) → Leads n t waits before i js → IsLeft n t waits (last_link i js)
-  leads_last before i [] l = l
-  leads_last before i (j ∷ js) l = leads_last (before ++ i ∷ []) j js l.3
-
-  last_one : (before : List ℕ) (i : ℕ) (js : List ℕ) → IsOneOf n i → Leads n t waits before i js → IsOneOf n (last_link i js)
-  last_one before i [] one l = one
-  last_one before i (j ∷ js) one l = last_one (before ++ i ∷ []) j js l.0.of_run l.3
+  leads_more : (before : List ℕ) (i : ℕ) (js : List ℕ) (j : ℕ) → Leads n t waits before i js → GoesTo n t waits (last_link i js) j → (IsAmong j (before ++ i ∷ js) → ⊥) → Leads n t waits before i (js ++ j ∷ [])
+  leads_more before i [] j l goes out = (goes, out, tt)
+  leads_more before i (k ∷ js) j l goes out = (l.0, l.1, leads_more (before ++ i ∷ []) k js j l.2 goes (λ a. out (subst (IsAmong j) (append_assoc before (i ∷ []) (k ∷ js)) a)))
 
   -- the links differ, so there are no more than images
   leads_apart : (x : ℕ) (before : List ℕ) (i : ℕ) (js : List ℕ) → IsAmong x (before ++ i ∷ []) → Leads n t waits before i js → AllByRecursion (λ y. nat_eq x y ≡ false) js
   leads_apart x before i [] a l = tt
-  leads_apart x before i (j ∷ js) a l = (ne_eqb x j (λ e. l.2 (subst (λ z. IsAmong z (before ++ i ∷ [])) e a)), leads_apart x (before ++ i ∷ []) j js (among_front x (before ++ i ∷ []) (j ∷ []) a) l.3)
+  leads_apart x before i (j ∷ js) a l = (ne_eqb x j (λ e. l.1 (subst (λ z. IsAmong z (before ++ i ∷ [])) e a)), leads_apart x (before ++ i ∷ []) j js (among_front x (before ++ i ∷ []) (j ∷ []) a) l.2)
 
   leads_distinct : (before : List ℕ) (i : ℕ) (js : List ℕ) → Leads n t waits before i js → IsDistinct nat_eq (i ∷ js)
   unfolding IsDistinct
   leads_distinct before i [] l = (tt, tt)
-  leads_distinct before i (j ∷ js) l = (leads_apart i before i (j ∷ js) (among_last i before) l, leads_distinct (before ++ i ∷ []) j js l.3)
+  leads_distinct before i (j ∷ js) l = (leads_apart i before i (j ∷ js) (among_last i before) l, leads_distinct (before ++ i ∷ []) j js l.2)
 
   leads_ones : (before : List ℕ) (i : ℕ) (js : List ℕ) → IsOneOf n i → Leads n t waits before i js → (q : ℕ) → list_any (nat_eq q) (i ∷ js) ≡ true → IsOneOf n q
   leads_ones before i [] one l q h = elim (cases_Bool (nat_eq q i)) [ inl y ↦ subst (IsOneOf n) (sym (eqb-true q i y)) one | inr f ↦ absurd (let z = rw f at h in cc) ]
   leads_ones before i (j ∷ js) one l q h = elim (cases_Bool (nat_eq q i)) [
     | inl y ↦ subst (IsOneOf n) (sym (eqb-true q i y)) one
-    | inr f ↦ leads_ones (before ++ i ∷ []) j js l.0.of_run l.3 q (rw f at h)
+    | inr f ↦ leads_ones (before ++ i ∷ []) j js l.0.0.0 l.2 q (rw f at h)
   ]
 
   above_zero : (ls : List ℕ) → ((q : ℕ) → list_any (nat_eq q) ls ≡ true → IsOneOf n q) → AllByRecursion (λ y. nat_eq 0 y ≡ false) ls
@@ -172,12 +160,71 @@ module _ (n : ℕ) (t : List Entry) (waits : List Wait) where
       (λ q h. elim (cases_Bool (nat_eq q 0)) [ inl y ↦ (let e = eqb-true q 0 y in omega arith) | inr f ↦ (let one = (ones q (rw f at h)).1 in omega arith) ]) in
       omega arith
 
+  -- the least image that is left is the first link; where none is left there is none
+  left_of : (i : ℕ) → has_ended i (happened control t) ≡ false → IsLeft n t waits i
+  left_of i f =
+      let hs = happened control (at_board t) in
+      or_parts (has_stopped i hs) (has_failed i hs) (ap (has_ended i) (happened_all control t) ∙ f)
+
+  not_ended_of : (i : ℕ) → IsLeft n t waits i → is_left t i ≡ true
+  not_ended_of i left =
+      let hs = happened control (at_board t) in
+      ap not (ap (has_ended i) (sym (happened_all control t)) ∙ or_from (has_stopped i hs) (has_failed i hs) left.0 left.1)
+
+  pub first_link : (i : ℕ) → IsLeast (is_left t) n (Some i) → IsOpen n t waits (i ∷ [])
+  first_link i h = (record { of_run = h.0; left = left_of i (not-true (has_ended i (happened control t)) h.1); least = λ k one left. h.2 k one (not_ended_of k left) }, tt)
+
+  pub no_link : IsLeast (is_left t) n None → IsToldChain n t waits [] post
+  no_link h = ((λ i one left. both_ways (is_left t i) (h i one) (not_ended_of i left)), refl)
+
+  -- what comes behind the links of a chain
+  comes : (i : ℕ) (js : List ℕ) (o : Option ℕ) → IsOpen n t waits (i ∷ js) → IsNextTold n t waits (last_link i js) o → ComesBehind n t waits (i ∷ js) (behind t (i ∷ js) o)
+  comes i js None o h = (o.0, leads_close [] i js post o.1 h)
+  comes i js (Some j) o h =
+      let whole = ap (has_stopped j) (happened_all control t) in
+      elim (cases_Bool (has_stopped j (happened control t))) [
+        | inl y ↦ rw y (o.0, leads_close [] i js (stopped j) o.1 (h, whole ∙ y))
+        | inr goes ↦ rw goes (elim (cases_Bool (names j (i ∷ js))) [
+          | inl y ↦ rw y (o.0, leads_close [] i js (cycle j) o.1 ((h, whole ∙ goes), among_of j (i ∷ js) y))
+          | inr f ↦ rw f (o.0, leads_more [] i js j o.1 (h, whole ∙ goes) (not_among j (i ∷ js) f))
+        ])
+      ]
+
+  comes_behind : (ls : List ℕ) (o : Option ℕ) → IsOpen n t waits ls → IsNextTold n t waits (last_of ls) o → ComesBehind n t waits ls (behind t ls o)
+  comes_behind [] o open_ h = absurd open_
+  comes_behind (i ∷ js) o open_ h = comes i js o open_ h
+
+  pub comes_by : (ls : List ℕ) (last : ℕ) (o : Option ℕ) → IsOpen n t waits ls → last_of ls ≡ last → IsNextTold n t waits last o → ComesBehind n t waits ls (behind t ls o)
+  comes_by ls last o open_ is h = comes_behind ls o open_ (subst (λ z. IsNextTold n t waits z o) (sym is) h)
+
+  -- and so the chain is there
+  abbrev pub HasToldChain : Type 0
+  HasToldChain = (links : List ℕ) × (close : Close) × IsToldChain n t waits links close
+
+  goes_behind : (ls : List ℕ) (b : Behind) → ComesBehind n t waits ls b → ((j : ℕ) → IsOpen n t waits (ls ++ j ∷ []) → HasToldChain) → HasToldChain
+  goes_behind ls (behinds.Next image) c more = more image.0 c
+  goes_behind ls (behinds.Closes close) c more = (ls, close_of close, c)
+
+  from_open : (fuel : ℕ) (ls : List ℕ) → IsOpen n t waits ls → n < fuel + length ls → HasToldChain
+  from_open zero ls o lt = absurd (let few = open_few ls o in omega arith)
+  from_open (suc fuel) ls o lt =
+      let next = least_of (awaits n t (last_of ls) (awaited_in waits (last_of ls))) n in
+      goes_behind ls (behind t ls next.0) (comes_behind ls next.0 o next.1)
+      (λ j more. from_open fuel (ls ++ j ∷ []) more (let len = length-append ls (j ∷ []) in omega arith))
+
+  from_first : (o : Option ℕ) → IsLeast (is_left t) n o → HasToldChain
+  from_first None h = ([], post, no_link h)
+  from_first (Some i) h = from_open (suc n) (i ∷ []) (first_link i h) (omega arith)
+
+  pub told_there : HasToldChain
+  told_there = let first = least_of (is_left t) n in from_first first.0 first.1
+
 module _ (n : ℕ) (t : List Entry) (waits : List Wait) (stuck : IsStuck n t waits) where
   held_there : (i : ℕ) (a : Ask) → AsksThere waits i a → IsHeld stuck.coarrays n t i a
   held_there i a there = each_there (IsHeld stuck.coarrays n t) i a waits stuck.held there
 
   -- an image that is left is in the list
-  pub left_among : (i : ℕ) → IsOneOf n i → IsLeft n t waits i → IsAmong i (map (λ (w : Wait). w.image) waits)
+  left_among : (i : ℕ) → IsOneOf n i → IsLeft n t waits i → IsAmong i (map (λ (w : Wait). w.image) waits)
   left_among i one left =
       let hs = happened control (at_board t) in
       let low = one.0 in
@@ -185,19 +232,18 @@ module _ (n : ℕ) (t : List Entry) (waits : List Wait) (stuck : IsStuck n t wai
       subst (IsAmong i) (sym stuck.images)
       (in_filter (λ k. not (has_ended k hs)) i (numbers_to n) (ap not (or_from (has_stopped i hs) (has_failed i hs) left.0 left.1)) (in_numbers i 1 n (omega arith) (omega arith)))
 
-  pub last_among : (ls : List ℕ) → IsOpen n t waits ls → IsAmong (last_of ls) (map (λ (w : Wait). w.image) waits)
-  last_among [] o = absurd o
-  last_among (i ∷ js) o = left_among (last_link i js) (last_one n t waits [] i js o.0.of_run o.1) (leads_last n t waits [] i js o.1)
-
-  -- the first of them is the first link
-  pub first_open : (i : ℕ) (rest : List ℕ) → map (λ (w : Wait). w.image) waits ≡ i ∷ rest → IsOpen n t waits (i ∷ [])
-  first_open i rest e =
+  -- the first of them is left
+  first_left : (i : ℕ) (rest : List ℕ) → map (λ (w : Wait). w.image) waits ≡ i ∷ rest → IsOneOf n i × IsLeft n t waits i
+  first_left i rest e =
       let hs = happened control (at_board t) in
       let f = first_lowest (λ k. not (has_ended k hs)) 1 n i rest (sym e ∙ stuck.images) in
       let low = f.low in
       let high = f.high in
-      let left = or_parts (has_stopped i hs) (has_failed i hs) (not-true (has_ended i hs) f.passes) in
-      (record { of_run = (omega arith, omega arith); left = (left.0, left.1); least = λ k one is. (let a = one.0 in let b = one.1 in f.least k (omega arith) (omega arith) (ap not (or_from (has_stopped k hs) (has_failed k hs) is.0 is.1))) }, (left.0, left.1))
+      ((omega arith, omega arith), or_parts (has_stopped i hs) (has_failed i hs) (not-true (has_ended i hs) f.passes))
+
+  some_left : (ws : List Wait) → waits ≡ ws → NoneLeft n t waits → ⊥
+  some_left [] e none = let some = subst (λ (z : List Wait). 0 < length z) e stuck.some in omega arith
+  some_left (w ∷ ws) e none = let f = first_left w.image (map (λ (x : Wait). x.image) ws) (ap (map (λ (x : Wait). x.image)) e) in none w.image f.0 f.1
 
   next_by : (i : ℕ) (a : Ask) (j : ℕ) → AsksThere waits i a → IsLeast (waits_with n t i a) n (Some j) → IsNext n t waits i j
   next_by i a j there h = record { of_run = h.0; ask = a; there = there; waiting = h.1; least = h.2 }
@@ -211,52 +257,30 @@ module _ (n : ℕ) (t : List Entry) (waits : List Wait) (stuck : IsStuck n t wai
         | inr w ↦ absurd (both_ways (waits_with n t i a w.0) (h w.0 (waits_one stuck.coarrays n t stuck.lawful i w.0 a w.1)) w.1)
       ]
 
-  -- what comes behind the links of a chain
-  comes : (i : ℕ) (js : List ℕ) (a : Ask) (o : Option ℕ) → IsOpen n t waits (i ∷ js) → AsksThere waits (last_link i js) a → IsLeast (waits_with n t (last_link i js) a) n o → ComesBehind n t waits (i ∷ js) (behind t (i ∷ js) o)
-  comes i js a None o there h = (o.0, leads_close n t waits [] i js post o.1 (a, there, post_by (last_link i js) a there h))
-  comes i js a (Some j) o there h =
-      let next = next_by (last_link i js) a j there h in
-      let whole = ap (has_stopped j) (happened_all control t) in
-      elim (cases_Bool (has_stopped j (happened control t))) [
-        | inl y ↦ rw y (o.0, leads_close n t waits [] i js (stopped j) o.1 (next, whole ∙ y))
-        | inr goes ↦ rw goes (elim (cases_Bool (names j (i ∷ js))) [
-          | inl y ↦ rw y (o.0, leads_close n t waits [] i js (cycle j) o.1 (next, whole ∙ goes, among_of j (i ∷ js) y))
-          | inr f ↦ rw f (o.0, leads_more n t waits [] i js j o.1 next (whole ∙ goes) (not_among j (i ∷ js) f) (whole ∙ goes, waits_left stuck.coarrays n t stuck.lawful (last_link i js) j a (held_there (last_link i js) a there) h.1))
-        ])
-      ]
+  -- whom the whole trace tells is whom an image waits for with its ask
+  abbrev Asked : ℕ → Option ℕ → Type 0
+  Asked i o = (a : Ask) × AsksThere waits i a × IsLeast (waits_with n t i a) n o
 
-  pub comes_behind : (ls : List ℕ) (a : Ask) (o : Option ℕ) → IsOpen n t waits ls → AsksThere waits (last_of ls) a → IsLeast (waits_with n t (last_of ls) a) n o → ComesBehind n t waits ls (behind t ls o)
-  comes_behind [] a o open_ there h = absurd open_
-  comes_behind (i ∷ js) a o open_ there h = comes i js a o open_ there h
+  asked_of : (i : ℕ) (o : Option ℕ) → IsOneOf n i → IsLeft n t waits i → IsNextTold n t waits i o → Asked i o
+  asked_of i o one left h =
+      let a = asked_among i waits (left_among i one left) in
+      let held = held_there i a.0 a.1 in
+      let told : IsLeast (awaits n t i (awaited_by a.0)) n o = subst (λ z. IsLeast (awaits n t i z) n o) a.2 h in
+      (a.0, a.1, least_same (awaits n t i (awaited_by a.0)) (waits_with n t i a.0) n o (awaits_same stuck.coarrays n t stuck.lawful i a.0 held.0) told)
 
-  -- so it is where that image is counted over the whole trace
-  pub comes_by : (ls : List ℕ) (last : ℕ) (o : Option ℕ) → IsOpen n t waits ls → last_of ls ≡ last → IsLeast (awaits n t last (awaited_in waits last)) n o → ComesBehind n t waits ls (behind t ls o)
-  comes_by ls last o open_ is h =
-      let a = asked_among (last_of ls) waits (last_among ls open_) in
-      let held = held_there (last_of ls) a.0 a.1 in
-      let here : IsLeast (awaits n t (last_of ls) (awaited_in waits (last_of ls))) n o = subst (λ z. IsLeast (awaits n t z (awaited_in waits z)) n o) (sym is) h in
-      let told : IsLeast (awaits n t (last_of ls) (awaited_by a.0)) n o = subst (λ z. IsLeast (awaits n t (last_of ls) z) n o) a.2 here in
-      comes_behind ls a.0 o open_ a.1 (least_same (awaits n t (last_of ls) (awaited_by a.0)) (waits_with n t (last_of ls) a.0) n o (awaits_same stuck.coarrays n t stuck.lawful (last_of ls) a.0 held.0) told)
+  goes_by : (before : List ℕ) (i : ℕ) (js : List ℕ) (close : Close) → IsOneOf n i → IsLeft n t waits i → ToldOn n t waits before i js close → GoesOn n t waits before i js close
+  goes_by before i [] post one left h = let a = asked_of i None one left h in (a.0, a.1, post_by i a.0 a.1 a.2)
+  goes_by before i [] (stopped j) one left h = let a = asked_of i (Some j) one left h.0 in (next_by i a.0 j a.1 a.2, h.1)
+  goes_by before i [] (cycle j) one left h = let a = asked_of i (Some j) one left h.0.0 in (next_by i a.0 j a.1 a.2, h.0.1, h.1)
+  goes_by before i (j ∷ js) close one left h =
+      let a = asked_of i (Some j) one left h.0.0 in
+      let next_left : IsLeft n t waits j = (h.0.1, waits_left stuck.coarrays n t stuck.lawful i j a.0 (held_there i a.0 a.1) a.2.1) in
+      (next_by i a.0 j a.1 a.2, h.0.1, h.1, goes_by (before ++ i ∷ []) j js close h.0.0.0 next_left h.2)
 
-  -- and so the chain is there
-  abbrev pub HasChain : Type 0
-  HasChain = (links : List ℕ) × (close : Close) × IsChain n t waits links close
+  -- so the chain that is told is that of the waits
+  pub told_chain : (ls : List ℕ) (close : Close) → IsToldChain n t waits ls close → IsChain n t waits ls close
+  told_chain [] close h = absurd (some_left waits refl h.0)
+  told_chain (i ∷ is) close h = (h.0, goes_by [] i is close h.0.of_run h.0.left h.1)
 
-  goes_behind : (ls : List ℕ) (b : Behind) → ComesBehind n t waits ls b → ((j : ℕ) → IsOpen n t waits (ls ++ j ∷ []) → HasChain) → HasChain
-  goes_behind ls (behinds.Next image) c more = more image.0 c
-  goes_behind ls (behinds.Closes close) c more = (ls, close_of close, c)
-
-  from_open : (fuel : ℕ) (ls : List ℕ) → IsOpen n t waits ls → n < fuel + length ls → HasChain
-  from_open zero ls o lt = absurd (let few = open_few n t waits ls o in omega arith)
-  from_open (suc fuel) ls o lt =
-      let a = asks_among (last_of ls) waits (last_among ls o) in
-      let next = least_of (waits_with n t (last_of ls) a.0) n in
-      goes_behind ls (behind t ls next.0) (comes_behind ls a.0 next.0 o a.1 next.1)
-      (λ j more. from_open fuel (ls ++ j ∷ []) more (let len = length-append ls (j ∷ []) in omega arith))
-
-  from_list : (ws : List Wait) → waits ≡ ws → HasChain
-  from_list [] e = absurd (let some = subst (λ (z : List Wait). 0 < length z) e stuck.some in omega arith)
-  from_list (w ∷ ws) e = from_open (suc n) (w.image ∷ []) (first_open w.image (map (λ (x : Wait). x.image) ws) (ap (map (λ (x : Wait). x.image)) e)) (omega arith)
-
-  pub chain_there : HasChain
-  chain_there = from_list waits refl
+  pub chain_there : (links : List ℕ) × (close : Close) × IsChain n t waits links close
+  chain_there = let r = told_there n t waits in (r.0, r.1, told_chain r.0 r.1 r.2)

@@ -1,10 +1,9 @@
 -- The least number for which a test holds, and numbers in a row.
-use Rattle.std.proofs.Common.{◌≡◌, ℕ, zero, suc, ◌+◌, Bool, [], ◌∷◌, ◌++◌, inl, inr, refl, ap, sym, ◌∙◌, arith}
+use Rattle.std.proofs.Common.{◌≡◌, ℕ, zero, suc, ◌+◌, ◌<◌, ◌≤◌, Bool, true, false, [], ◌∷◌, ◌++◌, inl, inr, ap, sym, ◌∙◌, arith}
 use Rattle.std.specs.Prelude.{Option, Some, None}
 use Rattle.std.specs.List.{range_with_len}
-use Rattle.std.proofs.lemmas.Bool.{cases_Bool, cases_eq, both_ways, eq-eqb, eqb-true}
-use Rattle.core_runs.specs.Beginnings.{IsOneOf}
-use Rattle.wait_chain.specs.Awaited.{is_it, IsLeast}
+use Rattle.std.proofs.lemmas.Bool.{cases_Bool, cases_eq, cases_lt, both_ways}
+use Rattle.wait_chain.specs.Awaited.{IsLeast}
 
 pub range_last : (a n j : ℕ) → a + n ≡ j → range_with_len a (suc n) ≡ range_with_len a n ++ j ∷ []
 range_last a zero j h = let e : a ≡ j = omega arith in ap (λ z. z ∷ []) e
@@ -14,11 +13,6 @@ range_last a (suc n) j h = ap (λ z. a ∷ z) (range_last (a + 1) n j (omega ari
 pub least_same : (f g : ℕ → Bool) (n : ℕ) (o : Option ℕ) → ((k : ℕ) → f k ≡ g k) → IsLeast f n o → IsLeast g n o
 least_same f g n None same h = λ k one. sym (same k) ∙ h k one
 least_same f g n (Some j) same h = (h.0, sym (same j) ∙ h.1, λ k one t. h.2 k one (same k ∙ t))
-
--- that of a test for one number
-pub least_it : (n : ℕ) (o : Option ℕ) → ((j : ℕ) → o ≡ Some j → IsOneOf n j) → IsLeast (is_it o) n o
-least_it n None h = λ k one. refl
-least_it n (Some j) h = (h j refl, eq-eqb j j refl, λ k one t. (let e = eqb-true j k t in omega arith))
 
 -- up to one number more
 least_more : (f : ℕ → Bool) (n : ℕ) (o : Option ℕ) → IsLeast f n o → (p : Option ℕ) × IsLeast f (suc n) p
@@ -35,3 +29,14 @@ least_more f n None h = elim (cases_Bool (f (suc n))) [
 pub least_of : (f : ℕ → Bool) (n : ℕ) → (o : Option ℕ) × IsLeast f n o
 least_of f zero = (None, λ k one. (let a = one.0 in let b = one.1 in absurd (omega arith)))
 least_of f (suc n) = let r = least_of f n in least_more f n r.0 r.1
+
+-- a search from the first number on
+pub first_least : (test : ℕ → Bool) (n m : ℕ) → m < n → ((k : ℕ) → 0 < k → k ≤ m → test k ≡ false) → test (m + 1) ≡ true → IsLeast test n (Some (m + 1))
+first_least test n m lt before here =
+    ((omega arith, omega arith), here, λ k one t. elim (cases_lt m k) [ inl after ↦ omega arith | inr le ↦ absurd (both_ways (test k) (before k one.0 le) t) ])
+
+pub no_more : (test : ℕ → Bool) (m : ℕ) → ((k : ℕ) → 0 < k → k ≤ m → test k ≡ false) → test (m + 1) ≡ false → (k : ℕ) → 0 < k → k ≤ m + 1 → test k ≡ false
+no_more test m before here k low le = elim (cases_eq k (m + 1)) [ inl e ↦ ap test e ∙ here | inr ne ↦ before k low (omega arith) ]
+
+pub none_least : (test : ℕ → Bool) (n m : ℕ) → n ≤ m → ((k : ℕ) → 0 < k → k ≤ m → test k ≡ false) → IsLeast test n None
+none_least test n m le before = λ k one. (let high = one.1 in before k one.0 (omega arith))

@@ -7,10 +7,10 @@ pub mod LockLeft
 pub mod Births
 pub mod Tellings
 pub mod Awaiting
-pub mod Holding
 pub mod Blocked
 pub mod Chaining
 pub mod Tries
 pub mod OneChain
+pub mod OneTold
 pub mod Reporting
 pub mod Behinds

@@ -1,4 +1,5 @@
--- Who holds a lock of a memory whose owner hasn't failed hasn't failed: the steps of a failure release each lock that the image holds.
+-- Who holds a lock of a memory whose owner hasn't failed hasn't failed: the steps of a failure release each lock that
+-- the image holds.
 use Rattle.std.proofs.Common.{◌≡◌, ℕ, suc, pos, Bool, true, false, nat_eq, ◌&&◌, ◌||◌, cond, List, [], ◌∷◌, ◌++◌, map, ◌⊎◌, inl, inr, refl, ap, sym, ◌∙◌, subst, append_assoc}
 use Rattle.std.specs.Prelude.{IsTrue}
 use Rattle.std.proofs.lemmas.List.{append-nil}
@@ -162,8 +163,8 @@ module _ (w c o : ℕ) where
     kept_in (asks.Unlock owner span) h = unlocked_in owner span h
     kept_in a h = had (stays_held s j j a r refl h)
 
-  -- Where an image stands in its failure, by what it has yet to say: it hasn't begun to fail, it has yet to mark its memory, to release these locks, or it is gone. The
-  -- lock that it holds is in the list.
+  -- Where an image stands in its failure, by what it has yet to say: it hasn't begun to fail, it has yet to mark its
+  -- memory, to release these locks, or it is gone. The lock that it holds is in the list.
   data Phase (j : ℕ) (s : Hold) (marked : Bool) (es : List (Said Ask Reply)) : Type 0 where
     going : (hs : List LockPlace) → FailsFrom j es hs → (s ≡ held j → In place hs) → Phase j s marked es
     marks : (hs : List LockPlace) → RunsOut (asks.Mark (record { 0 = j }) ∷ map release_of hs ++ asks.Gone ∷ []) es → (s ≡ held j → In place hs) → Phase j s marked es

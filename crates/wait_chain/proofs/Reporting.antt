@@ -1,20 +1,12 @@
--- The chain of a report's waits, as its links are put one behind the other.
-use Rattle.std.proofs.Common.{◌≡◌, ℕ, ◌≤◌, List, [], ◌∷◌, ◌++◌, length, map, get_or, refl, ap, sym, ◌∙◌, subst, arith}
+-- The links of a chain, as they are put one behind the other.
+use Rattle.std.proofs.Common.{◌≡◌, ℕ, ◌≤◌, List, [], ◌∷◌, ◌++◌, length, ap, sym, ◌∙◌, subst, arith}
 use Rattle.std.proofs.lemmas.List.{length-map, map-append}
 use Rattle.caf_base.specs.declared.place.ImageNo.{ImageNo}
 use Rattle.caf_events.specs.declared.event.Entry.{Entry}
 use Rattle.object_rules.specs.Happenings.{numbers_of}
-use Rattle.caf_report.specs.declared.report.Waiting.{Waiting}
 use Rattle.wait_reason.specs.Chains.{Wait}
-use Rattle.wait_chain.specs.Stuck.{IsStuck}
 use Rattle.wait_chain.specs.Links.{last_of, IsOpen}
-use Rattle.wait_chain.specs.Reports.{as_waits}
-use Rattle.wait_chain.proofs.Chaining.{first_open, open_few, last_more}
-
--- its image is the first link
-pub first_link : (n : ℕ) (t : List Entry) (ws : List Waiting) (w : Waiting) → IsStuck n t (as_waits ws) → IsOpen n t (as_waits ws) ((get_or ws 0 w).image.0 ∷ [])
-first_link n t [] w stuck = absurd (let some = stuck.some in omega arith)
-first_link n t (v ∷ vs) w stuck = first_open n t (as_waits (v ∷ vs)) stuck v.image.0 (map (λ (x : Wait). x.image) (as_waits vs)) refl
+use Rattle.wait_chain.proofs.Chaining.{open_few, last_more}
 
 -- one more link
 pub numbers_more : (ls : List ImageNo) (x : ImageNo) → numbers_of (ls ++ x ∷ []) ≡ numbers_of ls ++ x.0 ∷ []

@@ -1,4 +1,5 @@
--- The definitions tried on what small programs leave, of two images each: the chain that each of them has is worked out by hand.
+-- The definitions tried on what small programs leave, of two images each: the chain that each of them has is worked out
+-- by hand.
 use Rattle.std.proofs.Common.{◌≡◌, ℕ, true, false, List, [], ◌∷◌, ◌⊎◌, inl, inr, refl, ap, sym, ◌∙◌, arith}
 use Rattle.std.specs.Prelude.{pos}
 use Rattle.std.proofs.lemmas.Bool.{both_ways, cases_eq}
@@ -51,7 +52,8 @@ module _ (t : List Entry) (waits : List Wait) where
 new_link : IsAmong 2 (1 ∷ []) → ⊥
 new_link a = elim a [ inl e ↦ absurd (omega arith) | inr none ↦ none ]
 
--- `if (this_image() == 1) sync images (2)`, `if (this_image() == 2) sync all`: image 1 has no partner, and image 2 no round
+-- `if (this_image() == 1) sync images (2)`, `if (this_image() == 2) sync all`: image 1 has no partner, and image 2 no
+-- round
 abbrev without_partner : List Entry
 without_partner = by 1 (asks.Pair (record { 0 = 2 } ∷ [])) replies.Done ∷ by 2 (asks.Arrive (record { 0 = 1 }) arrivings.Sync) (replies.Round 1) ∷ []
 

@@ -1,4 +1,5 @@
--- What one step is to rounds and to SYNC IMAGES, and how often an image has made such steps (ISO/IEC 1539-1:2018, 11.6.3, 11.6.4, 16.6).
+-- What one step is to rounds and to SYNC IMAGES, and how often an image has made such steps (ISO/IEC 1539-1:2018,
+-- 11.6.3, 11.6.4, 16.6).
 use Rattle.std.specs.Prelude.{ℕ, Bool, true, false, ◌&&◌, not, nat_eq, nat_le, cond, List}
 use Rattle.caf_events.specs.declared.ask.Ask.{Ask}
 use Rattle.caf_events.specs.declared.ask.Ask.TheVariants as asks
@@ -68,3 +69,7 @@ has_come (dues.Partner image) g j = has_partner image (happened images g) j
 -- image j is one of these, hasn't come, and has neither stopped nor failed
 abbrev pub lacks : Due → List ℕ → List Entry → ℕ → Bool
 lacks due js g j = names j js && not (has_come due g j) && not (has_ended j (happened control g))
+
+-- image i has neither stopped nor failed
+abbrev pub is_left : List Entry → ℕ → Bool
+is_left g i = not (has_ended i (happened control g))

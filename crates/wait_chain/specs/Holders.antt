@@ -1,5 +1,5 @@
--- The image that holds a lock variable, and the one that is inside a CRITICAL construct (ISO/IEC 1539-1:2018, 11.6.10, 11.1.6), read off
--- a whole trace.
+-- The image that holds a lock variable, and the one that is inside a CRITICAL construct (ISO/IEC 1539-1:2018, 11.6.10,
+-- 11.1.6), read off a whole trace.
 use Rattle.std.specs.Prelude.{ℕ, pos, ◌&&◌, nat_eq, cond, List, [], ◌∷◌, Option, Some, None}
 use Rattle.caf_events.specs.declared.ask.Ask.{Ask}
 use Rattle.caf_events.specs.declared.ask.Ask.TheVariants as asks

@@ -1,4 +1,5 @@
--- What a run leaves in which no image goes on: a trace, and the images that are left, each with an ask that isn't ready.
+-- What a run leaves in which no image goes on: a trace, and the images that are left, each with an ask that isn't
+-- ready.
 use Rattle.std.specs.Prelude.{ℕ, ◌≡◌, ◌<◌, true, false, not, List, length, map, filter}
 use Rattle.caf_events.specs.declared.ask.Ask.{Ask}
 use Rattle.caf_events.specs.declared.event.Entry.{Entry}
@@ -19,8 +20,8 @@ left_after n t = filter (λ i. not (has_ended i (happened control (at_board t)))
 abbrev pub IsHeld : List Declared → ℕ → List Entry → ℕ → Ask → Type 0
 IsHeld coarrays n t i ask = (is_fit_after coarrays n t i ask ≡ true) × (is_ready_after coarrays n t i ask ≡ false)
 
--- The trace is a lawful one of n images. The list has one ask for each image that has neither stopped nor failed, and for no other, in
--- rising order; it has at least one; and each ask fits and isn't ready.
+-- The trace is a lawful one of n images. The list has one ask for each image that has neither stopped nor failed, and
+-- for no other, in rising order; it has at least one; and each ask fits and isn't ready.
 pub record IsStuck (n : ℕ) (t : List Entry) (waits : List Wait) : Type 0 where
   pub coarrays : List Declared
   pub lawful : IsLawfulTrace coarrays n t

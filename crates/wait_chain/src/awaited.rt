@@ -1,11 +1,8 @@
 //! For which image another one waits with an ask.
 
 ghost use Rattle.std.specs.Prelude.{◌≡◌, IfOk};
-ghost use Rattle.trace_theory.specs.Entries.{Each};
-ghost use Rattle.core_runs.specs.Lists.{image_of};
-ghost use Rattle.core_runs.specs.Beginnings.{IsOneOf};
 ghost use Rattle.wait_chain.specs.Counts.{lacks};
-ghost use Rattle.wait_chain.specs.Awaited.{awaited_by, awaits, IsLeast};
+ghost use Rattle.wait_chain.specs.Awaited.{awaited_by, awaits, is_it, IsLeast};
 
 use crate::counts::named;
 use crate::holders::{LockCell, inside, lock_holder};
@@ -66,6 +63,16 @@ pub(crate) fn awaited_by(ask: &Ask) -> Awaited
     }
 }
 
+// The image, where it is one of the n images of a run.
+fn of_run(n: u32, image: Option<u32>) -> Option<u32>
+    ensures { IsLeast (is_it image) n result }
+{
+    match image {
+        Some(number) if 1 <= number && number <= n => image,
+        _ => None,
+    }
+}
+
 // The least of these images that hasn't come.
 fn least_of(alloc: Global, n: u32, due: Due, images: Vec<u32>, before: &[Entry]) -> Option<u32>
     ensures { IsLeast (lacks due images.items before.now) n result }
@@ -83,7 +90,6 @@ pub(crate) fn least_awaited(
     image: u32,
     awaited: Awaited,
 ) -> Result<Option<u32>, NoMemory>
-    requires { Each (λ e. IsOneOf n (image_of e)) before.now }
     ensures { IfOk result (λ o. IsLeast (awaits n before.now image awaited) n o) }
 {
     match awaited {
@@ -99,8 +105,8 @@ pub(crate) fn least_awaited(
             let images = named(alloc, image, before)?;
             Ok(least_of(alloc, n, Due::Partner { image }, images, before))
         }
-        Awaited::Unlock { cell } => Ok(lock_holder(alloc, cell, before)),
-        Awaited::Exit { construct } => Ok(inside(alloc, construct, before)),
+        Awaited::Unlock { cell } => Ok(of_run(n, lock_holder(alloc, cell, before))),
+        Awaited::Exit { construct } => Ok(of_run(n, inside(alloc, construct, before))),
         Awaited::NoImage => Ok(None),
     }
 }

@@ -1,15 +1,15 @@
 //! The chain of waits of a run in which no image goes on.
 
-ghost use Rattle.std.specs.Prelude.{◌≡◌, IfOk};
+ghost use Rattle.std.specs.Prelude.{◌≡◌, [], ◌∷◌, IfOk};
 ghost use Rattle.object_rules.specs.Happenings.{numbers_of};
-ghost use Rattle.wait_reason.specs.Chains.{IsChain};
 ghost use Rattle.wait_chain.specs.Awaited.{awaited_in};
-ghost use Rattle.wait_chain.specs.Stuck.{IsStuck};
+ghost use Rattle.wait_chain.specs.ToldChains.{IsToldChain};
 ghost use Rattle.wait_chain.specs.Links.{close_of, last_of, IsOpen, ComesBehind};
 ghost use Rattle.wait_chain.specs.Reports.{as_waits};
 
 use crate::awaited::{Awaited, awaited_by, least_awaited};
-use crate::links::{Behind, Chain, comes_behind};
+use crate::lacking::first_left;
+use crate::links::{Behind, Chain, Close, comes_behind};
 use caf_base::listing::Listing;
 use caf_base::place::ImageNo;
 use caf_base::refusal::NoMemory;
@@ -38,7 +38,6 @@ fn further(
     links: &[ImageNo],
     last: ImageNo,
 ) -> Result<Behind, NoMemory>
-    requires stuck { IsStuck n before.now (as_waits waits.now) }
     requires open { IsOpen n before.now (as_waits waits.now) (numbers_of links.now) }
     requires last { last_of (numbers_of links.now) ≡ last.0 }
     ensures { IfOk result (λ b. ComesBehind n before.now (as_waits waits.now) (numbers_of links.now) b) }
@@ -48,14 +47,18 @@ fn further(
     Ok(comes_behind(alloc, before, links, next))
 }
 
-/// The chain of waits of a run of n images that has this trace, where these images are left and none of them can go
-/// on. It begins with the least of them; each further image is the least one for which the last one waits; and it
-/// closes with a post, with an image that has stopped, or with one of its own.
-pub fn why(alloc: Global, before: &[Entry], n: u32, waits: &[Waiting]) -> Result<Chain, NoMemory>
-    requires { IsStuck n before.now (as_waits waits.now) }
-    ensures { IfOk result (λ c. IsChain n before.now (as_waits waits.now) (numbers_of c.links) (close_of c.close)) }
+// The chain that begins with this image.
+fn why_from(
+    alloc: Global,
+    before: &[Entry],
+    n: u32,
+    waits: &[Waiting],
+    first: ImageNo,
+) -> Result<Chain, NoMemory>
+    requires { IsOpen n before.now (as_waits waits.now) (first.0 ∷ []) }
+    ensures { IfOk result (λ c. IsToldChain n before.now (as_waits waits.now) (numbers_of c.links) (close_of c.close)) }
 {
-    let mut last = waits[0].image;
+    let mut last = first;
     let mut links = Listing::of_one(alloc, last)?;
     for count in 0..n {
         match further(alloc, n, before, waits, links.as_slice(), last)? {
@@ -67,4 +70,20 @@ pub fn why(alloc: Global, before: &[Entry], n: u32, waits: &[Waiting]) -> Result
         }
     }
     unreachable!()
+}
+
+/// The chain of waits that the trace of a run of n images tells, where images wait with these asks. It begins with the
+/// least image that is left; each further image is the least one for which the last one waits; and it closes with a
+/// post, where that is none, with an image that has stopped, or with one of its own. It has no links where no image is
+/// left.
+pub fn why(alloc: Global, before: &[Entry], n: u32, waits: &[Waiting]) -> Result<Chain, NoMemory>
+    ensures { IfOk result (λ c. IsToldChain n before.now (as_waits waits.now) (numbers_of c.links) (close_of c.close)) }
+{
+    match first_left(alloc, n, before) {
+        Some(first) => why_from(alloc, before, n, waits, ImageNo(first)),
+        None => Ok(Chain {
+            links: Listing::new(alloc),
+            close: Close::Post,
+        }),
+    }
 }

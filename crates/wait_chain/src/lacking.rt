@@ -1,7 +1,7 @@
 //! The least image that hasn't come to where an image waits for it.
 
 ghost use Rattle.std.specs.Prelude.{◌≡◌};
-ghost use Rattle.wait_chain.specs.Counts.{has_come, lacks};
+ghost use Rattle.wait_chain.specs.Counts.{has_come, lacks, is_left};
 ghost use Rattle.wait_chain.specs.Awaited.{IsLeast};
 
 use crate::counts::{Step, contains, has_ended, tally};
@@ -67,6 +67,25 @@ pub(crate) fn least_lacking(
 {
     for number in 0..n {
         if is_lacking(alloc, due, images, before, number + 1) {
+            return Some(number + 1);
+        }
+    }
+    None
+}
+
+// Whether the image has neither stopped nor failed.
+fn is_left(alloc: Global, before: &[Entry], image: u32) -> bool
+    ensures { result ≡ is_left before.now image }
+{
+    !has_ended(alloc, image, before)
+}
+
+/// The least of so many images that has neither stopped nor failed.
+pub(crate) fn first_left(alloc: Global, n: u32, before: &[Entry]) -> Option<u32>
+    ensures { IsLeast (is_left before.now) n result }
+{
+    for number in 0..n {
+        if is_left(alloc, before, number + 1) {
             return Some(number + 1);
         }
     }

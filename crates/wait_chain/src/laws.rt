@@ -14,6 +14,7 @@ ghost use Rattle.wait_reason.specs.WaitsFor.{waits_with};
 ghost use Rattle.wait_reason.specs.Chains.{Wait, Close, IsChain};
 ghost use Rattle.wait_chain.specs.Stuck.{IsHeld, IsStuck};
 ghost use Rattle.wait_chain.specs.Told.{members};
+ghost use Rattle.wait_chain.specs.ToldChains.{IsToldChain};
 
 /// For whom an image waits in a lawful trace, with an ask that fits and isn't ready: an image of the run, which
 /// hasn't failed.
@@ -35,4 +36,13 @@ pub fn law_chain()
     ensures there { (n : ℕ) (t : List Entry) (waits : List Wait) → IsStuck n t waits → (links : List ℕ) × (close : Close) × IsChain n t waits links close }
     ensures one { (n : ℕ) (t : List Entry) (waits : List Wait) → IsStuck n t waits → (links other : List ℕ) (close closing : Close) → IsChain n t waits links close
         → IsChain n t waits other closing → (links ≡ other) × (close ≡ closing) }
+{}
+
+/// Each trace with a list of waits tells one chain, and no other; and where it is one after which no image that is left
+/// goes on, with these waits, that is their chain.
+pub fn law_told_chain()
+    ensures there { (n : ℕ) (t : List Entry) (waits : List Wait) → (links : List ℕ) × (close : Close) × IsToldChain n t waits links close }
+    ensures one { (n : ℕ) (t : List Entry) (waits : List Wait) (links other : List ℕ) (close closing : Close) → IsToldChain n t waits links close
+        → IsToldChain n t waits other closing → (links ≡ other) × (close ≡ closing) }
+    ensures stuck { (n : ℕ) (t : List Entry) (waits : List Wait) → IsStuck n t waits → (links : List ℕ) (close : Close) → IsToldChain n t waits links close → IsChain n t waits links close }
 {}

@@ -2,8 +2,10 @@
 //! off the trace.
 //! It stands on `wait_reason`, which says for which image another one waits, and counts what that takes in passes
 //! over the trace; it asks no board and no memory.
-//! Its main contract is `why`: the chain is exactly that of `IsChain`. That each stuck trace has one chain and no
-//! other is `law_chain`.
+//! `caf_run` and `wait_lines` stand on it.
+//! Its main contract is `why`: the chain is exactly that which the trace tells with the waits (`IsToldChain`), whatever
+//! they are. Behind a stuck run that is the chain of `IsChain` (`law_told_chain`), of which there is one and no other
+//! (`law_chain`).
 #![tactic(auto)]
 
 pub mod awaited;

@@ -7,7 +7,8 @@ use Rattle.wait_reason.specs.Chains.{Close, post, stopped, cycle}
 abbrev pub link_line : ℕ → ℕ → List ℕ
 link_line i j = codes "why image " ++ decimal_text (pos i) ++ codes " waits for image " ++ decimal_text (pos j) ++ codes "\n"
 
--- the end of a chain of which image i is the last link: it waits for a post, for an image that has stopped, or for one of the chain
+-- the end of a chain of which image i is the last link: it waits for a post, for an image that has stopped, or for one
+-- of the chain
 abbrev pub close_text : ℕ → Close → List ℕ
 close_text i post = codes "why image " ++ decimal_text (pos i) ++ codes " waits for a post\n"
 close_text i (stopped j) = link_line i j ++ (codes "why image " ++ decimal_text (pos j) ++ codes " stopped\n")

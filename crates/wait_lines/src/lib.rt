@@ -1,5 +1,6 @@
 //! The lines that tell why a run is stuck.
-//! It stands on `wait_chain`, whose chain they tell, and on `trace_text` for the pieces of a line.
+//! It stands on `wait_chain`, whose chain they tell, and on `trace_text` for the pieces of a line; `caf_run` stands on
+//! it.
 //! Its main contract is `why_text`: the lines are exactly `chain_text` of the chain.
 #![tactic(auto)]
 

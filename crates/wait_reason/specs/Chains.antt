@@ -1,4 +1,5 @@
--- The chain of images that wait for one another after a trace, each with its ask in a list. The word is this project's own.
+-- The chain of images that wait for one another after a trace, each with its ask in a list. The word is this project's
+-- own.
 use Rattle.std.specs.Prelude.{ℕ, ◌≤◌, ◌≡◌, ◌⊎◌, true, false, List, [], ◌∷◌, ◌++◌}
 use Rattle.caf_events.specs.declared.ask.Ask.{Ask}
 use Rattle.caf_events.specs.declared.ask.Ask.TheVariants as asks

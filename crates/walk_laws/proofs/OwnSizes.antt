@@ -1,4 +1,5 @@
--- The sizes of an image's own coarrays, as it was told, are those at its memory: it alone allocates and deallocates there.
+-- The sizes of an image's own coarrays, as it was told, are those at its memory: it alone allocates and deallocates
+-- there.
 use Rattle.std.proofs.Common.{◌≡◌, ℕ, zero, suc, ◌+◌, ◌<◌, Bool, true, false, cond, ◌&&◌, not, List, [], ◌∷◌, ◌++◌, length, map, slice_get, slice_set, is_some, inl, inr, refl, sym, ap, ◌∙◌, subst, nat_eq, nat_le, arith}
 use Rattle.std.specs.Prelude.{Option, Some, None}
 use Rattle.std.specs.List.{range_with_len}

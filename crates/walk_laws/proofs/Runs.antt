@@ -227,7 +227,8 @@ module _ (p : s.Program) (limit : ℕ) (coarrays : List Declared) (n : ℕ) (fai
   pub board_fits : (i : ℕ) → IsOneOf n i → (a : Ask) → fits_board n (at_board t) i a ≡ true → (is_image n i && fits_board n (at_board t) i a) ≡ true
   board_fits i there a h = and_from (is_image n i) (fits_board n (at_board t) i a) (image_there n i there) h
 
-  -- what an image says next, with some reply, goes on with what it said: departures follow their arrivals, the steps of its failure are due, and its lane walks so
+  -- what an image says next, with some reply, goes on with what it said: departures follow their arrivals, the steps of
+  -- its failure are due, and its lane walks so
   pub record Next (i : ℕ) (a : Ask) : Type 0 where
     pub event : Said Ask Reply
     pub is : event.ask ≡ a

@@ -28,7 +28,8 @@ pub record StandsAt (p : checked.Program) (limit : ℕ) (coarrays : List Declare
 abbrev pub first_cells : Declared → Option ℕ
 first_cells d = cond d.allocatable None (Some d.cells)
 
--- each memory has from the start those coarrays of the program that aren't allocatable, in as many cells as the program declares
+-- each memory has from the start those coarrays of the program that aren't allocatable, in as many cells as the program
+-- declares
 abbrev pub AreDeclaredBy : checked.Program → List Declared → Type 0
 AreDeclaredBy p coarrays = map first_cells coarrays ≡ map own_cells (own_coarrays p)
 

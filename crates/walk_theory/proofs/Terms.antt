@@ -75,6 +75,7 @@ module _ {A C Q R V : Type 0} (L : Language A C Q R) (put : V → C → C) (mean
     gives_comes (found v) o l ts c n e h m = (rw h at m)
     gives_comes (at_fault k) o l ts c n e h m = (let i = rw h.1 at m in subst (λ f. Comes (step L procedures limit) e (asks (L.fault k) l (λ r. to [] f n))) h.2 i)
 
-    -- the walk of an expression leaves its value, or comes to its first fault, the left operands' before the right ones'
+    -- the walk of an expression leaves its value, or comes to its first fault, the left operands' before the right
+    -- ones'
     pub value_comes : (t : Term A) → TermActs L put meaning t → (l : ℕ) (ts : List (Task A)) (c : C) (n : ℕ) → ValueComes L put meaning procedures limit (term_value meaning t c) l ts c n (to (eval l (term_parts t) ∷ ts) c n)
     value_comes t h l ts c n = gives_comes (value_of t c) (outcome L (term_parts t) c) l ts c n _ (term_gives t h c) (parts_come L procedures limit (term_parts t) l ts c n)

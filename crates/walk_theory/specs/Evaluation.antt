@@ -1,4 +1,5 @@
--- What parts come to where they ask nothing and enter no procedure: a plain evaluation by recursion, that knows no task and no place.
+-- What parts come to where they ask nothing and enter no procedure: a plain evaluation by recursion, that knows no task
+-- and no place.
 use Rattle.std.specs.Prelude.{ℕ, List, []}
 use Rattle.trace_theory.specs.Machines.{goes, asks, Comes}
 use Rattle.walk_theory.specs.Language.{Effect, goes_to, faults, asking, ends_with, stuck, Tested, no_value, holds, fails, Language}
@@ -41,7 +42,8 @@ module _ {A C Q R : Type 0} (L : Language A C Q R) where
   outcome (either a b q) c = and_then (of_test (L.test c) (outcome a) (outcome b)) (outcome q)
 
   module _ (procedures : ℕ → Steps A) (limit : ℕ) where
-    -- the walk comes without an ask to what is left, with the tasks ts before it, or to the ask of the fault, after which nothing is done
+    -- the walk comes without an ask to what is left, with the tasks ts before it, or to the ask of the fault, after
+    -- which nothing is done
     abbrev pub ComesTo : Outcome C → (line : ℕ) → List (Task A) → (count : ℕ) → Config A C → Type 0
     ComesTo (leaves d) l ts n c = Comes (step L procedures limit) c (goes (to ts d n))
     ComesTo (faulted k d) l ts n c = Comes (step L procedures limit) c (asks (L.fault k) l (λ r. to [] (L.forget d) n))

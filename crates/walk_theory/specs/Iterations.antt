@@ -7,8 +7,8 @@ use Rattle.walk_theory.specs.Walks.{Loop, Task, again, to, at_body, step}
 use Rattle.walk_theory.specs.Evaluation.{leaves, outcome}
 
 module _ {A C Q R : Type 0} (L : Language A C Q R) where
-  -- `left` is the loop's iteration count (11.1.7.4.1), where there is one: the test holds exactly where an iteration is left and changes
-  -- nothing, and the step to the next iteration takes one away.
+  -- `left` is the loop's iteration count (11.1.7.4.1), where there is one: the test holds exactly where an iteration is
+  -- left and changes nothing, and the step to the next iteration takes one away.
   pub record IsCounted (left : C → Option ℕ) (m : Loop A) : Type 0 where
     pub tested : C → C
     pub tests : (c : C) (r : ℕ) → left c ≡ Some r → outcome L m.test c ≡ leaves (tested c)
@@ -17,8 +17,8 @@ module _ {A C Q R : Type 0} (L : Language A C Q R) where
     pub takes : (c d : C) (r : ℕ) → left c ≡ Some (suc r) → outcome L m.next c ≡ leaves d → left d ≡ Some r
 
   module _ (procedures : ℕ → Steps A) (limit : ℕ) (left : C → Option ℕ) where
-    -- One iteration: it counts one statement, its body says and hears these and comes to its end or to a CYCLE, with the iteration count as it
-    -- was, and then comes the step to the next iteration.
+    -- One iteration: it counts one statement, its body says and hears these and comes to its end or to a CYCLE, with
+    -- the iteration count as it was, and then comes the step to the next iteration.
     pub record Iteration (m : Loop A) (c : C) (n : ℕ) (es : List (Said Q R)) (d : C) (k : ℕ) : Type 0 where
       pub below : n < limit
       pub end : C

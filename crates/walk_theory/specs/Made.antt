@@ -100,6 +100,7 @@ abbrev pub bodies_code : {A : Type 0} → (ℕ → ℕ) → ℕ → ℕ → List
 bodies_code starts l p [] = on l go_back ∷ []
 bodies_code starts l p (b ∷ bs) = steps_code starts [] p b ++ on l go_back ∷ bodies_code starts l (p + steps_size b + 1) bs
 
--- the code of a program: the call of its main program, which is the first procedure, the count and the last act of its end
+-- the code of a program: the call of its main program, which is the first procedure, the count and the last act of its
+-- end
 abbrev pub program_code : {A : Type 0} → A → ℕ → List (Steps A) → List (Line A)
 program_code last l bs = on l (call (start_of 4 bs 0)) ∷ on l count_one ∷ on l (does_act last) ∷ on l go_back ∷ bodies_code (start_of 4 bs) l 4 bs

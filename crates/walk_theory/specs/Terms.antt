@@ -60,7 +60,8 @@ found_effect put c (found v) = goes_to (put v c)
 found_effect put c (at_fault k) = faults k
 
 module _ {A C Q R V : Type 0} (L : Language A C Q R) (put : V → C → C) (meaning : A → List V → C → Found V) where
-  -- The act takes so many values and puts down what the operator means; what is put down under them changes nothing of it.
+  -- The act takes so many values and puts down what the operator means; what is put down under them changes nothing of
+  -- it.
   pub record ActsAs (a : A) (n : ℕ) : Type 0 where
     pub takes : (vs : List V) (c : C) → length vs ≡ n → L.operate a (put_all put vs c) ≡ found_effect put c (meaning a vs c)
     pub beneath : (vs : List V) (v : V) (c : C) → meaning a vs (put v c) ≡ meaning a vs c
@@ -75,7 +76,8 @@ module _ {A C Q R V : Type 0} (L : Language A C Q R) (put : V → C → C) (mean
     TermsAct (more_terms t ts) = TermActs t × TermsAct ts
 
   module _ (procedures : ℕ → Steps A) (limit : ℕ) where
-    -- the walk that evaluates at this line comes without an ask to the value, put down, or to the ask of the fault, after which nothing is done
+    -- the walk that evaluates at this line comes without an ask to the value, put down, or to the ask of the fault,
+    -- after which nothing is done
     abbrev pub ValueComes : Found V → (line : ℕ) → List (Task A) → C → (count : ℕ) → Config A C → Type 0
     ValueComes (found v) l ts c n e = Comes (step L procedures limit) e (goes (to ts (put v c) n))
     ValueComes (at_fault k) l ts c n e = Comes (step L procedures limit) e (asks (L.fault k) l (λ r. to [] (L.forget c) n))

@@ -48,7 +48,8 @@ at_test m ts c n = to (eval m.line m.test ∷ iterate m ∷ ts) c n
 abbrev pub at_body : {A C : Type 0} → Loop A → List (Task A) → C → ℕ → Config A C
 at_body m ts c n = to (run m.body ∷ again m ∷ ts) c n
 
--- EXIT (ISO/IEC 1539-1:2018, 11.1.12) of a loop that is n loops out: what follows that loop. Where there is none, the body ends.
+-- EXIT (ISO/IEC 1539-1:2018, 11.1.12) of a loop that is n loops out: what follows that loop. Where there is none, the
+-- body ends.
 abbrev pub after_loop : {A : Type 0} → ℕ → List (Task A) → List (Task A)
 after_loop n [] = []
 after_loop n (back ∷ ts) = back ∷ ts

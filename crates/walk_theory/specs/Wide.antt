@@ -1,4 +1,5 @@
--- Wide steps, each of which does what several steps do. The code keeps its length and its places: what a wide step stands for stays behind it.
+-- Wide steps, each of which does what several steps do. The code keeps its length and its places: what a wide step
+-- stands for stays behind it.
 use Rattle.std.specs.Prelude.{ℕ, suc, ◌≡◌, List, [], ◌∷◌, length, Option, Some, None, slice_get}
 use Rattle.trace_theory.specs.Machines.{Move, goes, asks, over, go}
 use Rattle.trace_theory.specs.Equivalence.{SameWalks}
@@ -8,7 +9,8 @@ use Rattle.walk_theory.specs.Walks.{Config, step, start}
 use Rattle.walk_theory.specs.Code.{Instr, Line, on, State, at_place, code_step, Stands}
 use Rattle.walk_theory.specs.Programs.{SameCore}
 
--- a kind of wide steps: the steps that one stands for, and what it does at a line, where `behind` is the place behind the code
+-- a kind of wide steps: the steps that one stands for, and what it does at a line, where `behind` is the place behind
+-- the code
 pub record Wides (A C Q R W : Type 0) : Type 0 where
   pub steps_of : W → List (Instr A)
   pub does : (behind line : ℕ) → W → State C → Move (State C) Q R
@@ -66,7 +68,8 @@ module _ {A C Q R W : Type 0} (L : Language A C Q R) (K : Wides A C Q R W) (code
 abbrev pub SameKept : {A C V : Type 0} → (C → V) → Config A C → State C → Type 0
 SameKept kept c d = (kept d.core ≡ kept c.core) × (d.count ≡ c.count)
 
--- The wide code has the walks of the program: what it asks and at which lines; where it stops, what is kept of the core is the same.
+-- The wide code has the walks of the program: what it asks and at which lines; where it stops, what is kept of the core
+-- is the same.
 abbrev pub HasWideWalksOf : {A C Q R W V : Type 0} → Language A C Q R → Wides A C Q R W → (kept : C → V) → (answers : Q → R → Type 0) → (last : A) → List (Steps A) → (line limit : ℕ) → C → List (Line A) → List (Placed W) → Type 0
 HasWideWalksOf L K kept answers last bodies line limit first code wides =
     SameWalks answers SameCore (SameKept kept) (step L (body_of bodies) limit) (start last line first) (wide_step L K code limit wides) (at_place 0 [] first 0)

@@ -18,8 +18,8 @@ pub fn law_steps_long<S: Spoken>()
         → length (steps_code starts loops place block) ≡ steps_size block }
 {}
 
-/// The code of a program has its walks: it asks what the program asks, at the same lines, with the same cores and counts, and the
-/// other way round.
+/// The code of a program has its walks: it asks what the program asks, at the same lines, with the same cores and
+/// counts, and the other way round.
 pub fn law_has_walks<S: Spoken>()
     ensures { (last : S.Act) (bodies : List (Steps S.Act)) (line : ℕ) (first : S.Core)
         → HasWalksOf S.language S.answers last bodies line S.limit first (program_code last line bodies) }
@@ -30,7 +30,8 @@ pub fn law_made_code_is_good<S: Spoken>()
     ensures { (last : S.Act) (line : ℕ) (bodies : List (Steps S.Act)) → IsGood (program_code last line bodies) }
 {}
 
-/// In good code, after a step that asks nothing, less is left to do before the next count, or one more is counted below the limit.
+/// In good code, after a step that asks nothing, less is left to do before the next count, or one more is counted below
+/// the limit.
 pub fn law_code_falls<S: Spoken>()
     ensures { (code : List (Line S.Act)) (deepest : ℕ) → ((c : S.Core) → S.language.frames c < deepest) → IsGood code → (d : State S.Core)
         → IsShallow deepest d
@@ -68,7 +69,8 @@ pub trait Widened {
     ghost kept: { Core → Kept };
 }
 
-/// Code of wide steps, each of which stands where the steps that it stands for stand and does what they do, has the walks of the program.
+/// Code of wide steps, each of which stands where the steps that it stands for stand and does what they do, has the
+/// walks of the program.
 pub fn law_has_wide_walks<S: Widened>()
     ensures { (last : S.Act) (bodies : List (Steps S.Act)) (line : ℕ) (first : S.Core)
         → Unfolds S.language S.wides (program_code last line bodies) S.limit S.kept → (wides : List (Placed S.Wide))

@@ -24,7 +24,8 @@ pub fn law_one_more_iteration<S: Spoken>()
         → Comes (step S.language S.procedures S.limit) (at_test m ts c n) (goes (at_body m ts c (n + 1))) }
 {}
 
-/// A statement that is a loop with the iteration count r makes r iterations, these ones, and then the statement behind it comes next.
+/// A statement that is a loop with the iteration count r makes r iterations, these ones, and then the statement behind
+/// it comes next.
 pub fn law_counted_loop<S: Spoken>()
     ensures { (left : S.Core → Option ℕ) (m : Loop S.Act) → IsCounted S.language left m
         → (start : Parts S.Act) (rest : Steps S.Act) (ts : List (Task S.Act)) (b c d : S.Core) (n r k : ℕ) (es : List (Said S.Ask S.Reply))

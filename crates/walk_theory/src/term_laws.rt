@@ -9,7 +9,8 @@ ghost use Rattle.walk_theory.specs.Terms.{Term, Found, term_value, term_parts, T
 
 use crate::walk_laws::Spoken;
 
-/// A language with values, and its program: how a value is put down for the act that takes it, and what an operator means for its operands' values.
+/// A language with values, and its program: how a value is put down for the act that takes it, and what an operator
+/// means for its operands' values.
 pub trait Valued {
     ghost Act: { Type 0 };
 
@@ -32,15 +33,15 @@ pub trait Valued {
     ghost meaning: { Act → List Value → Core → Found Value };
 }
 
-/// The walk of parts that ask nothing and enter no procedure comes to what their plain evaluation comes to: what is left, or the first
-/// fault.
+/// The walk of parts that ask nothing and enter no procedure comes to what their plain evaluation comes to: what is
+/// left, or the first fault.
 pub fn law_parts_come<S: Spoken>()
     ensures { (p : Parts S.Act) (l : ℕ) (ts : List (Task S.Act)) (c : S.Core) (n : ℕ)
         → ComesTo S.language S.procedures S.limit (outcome S.language p c) l ts n (at_parts l p ts c n) }
 {}
 
-/// The walk of an expression leaves its value, operands evaluated before their operator and the left one first, or comes to the
-/// first fault.
+/// The walk of an expression leaves its value, operands evaluated before their operator and the left one first, or
+/// comes to the first fault.
 pub fn law_value_comes<S: Valued>()
     ensures { ((v : S.Value) (c : S.Core) → S.language.forget (S.put v c) ≡ S.language.forget c) → (t : Term S.Act)
         → TermActs S.language S.put S.meaning t → (l : ℕ) (ts : List (Task S.Act)) (c : S.Core) (n : ℕ)

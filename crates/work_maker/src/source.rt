@@ -119,8 +119,9 @@ fn push_source(out: &mut Vec<u8>, seed: u32, size: u32) -> Result<(), NoMemory>
     push_closing(out, size)
 }
 
-/// The source of the program that a seed and a size make: each image has an array of so many elements with the numbers of the
-/// seed, moves them up ten times with the last one of its left neighbour first, and image 1 prints the sum of all.
+/// The source of the program that a seed and a size make: each image has an array of so many elements with the numbers
+/// of the seed, moves them up ten times with the last one of its left neighbour first, and image 1 prints the sum of
+/// all.
 pub fn make_source(alloc: Global, seed: u32, size: u32) -> Result<Vec<u8>, NoMemory>
     requires seed { seed ≤ 2147483647 }
     requires size { (1 ≤ size) × (size ≤ 4096) }

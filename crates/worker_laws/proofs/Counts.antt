@@ -1,4 +1,5 @@
--- No stamp of a run is above the number of its events: below each stamp that an event has, another event has the one before.
+-- No stamp of a run is above the number of its events: below each stamp that an event has, another event has the one
+-- before.
 use Rattle.std.proofs.Common.{◌≡◌, ℕ, zero, suc, ◌+◌, ◌<◌, ◌≤◌, max, Bool, List, [], ◌∷◌, ◌++◌, ◌⊎◌, inl, inr, length, refl, ap, sym, ◌∙◌, subst, arith, append_assoc}
 use Rattle.std.proofs.lemmas.Bool.{cases_Bool, cases_lt}
 use Rattle.std.specs.List.{filter}

@@ -1,4 +1,5 @@
--- A run at the end of steps that images made at the same time: each image's walk, each object's history, and what the images have seen of the objects.
+-- A run at the end of steps that images made at the same time: each image's walk, each object's history, and what the
+-- images have seen of the objects.
 use Rattle.std.specs.Prelude.{ℕ, suc, ◌≡◌, List, [], length, map, Some}
 use Rattle.trace_theory.specs.Entries.{Each}
 use Rattle.trace_theory.specs.Machines.{WalkTo, Rests}
@@ -13,14 +14,16 @@ use Rattle.core_runs.specs.Beginnings.{Beginning, IsImage, IsPlace, numbers_to}
 use Rattle.core_runs.specs.CoreRuns.{IsFit}
 use Rattle.worker_laws.specs.Links.{AllClosed}
 
--- the events are a walk of the image's program to where it stands, at an ask or its end; each stands at a place of the run, and the image's own are done
+-- the events are a walk of the image's program to where it stands, at an ask or its end; each stands at a place of the
+-- run, and the image's own are done
 pub record HasCome {C M B : Type 0} (r : Rules C M B) (b : Beginning C M B) (i : ℕ) (es : List Event) (c : C) : Type 0 where
   pub walks : WalkTo r.step (b.first i) (map said es) c
   pub rests : Rests (r.step c)
   pub places : Each (λ e. IsPlace b (place_of e.ask)) es
   pub alone : Each (λ e. place_of e.ask ≡ Own → e.reply ≡ replies.Done) es
 
--- the images of a run that is fit have come where they stand, each object served its history, and what the images have seen of the objects makes their lists one
+-- the images of a run that is fit have come where they stand, each object served its history, and what the images have
+-- seen of the objects makes their lists one
 pub record AreTogether {C M B : Type 0} (r : Rules C M B) (b : Beginning C M B) (m : Moment C M B) : Type 0 where
   pub fit : IsFit r b
   pub count : length m.configs ≡ b.images

@@ -16,7 +16,8 @@ use caf_events::object::Object;
 use caf_events::walker::Walker;
 use trace_theory::order_laws::Entries;
 
-/// The lists of images and objects at the end are of one run, where the stamp that is due to an own step is one more than the image's last.
+/// The lists of images and objects at the end are of one run, where the stamp that is due to an own step is one more
+/// than the image's last.
 pub fn law_linked_woven<E: Entries>()
     ensures { (count : ℕ) (events histories : ℕ → List E.Entry)
         → AllClosed E.image E.place E.stamp count events histories
@@ -24,7 +25,8 @@ pub fn law_linked_woven<E: Entries>()
         → Woven E.image E.place E.stamp E.own events histories }
 {}
 
-/// No stamp of a run is above the number of its events, where the stamp that is due to an own step is one more than the image's last.
+/// No stamp of a run is above the number of its events, where the stamp that is due to an own step is one more than the
+/// image's last.
 pub fn law_stamps_few<E: Entries>()
     ensures images { (n : ℕ) (events histories : ℕ → List E.Entry)
         → Woven E.image E.place E.stamp E.own events histories → NoneElse events n

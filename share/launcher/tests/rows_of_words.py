@@ -128,14 +128,18 @@ _ROWS = """
 4 run --fail 3@1
 0 run --trace a.f90
 0 run --vars a.f90
+0 run --why a.f90
+0 run --why --vars --trace a.f90
 0 run --vars --trace a.f90
 3 run --trace
 3 run --trace --trace a.f90
 3 run --vars --vars a.f90
+3 run --why --why a.f90
 0 run --trace 1
 3 run --vars _
 4 run --trace 1 a.f90
 4 run --vars --trace
+3 run --why
 4 run --vars --trace --vars a.f90
 2 run --Trace a.f90
 2 run --trac a.f90
@@ -193,6 +197,7 @@ _ROWS = """
 2 judge --order 0 a.trace a.f90
 2 judge --trace a.trace a.f90
 2 judge --vars a.trace a.f90
+2 judge --why a.trace a.f90
 2 judge --made 1 4
 4 judge -n 2 --trace a.trace a.f90
 4 judge -n 2 --made 1 4
@@ -211,9 +216,11 @@ _ROWS = """
 3 replay a.trace --trace a.f90
 0 replay --trace a.trace a.f90
 0 replay --vars a.trace a.f90
+0 replay --why --vars a.trace a.f90
 0 replay --vars -n 2 --fail 1@1 --trace --steps 9 a.trace a.f90
 3 replay --trace --trace a.trace a.f90
 3 replay --vars --vars a.trace a.f90
+3 replay --why --why a.trace a.f90
 4 replay --trace a.trace
 2 replay -w 2 a.trace a.f90
 2 replay --order 0 a.trace a.f90

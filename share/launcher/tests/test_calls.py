@@ -125,7 +125,7 @@ class CallsTest(unittest.TestCase):
 
     def test_a_run_on_workers_is_traced(self) -> None:
         self.assertEqual(self.call("run", "-n", "2", FILE), 0)
-        self.assertEqual(self.programs_run(), [("/found", ["run", "--trace", "-n", "2", FILE])])
+        self.assertEqual(self.programs_run(), [("/found", ["run", "--trace", "--why", "-n", "2", FILE])])
 
     def test_a_trace(self) -> None:
         self.assertEqual(self.call("judge", FILE, FILE, "-n2"), 0)
@@ -143,7 +143,8 @@ class CallsTest(unittest.TestCase):
         self.run_program.return_value = outcome
         again = self.put(mock.patch("programs_called.run_again", return_value=outcome))
         self.assertEqual(self.call("replay", "-n", "2", "--trace", FILE, FILE), 6)
-        self.assertEqual(again.call_args.args[:2], ("/found", ["replay", "--vars", "-n", "2", "--trace", FILE, FILE]))
+        words = ["replay", "--vars", "--why", "-n", "2", "--trace", FILE, FILE]
+        self.assertEqual(again.call_args.args[:2], ("/found", words))
         self.assertEqual(self.call("judge", FILE, FILE), 6)
         self.assertEqual(again.call_count, 1)
 

@@ -1,4 +1,4 @@
-"""The sentences of docs/REFUSALS.md, and the cases that the launcher tells by them."""
+"""The sentences of docs/use/REFUSALS.md, and the cases that the launcher tells by them."""
 
 import glob
 import os

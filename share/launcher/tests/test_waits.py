@@ -7,7 +7,7 @@ from typing import List
 from source_text import Source
 from survey import survey
 from trace import read_run
-from waits import Held, Waiting, cycle_of, waits_of
+from waits import Held, Waiting, waits_of
 
 LOCKS = """\
 1 1 3 m1 lock l:0 > 0
@@ -47,7 +47,6 @@ class WaitsTest(unittest.TestCase):
         got = waits(LOCKS, LOCKS_SOURCE)
         self.assertEqual([it.others for it in got], [(Held(2, 5),), (Held(1, 3),)])
         self.assertEqual([it.thing for it in got], ["l[2]", "l[1]"])
-        self.assertEqual(cycle_of(got), [1, 2])
 
     def test_a_lock_that_was_released(self) -> None:
         text = LOCKS.replace("stuck", "2 2 5 m2 unlock l:0 > 0\nstuck", 1)
@@ -92,11 +91,6 @@ class WaitsTest(unittest.TestCase):
     def test_an_image_that_has_ended_is_awaited_by_none(self) -> None:
         text = "1 1 1 board arrive 1/-1 sync > round 1\n2 2 3 board stop 0 > ok\nstuck image 1 line 1 leave\n"
         self.assertEqual(waits(text, images=3)[0].others, (Held(3, 0),))
-
-    def test_longer_cycles(self) -> None:
-        got = [Waiting(it, it, "leave", "", (Held(it % 3 + 1, 0),)) for it in (1, 2, 3)]
-        self.assertEqual(cycle_of(got), [1, 2, 3])
-        self.assertEqual(cycle_of(got[:2]), [])
 
 
 class SurveyTest(unittest.TestCase):

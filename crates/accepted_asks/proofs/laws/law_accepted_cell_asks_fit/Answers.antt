@@ -5,4 +5,4 @@ pub returns-clause-named : goal.returns-clause-named
 returns-clause-named c x p accepts limit coarrays n fails_at words t declared fit valued core i a h e = accepted_named x p accepts limit coarrays n fails_at words t declared fit valued core i a h e
 
 pub returns-clause-own : goal.returns-clause-own
-returns-clause-own c x p accepts limit coarrays n fails_at words t declared own fit valued core quiet i a h e = accepted_own x p accepts limit coarrays n fails_at words t declared fit valued core own quiet i a h e
+returns-clause-own c x p accepts limit coarrays n fails_at words t declared own fit valued core i a h e = accepted_own x p accepts limit coarrays n fails_at words t declared fit valued core own i a h e

@@ -6,5 +6,5 @@ returns-clause-named c x p accepts limit coarrays n fails_at words t declared fi
     accepted_named x p accepts limit coarrays n fails_at words t declared fit valued core i a (record { image = w.image; config = w.config; walks = w.walks; asks = w.asks }) e
 
 pub returns-clause-own : goal.returns-clause-own
-returns-clause-own c x p accepts limit coarrays n fails_at words t declared own fit valued core quiet i line a w e =
-    accepted_own x p accepts limit coarrays n fails_at words t declared fit valued core own quiet i a (record { image = w.image; config = w.config; walks = w.walks; asks = w.asks }) e
+returns-clause-own c x p accepts limit coarrays n fails_at words t declared own fit valued core i line a w e =
+    accepted_own x p accepts limit coarrays n fails_at words t declared fit valued core own i a (record { image = w.image; config = w.config; walks = w.walks; asks = w.asks }) e

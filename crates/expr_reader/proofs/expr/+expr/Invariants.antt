@@ -12,7 +12,8 @@ use Rattle.expr_reader.proofs.Loops.{operators}
 use Rattle.expr_reader.proofs.Repeats.{items}
 use Rattle.expr_reader.proofs.expr.+expr.Given as goal
 
--- A level has a reader for each strength with a loop for each chain, and those of primaries; within brackets are those of the next level.
+-- A level has a reader for each strength with a loop for each chain, and those of primaries; within brackets are those
+-- of the next level.
 abbrev pub decreases-expression : goal.decreases-expression
 decreases-expression l = l.left * 200 + 89
 

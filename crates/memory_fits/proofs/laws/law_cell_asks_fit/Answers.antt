@@ -5,4 +5,4 @@ pub returns-clause-named : goal.returns-clause-named
 returns-clause-named c p limit coarrays n fails_at words t declared core ranked typed small i a h e = named_fits p limit coarrays n fails_at words t declared core ranked typed small i a h e
 
 pub returns-clause-own : goal.returns-clause-own
-returns-clause-own c p limit coarrays n fails_at words t declared core ranked typed small quiet own i a h e = own_fits p limit coarrays n fails_at words t declared core ranked typed small quiet own i a h e
+returns-clause-own c p limit coarrays n fails_at words t declared core ranked typed small own i a h e = own_fits p limit coarrays n fails_at words t declared core ranked typed small own i a h e

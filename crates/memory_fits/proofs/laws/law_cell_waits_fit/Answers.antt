@@ -6,5 +6,5 @@ returns-clause-named c p limit coarrays n fails_at words t declared core ranked 
     named_fits p limit coarrays n fails_at words t declared core ranked typed small i a (record { image = w.image; config = w.config; walks = w.walks; asks = w.asks }) e
 
 pub returns-clause-own : goal.returns-clause-own
-returns-clause-own c p limit coarrays n fails_at words t declared core ranked typed small quiet own i line a w e =
-    own_fits p limit coarrays n fails_at words t declared core ranked typed small quiet own i a (record { image = w.image; config = w.config; walks = w.walks; asks = w.asks }) e
+returns-clause-own c p limit coarrays n fails_at words t declared core ranked typed small own i line a w e =
+    own_fits p limit coarrays n fails_at words t declared core ranked typed small own i a (record { image = w.image; config = w.config; walks = w.walks; asks = w.asks }) e

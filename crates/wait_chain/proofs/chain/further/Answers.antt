@@ -6,11 +6,8 @@ use Rattle.wait_chain.specs.Reports.{as_waits}
 use Rattle.wait_chain.proofs.Chaining.{comes_by}
 use Rattle.wait_chain.proofs.chain.further.Goals as goal
 
-pub least_awaited-requires : goal.least_awaited-requires
-least_awaited-requires c = c.requires.stuck.lawful.images
-
 pub returns : goal.returns
 returns c =
     subst (ComesBehind c.args.n c.args.before.now (as_waits c.args.waits.now) (numbers_of c.args.links.now)) (sym c.comes_behind.ensures)
-    (comes_by c.args.n c.args.before.now (as_waits c.args.waits.now) c.requires.stuck (numbers_of c.args.links.now) c.args.last.0 c.in_ok-next.next c.requires.open c.requires.last
+    (comes_by c.args.n c.args.before.now (as_waits c.args.waits.now) (numbers_of c.args.links.now) c.args.last.0 c.in_ok-next.next c.requires.open c.requires.last
     (subst (λ z. IsLeast (awaits c.args.n c.args.before.now c.args.last.0 z) c.args.n c.in_ok-next.next) c.awaited_in-awaited.ensures c.in_ok-next.ensures))

@@ -1,35 +1,19 @@
-use Rattle.std.proofs.Common.{◌≡◌, [], ◌∷◌, ◌++◌, length, ap, sym, ◌∙◌, subst, arith}
-use Rattle.std.proofs.lemmas.List.{length-append}
+use Rattle.std.proofs.Common.{sym, subst}
 use Rattle.object_rules.specs.Happenings.{numbers_of}
-use Rattle.wait_chain.specs.Links.{last_of, IsOpen, ComesBehind}
+use Rattle.wait_reason.specs.Chains.{post}
+use Rattle.wait_chain.specs.Awaited.{IsLeast}
+use Rattle.wait_chain.specs.Counts.{is_left}
 use Rattle.wait_chain.specs.Reports.{as_waits}
-use Rattle.wait_chain.proofs.Reporting.{first_link, open_more, last_link_more, links_few}
+use Rattle.wait_chain.specs.ToldChains.{IsToldChain}
+use Rattle.wait_chain.proofs.Chaining.{first_link, no_link}
 use Rattle.wait_chain.proofs.chain.why.Goals as goal
 
-pub loop-count-init : goal.loop-count-init
-loop-count-init c =
-    let one = c.in_ok-links.ensures in
-    let size = ap length one in record {
-      open_ = subst (λ z. IsOpen c.args.n c.args.before.now (as_waits c.args.waits.now) (numbers_of z)) (sym one) (first_link c.args.n c.args.before.now c.args.waits.now c.index-waits-0.result c.requires);
-      last = ap (λ z. last_of (numbers_of z)) one;
-      size = omega arith;
-    }
+pub why_from-requires : goal.why_from-requires
+why_from-requires c =
+    first_link c.args.n c.args.before.now (as_waits c.args.waits.now) c.in-Some.first
+    (subst (IsLeast (is_left c.args.before.now) c.args.n) c.in-Some.is c.first_left.ensures)
 
-pub loop-count-preserved : goal.loop-count-preserved
-loop-count-preserved c =
-    let more : c.push.new.self ≡ c.loop-count.links ++ c.in-Next.image ∷ [] = c.in_ok-push-in-Next.ensures.pushed in
-    let size = ap length more ∙ length-append c.loop-count.links (c.in-Next.image ∷ []) in
-    let was = c.loop-count.invariant.size in
-    let links = subst (λ z. ComesBehind c.args.n c.args.before.now (as_waits c.args.waits.now) (numbers_of z) c.in_ok-image.field-0) c.as_slice.ensures c.in_ok-image.ensures in
-    let next = subst (ComesBehind c.args.n c.args.before.now (as_waits c.args.waits.now) (numbers_of c.loop-count.links)) c.in-Next.is links in record {
-      open_ = subst (λ z. IsOpen c.args.n c.args.before.now (as_waits c.args.waits.now) (numbers_of z)) (sym more) (open_more c.args.n c.args.before.now (as_waits c.args.waits.now) c.loop-count.links c.in-Next.image next);
-      last = ap (λ z. last_of (numbers_of z)) more ∙ last_link_more c.loop-count.links c.in-Next.image;
-      size = omega arith;
-    }
-
-pub unreachable-requires : goal.unreachable-requires
-unreachable-requires c =
-    let few = links_few c.args.n c.args.before.now (as_waits c.args.waits.now) c.loop-count.links c.loop-count.invariant.open_ in
-    let size = c.loop-count.invariant.size in
-    let end = c.loop-count-test.false in
-    absurd (omega arith)
+pub returns-in-None : goal.returns-in-None
+returns-in-None c =
+    subst (λ ls. IsToldChain c.args.n c.args.before.now (as_waits c.args.waits.now) (numbers_of ls) post) (sym c.new.ensures)
+    (no_link c.args.n c.args.before.now (as_waits c.args.waits.now) (subst (IsLeast (is_left c.args.before.now) c.args.n) c.in-None.is c.first_left.ensures))

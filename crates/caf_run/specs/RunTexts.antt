@@ -1,0 +1,33 @@
+-- What is written of a run: the text of its report, and behind it why the run is stuck, where the words ask for that:
+-- the lines of the chain of waits that its trace tells with the waits of its report.
+use Rattle.std.specs.Prelude.{ℕ, ◌≡◌, Bool, true, List, [], ◌++◌}
+use Rattle.caf_events.specs.declared.event.Entry.{Entry}
+use Rattle.caf_report.specs.declared.report.End.{End}
+use Rattle.caf_report.specs.declared.report.End.TheVariants as ends
+use Rattle.caf_report.specs.declared.report.Report.{Report}
+use Rattle.caf_report.specs.declared.report.Shown.{Shown}
+use Rattle.caf_report.specs.declared.report.Waiting.{Waiting}
+use Rattle.caf_report.specs.ReportText.{report_text}
+use Rattle.caf_words.specs.declared.command.Options.{Options}
+use Rattle.wait_reason.specs.Chains.{Close}
+use Rattle.wait_chain.specs.Reports.{as_waits}
+use Rattle.wait_chain.specs.ToldChains.{IsToldChain}
+use Rattle.wait_lines.specs.ChainText.{chain_text}
+
+-- what a run shows beside what was printed and the end: its final values, its trace and its summary where it is told to
+abbrev pub shown_of : Options → Shown
+shown_of o = record { vars = o.vars; trace = o.trace; summary = o.summary }
+
+-- the lines of the chain of waits that the trace of n images tells, which wait with these asks
+abbrev pub IsChainText : ℕ → List Entry → List Waiting → List ℕ → Type 0
+IsChainText n t waits text = (links : List ℕ) × (close : Close) × IsToldChain n t (as_waits waits) links close × (text ≡ chain_text links close)
+
+-- the lines behind the text of the report of a run of n images, where it is to be told why or not: those of the chain
+-- where the run is stuck, else none
+abbrev pub TellsWhy : Bool → ℕ → List Entry → End → List ℕ → Type 0
+TellsWhy true n t (ends.Stuck waits) why = IsChainText n t waits why
+TellsWhy is_asked n t end why = why ≡ []
+
+-- what is written of a run, as the words tell it
+abbrev pub IsRunText : Options → Report → List ℕ → Type 0
+IsRunText o r text = (why : List ℕ) × TellsWhy o.why r.images r.trace.entries r.end why × (text ≡ report_text (shown_of o) r ++ why)
