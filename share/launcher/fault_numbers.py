@@ -3,7 +3,7 @@
 import re
 from typing import Iterator, Optional, Tuple
 
-from fault_line import Case, Line
+from fault_line import Case, Line, of_name
 from source_text import closing, references, split_list
 
 _OPERATOR = re.compile(r"\*\*|(?<![/(])/(?![/=)])|[-+*]")
@@ -35,6 +35,10 @@ def overflow(line: Line) -> Case:
     text, place, value = _outside(line, text, place, kind)
     found = {"thing": text, "kind": kind, "value": value, "limit": _limit(kind, value or 0)}
     operators = [it[0] for it in _OPERATOR.finditer(text)]
+    asked = [it for it in line.references() if it.name == "team_number" and it.subscripts is not None]
+    if asked and value is None:
+        alone = not operators and "," not in text
+        return of_name(asked[0], "team number") if alone else Case("expression", found, place, len(text))
     if len(operators) == 1 and not text.startswith("-") and "," not in text:
         found["operation"] = _NAMES[operators[0]]
         return Case("operation of a value" if value is not None else "operation", found, place, len(text))

@@ -111,7 +111,9 @@ def _not_allocated(line: Line) -> Case:
     found = [(it, line.declared(it.name)) for it in line.references()]
     names = {it.name: it for it, declared in found if declared and declared.is_allocatable}
     if len(names) == 1:
-        return of_name(next(iter(names.values())), "own")
+        calls = any(line.where.source.has_procedure(it.name) for it, _ in found)
+        is_event = re.match(r"event[ \t]+wait\b|call[ \t]+event_query\b", line.text, re.ASCII)
+        return of_name(next(iter(names.values())), "anew" if is_event and calls else "own")
     return Case("alone", {"things": " or ".join(names)}) if names else Case("unknown")
 
 

@@ -116,6 +116,26 @@ class MessagesTest(unittest.TestCase):
                 self.assertTrue(got[0].startswith("a.f90:2:1: error: "), got)
                 self.assertIn(wanted, got[0])
 
+    def test_faults_of_a_function_on_the_line(self) -> None:
+        rows = [
+            (b"k = team_number()", "Overflow", "5: error: TEAM_NUMBER gives a team number that leaves kind 4 on image 1"),
+            (b"k = team_number() + 1", "Overflow", "5: error: a number in `team_number() + 1` leaves its kind"),
+            (b"k = n + 1", "Overflow", "5: error: the sum `n + 1` leaves kind 4 on image 1"),
+        ]
+        for text, kind, wanted in rows:
+            with self.subTest(text=text):
+                got = said(8, b"integer :: k, n\n" + text + b"\nend\n", f"fault image 1 line 2 {kind}")
+                self.assertIn(f"a.f90:2:{wanted}", got[0])
+        source = (
+            b"use iso_fortran_env\ntype (event_type), allocatable :: ev(:)[:]\nallocate (ev(2)[*])\n"
+            b"event wait (ev(2), until_count=%s)\ncontains\ninteger function f()\nf = 1\nend function\nend\n"
+        )
+        for count, wanted in ((b"f()", "ev isn't allocated on image 1, or was allocated anew without the element ["),
+                              (b"1", "ev isn't allocated on image 1 [")):
+            with self.subTest(count=count):
+                got = said(8, source % count, "fault image 1 line 4 NotAllocated")
+                self.assertIn(f": error: {wanted}", got[0])
+
     def test_a_limit_that_no_option_raises(self) -> None:
         got = said(7, b"do\n", "limit image 1 line 1 statements 100000001")
         self.assertIn("help: --steps allows no more", got)
