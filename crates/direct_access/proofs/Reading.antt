@@ -26,8 +26,8 @@ use Rattle.tree_meaning.specs.Environment.{scope_of}
 use Rattle.tree_meaning.specs.Sequences.{◌▸◌, doing, dropping}
 use Rattle.tree_meaning.specs.Expressions.{storing_status, optional_size, as_value, reading}
 use Rattle.direct_meaning.specs.States as states
-use Rattle.direct_meaning.specs.States.{State, state_of, with_state, with_scalar, array_in}
-use Rattle.direct_meaning.specs.Outcomes.{Outcome, done, and_then, Does, giving, nothing_said, ◌▹◌, or_fault, changing, asking}
+use Rattle.direct_meaning.specs.States.{State, state_of, with_state, scalar_in, with_scalar, array_in}
+use Rattle.direct_meaning.specs.Outcomes.{Outcome, done, and_then, Does, giving, nothing_said, ◌▹◌, of_some, or_fault, changing, asking}
 use Rattle.direct_meaning.specs.Told.{of_effect, told}
 use Rattle.direct_meaning.specs.Values.{Value, number, value_of_rank, set_elements, read_values}
 use Rattle.direct_meaning.specs.Images.{image}
@@ -128,6 +128,15 @@ element_set s x i v r l z c n k =
     (there_then (put_read r c) (Keeps n) (array_in s x z) F G A (told (dropping 1) l) l D
     (λ w e. put_some s x i v w (elements_there (point i) w) r l z c n k))))
 
+-- a scalar variable that is there gets the status
+whole_set : (s : Scope) (x : ℕ) (v : ℤ) (q : Option ℤ) (r : Array) (l : ℕ) (z : State) (c : Core) (n : ℕ) → Kept n z
+    → Comes (put_read r c) (Keeps n) ((of_some q ▹ (λ w. changing (with_scalar s x v))) l z)
+    (done (frames.with_cell s x v (with_array r (with_state z c))))
+whole_set s x v None r l z c n k = tt
+whole_set s x v (Some w) r l z c n k =
+    let p = stored s x v r z c in
+    (ap (λ d. done d) p.0, subst (λ m. (n ≤ m) × (m ≤ 65536)) p.1 k)
+
 -- the variable of STAT= gets the status, and what was put down for it is dropped
 pub set_comes : (stat : t.OptionalResult) (g : Target) → TargetOf stat g → (v : ℤ) (r : Array) (l : ℕ) (z : State) (c : Core) (n : ℕ)
     → Kept n z
@@ -135,9 +144,7 @@ pub set_comes : (stat : t.OptionalResult) (g : Target) → TargetOf stat g → (
     (and_then (told (storing_status 1 stat) l (pushed v (with_array r (with_state z (with_target c g)))))
     (told (dropping (optional_size stat)) l))
 set_comes stat g none v r l z c n k = (refl, k)
-set_comes stat g (whole u j) v r l z c n k =
-    let p = stored (scope_of u.home) u.variable v r z c in
-    (ap (λ d. done d) p.0, subst (λ m. (n ≤ m) × (m ≤ 65536)) p.1 k)
+set_comes stat g (whole u j) v r l z c n k = whole_set (scope_of u.home) u.variable v (scalar_in (scope_of u.home) u.variable z) r l z c n k
 set_comes stat g (part u x es j i) v r l z c n k = element_set (scope_of u.home) u.variable i v r l z c n k
 
 -- the value of what was read

@@ -49,12 +49,12 @@ value_of_rank zero ns [] = nothing_said
 value_of_rank zero ns (v ∷ vs) = giving (number v)
 value_of_rank (suc r) ns vs = using (length vs) ▹ (λ u. giving (array (record { extents = ns; elements = vs })))
 
--- a scalar variable (9.4)
+-- a scalar variable (9.4); nothing is said of one that isn't there
 abbrev pub scalar : Scope → ℕ → Does ℤ
 scalar x n = λ l s. of_some (scalar_in x n s) l s
 
 abbrev pub set_scalar : Scope → ℕ → ℤ → Does (Unit {0})
-set_scalar x n v = λ l s. giving tt l (with_scalar x n v s)
+set_scalar x n v = scalar x n ▹ (λ w. changing (with_scalar x n v))
 
 -- an array: it has to be allocated
 abbrev pub allocated : Scope → ℕ → Does Local

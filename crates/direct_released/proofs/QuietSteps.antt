@@ -21,9 +21,9 @@ use Rattle.image_acts.specs.Words.{word}
 use Rattle.tree_meaning.specs.Sequences.{◌▸◌, takes, bringing}
 use Rattle.tree_meaning.specs.Expressions as parts
 use Rattle.tree_meaning.specs.Expressions.{expression, operating, arithmetic_act, relation_act, logic_act, local_value, form_of, is_scalar, stat_of, optional_size, storing_status, reading, needing_own, as_value, count_of}
-use Rattle.direct_meaning.specs.States.{State, with_array, array_in, own_in, scalar_in}
+use Rattle.direct_meaning.specs.States.{State, with_scalar, with_array, array_in, own_in, scalar_in}
 use Rattle.direct_meaning.specs.Outcomes.{Does, giving, fault, nothing_said, ◌▹◌, asking, unless, or_fault, of_some, of_found, changing}
-use Rattle.direct_meaning.specs.Values.{Value, number, as_number, ◌▹ℤ◌, scalar, set_elements, allocated, part_of, elements_of, local_part, value_of_rank, coarray_part, part_of_own, owned, need_own, read_part, read_values, whole_bounds, default_kind, dimension}
+use Rattle.direct_meaning.specs.Values.{Value, number, as_number, ◌▹ℤ◌, scalar, set_scalar, set_elements, allocated, part_of, elements_of, local_part, value_of_rank, coarray_part, part_of_own, owned, need_own, read_part, read_values, whole_bounds, default_kind, dimension}
 use Rattle.direct_meaning.specs.Images.{the, own_index, members, current_team, own_team, known_team, numbered_team, sibling, image_in, selected_image, this_image, images_of_number, team_of_level, parent_of, numbered_in, cosubscript, is_established, image, team, status}
 use Rattle.direct_meaning.specs.Expressions.{Target, nowhere, variable as to_variable, element, set_target, read_from, status_of_image, scalars_as_written, scalar_as_written, as_written}
 use Rattle.direct_released.proofs.Quiet.{IsQuiet, q_then, q_giving, q_cond, q_unless, q_found, q_some, q_or_fault, q_asking, q_number, q_scalar_then, scalar_same, array_same, neither}
@@ -106,9 +106,12 @@ q_set_elements s x p ws =
     (q_or_fault shape_fault (elements_of w p))
     (λ vs l z. array_same s x (record w { elements = with_elements_at (offsets p) ws w.elements }) z))
 
+pub q_set_scalar : (s : Scope) (x : ℕ) (v : ℤ) → IsQuiet (set_scalar s x v)
+q_set_scalar s x v = q_then (scalar s x) (λ w. changing (with_scalar s x v)) (q_scalar s x) (λ w l z. scalar_same s x v z)
+
 pub q_set_target : (g : Target) (v : ℤ) → IsQuiet (set_target g v)
 q_set_target nowhere v = λ l z. (refl, refl)
-q_set_target (to_variable s x) v = λ l z. scalar_same s x v z
+q_set_target (to_variable s x) v = q_set_scalar s x v
 q_set_target (element s x p) v = q_set_elements s x p (v ∷ [])
 
 pub q_read_values : (p : Place) (r : Reply) → IsQuiet (read_values p r)

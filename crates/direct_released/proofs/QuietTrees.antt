@@ -407,9 +407,10 @@ module _ (e : Environment) (calls : ℕ → List Passed → Does Value) where
     quiet_intrinsic n (t.failed_images which) k h q = absurd (true≢false (neither (takes (parts.team_of e which)) true q).1)
     quiet_intrinsic n (t.stopped_images which) k h q = absurd (true≢false (neither (takes (parts.team_of e which)) true q).1)
     quiet_intrinsic n (t.number_of_team which) k h q =
-        q_then (team_of e calls which) (λ m. known_team m ▹ (λ r. giving (number r.number)))
+        q_then (team_of e calls which) (λ m. known_team m ▹ (λ r. unless overflow (fits_kind k r.number) (giving (number r.number))))
         (quiet_team n which h (neither (takes (parts.team_of e which)) false q).0)
-        (λ m. q_then (known_team m) (λ r. giving (number r.number)) (q_known_team m) (λ r. q_giving (number r.number)))
+        (λ m. q_then (known_team m) (λ r. unless overflow (fits_kind k r.number) (giving (number r.number))) (q_known_team m)
+        (λ r. q_unless overflow (fits_kind k r.number) (giving (number r.number)) (q_giving (number r.number))))
     quiet_intrinsic n (t.get_team t.missing) k h q = λ l z. (refl, refl)
     quiet_intrinsic n (t.get_team (t.given x)) k h q =
         q_scalar_then (V x) (λ v. team_of_level v ▹ (λ m. giving (number (pos m)))) (quiet_value n x h (neither (T x) false q).0)

@@ -44,8 +44,8 @@ use Rattle.direct_statements.proofs.Assignments.{assignment_law}
 use Rattle.direct_output.specs.Laws.{AreItems, HasLines}
 use Rattle.direct_output.proofs.Printing.{print_law}
 use Rattle.direct_released.specs.Laws.{put_control, IsFree, StatementLaw}
-use Rattle.direct_released.proofs.Quiet.{Leaves, leaves_then, said_leaves, IsQuiet, q_then, q_giving, q_cond, q_unless, q_found, q_asking, q_number, scalar_same, neither}
-use Rattle.direct_released.proofs.QuietSteps.{q_part_of, q_coarray_part, q_need_own, q_this_image, q_set_elements, q_set_target, first_of, last_of}
+use Rattle.direct_released.proofs.Quiet.{Leaves, leaves_then, said_leaves, IsQuiet, q_then, q_giving, q_cond, q_unless, q_found, q_asking, q_number, neither}
+use Rattle.direct_released.proofs.QuietSteps.{q_part_of, q_coarray_part, q_need_own, q_this_image, q_set_elements, q_set_scalar, q_set_target, first_of, last_of}
 use Rattle.direct_released.proofs.QuietTrees.{all_quiet, selected_quiet, selector_of, quiet_value, quiet_subscripts, quiet_scalars, quiet_selected, quiet_target}
 
 -- an assignment's own steps take no cell
@@ -125,7 +125,7 @@ module _ (limit : ℕ) (e : Environment) (calls : ℕ → List Passed → Does V
   quiet_assigned (t.part (objects.Local v) t.no_subscripts sel) k zero from r x h q =
       q_then (as_number x) (λ z. converted from k x ▹ (λ u. set_scalar (scope_of v.home) v.variable z)) (q_number x)
       (λ z. q_then (converted from k x) (λ u. set_scalar (scope_of v.home) v.variable z) (q_converted from k x)
-      (λ u l y. scalar_same (scope_of v.home) v.variable z y))
+      (λ u. q_set_scalar (scope_of v.home) v.variable z))
   quiet_assigned (t.part (objects.Local v) t.no_subscripts sel) k (suc m) from r x h q = local_quiet (scope_of v.home) v.variable
       t.no_subscripts (suc m) from k x (λ l z. (refl, refl))
   quiet_assigned (t.part (objects.Local v) (t.more_subscripts s ss) sel) k rank from r x h q =

@@ -16,8 +16,8 @@ use Rattle.image_acts.specs.Meaning.{operate, settled}
 use Rattle.tree_meaning.specs.Sequences.{◌▸◌, doing}
 use Rattle.tree_meaning.specs.Assignments.{agreeing, putting}
 use Rattle.direct_meaning.specs.States as states
-use Rattle.direct_meaning.specs.States.{State, state_of, with_state, with_scalar, array_in}
-use Rattle.direct_meaning.specs.Outcomes.{Outcome, done, and_then, Does, giving, ◌▹◌, or_fault, changing}
+use Rattle.direct_meaning.specs.States.{State, state_of, with_state, scalar_in, with_scalar, array_in}
+use Rattle.direct_meaning.specs.Outcomes.{Outcome, done, and_then, Does, giving, ◌▹◌, of_some, or_fault, changing}
 use Rattle.direct_meaning.specs.Told.{of_effect, told}
 use Rattle.direct_meaning.specs.Values.{number, array, set_elements, set_scalar}
 use Rattle.direct_meaning.specs.Statements.{defined}
@@ -71,9 +71,15 @@ put_there : (s : Scope) (x : ℕ) (w : Local) (z : State) (c : Core)
 put_there here x w z c = (refl, refl)
 put_there host x w z c = host_put z.callers x w z c
 
+some_stored : (s : Scope) (x : ℕ) (v : ℤ) (q : Option ℤ) (l : ℕ) (z : State) (c : Core) (n : ℕ) → Kept n z
+    → Comes (put_nothing c) (Keeps n) ((of_some q ▹ (λ w. changing (with_scalar s x v))) l z)
+    (told (doing (variable (a.store s x) ∷ [])) l (over_number c v [] z))
+some_stored s x v None l z c n k = tt
+some_stored s x v (Some w) l z c n k = let p = stored s x v z c in (ap (λ d. done d) p.0, subst (λ m. (n ≤ m) × (m ≤ 65536)) p.1 k)
+
 pub scalar_stored : (s : Scope) (x : ℕ) (v : ℤ) (l : ℕ) (z : State) (c : Core) (n : ℕ) → Kept n z
     → Comes (put_nothing c) (Keeps n) (set_scalar s x v l z) (told (doing (variable (a.store s x) ∷ [])) l (over_number c v [] z))
-scalar_stored s x v l z c n k = let p = stored s x v z c in (ap (λ d. done d) p.0, subst (λ m. (n ≤ m) × (m ≤ 65536)) p.1 k)
+scalar_stored s x v l z c n k = some_stored s x v (scalar_in s x z) l z c n k
 
 -- elements get other values
 abbrev pub with_elements : Local → Place → List ℤ → Local

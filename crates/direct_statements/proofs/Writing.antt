@@ -1,5 +1,5 @@
 -- A part of a coarray is defined on an image: the shape, the access, the status in the variable of STAT=, and faults.
-use Rattle.std.proofs.Common.{arith, ◌≡◌, refl, ap, sym, subst, ◌∙◌, ℕ, zero, suc, ◌+◌, ◌≤◌, ◌==◌, ℤ, pos, Bool, true, false, true≢false, not, cond, List, [], ◌∷◌, length, map, replicate}
+use Rattle.std.proofs.Common.{arith, ◌≡◌, refl, ap, sym, subst, ◌∙◌, ℕ, zero, suc, ◌+◌, ◌≤◌, ◌==◌, ℤ, pos, Bool, true, false, true≢false, not, cond, List, [], ◌∷◌, length, map, replicate, Option, None, Some}
 use Rattle.caf_base.specs.declared.value.Kind.{Kind}
 use Rattle.caf_base.specs.Arithmetic.{value_of, truth}
 use Rattle.caf_events.specs.declared.ask.Ask.TheVariants as asked
@@ -12,6 +12,7 @@ use Rattle.image_acts.specs.Statuses.{failed_image}
 use Rattle.image_acts.specs.Acts as a
 use Rattle.image_acts.specs.Acts.{Act, Scope, stack, variable, bounded, ask}
 use Rattle.image_acts.specs.Core.{Core, Array, pushed, with_values, with_array}
+use Rattle.image_acts.specs.Frames as frames
 use Rattle.image_acts.specs.Places.{Place, place_numbers, place_size, cells_of}
 use Rattle.image_acts.specs.Replies.{with_status}
 use Rattle.image_acts.specs.Taking.{put_down as put_numbers}
@@ -22,8 +23,8 @@ use Rattle.tree_meaning.specs.Environment.{scope_of}
 use Rattle.tree_meaning.specs.Sequences.{◌▸◌, doing, dropping, copying, pushing}
 use Rattle.tree_meaning.specs.Expressions.{optional_size, storing_status}
 use Rattle.tree_meaning.specs.Assignments.{dropping_value, left_over}
-use Rattle.direct_meaning.specs.States.{State, with_state}
-use Rattle.direct_meaning.specs.Outcomes.{Outcome, done, faults, asks, over as ended, unsaid, and_then, Does, giving, ◌▹◌, asking}
+use Rattle.direct_meaning.specs.States.{State, with_state, scalar_in, with_scalar}
+use Rattle.direct_meaning.specs.Outcomes.{Outcome, done, faults, asks, over as ended, unsaid, and_then, Does, giving, ◌▹◌, of_some, changing, asking}
 use Rattle.direct_meaning.specs.Told.{of_effect, told}
 use Rattle.direct_meaning.specs.Values.{set_elements}
 use Rattle.direct_meaning.specs.Images.{image}
@@ -72,14 +73,20 @@ element_set s x i v us m l z c n k e =
 abbrev pub beneath : Core → Target → ℤ → Core
 beneath c g v = elim (target_numbers g) [ [] ↦ c | i ∷ is ↦ with_values c (i ∷ v ∷ c.values) ]
 
+-- a scalar variable that is there gets the status
+whole_set : (s : Scope) (x : ℕ) (w : ℤ) (q : Option ℤ) (l : ℕ) (z : State) (c : Core) (n : ℕ) → Kept n z
+    → Comes (put_nothing c) (Keeps n) ((of_some q ▹ (λ v. changing (with_scalar s x w))) l z) (done (frames.with_cell s x w (with_state z c)))
+whole_set s x w None l z c n k = tt
+whole_set s x w (Some v) l z c n k = let p = stored s x w z c in (ap (λ d. done d) p.0, subst (λ m. (n ≤ m) × (m ≤ 65536)) p.1 k)
+
 -- the variable of STAT= gets the status, and what is left is dropped
 pub set_behind_number : (stat : t.OptionalResult) (g : Target) → TargetOf stat g → (v w : ℤ) (l : ℕ) (z : State) (c : Core) (n : ℕ)
     → Kept n z
     → Comes (put_nothing c) (Keeps n) (set_target g w l z)
     (told (storing_status 1 stat ▸ dropping (left_over 0 (optional_size stat))) l (pushed w (with_state z (beneath c g v))))
 set_behind_number stat g none v w l z c n k = (refl, k)
-set_behind_number stat g (whole u j) v w l z c n k = let p = stored (scope_of u.home) u.variable w z c in
-    (ap (λ d. done d) p.0, subst (λ m. (n ≤ m) × (m ≤ 65536)) p.1 k)
+set_behind_number stat g (whole u j) v w l z c n k =
+    whole_set (scope_of u.home) u.variable w (scalar_in (scope_of u.home) u.variable z) l z c n k
 set_behind_number stat g (part u x es j i) v w l z c n k = element_set (scope_of u.home) u.variable i w (v ∷ c.values) 2 l z c n k
     (λ y. refl)
 
@@ -88,8 +95,8 @@ pub set_behind_array : (stat : t.OptionalResult) (g : Target) → TargetOf stat 
     → Comes (put_nothing c) (Keeps n) (set_target g w l z)
     (told (storing_status 1 stat ▸ dropping (left_over (suc r) (optional_size stat))) l (pushed w (with_state z (with_target c g))))
 set_behind_array stat g none r w l z c n k = (refl, k)
-set_behind_array stat g (whole u j) r w l z c n k = let p = stored (scope_of u.home) u.variable w z c in
-    (ap (λ d. done d) p.0, subst (λ m. (n ≤ m) × (m ≤ 65536)) p.1 k)
+set_behind_array stat g (whole u j) r w l z c n k =
+    whole_set (scope_of u.home) u.variable w (scalar_in (scope_of u.home) u.variable z) l z c n k
 set_behind_array stat g (part u x es j i) r w l z c n k = element_set (scope_of u.home) u.variable i w c.values 1 l z c n k (λ y. refl)
 
 -- the acts of an access, where its owner and its place are on top

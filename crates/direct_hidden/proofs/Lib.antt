@@ -1,0 +1,4 @@
+pub mod Blind
+pub mod BlindSteps
+pub mod BlindTrees
+pub mod BlindStatements

@@ -1,0 +1,4 @@
+pub mod Walking
+pub mod Cells
+pub mod Cases
+pub mod Loops
