@@ -1,4 +1,4 @@
--- The next ask for a lock or an event in a run of an accepted program fits.
+-- The next ask for a lock, an event or an atom in a run of an accepted program fits.
 use Rattle.std.specs.Prelude.{◌≡◌, ℕ, true, List}
 use Rattle.std.specs.List.{list_all}
 use Rattle.fortran_tree.specs.Units as u

@@ -22,8 +22,8 @@ ghost use Rattle.memory_fits.specs.CellAsks.{is_of_cell, is_of_own_event};
 ghost use Rattle.next_fits.specs.Known.{IsSound};
 
 /// In a core run of an accepted program, whose coarrays hold what it declares and fit an image, each next ask of an
-/// image with LOCK, UNLOCK or EVENT POST fits (11.6.7, 11.6.10), and each one with EVENT WAIT or EVENT_QUERY (11.6.8,
-/// 16.9.72).
+/// image with LOCK, UNLOCK, EVENT POST or an atomic subroutine fits (11.6.7, 11.6.10, 16.5), and each one with EVENT
+/// WAIT or EVENT_QUERY (11.6.8, 16.9.72).
 pub fn law_accepted_cell_asks_fit()
     ensures named { (x : units.Program) (p : checked.Program) → Accepts x p → (limit : ℕ) (coarrays : List Declared) (n : ℕ) (fails_at : ℕ → ℕ) (words : ℕ) (t : List Entry)
         → HoldWhatIsDeclared p coarrays → are_fit 0 (tables_of p).coarrays ≡ true → list_all has_first_values coarrays ≡ true → IsCoreRun (program_rules p limit) (program_begins p coarrays n fails_at words) t

@@ -1,17 +1,19 @@
--- Each action statement on a lock or an event that breaks no rule names a declared one.
+-- Each action statement on a lock, an event or an atom that breaks no rule names a declared one.
 use Rattle.std.proofs.Common.{◌≡◌, ℕ, zero, ◌+◌, Bool, true, false, List, [], ◌∷◌}
 use Rattle.std.specs.Prelude.{codes, not, map, cond, Option, Some, None}
 use Rattle.caf_base.specs.declared.place.Pos.{Pos}
 use Rattle.caf_base.specs.declared.value.Kind.{Kind}
+use Rattle.caf_base.specs.declared.value.Kind.TheVariants.{I4, I8, L4}
 use Rattle.fortran_tree.specs.Expressions as f
 use Rattle.fortran_tree.specs.Statements as fs
 use Rattle.fortran_tree.specs.declared.name.Name.{Name}
 use Rattle.checked_tree.specs.Expressions as t
 use Rattle.checked_tree.specs.Statements as ts
-use Rattle.checked_tree.specs.declared.data.DataType.TheVariants.{Intrinsic, Event, Lock}
+use Rattle.checked_tree.specs.declared.data.DataType.TheVariants.{Intrinsic, Team, Event, Lock}
 use Rattle.checked_tree.specs.declared.data.Local.{Local}
 use Rattle.checked_tree.specs.declared.data.Object.TheVariants as objects
-use Rattle.rule_definitions.specs.declared.taken.Taken.TheVariants.{Integers as integers, IntegersOrLogicals as integers_or_logicals}
+use Rattle.rule_definitions.specs.declared.taken.Taken.{Taken}
+use Rattle.rule_definitions.specs.declared.taken.Taken.TheVariants.{Integers as integers, Logicals as logicals, IntegersOrLogicals as integers_or_logicals}
 use Rattle.rule_definitions.specs.Judgements.{unless, Judgement, fine, refused, ruled, made_of, made_of_both, made_of_three, all_made, item_at}
 use Rattle.rule_definitions.specs.Names
 use Rattle.rule_definitions.specs.Names.{Scope, Meaning, Interface, SubroutineName, denotes}
@@ -19,7 +21,7 @@ use Rattle.rule_definitions.specs.Parts.{Placed, plain, team, condition, bound_o
 use Rattle.rule_definitions.specs.Specifiers.{all_breaks, order_written, stat_variable, acquired_variable, number_named}
 use Rattle.rule_definitions.specs.Arguments.{Actual, Binding, needed, optional, breaks_in_all, arguments, given_to, maybe_given_to, are_bound}
 use Rattle.rule_definitions.specs.IntrinsicFunctions.{an_integer}
-use Rattle.rule_definitions.specs.IntrinsicSubroutines.{optional_result, taken_with, event_of, found_event, an_event, is_coindexed_form, an_own_event, a_collected, numbers_of, written_as, called as called_intrinsic, four, five, value_dummies, atom_at, value_at, result_at, intrinsic_call}
+use Rattle.rule_definitions.specs.IntrinsicSubroutines.{optional_result, Atom, atom_of, found_atom, an_atom, taken_with, event_of, found_event, an_event, is_coindexed_form, an_own_event, a_collected, numbers_of, written_as, called as called_intrinsic, four, five, value_dummies, atom_at, value_at, result_at, intrinsic_call}
 use Rattle.rule_definitions.specs.Expressions.{judged_arguments, judged_specifiers, placed}
 use Rattle.rule_definitions.specs.Actions.{Around, Site, images_assigned, listed_assignment, plain_assignment, form_judged, assigned_breaks, assigned, assignment, left_side, target_breaks, called_with, called, actuals_of, printed_all, format_judged, literals_of_format, depth_of, crosses, absent_place, leaving, has_boundary, control_breaks, controlled, maybe, allocation_judged, deallocated, any_coarray, controlled_if, stat_name, with_stat, written_if, image_set, team_variable, form_team, lock_of, found_lock, a_lock, placed_designator, lock_judged, wait_judged, alone, judged_action}
 use Rattle.accepted_ranks.proofs.Means.{Means, fine_means, unknown_means, refused_means, around_means, ruled_means, under_means, made_means, both_means, three_means, then_means, cond_means}
@@ -27,7 +29,7 @@ use Rattle.accepted_ranks.proofs.Bindings.{OfAll, OfBound, all_bound, given_once
 use Rattle.accepted_ranks.proofs.Subroutines.{four_means, five_means}
 use Rattle.object_rules.specs.Cells.{Declared}
 use Rattle.object_rules.specs.MemoryRules.{is_lock, is_event}
-use Rattle.cell_statements.specs.Typed.{IsCellOf, IsTyped}
+use Rattle.cell_statements.specs.Typed.{IsCellOf, IsAtom, IsTyped}
 use Rattle.accepted_cells.specs.Scopes.{AreHeld}
 use Rattle.accepted_cells.proofs.Held.{Any, any, Held, judged_held}
 
@@ -81,6 +83,48 @@ module _ (coarrays : List Declared) where
   own_event_means e h = then_means (λ x. ruled (found_event (event_of x) e.at) (unless (not (is_coindexed_form x)) 50 e.at)) (plain_held e h) (λ x k. ruled_means (unless (not (is_coindexed_form x)) 50 e.at)
       (λ b. found_other (event_of x) e.at (event_held x k)))
 
+  -- ---- an atom
+  abbrev IsAtomHeld : Atom → Type 0
+  IsAtomHeld a = IsAtom coarrays a.kind a.variable
+
+  -- of an integer atom the kind isn't told
+  abbrev IsIntegerAtom : Atom → Type 0
+  IsIntegerAtom a = IsAtom coarrays I4 a.variable
+
+  abbrev Atoms : (Atom → Type 0) → Option Atom → Type 0
+  Atoms P None = Unit {0}
+  Atoms P (Some a) = P a
+
+  atom_held : (w : Taken) (x : t.Expression) → Held coarrays x → Atoms IsAtomHeld (atom_of w x)
+  atom_held w (t.typed (t.designator (t.part (objects.Coarray n) ss c)) (Intrinsic I4) zero) k = (tt, k)
+  atom_held w (t.typed (t.designator (t.part (objects.Coarray n) ss c)) (Intrinsic I8) zero) k = tt
+  atom_held integers (t.typed (t.designator (t.part (objects.Coarray n) ss c)) (Intrinsic L4) zero) k = tt
+  atom_held logicals (t.typed (t.designator (t.part (objects.Coarray n) ss c)) (Intrinsic L4) zero) k = (tt, k)
+  atom_held integers_or_logicals (t.typed (t.designator (t.part (objects.Coarray n) ss c)) (Intrinsic L4) zero) k = (tt, k)
+  atom_held w (t.typed (t.designator (t.part (objects.Coarray n) ss c)) Team zero) k = tt
+  atom_held w (t.typed (t.designator (t.part (objects.Coarray n) ss c)) Event zero) k = tt
+  atom_held w (t.typed (t.designator (t.part (objects.Coarray n) ss c)) Lock zero) k = tt
+  atom_held w x k = tt
+
+  integer_atom_held : (x : t.Expression) → Held coarrays x → Atoms IsIntegerAtom (atom_of integers x)
+  integer_atom_held (t.typed (t.designator (t.part (objects.Coarray n) ss c)) (Intrinsic I4) zero) k = (tt, k)
+  integer_atom_held (t.typed (t.designator (t.part (objects.Coarray n) ss c)) (Intrinsic I8) zero) k = tt
+  integer_atom_held (t.typed (t.designator (t.part (objects.Coarray n) ss c)) (Intrinsic L4) zero) k = tt
+  integer_atom_held (t.typed (t.designator (t.part (objects.Coarray n) ss c)) Team zero) k = tt
+  integer_atom_held (t.typed (t.designator (t.part (objects.Coarray n) ss c)) Event zero) k = tt
+  integer_atom_held (t.typed (t.designator (t.part (objects.Coarray n) ss c)) Lock zero) k = tt
+  integer_atom_held x k = tt
+
+  found_this : (P : Atom → Type 0) (o : Option Atom) (p : Pos) → Atoms P o → Means (found_atom o p) P
+  found_this P None p h = refused_means 53 p
+  found_this P (Some a) p h = fine_means a h
+
+  atom_means : (w : Taken) (e : Placed) → Means e.judged (Held coarrays) → Means (an_atom w e) IsAtomHeld
+  atom_means w e h = then_means (λ x. found_atom (atom_of w x) e.at) (plain_held e h) (λ x k. found_this IsAtomHeld (atom_of w x) e.at (atom_held w x k))
+
+  integer_atom_means : (e : Placed) → Means e.judged (Held coarrays) → Means (an_atom integers e) IsIntegerAtom
+  integer_atom_means e h = then_means (λ x. found_atom (atom_of integers x) e.at) (plain_held e h) (λ x k. found_this IsIntegerAtom (atom_of integers x) e.at (integer_atom_held x k))
+
   -- ---- assignments
   abbrev Formed : Option ts.StatementForm → Type 0
   Formed None = Unit {0}
@@ -132,14 +176,17 @@ module _ (coarrays : List Declared) where
   query_typed bs u h = intrinsic_made bs (three_means ts.event_query (given_once IsHeld bs 0 an_own_event u h (λ e k. own_event_means e k)) (any {j = result_at bs 1 integers}) (any {j = optional_result bs 2}) (λ d c r x y z. x.0))
 
   intrinsic_typed : (n : SubroutineName) (xs : List Actual) (p : Pos) → OfAll IsHeld xs → Means (intrinsic_call n xs p) Ty
-  intrinsic_typed Names.atomic_define xs p h = all_bound IsHeld value_dummies xs p (λ bs. called_intrinsic bs (made_of_three (λ a v r. ts.atomic_define a.variable a.kind v r) (atom_at bs 0 integers_or_logicals) (value_at bs 1 (taken_with (atom_at bs 0 integers_or_logicals))) (optional_result bs 2))) h (λ bs u k. three_any bs (λ a v r. ts.atomic_define a.variable a.kind v r) (atom_at bs 0 integers_or_logicals) (value_at bs 1 (taken_with (atom_at bs 0 integers_or_logicals))) (optional_result bs 2) (λ a v r. tt))
-  intrinsic_typed Names.atomic_ref xs p h = all_bound IsHeld (needed (codes "value") ∷ needed (codes "atom") ∷ optional (codes "stat") ∷ []) xs p (λ bs. called_intrinsic bs (made_of_three (λ v a r. ts.atomic_ref v a.variable a.kind r) (result_at bs 0 (taken_with (atom_at bs 1 integers_or_logicals))) (atom_at bs 1 integers_or_logicals) (optional_result bs 2))) h (λ bs u k. three_any bs (λ v a r. ts.atomic_ref v a.variable a.kind r) (result_at bs 0 (taken_with (atom_at bs 1 integers_or_logicals))) (atom_at bs 1 integers_or_logicals) (optional_result bs 2) (λ v a r. tt))
-  intrinsic_typed (Names.atomic_change c) xs p h = all_bound IsHeld value_dummies xs p (λ bs. called_intrinsic bs (made_of_three (λ a v r. ts.atomic_change c a.variable v r) (atom_at bs 0 integers) (value_at bs 1 integers) (optional_result bs 2))) h (λ bs u k. three_any bs (λ a v r. ts.atomic_change c a.variable v r) (atom_at bs 0 integers) (value_at bs 1 integers) (optional_result bs 2) (λ a v r. tt))
+  intrinsic_typed Names.atomic_define xs p h = all_bound IsHeld value_dummies xs p (λ bs. called_intrinsic bs (made_of_three (λ a v r. ts.atomic_define a.variable a.kind v r) (atom_at bs 0 integers_or_logicals) (value_at bs 1 (taken_with (atom_at bs 0 integers_or_logicals))) (optional_result bs 2))) h
+      (λ bs u k. intrinsic_made bs (three_means (λ a v r. ts.atomic_define a.variable a.kind v r) (given_once IsHeld bs 0 (an_atom integers_or_logicals) u k (λ e q. atom_means integers_or_logicals e q)) (any {j = value_at bs 1 (taken_with (atom_at bs 0 integers_or_logicals))}) (any {j = optional_result bs 2}) (λ a v r x y z. x.0)))
+  intrinsic_typed Names.atomic_ref xs p h = all_bound IsHeld (needed (codes "value") ∷ needed (codes "atom") ∷ optional (codes "stat") ∷ []) xs p (λ bs. called_intrinsic bs (made_of_three (λ v a r. ts.atomic_ref v a.variable a.kind r) (result_at bs 0 (taken_with (atom_at bs 1 integers_or_logicals))) (atom_at bs 1 integers_or_logicals) (optional_result bs 2))) h
+      (λ bs u k. intrinsic_made bs (three_means (λ v a r. ts.atomic_ref v a.variable a.kind r) (any {j = result_at bs 0 (taken_with (atom_at bs 1 integers_or_logicals))}) (given_once IsHeld bs 1 (an_atom integers_or_logicals) u k (λ e q. atom_means integers_or_logicals e q)) (any {j = optional_result bs 2}) (λ v a r x y z. y.0)))
+  intrinsic_typed (Names.atomic_change c) xs p h = all_bound IsHeld value_dummies xs p (λ bs. called_intrinsic bs (made_of_three (λ a v r. ts.atomic_change c a.variable v r) (atom_at bs 0 integers) (value_at bs 1 integers) (optional_result bs 2))) h
+      (λ bs u k. intrinsic_made bs (three_means (λ a v r. ts.atomic_change c a.variable v r) (given_once IsHeld bs 0 (an_atom integers) u k (λ e q. integer_atom_means e q)) (any {j = value_at bs 1 integers}) (any {j = optional_result bs 2}) (λ a v r x y z. x.0)))
   intrinsic_typed (Names.atomic_fetch c) xs p h = all_bound IsHeld (needed (codes "atom") ∷ needed (codes "value") ∷ needed (codes "old") ∷ optional (codes "stat") ∷ []) xs p (λ bs. called_intrinsic bs (four (λ a v o r. ts.atomic_fetch c a.variable v o r) (atom_at bs 0 integers) (value_at bs 1 integers) (result_at bs 2 integers) (optional_result bs 3))) h
-      (λ bs u k. intrinsic_made bs (four_means (λ a v o r. ts.atomic_fetch c a.variable v o r) (any {j = atom_at bs 0 integers}) (any {j = value_at bs 1 integers}) (any {j = result_at bs 2 integers}) (any {j = optional_result bs 3}) (λ a v o r x y z w. tt)))
+      (λ bs u k. intrinsic_made bs (four_means (λ a v o r. ts.atomic_fetch c a.variable v o r) (given_once IsHeld bs 0 (an_atom integers) u k (λ e q. integer_atom_means e q)) (any {j = value_at bs 1 integers}) (any {j = result_at bs 2 integers}) (any {j = optional_result bs 3}) (λ a v o r x y z w. x.0)))
   intrinsic_typed Names.atomic_cas xs p h = all_bound IsHeld (needed (codes "atom") ∷ needed (codes "old") ∷ needed (codes "compare") ∷ needed (codes "new") ∷ optional (codes "stat") ∷ []) xs p (λ bs. called_intrinsic bs (five (λ a o c n r. ts.atomic_cas a.variable a.kind o c n r) (atom_at bs 0 integers_or_logicals) (result_at bs 1 (taken_with (atom_at bs 0 integers_or_logicals))) (value_at bs 2 (taken_with (atom_at bs 0 integers_or_logicals))) (value_at bs 3 (taken_with (atom_at bs 0 integers_or_logicals))) (optional_result bs 4))) h
-      (λ bs u k. intrinsic_made bs (five_means (λ a o c n r. ts.atomic_cas a.variable a.kind o c n r) (any {j = atom_at bs 0 integers_or_logicals}) (any {j = result_at bs 1 (taken_with (atom_at bs 0 integers_or_logicals))}) (any {j = value_at bs 2 (taken_with (atom_at bs 0 integers_or_logicals))})
-      (any {j = value_at bs 3 (taken_with (atom_at bs 0 integers_or_logicals))}) (any {j = optional_result bs 4}) (λ a o c n r x y z w v. tt)))
+      (λ bs u k. intrinsic_made bs (five_means (λ a o c n r. ts.atomic_cas a.variable a.kind o c n r) (given_once IsHeld bs 0 (an_atom integers_or_logicals) u k (λ e q. atom_means integers_or_logicals e q)) (any {j = result_at bs 1 (taken_with (atom_at bs 0 integers_or_logicals))}) (any {j = value_at bs 2 (taken_with (atom_at bs 0 integers_or_logicals))})
+      (any {j = value_at bs 3 (taken_with (atom_at bs 0 integers_or_logicals))}) (any {j = optional_result bs 4}) (λ a o c n r x y z w v. x.0)))
   intrinsic_typed Names.event_query xs p h = all_bound IsHeld (needed (codes "event") ∷ needed (codes "count") ∷ optional (codes "stat") ∷ []) xs p (λ bs. called_intrinsic bs (made_of_three ts.event_query (given_to bs 0 an_own_event) (result_at bs 1 integers) (optional_result bs 2))) h query_typed
   intrinsic_typed (Names.combine c) xs p h = all_bound IsHeld (needed (codes "a") ∷ optional (codes "result_image") ∷ optional (codes "stat") ∷ []) xs p (λ bs. called_intrinsic bs (made_of_three (ts.combine c) (given_to bs 0 (a_collected false)) (maybe_given_to bs 1 an_integer) (optional_result bs 2))) h (λ bs u k. three_any bs (ts.combine c) (given_to bs 0 (a_collected false)) (maybe_given_to bs 1 an_integer) (optional_result bs 2) (λ d k r. tt))
   intrinsic_typed Names.broadcast xs p h = all_bound IsHeld (needed (codes "a") ∷ needed (codes "source_image") ∷ optional (codes "stat") ∷ []) xs p (λ bs. called_intrinsic bs (made_of_three ts.broadcast (given_to bs 0 (a_collected true)) (given_to bs 1 an_integer) (optional_result bs 2))) h (λ bs u k. three_any bs ts.broadcast (given_to bs 0 (a_collected true)) (given_to bs 1 an_integer) (optional_result bs 2) (λ d k r. tt))

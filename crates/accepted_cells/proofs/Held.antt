@@ -1,4 +1,4 @@
--- A lock or an event that an expression stands for is a declared one.
+-- A coarray that an expression stands for is a declared one of its type.
 use Rattle.std.proofs.Common.{◌≡◌, ℕ, List, [], ◌∷◌, length, refl}
 use Rattle.std.specs.Prelude.{codes, pos, cond, false, ◌&&◌, ◌++◌, Option, Some, None}
 use Rattle.caf_base.specs.declared.place.Pos.{Pos}

@@ -1,6 +1,9 @@
--- The names of an accepted program stand for declared locks and events, where they stand for locks and events.
+-- The names of an accepted program stand for declared coarrays of their types, where they stand for coarrays; and for
+-- these alone, where they stand for locks and events.
 use Rattle.std.proofs.Common.{◌≡◌, ◌∙◌, ℕ, zero, suc, ◌+◌, Bool, true, false, List, [], ◌∷◌, refl, sym, ap, subst, arith}
 use Rattle.std.specs.Prelude.{cond, not, map, nat_eq, nat_le, slice_get, length, ◌&&◌, Option, Some, None}
+use Rattle.caf_base.specs.declared.value.Kind.{Kind}
+use Rattle.caf_base.specs.declared.value.Kind.TheVariants.{I4, I8, L4}
 use Rattle.fortran_tree.specs.Units as u
 use Rattle.fortran_tree.specs.declared.name.Name.{Name}
 use Rattle.checked_tree.specs.declared.data.DataType.{DataType}
@@ -20,15 +23,22 @@ use Rattle.accepted_ranks.proofs.Declared.{both_true, is_kept, is_variable, is_f
 use Rattle.image_acts.specs.Core.{Own}
 use Rattle.image_code.specs.declared.tables.CellType.{CellType}
 use Rattle.object_rules.specs.Cells.{Content, Declared}
+use Rattle.object_rules.specs.Kinds.{same_value_kind}
 use Rattle.object_rules.specs.MemoryRules.{holds, is_lock, is_event}
 use Rattle.program_tables.specs.Tables.{cell_type, declared_coarray, coarray_found, coarray_at}
 use Rattle.tree_meaning.specs.Environment.{declared_bounds}
+use Rattle.cell_statements.specs.Typed.{is_of as is_of_kind}
 use Rattle.tree_meaning.specs.Start.{own_of}
 use Rattle.accepted_cells.specs.Scopes.{IsOfIfTyped, AreHeld}
 use Rattle.accepted_cells.specs.Contents.{content_of, holding, content}
 use Rattle.accepted_cells.proofs.Declared.{IsCounted, AreCounted}
 
 -- ---- contents
+same_self : (k : Kind) → same_value_kind k k ≡ true
+same_self I4 = refl
+same_self I8 = refl
+same_self L4 = refl
+
 holds_by : (os : List Declared) (k : ℕ) (test : Content → Bool) (t : Content) → slice_get (map content os) k ≡ Some t → test t ≡ true → holds test (slice_get os k) ≡ true
 holds_by [] k test t e h = none_some t e
 holds_by (x ∷ os) zero test t e h = subst (λ z. test z ≡ true) (sym (some_same x.content t e)) h
@@ -56,6 +66,7 @@ module _ (coarrays : List Declared) where
   is_of (Some Lock) o = false
   is_of (Some Event) (objects.Coarray n) = holds is_event (slice_get coarrays n)
   is_of (Some Event) o = false
+  is_of (Some (Intrinsic i)) (objects.Coarray n) = holds (is_of_kind i) (slice_get coarrays n)
   is_of y o = true
 
   abbrev pub is_right : Meaning → Bool
@@ -73,7 +84,8 @@ module _ (coarrays : List Declared) where
   local_right y (objects.Constant m) k c h = absurd c
 
   by_type : (y z : DataType) (m : ℕ) → y ≡ z → slice_get (map content coarrays) m ≡ Some (content_of (cell_type y)) → is_of (Some z) (objects.Coarray m) ≡ true
-  by_type y (Intrinsic i) m e c = refl
+  by_type y (Intrinsic i) m e c =
+      holds_by coarrays m (is_of_kind i) (content_of (cell_type (Intrinsic i))) (subst (λ t. slice_get (map content coarrays) m ≡ Some (content_of (cell_type t))) e c) (same_self i)
   by_type y Team m e c = refl
   by_type y Event m e c = holds_by coarrays m is_event (content_of (cell_type Event)) (subst (λ t. slice_get (map content coarrays) m ≡ Some (content_of (cell_type t))) e c) refl
   by_type y Lock m e c = holds_by coarrays m is_lock (content_of (cell_type Lock)) (subst (λ t. slice_get (map content coarrays) m ≡ Some (content_of (cell_type t))) e c) refl
@@ -241,7 +253,9 @@ module _ (coarrays : List Declared) where
 
   of_right : (y : Option DataType) (o : Object) → is_of y o ≡ true → IsOfIfTyped coarrays y o
   of_right None o h = tt
-  of_right (Some (Intrinsic i)) o h = tt
+  of_right (Some (Intrinsic i)) (objects.Local l) h = tt
+  of_right (Some (Intrinsic i)) (objects.Coarray n) h = h
+  of_right (Some (Intrinsic i)) (objects.Constant n) h = tt
   of_right (Some Team) o h = tt
   of_right (Some Event) (objects.Local l) h = no h
   of_right (Some Event) (objects.Coarray n) h = h
@@ -250,15 +264,15 @@ module _ (coarrays : List Declared) where
   of_right (Some Lock) (objects.Coarray n) h = h
   of_right (Some Lock) (objects.Constant n) h = no h
 
-  plain_right : (y : Option DataType) (o : Object) → not (is_special y) ≡ true → IsOfIfTyped coarrays y o
-  plain_right None o h = tt
-  plain_right (Some (Intrinsic i)) o h = tt
-  plain_right (Some Team) o h = tt
-  plain_right (Some Event) o h = no h
-  plain_right (Some Lock) o h = no h
+  plain_right : (y : Option DataType) (m : ℕ) → not (is_special y) ≡ true → IsOfIfTyped coarrays y (objects.Constant m)
+  plain_right None m h = tt
+  plain_right (Some (Intrinsic i)) m h = tt
+  plain_right (Some Team) m h = tt
+  plain_right (Some Event) m h = no h
+  plain_right (Some Lock) m h = no h
 
   pub scope_held : (s : Scope) → IsRightScope s → AreHeld coarrays s
   scope_held s h = record {
     variables = λ n x e. of_right x.of_type x.object (denoted_right s h n (Names.variable x) e);
-    constants = λ n x e m. plain_right x.of_type (objects.Constant m) (denoted_right s h n (Names.constant x) e);
+    constants = λ n x e m. plain_right x.of_type m (denoted_right s h n (Names.constant x) e);
   }

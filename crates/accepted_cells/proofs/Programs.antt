@@ -1,4 +1,4 @@
--- Each statement of an accepted program on a lock or an event names a declared one.
+-- Each statement of an accepted program on a lock, an event or an atom names a declared one.
 use Rattle.std.proofs.Common.{◌≡◌, ◌∙◌, ◌+◌, true, false, List, [], ◌∷◌, ◌++◌, refl, sym, ap, subst, arith}
 use Rattle.std.specs.Prelude.{map, slice_get, Some}
 use Rattle.fortran_tree.specs.Statements as fs

@@ -1,4 +1,4 @@
--- Each statement of a block on a lock or an event that breaks no rule names a declared one.
+-- Each statement of a block on a lock, an event or an atom that breaks no rule names a declared one.
 use Rattle.std.proofs.Common.{ℕ, ◌+◌, List, []}
 use Rattle.std.specs.Prelude.{not, false}
 use Rattle.caf_base.specs.declared.place.Pos.{Pos}

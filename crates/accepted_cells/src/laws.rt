@@ -1,4 +1,4 @@
-//! Laws of the locks and events of accepted programs. Each is the contract of a function that does nothing.
+//! Laws of the locks, events and atoms of accepted programs. Each is the contract of a function that does nothing.
 
 ghost use Rattle.std.specs.Prelude.{◌≡◌, true, List, [], Some, map};
 ghost use Rattle.trace_theory.specs.Entries.{Each};
@@ -17,15 +17,15 @@ ghost use Rattle.cell_walks.specs.Fitting.{IsSmall};
 ghost use Rattle.accepted_cells.specs.Scopes.{AreHeld};
 ghost use Rattle.accepted_cells.specs.Contents.{holding, content, HoldWhatIsDeclared};
 
-/// Where nothing breaks in a block, each statement on a lock or an event in the block that it stands for names a
-/// declared one: in a scope whose locks and events are declared.
+/// Where nothing breaks in a block, each statement on a lock, an event or an atom in the block that it stands for names
+/// a declared one: in a scope whose coarrays are declared with their types.
 pub fn law_block_is_typed()
     ensures { (coarrays : List Declared) (here : Position) → AreHeld coarrays here.scope → (block : actions.Statements) (x : Statements)
         → (judged_statements here block).breaks ≡ [] → (judged_statements here block).meaning ≡ Some x → AreTyped coarrays x }
 {}
 
-/// A program that breaks no rule stands for one whose statements on locks and events name coarrays of locks and events
-/// (11.6.7, 11.6.8, 11.6.10, 16.9.72), where the coarrays hold what the program declares.
+/// A program that breaks no rule stands for one whose statements on locks, events and atoms name coarrays of such
+/// (11.6.7, 11.6.8, 11.6.10, 16.5, 16.9.72), where the coarrays hold what the program declares.
 pub fn law_accepted_is_typed()
     ensures { (p : units.Program) (c : Program) → (program_judged p).breaks ≡ [] → (program_judged p).meaning ≡ Some c → (coarrays : List Declared) → HoldWhatIsDeclared c coarrays → IsTypedProgram coarrays c }
 {}

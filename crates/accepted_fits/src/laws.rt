@@ -42,7 +42,7 @@ pub fn law_run_has_few_teams()
 {}
 
 /// So in a core run of an accepted program over its own coarrays, with such numbers, the next ask of each image fits,
-/// but for a read, a write, an atomic action and an arrival at a collective, of which nothing is said.
+/// but for a read, a write and an arrival at a collective, of which nothing is said.
 pub fn law_accepted_next_ask_fits()
     ensures { (x : units.Program) (p : checked.Program) → Accepts x p
         → (limit n : ℕ) (fails_at : ℕ → ℕ) (words : ℕ) (t : List Entry) → n * (2 * words + 4) < most_team

@@ -29,10 +29,11 @@ use Rattle.cell_walks.specs.Fitting.{Leave, FormFits, BranchesFit, StepsFit}
 use Rattle.cell_walks.proofs.Quieting.{Safe, no_parts, one, both}
 use Rattle.cell_statements.specs.Typed.{IsCellOf, IsTyped, IsTypedCall, AreTyped, AreTypedElseIfs, AreTypedCases, AreTypedProcedures, IsTypedProgram}
 use Rattle.cell_statements.proofs.Quiet.{quiet_expression, quiet_place, quiet_calling, quiet_arguments}
-use Rattle.cell_statements.proofs.QuietStatements.{free_again, settled, quiet_assigned, quiet_listed_team, quiet_listing, quiet_beginning, quiet_items, sync_all_quiet, sync_images_quiet, sync_team_quiet, form_team_quiet, quiet_critical, change_team_quiet, end_team_quiet, allocate_quiet, deallocate_quiet, condition, start_quiet, quiet_ranges, stop_quiet, IsNoQuery, subroutine_quiet}
+use Rattle.cell_statements.proofs.QuietStatements.{free_again, settled, quiet_assigned, quiet_listed_team, quiet_listing, quiet_beginning, quiet_items, sync_all_quiet, sync_images_quiet, sync_team_quiet, form_team_quiet, quiet_critical, change_team_quiet, end_team_quiet, allocate_quiet, deallocate_quiet, condition, start_quiet, quiet_ranges, stop_quiet, IsCollective, collective_quiet}
 use Rattle.cell_statements.proofs.Cells.{leaves, freed}
 use Rattle.cell_statements.proofs.Locks.{lock_fits, unlock_fits, post_fits, wait_fits}
 use Rattle.cell_statements.proofs.Queries.{query_fits}
+use Rattle.cell_statements.proofs.Atomics.{IsAtomicCall, atomic_fits}
 
 module _ (n me : ℕ) (coarrays : List Declared) (there : IsOneOf n me) (e : Environment) where
   abbrev Even : ℕ → Parts Act → Type 0
@@ -72,16 +73,19 @@ module _ (n me : ℕ) (coarrays : List Declared) (there : IsOneOf n me) (e : Env
   waits (t.part (objects.Local v) ss sel) until stat order y h f g = absurd h
   waits (t.part (objects.Constant k) ss sel) until stat order y h f g = absurd h
 
-  quiet_call : (i : s.IntrinsicSubroutine) (w : WrittenArguments) → IsNoQuery e i → Even 0 (released (sub.intrinsic_call e i w)) → Fits 0 (released (sub.intrinsic_call e i w))
-  quiet_call i w f l = fit 0 l (free_again (sub.intrinsic_call e i w) (subroutine_quiet e i (written_dummies w) f))
+  quiet_call : (i : s.IntrinsicSubroutine) (w : WrittenArguments) → IsCollective e i → Even 0 (released (sub.intrinsic_call e i w)) → Fits 0 (released (sub.intrinsic_call e i w))
+  quiet_call i w f l = fit 0 l (free_again (sub.intrinsic_call e i w) (collective_quiet e i (written_dummies w) f))
+
+  atomic_call : (i : s.IntrinsicSubroutine) (w : WrittenArguments) → IsAtomicCall n me coarrays there e i → ranks.IsSubroutine e.program.procedures i (written_dummies w) → IsTypedCall coarrays i → Fits 0 (released (sub.intrinsic_call e i w))
+  atomic_call i w f h y = freed n me coarrays (sub.intrinsic_call e i w) (atomic_fits n me coarrays there e i (written_dummies w) f h y)
 
   subroutines : (i : s.IntrinsicSubroutine) (w : WrittenArguments) → Even 0 (released (sub.intrinsic_call e i w)) → ranks.IsSubroutine e.program.procedures i (written_dummies w) → IsTypedCall coarrays i → Fits 0 (released (sub.intrinsic_call e i w))
   subroutines (s.event_query d count stat) w l h y = freed n me coarrays (sub.intrinsic_call e (s.event_query d count stat) w) (query_fits n me coarrays there e d count stat (written_dummies w) h y)
-  subroutines (s.atomic_define d k x stat) w l h y = quiet_call (s.atomic_define d k x stat) w tt l
-  subroutines (s.atomic_ref r d k stat) w l h y = quiet_call (s.atomic_ref r d k stat) w tt l
-  subroutines (s.atomic_change c d x stat) w l h y = quiet_call (s.atomic_change c d x stat) w tt l
-  subroutines (s.atomic_fetch c d x old stat) w l h y = quiet_call (s.atomic_fetch c d x old stat) w tt l
-  subroutines (s.atomic_cas d k old x z stat) w l h y = quiet_call (s.atomic_cas d k old x z stat) w tt l
+  subroutines (s.atomic_define d k x stat) w l h y = atomic_call (s.atomic_define d k x stat) w tt h y
+  subroutines (s.atomic_ref r d k stat) w l h y = atomic_call (s.atomic_ref r d k stat) w tt h y
+  subroutines (s.atomic_change c d x stat) w l h y = atomic_call (s.atomic_change c d x stat) w tt h y
+  subroutines (s.atomic_fetch c d x old stat) w l h y = atomic_call (s.atomic_fetch c d x old stat) w tt h y
+  subroutines (s.atomic_cas d k old x z stat) w l h y = atomic_call (s.atomic_cas d k old x z stat) w tt h y
   subroutines (s.combine c x root stat) w l h y = quiet_call (s.combine c x root stat) w tt l
   subroutines (s.broadcast x root stat) w l h y = quiet_call (s.broadcast x root stat) w tt l
 

@@ -34,7 +34,7 @@ use Rattle.cell_walks.proofs.Quieting.{Safe, one}
 use Rattle.cell_statements.proofs.Points.{pointed, own_imaged, imaged, two_copied, brought_up}
 use Rattle.cell_statements.proofs.Quiet.{quiet_expressions, quiet_subscripts, quiet_place, quiet_selected}
 
-no_numbers : (xs : List ℤ) → length xs ≡ 0 → xs ≡ []
+pub no_numbers : (xs : List ℤ) → length xs ≡ 0 → xs ≡ []
 no_numbers [] e = refl
 no_numbers (x ∷ xs) e = absurd (let f : suc (length xs) ≡ 0 = e in omega arith)
 

@@ -3,5 +3,7 @@ pub mod QuietStatements
 pub mod Points
 pub mod Cells
 pub mod Locks
+pub mod Arguments
 pub mod Queries
+pub mod Atomics
 pub mod Blocks

@@ -75,7 +75,7 @@ module _ (n me : ℕ) (coarrays : List Declared) (there : IsOneOf n me) (e : Env
       ((word_image n o one', cell_fits coarrays (word (pos o)) is_event k s small h), λ r u. more (with_status r (with_values c us)) (status_of r ∷ []) i refl refl)
 
   -- ---- the cell, with an image selector and without
-  any_cell : (k : ℕ) (ss : t.Subscripts) (sel : t.Selector) → ranks.IsPart e.program.procedures (t.part (objects.Coarray k) ss sel) 0 → (vs : List ℤ) (After : Sizes → Core → Type 0) (y : Sizes) (c : Core) → IsSound n me y c → c.values ≡ vs
+  pub any_cell : (k : ℕ) (ss : t.Subscripts) (sel : t.Selector) → ranks.IsPart e.program.procedures (t.part (objects.Coarray k) ss sel) 0 → (vs : List ℤ) (After : Sizes → Core → Type 0) (y : Sizes) (c : Core) → IsSound n me y c → c.values ≡ vs
       → ((u : Sizes) (d : Core) (o s : ℕ) (ps : List ℤ) → IsSound n me u d → IsOneOf n o → s < most_cells → length ps ≡ view.optional_size (view.stat_of sel) → d.values ≡ pos o ∷ pos s ∷ (ps ++ vs) → After u d)
       → PartsFit n me coarrays (control.cell e (t.part (objects.Coarray k) ss sel)) After y c
   any_cell k ss t.no_selector h vs After y c i v more = own_celled n me coarrays there e k ss h.0 h.1 vs After y c i v (λ u d o s j one' p w. more u d o s [] j one' p refl w)

@@ -1,10 +1,9 @@
--- Each statement but LOCK, UNLOCK, EVENT POST, EVENT WAIT and a call of EVENT_QUERY asks for no lock and for no event.
+-- Each statement but LOCK, UNLOCK, EVENT POST, EVENT WAIT and a call of EVENT_QUERY or of an atomic subroutine asks for no
+-- lock, no event and no atom.
 use Rattle.std.proofs.Common.{ℕ, zero, suc, ◌+◌, Bool, true, false, cond, List, [], ◌∷◌, ◌++◌, length}
 use Rattle.std.specs.Prelude.{ℤ, pos, ◌==◌}
 use Rattle.caf_base.specs.declared.value.Kind.{Kind}
 use Rattle.caf_base.specs.declared.value.Kind.TheVariants as kinds
-use Rattle.caf_base.specs.declared.value.AtomicOp.{AtomicOp}
-use Rattle.caf_base.specs.declared.value.AtomicOp.TheVariants as atomics
 use Rattle.caf_events.specs.declared.round.GatherOp.{GatherOp}
 use Rattle.caf_events.specs.declared.round.GatherOp.TheVariants as gathers
 use Rattle.walk_theory.specs.Syntax.{Parts, end_parts}
@@ -217,7 +216,7 @@ module _ (e : Environment) where
   QuietPieces [] = Unit {0}
   QuietPieces (p ∷ ps) = Safe p.parts × QuietPieces ps
 
-  quiet_piece : (ps : List Piece) (d : ℕ) → QuietPieces ps → Safe (piece_of ps d).parts
+  pub quiet_piece : (ps : List Piece) (d : ℕ) → QuietPieces ps → Safe (piece_of ps d).parts
   quiet_piece [] d h = no_parts
   quiet_piece (p ∷ ps) zero h = h.0
   quiet_piece (p ∷ ps) (suc d) h = quiet_piece ps d h.1
@@ -232,16 +231,9 @@ module _ (e : Environment) where
   quiet_succeeded : (n : ℕ) → Safe (sub.succeeded n)
   quiet_succeeded n = both (quiet_copying n 1) (acts tt (one tt))
 
-  quiet_fetched : (r : t.OptionalResult) (n : ℕ) → Safe (sub.fetched e r n)
+  pub quiet_fetched : (r : t.OptionalResult) (n : ℕ) → Safe (sub.fetched e r n)
   quiet_fetched t.no_result n = no_parts
   quiet_fetched (t.result r) n = both (quiet_succeeded 0) (fork (both (quiet_copying 1 1) (quiet_storing n r)) no_parts no_parts)
-
-  quiet_atomic : (ps : List Piece) (ds : List ℕ) (atom : ℕ) (d : t.Designator) (op : AtomicOp) (k : Kind) (x y : Parts Act) (old : t.OptionalResult) (rd : ℕ) (stat : t.OptionalResult) (sd : ℕ)
-      → QuietPieces ps → Safe x → Safe y → Safe (sub.atomic e ps ds atom d op k x y old rd stat sd)
-  quiet_atomic ps ds atom d op k x y old rd stat sd h hx hy =
-      both (quiet_evaluating ps ds h) (both (quiet_there d) (both (quiet_fetching ps ds atom 0 2) (both hx (both hy (both (acts tt (one tt))
-      (both (quiet_selector_status (control.cell_stat e d) (depth ps ds atom + 5)) (both (quiet_fetched old (depth ps ds rd + 3))
-      (both (quiet_settling stat (depth ps ds sd + 2) []) (quiet_dropping (sizes ps ds + 1))))))))))
 
   quiet_as_array : (rank : ℕ) (p : Parts Act) → Safe p → Safe (sub.as_array e rank p)
   quiet_as_array zero p h = both (one tt) (both h (one tt))
@@ -313,31 +305,17 @@ module _ (e : Environment) where
   quiet_optional_piece t.missing = no_parts
   quiet_optional_piece (t.given x) = quiet_expression e x
 
-  -- but EVENT_QUERY
-  abbrev pub IsNoQuery : s.IntrinsicSubroutine → Type 0
-  IsNoQuery (s.event_query d count stat) = ⊥
-  IsNoQuery i = Unit {0}
+  -- a collective
+  abbrev pub IsCollective : s.IntrinsicSubroutine → Type 0
+  IsCollective (s.combine c x root stat) = Unit {0}
+  IsCollective (s.broadcast x root stat) = Unit {0}
+  IsCollective i = ⊥
 
-  pub subroutine_quiet : (i : s.IntrinsicSubroutine) (ds : List ℕ) → IsNoQuery i → Safe (sub.subroutine e i (sub.pieces_of e i) ds)
-  subroutine_quiet (s.atomic_define d k x stat) ds f =
-      let ps = sub.pieces_of e (s.atomic_define d k x stat) in
-      quiet_atomic ps ds 0 d atomics.Define k (fetching ps ds 1 2 1) (sub.no_operand e) t.no_result 0 stat 2 (quiet_cell d, (quiet_expression e x, (quiet_place e stat, tt))) (quiet_fetching ps ds 1 2 1) (one tt)
-  subroutine_quiet (s.atomic_ref r d k stat) ds f =
-      let ps = sub.pieces_of e (s.atomic_ref r d k stat) in
-      quiet_atomic ps ds 1 d atomics.Ref k (sub.no_operand e) (sub.no_operand e) (t.result r) 0 stat 2 (quiet_result e r, (quiet_cell d, (quiet_place e stat, tt))) (one tt) (one tt)
-  subroutine_quiet (s.atomic_change c d x stat) ds f =
-      let ps = sub.pieces_of e (s.atomic_change c d x stat) in
-      quiet_atomic ps ds 0 d (sub.change_of c) kinds.I4 (fetching ps ds 1 2 1) (sub.no_operand e) t.no_result 0 stat 2 (quiet_cell d, (quiet_expression e x, (quiet_place e stat, tt))) (quiet_fetching ps ds 1 2 1) (one tt)
-  subroutine_quiet (s.atomic_fetch c d x old stat) ds f =
-      let ps = sub.pieces_of e (s.atomic_fetch c d x old stat) in
-      quiet_atomic ps ds 0 d (sub.change_of c) kinds.I4 (fetching ps ds 1 2 1) (sub.no_operand e) (t.result old) 2 stat 3 (quiet_cell d, (quiet_expression e x, (quiet_result e old, (quiet_place e stat, tt)))) (quiet_fetching ps ds 1 2 1) (one tt)
-  subroutine_quiet (s.atomic_cas d k old x y stat) ds f =
-      let ps = sub.pieces_of e (s.atomic_cas d k old x y stat) in
-      quiet_atomic ps ds 0 d atomics.Cas k (fetching ps ds 2 2 1) (fetching ps ds 3 3 1) (t.result old) 1 stat 4 (quiet_cell d, (quiet_result e old, (quiet_expression e x, (quiet_expression e y, (quiet_place e stat, tt))))) (quiet_fetching ps ds 2 2 1) (quiet_fetching ps ds 3 3 1)
-  subroutine_quiet (s.event_query d count stat) ds f = absurd f
-  subroutine_quiet (s.combine c x root stat) ds f =
+  pub collective_quiet : (i : s.IntrinsicSubroutine) (ds : List ℕ) → IsCollective i → Safe (sub.subroutine e i (sub.pieces_of e i) ds)
+  collective_quiet (s.combine c x root stat) ds f =
       combine_quiet (sub.pieces_of e (s.combine c x root stat)) ds x (sub.combination_of c) root stat (quiet_collected x.variable x.rank, (quiet_optional_piece root, (quiet_place e stat, tt)))
-  subroutine_quiet (s.broadcast x root stat) ds f = broadcast_quiet (sub.pieces_of e (s.broadcast x root stat)) ds x stat (quiet_collected x.variable x.rank, (quiet_expression e root, (quiet_place e stat, tt)))
+  collective_quiet (s.broadcast x root stat) ds f = broadcast_quiet (sub.pieces_of e (s.broadcast x root stat)) ds x stat (quiet_collected x.variable x.rank, (quiet_expression e root, (quiet_place e stat, tt)))
+  collective_quiet i ds f = absurd f
 
   -- ---- ALLOCATE and DEALLOCATE
   quiet_bounds : (bs : List s.AllocatedBounds) → Safe (alloc.bounds e bs)

@@ -1,11 +1,25 @@
--- Which coarrays LOCK, UNLOCK, EVENT POST, EVENT WAIT and EVENT_QUERY name (ISO/IEC 1539-1:2018, 11.6.7, 11.6.8,
--- 11.6.10, 16.9.72, 16.10.2).
-use Rattle.std.specs.Prelude.{◌≡◌, Bool, true, List, [], ◌∷◌, slice_get}
+-- Which coarrays LOCK, UNLOCK, EVENT POST, EVENT WAIT, EVENT_QUERY and the atomic subroutines name (ISO/IEC
+-- 1539-1:2018, 11.6.7, 11.6.8, 11.6.10, 16.5, 16.9.72, 16.10.2).
+use Rattle.std.specs.Prelude.{◌≡◌, Bool, true, false, List, [], ◌∷◌, slice_get}
+use Rattle.caf_base.specs.declared.value.Kind.{Kind}
+use Rattle.caf_base.specs.declared.value.Kind.TheVariants as kinds
 use Rattle.checked_tree.specs.declared.data.Object.TheVariants as objects
 use Rattle.checked_tree.specs.Expressions as t
 use Rattle.checked_tree.specs.Statements as s
-use Rattle.object_rules.specs.Cells.{Content, Declared}
+use Rattle.object_rules.specs.Cells.{Content, of_kind, Declared}
+use Rattle.object_rules.specs.Kinds.{same_value_kind}
 use Rattle.object_rules.specs.MemoryRules.{holds, is_lock, is_event}
+
+-- values of this kind
+abbrev pub is_of : Kind → Content → Bool
+is_of k (of_kind j) = same_value_kind k j
+is_of k content = false
+
+-- the kinds of an atom: kind 4, ATOMIC_INT_KIND and ATOMIC_LOGICAL_KIND (16.10.2)
+abbrev pub IsAtomic : Kind → Type 0
+IsAtomic kinds.I4 = Unit {0}
+IsAtomic kinds.L4 = Unit {0}
+IsAtomic kinds.I8 = ⊥
 
 module _ (coarrays : List Declared) where
   -- a cell of a declared coarray of this content
@@ -14,11 +28,19 @@ module _ (coarrays : List Declared) where
   IsCellOf test (t.part (objects.Local v) ss sel) = ⊥
   IsCellOf test (t.part (objects.Constant k) ss sel) = ⊥
 
+  abbrev pub IsAtom : Kind → t.Designator → Type 0
+  IsAtom k d = IsAtomic k × IsCellOf (is_of k) d
+
   abbrev pub IsTypedCall : s.IntrinsicSubroutine → Type 0
   IsTypedCall (s.event_query d count stat) = IsCellOf is_event d
+  IsTypedCall (s.atomic_define d k x stat) = IsAtom k d
+  IsTypedCall (s.atomic_ref r d k stat) = IsAtom k d
+  IsTypedCall (s.atomic_change c d x stat) = IsAtom kinds.I4 d
+  IsTypedCall (s.atomic_fetch c d x old stat) = IsAtom kinds.I4 d
+  IsTypedCall (s.atomic_cas d k old x z stat) = IsAtom k d
   IsTypedCall i = Unit {0}
 
-  -- each statement on a lock names a lock, and each one on an event an event
+  -- each statement on a lock names a lock, each one on an event an event, and each atomic one an atom of its kind
   abbrev mutual
     pub IsTyped : s.StatementForm → Type 0
     IsTyped (s.lock d acquired stat order) = IsCellOf is_lock d

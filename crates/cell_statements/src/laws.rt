@@ -1,4 +1,4 @@
-//! Laws of statements on locks and events. Each is the contract of a function that does nothing.
+//! Laws of statements on locks, events and atoms. Each is the contract of a function that does nothing.
 
 ghost use Rattle.std.specs.Prelude.{◌≡◌, ℕ, Bool, true, List};
 ghost use Rattle.walk_theory.specs.Syntax.{body_of};
@@ -11,7 +11,7 @@ ghost use Rattle.cell_walks.specs.Fitting.{StepsFit};
 ghost use Rattle.cell_statements.specs.Typed.{IsTypedProgram};
 
 /// The blocks of a program fit, its main program and its procedures, where its ranks are right and each statement on a
-/// lock or an event names one.
+/// lock, an event or an atom names one.
 pub fn law_blocks_fit()
     ensures { (p : checked.Program) (coarrays : List Declared) (n me : ℕ) → IsRankedProgram p → IsTypedProgram coarrays p → IsOneOf n me
         → (k : ℕ) → StepsFit n me coarrays (body_of (bodies p) k) }

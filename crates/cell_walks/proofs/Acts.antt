@@ -1,4 +1,4 @@
--- Each act but one that asks for a lock or an event fits, and keeps the invariant.
+-- Each act but one that asks for a lock, an event or an atom fits, and keeps the invariant.
 use Rattle.std.proofs.Common.{◌≡◌, ℕ, zero, suc, ◌*◌, Bool, true, false, cond, List, [], ◌∷◌, ◌++◌, map, length, refl, sym, subst}
 use Rattle.std.specs.Prelude.{ℤ, pos, ◌-◌, nat_lt, slice_set, Option, None, Some}
 use Rattle.trace_theory.specs.Entries.{Each}
@@ -27,7 +27,7 @@ use Rattle.stack_laws.proofs.Acts.{exact_act}
 use Rattle.told_walks.specs.Asked.{sizes_by}
 use Rattle.cell_walks.specs.Fitting.{Sizes, TellsImages, IsSound, Sounds, FitsCell, EffectFits}
 
--- an act that asks for no lock and for no event, and neither allocates nor deallocates a coarray
+-- an act that asks for no lock, no event and no atom, and neither allocates nor deallocates a coarray
 abbrev pub IsFree : Act → Type 0
 IsFree (ask (a.create j depth rank)) = ⊥
 IsFree (ask (a.delete j)) = ⊥
@@ -37,6 +37,7 @@ IsFree (ask (a.unlock j)) = ⊥
 IsFree (ask (a.post j)) = ⊥
 IsFree (ask (a.wait j)) = ⊥
 IsFree (ask (a.query j)) = ⊥
+IsFree (ask (a.atomic op j kind)) = ⊥
 IsFree (allocation (a.note_made k depth rank corank)) = ⊥
 IsFree (allocation (a.note_freed k)) = ⊥
 IsFree x = Unit {0}
@@ -74,6 +75,7 @@ module _ (n me : ℕ) (coarrays : List Declared) where
   fits_plain z (asking.Post owner span) h = absurd (cc)
   fits_plain z (asking.Wait owner span threshold) h = absurd (cc)
   fits_plain z (asking.Query owner span) h = absurd (cc)
+  fits_plain z (asking.Atomic owner op span x y) h = absurd (cc)
   fits_plain z q h = (tt, refl)
 
   asks_fit : (x : Act) → IsFree x → (z : Sizes) (q : Ask) → AsksBy x q → FitsCell n me coarrays z q × (sizes_by z q ≡ z)
@@ -85,6 +87,7 @@ module _ (n me : ℕ) (coarrays : List Declared) where
   asks_fit (ask (a.post j)) f z q h = absurd f
   asks_fit (ask (a.wait j)) f z q h = absurd f
   asks_fit (ask (a.query j)) f z q h = absurd f
+  asks_fit (ask (a.atomic op j kind)) f z q h = absurd f
   asks_fit (ask x) f z q h = fits_plain z q h
   asks_fit x f z q h = absurd h
 

@@ -14,7 +14,7 @@ use Rattle.walk_theory.specs.Language as language
 use Rattle.walk_theory.specs.Language.{Tested, no_value, holds, fails}
 use Rattle.walk_theory.specs.Syntax.{Parts, end_parts, value, act, enter, either, Form, simple, choose, loop, around, exit, cycle, return, Branches, otherwise, branch, Steps, stop, also}
 use Rattle.object_rules.specs.Cells.{Declared}
-use Rattle.object_rules.specs.MemoryRules.{is_lock, is_event, is_cell_of}
+use Rattle.object_rules.specs.MemoryRules.{is_lock, is_event, suits_atomic, is_cell_of}
 use Rattle.core_runs.specs.Beginnings.{IsOneOf}
 use Rattle.core_runs.specs.Lawful.{made_memory}
 use Rattle.image_acts.specs.Acts.{Act}
@@ -56,8 +56,8 @@ IsSound n me z c = Sounds n me z c.me c.known c.formed c.coarrays
 abbrev pub HasCell : Sizes → Span → Type 0
 HasCell z span = (m : ℕ) × (joined (slice_get z span.coarray) ≡ Some m) × (span.start < m)
 
--- The ask of image `me`, whose own coarrays have these sizes, fits, as far as it is one for a lock or an event. EVENT
--- WAIT and EVENT_QUERY name a cell that is there.
+-- The ask of image `me`, whose own coarrays have these sizes, fits, as far as it is one for a lock, an event or an atom.
+-- EVENT WAIT and EVENT_QUERY name a cell that is there.
 abbrev pub FitsCell : (n me : ℕ) → List Declared → Sizes → Ask → Type 0
 FitsCell n me coarrays z (asking.Lock owner span) = IsOneOf n owner.0 × (is_cell_of (made_memory coarrays owner.0) is_lock span ≡ true)
 FitsCell n me coarrays z (asking.TryLock owner span) = IsOneOf n owner.0 × (is_cell_of (made_memory coarrays owner.0) is_lock span ≡ true)
@@ -66,6 +66,7 @@ FitsCell n me coarrays z (asking.Post owner span) = IsOneOf n owner.0 × (is_cel
 FitsCell n me coarrays z (asking.Wait owner span threshold) =
     (owner.0 ≡ me) × (is_cell_of (made_memory coarrays owner.0) is_event span ≡ true) × (1 ≤ threshold) × HasCell z span
 FitsCell n me coarrays z (asking.Query owner span) = (owner.0 ≡ me) × (is_cell_of (made_memory coarrays owner.0) is_event span ≡ true) × HasCell z span
+FitsCell n me coarrays z (asking.Atomic owner op span x y) = IsOneOf n owner.0 × (is_cell_of (made_memory coarrays owner.0) (suits_atomic op x y) span ≡ true)
 FitsCell n me coarrays z ask = Unit {0}
 
 module _ (n me : ℕ) (coarrays : List Declared) where

@@ -1,4 +1,4 @@
--- The next ask of an image for a lock or an event fits.
+-- The next ask of an image for a lock, an event or an atom fits.
 use Rattle.std.proofs.Common.{◌≡◌, ℕ, zero, suc, ◌<◌, Bool, true, false, ◌&&◌, List, [], ◌∷◌, length, map, slice_get, refl, sym, ap, ◌∙◌, subst, nat_eq, nat_le, nat_lt, arith}
 use Rattle.std.specs.Prelude.{ℤ, pos, Option, Some}
 use Rattle.std.specs.List.{list_all}
@@ -17,7 +17,7 @@ use Rattle.made_code.specs.Ranks.{IsRankedProgram}
 use Rattle.image_acts.specs.Frames.{joined}
 use Rattle.object_rules.specs.Cells.{Content, Declared, MadeMemory, size_after, is_offset, is_within}
 use Rattle.object_rules.specs.BoardRules.{is_image}
-use Rattle.object_rules.specs.MemoryRules.{has_first_values, holds, is_lock, is_event, is_cell_of, is_one_cell, is_own}
+use Rattle.object_rules.specs.MemoryRules.{has_first_values, holds, is_lock, is_event, suits_atomic, is_cell_of, is_one_cell, is_own}
 use Rattle.core_runs.specs.Beginnings.{IsOneOf}
 use Rattle.core_runs.specs.CoreRuns.{IsCoreRun, said_by, of_memory}
 use Rattle.core_runs.specs.Lawful.{made_memory}
@@ -61,12 +61,13 @@ module _ (p : s.Program) (limit : ℕ) (coarrays : List Declared) (n : ℕ) (fai
   there : (owner : ImageNo) → IsOneOf n owner.0 → (b : Bool) → b ≡ true → (is_image n owner.0 && (nat_eq owner.0 owner.0 && b)) ≡ true
   there owner h b e = and_from (is_image n owner.0) (nat_eq owner.0 owner.0 && b) (image_there n owner.0 h) (and_from (nat_eq owner.0 owner.0) b (eq-eqb owner.0 owner.0 refl) e)
 
-  -- ---- LOCK, UNLOCK, EVENT POST
+  -- ---- LOCK, UNLOCK, EVENT POST, atomic subroutines
   cell_fits : (i : ℕ) (a : Ask) (z : List (Option ℕ)) → FitsCell n i coarrays z a → is_of_cell a ≡ true → Fits i a
   cell_fits i (asking.Lock owner span) z f e = there owner f.0 (is_cell_of (made_memory coarrays owner.0) is_lock span) f.1
   cell_fits i (asking.TryLock owner span) z f e = there owner f.0 (is_cell_of (made_memory coarrays owner.0) is_lock span) f.1
   cell_fits i (asking.Unlock owner span) z f e = there owner f.0 (is_cell_of (made_memory coarrays owner.0) is_lock span) f.1
   cell_fits i (asking.Post owner span) z f e = there owner f.0 (is_cell_of (made_memory coarrays owner.0) is_event span) f.1
+  cell_fits i (asking.Atomic owner op span x y) z f e = there owner f.0 (is_cell_of (made_memory coarrays owner.0) (suits_atomic op x y) span) f.1
   cell_fits i a z f e = absurd (cc)
 
   pub named_fits : (i : ℕ) (a : Ask) → Stands i a → is_of_cell a ≡ true → Fits i a

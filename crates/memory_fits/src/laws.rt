@@ -1,4 +1,4 @@
-//! Laws of the next ask for a lock or an event in a run. Each is the contract of a function that does nothing.
+//! Laws of the next ask for a lock, an event or an atom in a run. Each is the contract of a function that does nothing.
 
 ghost use Rattle.std.specs.Prelude.{◌≡◌, ℕ, true, List};
 ghost use Rattle.std.specs.List.{list_all};
@@ -19,9 +19,10 @@ ghost use Rattle.cell_walks.specs.Fitting.{IsSmall};
 ghost use Rattle.cell_statements.specs.Typed.{IsTypedProgram};
 ghost use Rattle.memory_fits.specs.CellAsks.{is_of_cell, is_of_own_event};
 
-/// In a core run of a checked program whose ranks are right, and whose statements on locks and events name ones that
-/// are declared, each next ask of an image with LOCK, UNLOCK or EVENT POST fits (11.6.7, 11.6.10); and so does one with
-/// EVENT WAIT or EVENT_QUERY, which is for a cell of its own coarray that is there (11.6.8, 16.9.72).
+/// In a core run of a checked program whose ranks are right, and whose statements on locks, events and atoms name ones
+/// that are declared, each next ask of an image with LOCK, UNLOCK, EVENT POST or an atomic subroutine fits (11.6.7,
+/// 11.6.10, 16.5); and so does one with EVENT WAIT or EVENT_QUERY, which is for a cell of its own coarray that is there
+/// (11.6.8, 16.9.72).
 pub fn law_cell_asks_fit()
     ensures named { (p : checked.Program) (limit : ℕ) (coarrays : List Declared) (n : ℕ) (fails_at : ℕ → ℕ) (words : ℕ) (t : List Entry) → list_all has_first_values coarrays ≡ true
         → IsCoreRun (program_rules p limit) (program_begins p coarrays n fails_at words) t → IsRankedProgram p → IsTypedProgram coarrays p → Each IsSmall (own_coarrays p)

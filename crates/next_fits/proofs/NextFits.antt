@@ -36,6 +36,6 @@ module _ (p : s.Program) (limit : ℕ) (coarrays : List Declared) (n : ℕ) (fai
       own_fits p limit coarrays n fails_at words t sound.values core sound.ranked sound.typed sound.small sound.declared i (asks.Query owner span) h e
   next_fits i (asks.Read owner span) h e = absurd (cc)
   next_fits i (asks.Write owner span vs) h e = absurd (cc)
-  next_fits i (asks.Atomic owner op span x y) h e = absurd (cc)
+  next_fits i (asks.Atomic owner op span x y) h e = named_fits p limit coarrays n fails_at words t sound.values core sound.ranked sound.typed sound.small i (asks.Atomic owner op span x y) h e
   next_fits i (asks.Gather team op root kind vs) h e = absurd (cc)
   next_fits i a h e = told_fits p limit coarrays n fails_at words t sound.values core few i a h e

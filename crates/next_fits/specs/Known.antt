@@ -14,8 +14,8 @@ use Rattle.fit_laws.specs.Asks.{AllocatesAllocatable}
 use Rattle.cell_walks.specs.Fitting.{IsSmall}
 use Rattle.cell_statements.specs.Typed.{IsTypedProgram}
 
--- Each part of the program has the rank that its place wants; its statements on locks and events name such, and those
--- that allocate name ALLOCATABLE coarrays. The memories of a run have from the start the coarrays that the program
+-- Each part of the program has the rank that its place wants; its statements on locks, events and atoms name such, and
+-- those that allocate name ALLOCATABLE coarrays. The memories of a run have from the start the coarrays that the program
 -- declares, none of more cells than an image may have.
 pub record IsSound (coarrays : List Declared) (p : checked.Program) : Type 0 where
   pub values : list_all has_first_values coarrays ≡ true
@@ -25,10 +25,9 @@ pub record IsSound (coarrays : List Declared) (p : checked.Program) : Type 0 whe
   pub typed : IsTypedProgram coarrays p
   pub allocates : AllocatesAllocatable coarrays p
 
--- all asks but these four
+-- all asks but these three
 abbrev pub is_known : Ask → Bool
 is_known (asks.Read owner span) = false
 is_known (asks.Write owner span values) = false
-is_known (asks.Atomic owner op span x y) = false
 is_known (asks.Gather team op root kind values) = false
 is_known ask = true

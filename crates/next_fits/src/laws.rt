@@ -15,7 +15,7 @@ ghost use Rattle.walk_laws.specs.Fits.{StandsAt};
 ghost use Rattle.next_fits.specs.Known.{IsSound, is_known};
 
 /// In a core run of a sound program, of fewer than 2 to the 32nd teams, the next ask of each image fits, but for a
-/// read, a write, an atomic action and an arrival at a collective, of which nothing is said.
+/// read, a write and an arrival at a collective, of which nothing is said.
 pub fn law_next_ask_fits()
     ensures { (p : checked.Program) (limit : ℕ) (coarrays : List Declared) (n : ℕ) (fails_at : ℕ → ℕ) (words : ℕ) (t : List Entry) → IsSound coarrays p
         → IsCoreRun (program_rules p limit) (program_begins p coarrays n fails_at words) t → length (teams_after n (at_board t)) ≤ most_team

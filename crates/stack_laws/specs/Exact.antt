@@ -32,7 +32,7 @@ KeptBy (allocation (a.note_made k depth rank corank)) c d = Unit {0}
 KeptBy (allocation (a.note_freed k)) c d = Unit {0}
 KeptBy x c d = kept_of d ≡ kept_of c
 
--- an ask for no lock and for no event, that allocates nothing and deallocates nothing
+-- an ask for no lock, no event and no atom, that allocates nothing and deallocates nothing
 abbrev pub is_plain : Ask → Bool
 is_plain (asks.Create owner coarray cells) = false
 is_plain (asks.Delete owner coarray) = false
@@ -42,6 +42,7 @@ is_plain (asks.Unlock owner span) = false
 is_plain (asks.Post owner span) = false
 is_plain (asks.Wait owner span threshold) = false
 is_plain (asks.Query owner span) = false
+is_plain (asks.Atomic owner op span x y) = false
 is_plain q = true
 
 -- asks that an act may make: none, plain ones, any
@@ -64,6 +65,7 @@ AsksBy (ask (a.unlock j)) = Any
 AsksBy (ask (a.post j)) = Any
 AsksBy (ask (a.wait j)) = Any
 AsksBy (ask (a.query j)) = Any
+AsksBy (ask (a.atomic op j kind)) = Any
 AsksBy (ask x) = Plain
 AsksBy x = No
 
