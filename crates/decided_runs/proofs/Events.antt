@@ -40,7 +40,6 @@ use Rattle.round_words.specs.RoundRuns.{IsAhead, IsRoundRun}
 use Rattle.round_words.proofs.RoundRuns.{round_front}
 use Rattle.round_replies.proofs.RoundSources.{is_taking, follows_front}
 use Rattle.round_replies.proofs.AnyRounds.{TellsTakings, any_speak}
-use Rattle.decided_runs.specs.Subsets.{HasNoForm}
 use Rattle.decided_runs.proofs.PairCloses.{unpair_stays}
 use Rattle.decided_runs.proofs.PairSources.{pair_release}
 use Rattle.decided_runs.proofs.PairReplies.{unpair_again}
@@ -198,7 +197,7 @@ module _ (s : List Declared) (n : ℕ) (t : List Entry) (run_t : IsRoundRun s n 
 
 module _ {C : Type 0} (step : C → Move C Ask Reply) (hears : C → Reply → Type 0) (one : OneNextAsk step) (s : List Declared) (n : ℕ) (first : ℕ → C) (t : List Entry)
     (declared : list_all has_first_values s ≡ true) (fit : IsFit (full_rules step hears) (full_beginning s n first)) (core : IsCoreRun (full_rules step hears) (full_beginning s n first) t)
-    (end : IsAtEnd (full_rules step hears) (full_beginning s n first) t) (decided : IsDecided n t) (none_forms : HasNoForm n t) where
+    (end : IsAtEnd (full_rules step hears) (full_beginning s n first) t) (decided : IsDecided n t) where
   pub events_speak : (u : List Entry) → IsCoreRun (full_rules step hears) (full_beginning s n first) u → SpeaksFor (full_rules step hears) (full_beginning s n first) s n t u
   events_speak u run =
-      any_speak step hears one s n first t declared fit core end decided none_forms (λ run_t. event_takings s n t run_t decided.one_poster decided.events_stay) u run
+      any_speak step hears one s n first t declared fit core end decided (λ run_t. event_takings s n t run_t decided.one_poster decided.events_stay) u run

@@ -1,11 +1,10 @@
 //! What a decided run says of every other run of the same programs.
 
-ghost use Rattle.free_replies.specs.Law.{EveryOrderOf};
-ghost use Rattle.decided_runs.specs.Subsets.{HasNoForm};
+ghost use Rattle.every_order.specs.EveryOrder.{EveryOrder};
 
 use caf_events::walker::Walker;
 
-/// A decided run without FORM TEAM speaks for every order.
+/// A decided run speaks for every order.
 pub fn law_every_order<M: Walker>()
-    ensures { EveryOrderOf M.Walker.step M.Walker.hears HasNoForm }
+    ensures { EveryOrder M.Walker.step M.Walker.hears }
 {}

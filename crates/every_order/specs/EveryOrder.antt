@@ -6,7 +6,7 @@ use Rattle.caf_events.specs.declared.reply.Reply.{Reply}
 use Rattle.caf_events.specs.declared.event.Entry.{Entry}
 use Rattle.object_rules.specs.Cells.{Declared, MadeMemory}
 use Rattle.object_rules.specs.MemoryRules.{has_first_values, value_there}
-use Rattle.trace_theory.specs.Machines.{Move, Said, OneNextAsk}
+use Rattle.trace_theory.specs.Machines.{Move, Said}
 use Rattle.core_runs.specs.Moments.{Rules}
 use Rattle.core_runs.specs.Beginnings.{Beginning, IsImage}
 use Rattle.core_runs.specs.CoreRuns.{IsCoreRun, IsFit, said_by, of_memory}
@@ -38,7 +38,7 @@ pub record SpeaksFor {C : Type 0} (r : Rules C MadeMemory ℕ) (b : Beginning C 
 -- THE LAW OF EVERY ORDER, of machines with these steps.
 abbrev pub EveryOrder : {C : Type 0} → (C → Move C Ask Reply) → (C → Reply → Type 0) → Type 0
 EveryOrder {C} step hears =
-    (coarrays : List Declared) (n : ℕ) (first : ℕ → C) (t u : List Entry) → OneNextAsk step → list_all has_first_values coarrays ≡ true
+    (coarrays : List Declared) (n : ℕ) (first : ℕ → C) (t u : List Entry) → list_all has_first_values coarrays ≡ true
     → IsFit (full_rules step hears) (full_beginning coarrays n first)
     → IsCoreRun (full_rules step hears) (full_beginning coarrays n first) t → IsAtEnd (full_rules step hears) (full_beginning coarrays n first) t → IsDecided n t
     → IsCoreRun (full_rules step hears) (full_beginning coarrays n first) u

@@ -1,8 +1,7 @@
--- A decided trace without FORM TEAM speaks for every other run, if the ends of SYNC IMAGES and events are told.
+-- A decided trace speaks for every other run, if the ends of SYNC IMAGES and events are told.
 use Rattle.std.proofs.Common.{◌≡◌, ℕ, false, true, IsTrue, List, [], ◌∷◌, ◌++◌, inl, inr, refl, ap, sym, ◌∙◌, subst}
 use Rattle.std.specs.List.{list_all}
 use Rattle.std.proofs.lemmas.Bool.{both_ways}
-use Rattle.trace_theory.specs.Entries.{Each}
 use Rattle.trace_theory.specs.Machines.{Move, OneNextAsk}
 use Rattle.caf_base.specs.declared.place.ImageNo.{ImageNo}
 use Rattle.caf_base.specs.declared.place.Place.{Place}
@@ -41,7 +40,7 @@ use Rattle.round_words.proofs.Ahead.{follows_ahead, earlier_ahead}
 use Rattle.round_words.proofs.RoundRuns.{round_front, nothing_front}
 use Rattle.round_replies.proofs.RoundSources.{is_taking, keeps_rounds}
 use Rattle.round_replies.proofs.ReadyMore.{board_more, memory_more}
-use Rattle.round_words.specs.RoundRuns.{FormsNone, IsAhead, IsRoundRun, is_no_form}
+use Rattle.round_words.specs.RoundRuns.{IsAhead, IsRoundRun}
 use Rattle.caf_base.specs.declared.span.Span.{Span}
 use Rattle.order_theory.specs.Order.{Segment, Within}
 use Rattle.order_theory.specs.Acts.{released}
@@ -69,13 +68,12 @@ pub record TellsTakings (s : List Declared) (n : ℕ) (t : List Entry) : Type 0 
 
 module _ {C : Type 0} (step : C → Move C Ask Reply) (hears : C → Reply → Type 0) (one : OneNextAsk step) (s : List Declared) (n : ℕ) (first : ℕ → C) (t : List Entry)
     (declared : list_all has_first_values s ≡ true) (fit : IsFit (full_rules step hears) (full_beginning s n first)) (core : IsCoreRun (full_rules step hears) (full_beginning s n first) t)
-    (end : IsAtEnd (full_rules step hears) (full_beginning s n first) t) (decided : IsDecided n t) (none_forms : Each FormsNone t)
-    (tells : IsRoundRun s n t → TellsTakings s n t) where
+    (end : IsAtEnd (full_rules step hears) (full_beginning s n first) t) (decided : IsDecided n t) (tells : IsRoundRun s n t → TellsTakings s n t) where
   law : IsLawfulTrace s n t
   law = core_run_lawful step hears s n first t declared fit core
 
   run_t : IsRoundRun s n t
-  run_t = record { lawful = law; free = decided.free; forms = none_forms; ends = core.nothing_after }
+  run_t = record { lawful = law; free = decided.free; ends = core.nothing_after }
 
   told : TellsTakings s n t
   told = tells run_t
@@ -84,7 +82,6 @@ module _ {C : Type 0} (step : C → Move C Ask Reply) (hears : C → Reply → T
   run_of g law_g fol = record {
     lawful = law_g;
     free = carried n t g fol (λ w. is_free w.ask w.reply ≡ true) decided.free;
-    forms = carried n t g fol (λ w. is_no_form w.ask ≡ true) run_t.forms;
     ends = λ i. nothing_front (said_by i g) (fol.left i) (subst NothingAfterEnd (fol.splits i) (core.nothing_after i));
   }
 

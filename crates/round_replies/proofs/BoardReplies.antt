@@ -1,7 +1,7 @@
 -- What is heard at the board is the same in every run, where the ends of SYNC IMAGES hear the same.
-use Rattle.std.proofs.Common.{◌≡◌, ℕ, Bool, false, true, IsTrue, nat_eq, cond, List, [], ◌∷◌, ◌++◌, refl, ap, sym, ◌∙◌, subst}
+use Rattle.std.proofs.Common.{◌≡◌, ℕ, Bool, false, true, IsTrue, nat_eq, ◌&&◌, cond, List, [], ◌∷◌, ◌++◌, refl, ap, sym, ◌∙◌, subst}
 use Rattle.std.specs.Prelude.{suc, filter_map}
-use Rattle.std.proofs.lemmas.Bool.{and_from, eq-eqb}
+use Rattle.std.proofs.lemmas.Bool.{and_parts, and_from, eq-eqb}
 use Rattle.caf_base.specs.declared.place.TeamNo.{TeamNo}
 use Rattle.caf_base.specs.declared.place.Place.TheVariants as places
 use Rattle.caf_events.specs.declared.ask.Ask.{Ask}
@@ -16,22 +16,23 @@ use Rattle.caf_events.specs.declared.event.Entry.{Entry}
 use Rattle.caf_events.specs.Asks.{place_of}
 use Rattle.object_rules.specs.Cells.{Declared}
 use Rattle.object_rules.specs.Happenings.{control, collective, happens, happened, has_failed}
-use Rattle.object_rules.specs.TeamRounds.{Opening}
-use Rattle.object_rules.specs.BoardTeams.{arrives_there, members_at}
-use Rattle.object_rules.specs.BoardRules.{board_ready, board_reply, indices_from, taken_by, collected}
+use Rattle.object_rules.specs.TeamRounds.{Opening, result_of}
+use Rattle.object_rules.specs.FormedTeams.{is_bad_form}
+use Rattle.object_rules.specs.BoardTeams.{arrives_there, form_arg, is_form_kind, teams_after, made_teams}
+use Rattle.object_rules.specs.BoardRules.{is_image, fits_board, can_come, board_ready, board_reply, indices_from, taken_by, collected}
 use Rattle.core_runs.specs.CoreRuns.{at_board, said_by}
 use Rattle.order_theory.specs.Races.{Stands}
 use Rattle.every_order.specs.Decided.{is_free}
 use Rattle.free_replies.proofs.Alike.{IsFree, each_stands}
 use Rattle.free_replies.proofs.Replies.{board_here, front_follows}
 use Rattle.round_words.proofs.BoardWords.{happened_board, none_failed}
-use Rattle.round_words.proofs.FirstTeam.{one_team}
+use Rattle.round_words.proofs.Brought.{brought}
 use Rattle.round_words.proofs.Ahead.{follows_ahead}
 use Rattle.round_words.proofs.RoundRuns.{round_front, is_arrival}
-use Rattle.round_replies.proofs.Openings.{arrives_again, same_opening}
-use Rattle.round_replies.proofs.DepartureReplies.{Missing, leave_is, take_is}
-use Rattle.round_replies.proofs.GatheredValues.{values_said}
-use Rattle.round_words.specs.RoundRuns.{IsAhead, IsRoundRun, first_team, team_members}
+use Rattle.round_words.proofs.Openings.{arrives_again, same_opening}
+use Rattle.formed_teams.proofs.TeamsAhead.{members_ahead}
+use Rattle.round_replies.proofs.DepartureReplies.{Missing, values_given, leave_is, take_is}
+use Rattle.round_words.specs.RoundRuns.{IsAhead, IsRoundRun, team_members}
 
 arrives_control : (t i line : ℕ) (team : TeamNo) (arriving : Arriving) (r : Reply) → team.0 ≡ t → is_free (asks.Arrive team arriving) r ≡ true → arrives_there t i (happens control i line (asks.Arrive team arriving) r) ≡ true
 arrives_control t i line team arriving (replies.Round k) e h = and_from (nat_eq team.0 t) (nat_eq i i) (eq-eqb team.0 t e) (eq-eqb i i refl)
@@ -61,10 +62,16 @@ module _ (s : List Declared) (n : ℕ) (t g : List Entry) (run_t : IsRoundRun s 
   free_y = each_stands IsFree t run_t.free y
 
   -- FAILED_IMAGES tells of none
-  failed_none : (h : List Entry) → IsRoundRun s n h → (team : TeamNo) → board_reply n (at_board h) i (asks.Failed team) ≡ replies.Indices (indices_from 1 (λ m. false) (members_at (first_team n ∷ []) team.0))
-  failed_none h run team =
-      ap (λ ts. replies.Indices (indices_from 1 (λ m. has_failed m (happened control (at_board h))) (members_at ts team.0))) (one_team n h run.forms)
-      ∙ ap replies.Indices (indices_ext (λ m. has_failed m (happened control (at_board h))) (λ m. false) (λ m. ap (has_failed m) (happened_board control h) ∙ none_failed control m h run.free) 1 (members_at (first_team n ∷ []) team.0))
+  failed_none : (h : List Entry) → IsRoundRun s n h → (team : TeamNo) (ms : List ℕ) → team_members n h team.0 ≡ ms → board_reply n (at_board h) i (asks.Failed team) ≡ replies.Indices (indices_from 1 (λ m. false) ms)
+  failed_none h run team ms are =
+      ap (λ z. replies.Indices (indices_from 1 (λ m. has_failed m (happened control (at_board h))) z)) are
+      ∙ ap replies.Indices (indices_ext (λ m. has_failed m (happened control (at_board h))) (λ m. false) (λ m. ap (has_failed m) (happened_board control h) ∙ none_failed control m h run.free) 1 ms)
+
+  -- who asks for it is a member
+  failed_member : (h : List Entry) → IsRoundRun s n h → IsAhead t h → (team : TeamNo) → IsTrue (board_ready n (at_board h) i (asks.Failed team)) → team_members n h team.0 ≡ team_members n t team.0
+  failed_member h run ahead team ready =
+      let both = (and_parts (is_image n i && fits_board n (at_board h) i (asks.Failed team)) (can_come n (at_board h) i (asks.Failed team)) ready).0 in
+      members_ahead s n t h run_t run ahead i team.0 (and_parts (is_image n i) (fits_board n (at_board h) i (asks.Failed team)) both).1
 
   -- What is heard at the board is the same.
   pub board_again : (a : Ask) → y.event.event.ask ≡ a → place_of a ≡ places.Board → IsTrue (board_ready n (at_board g) i a) → board_reply n (at_board g) i a ≡ y.event.event.reply
@@ -79,7 +86,12 @@ module _ (s : List Declared) (n : ℕ) (t g : List Entry) (run_t : IsRoundRun s 
   board_again (asks.Leave team k) e place ready =
       let here = board_here s n t run_t.lawful y (ap place_of e) in
       let mine = subst (λ a. IsTrue (board_ready n (at_board y.before) i a)) e here.0 in
-      leave_is s n t g run_t run_g ahead i team k ready ∙ sym (leave_is s n t y.before run_t run_y ahead_y i team k mine) ∙ sym (here.1 ∙ ap (board_reply n (at_board y.before) i) e)
+      let a = leave_is s n t g run_t run_g ahead i team k ready in
+      let b = leave_is s n t y.before run_t run_y ahead_y i team k mine in
+      a.2
+      ∙ ap (λ (o : Opening). replies.Left (result_of (Missing s n t y.before run_t run_y ahead_y i team k control) (is_form_kind o.kind
+      && is_bad_form (filter_map (λ m. brought control form_arg team.0 m k (said_by m t)) (team_members n t team.0)))) (made_teams team.0 k 1 (teams_after n (at_board t)))) (same_opening a.0 b.0 (sym a.1 ∙ b.1))
+      ∙ sym b.2 ∙ sym (here.1 ∙ ap (board_reply n (at_board y.before) i) e)
   board_again (asks.Take team k) e place ready =
       let here = board_here s n t run_t.lawful y (ap place_of e) in
       let mine = subst (λ a. IsTrue (board_ready n (at_board y.before) i a)) e here.0 in
@@ -87,11 +99,14 @@ module _ (s : List Declared) (n : ℕ) (t g : List Entry) (run_t : IsRoundRun s 
       let b = take_is s n t y.before run_t run_y ahead_y i team k mine in
       a.2
       ∙ ap (λ (o : Opening). taken_by (Missing s n t y.before run_t run_y ahead_y i team k collective)
-      (collected o.kind (filter_map (λ m. values_said team.0 m k (said_by m t)) (team_members n team.0)))) (same_opening a.0 b.0 (sym a.1 ∙ b.1))
+      (collected o.kind (filter_map (λ m. brought collective values_given team.0 m k (said_by m t)) (team_members n t team.0)))) (same_opening a.0 b.0 (sym a.1 ∙ b.1))
       ∙ sym b.2 ∙ sym (here.1 ∙ ap (board_reply n (at_board y.before) i) e)
   board_again (asks.Failed team) e place ready =
       let here = board_here s n t run_t.lawful y (ap place_of e) in
-      failed_none g run_g team ∙ sym (failed_none y.before run_y team) ∙ sym (here.1 ∙ ap (board_reply n (at_board y.before) i) e)
+      let mine = subst (λ a. IsTrue (board_ready n (at_board y.before) i a)) e here.0 in
+      failed_none g run_g team (team_members n t team.0) (failed_member g run_g ahead team ready)
+      ∙ sym (failed_none y.before run_y team (team_members n t team.0) (failed_member y.before run_y ahead_y team mine))
+      ∙ sym (here.1 ∙ ap (board_reply n (at_board y.before) i) e)
   board_again (asks.Stop code) e place ready =
       let here = board_here s n t run_t.lawful y (ap place_of e) in
       sym (here.1 ∙ ap (board_reply n (at_board y.before) i) e)

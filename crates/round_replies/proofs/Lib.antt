@@ -1,5 +1,3 @@
-pub mod Openings
-pub mod GatheredValues
 pub mod DepartureReplies
 pub mod RoundSources
 pub mod ReadyMore

@@ -20,7 +20,7 @@ use Rattle.object_rules.specs.MemoryRules as memories
 use Rattle.object_rules.specs.Happenings.{Class, control, collective, happened}
 use Rattle.object_rules.specs.ImagePairs.{names}
 use Rattle.object_rules.specs.TeamRounds.{arrivals}
-use Rattle.object_rules.specs.BoardTeams.{Team, teams_after, members_at, closing}
+use Rattle.object_rules.specs.BoardTeams.{teams_after, members_at, closing}
 use Rattle.object_rules.specs.Folds.{is_of_kind}
 use Rattle.object_rules.specs.BoardRules.{is_image, is_gathered, is_root, is_open, has_joined, board_ready}
 use Rattle.core_runs.specs.CoreRuns.{at_board, of_memory, said_by}
@@ -30,10 +30,10 @@ use Rattle.every_order.specs.Decided.{is_free}
 use Rattle.free_replies.proofs.Alike.{IsFree}
 use Rattle.caf_base.specs.declared.span.Span.{Span}
 use Rattle.round_words.proofs.BoardWords.{happened_board, own_arrivals, closed_is}
-use Rattle.round_words.proofs.FirstTeam.{one_team}
 use Rattle.round_words.proofs.Ahead.{closed_ahead}
 use Rattle.round_words.proofs.Closing.{some_closed, closed_some}
-use Rattle.round_words.proofs.RoundRuns.{members_are}
+use Rattle.round_words.proofs.RoundStops.{joined_member}
+use Rattle.formed_teams.proofs.TeamsAhead.{members_ahead}
 use Rattle.round_words.specs.RoundRuns.{IsAhead, IsRoundRun, arrivals_said, team_members}
 
 -- free steps enter no construct and get no lock
@@ -68,6 +68,9 @@ or_true : (b c : Bool) → c ≡ true → (b || c) ≡ true
 or_true true c h = refl
 or_true false c h = h
 
+first_three : (a b c : Bool) → (a && b && c) ≡ true → a ≡ true
+first_three a b c h = (and_parts a b (and_parts (a && b) c h).0).0
+
 module _ (s : List Declared) (n : ℕ) (w u : List Entry) (run_w : IsRoundRun s n w) (run_u : IsRoundRun s n u) (ahead : IsAhead u w)
     (i : ℕ) (same : said_by i w ≡ said_by i u) where
   abbrev b : List Entry
@@ -76,43 +79,52 @@ module _ (s : List Declared) (n : ℕ) (w u : List Entry) (run_w : IsRoundRun s 
   abbrev d : List Entry
   d = at_board u
 
-  teams : teams_after n b ≡ teams_after n d
-  teams = one_team n w run_w.forms ∙ sym (one_team n u run_u.forms)
+  -- an ask of a member fits there too
+  fits_more : (team : ℕ) (fits : List ℕ → Bool) → ((ms : List ℕ) → fits ms ≡ true → names i ms ≡ true) → (is_image n i && fits (members_at (teams_after n b) team) && true) ≡ true
+      → (is_image n i && fits (members_at (teams_after n d) team) && true) ≡ true
+  fits_more team fits tells h =
+      let ms = members_at (teams_after n b) team in
+      let both = (and_parts (is_image n i && fits ms) true h).0 in
+      let named = tells ms (and_parts (is_image n i) (fits ms) both).1 in
+      subst (λ z. (is_image n i && fits z && true) ≡ true) (members_ahead s n u w run_u run_w ahead i team named) h
 
-  -- what depends on the teams alone
-  by_teams : (test : List Team → Bool) → test (teams_after n b) ≡ true → test (teams_after n d) ≡ true
-  by_teams test h = subst (λ ts. test ts ≡ true) teams h
-
-  joined_same : (class : Class) (team k : ℕ) → has_joined class n b i team k ≡ has_joined class n d i team k
-  joined_same class team k =
+  joined_more : (class : Class) (team k : ℕ) → has_joined class n b i team k ≡ true → has_joined class n d i team k ≡ true
+  joined_more class team k h =
       let count : arrivals team i (happened class b) ≡ arrivals team i (happened class d) =
       ap (arrivals team i) (happened_board class w) ∙ own_arrivals class i team w ∙ ap (arrivals_said class team i) same ∙ sym (ap (arrivals team i) (happened_board class u) ∙ own_arrivals class i team u) in
-      ap (λ ts. names i (members_at ts team) && nat_le 1 k && nat_le k (arrivals team i (happened class b))) teams
-      ∙ ap (λ c. names i (members_at (teams_after n d) team) && nat_le 1 k && nat_le k c) count
+      let members = members_ahead s n u w run_u run_w ahead i team (joined_member class n b i team k h) in
+      subst (λ c. (names i (members_at (teams_after n d) team) && nat_le 1 k && nat_le k c) ≡ true) count
+      (subst (λ ms. (names i ms && nat_le 1 k && nat_le k (arrivals team i (happened class b))) ≡ true) members h)
 
-  closes_more : (class : Class) (team k : ℕ) → is_some (closing class team k (members_at (teams_after n b) team) b) ≡ true → is_some (closing class team k (members_at (teams_after n d) team) d) ≡ true
-  closes_more class team k h =
-      let ms = team_members n team in
-      let here = some_closed class team k ms w (subst (λ z. is_some (closing class team k z b) ≡ true) (members_are s n w run_w team) h) in
+  closes_more : (class : Class) (team k : ℕ) → has_joined class n b i team k ≡ true → is_some (closing class team k (members_at (teams_after n b) team) b) ≡ true
+      → is_some (closing class team k (members_at (teams_after n d) team) d) ≡ true
+  closes_more class team k joined h =
+      let ms = team_members n w team in
+      let members = members_ahead s n u w run_u run_w ahead i team (joined_member class n b i team k joined) in
+      let here = some_closed class team k ms w h in
       let more = closed_ahead class u w ahead team k ms (sym (closed_is class team k ms w run_w.free) ∙ here) in
-      subst (λ z. is_some (closing class team k z d) ≡ true) (sym (members_are s n u run_u team)) (closed_some class team k ms u (closed_is class team k ms u run_u.free ∙ more))
+      subst (λ z. is_some (closing class team k z d) ≡ true) members (closed_some class team k ms u (closed_is class team k ms u run_u.free ∙ more))
 
   -- At the board, where the end of SYNC IMAGES can come too.
   pub board_more : (IsTrue (board_ready n b i asks.Unpair) → IsTrue (board_ready n d i asks.Unpair)) → (a : Ask) → IsTrue (board_ready n b i a) → IsTrue (board_ready n d i a)
-  board_more unpair (asks.Arrive team arriving) h = by_teams (λ ts. is_image n i && names i (members_at ts team.0) && true) h
+  board_more unpair (asks.Arrive team arriving) h = fits_more team.0 (λ ms. names i ms) (λ ms f. f) h
   board_more unpair (asks.Gather team op root kind values) h =
-      by_teams (λ ts. is_image n i && (names i (members_at ts team.0) && is_gathered op kind && is_root op (length (members_at ts team.0)) root && list_all (is_of_kind kind) values) && true) h
-  board_more unpair (asks.Failed team) h = by_teams (λ ts. is_image n i && names i (members_at ts team.0) && true) h
-  board_more unpair (asks.Stopped team) h = by_teams (λ ts. is_image n i && names i (members_at ts team.0) && true) h
-  board_more unpair (asks.Status team index) h = by_teams (λ ts. is_image n i && (names i (members_at ts team.0) && nat_le 1 index && nat_le index (length (members_at ts team.0))) && true) h
+      fits_more team.0 (λ ms. names i ms && is_gathered op kind && is_root op (length ms) root && list_all (is_of_kind kind) values)
+      (λ ms f. first_three (names i ms) (is_gathered op kind) (is_root op (length ms) root) (and_parts (names i ms && is_gathered op kind && is_root op (length ms) root) (list_all (is_of_kind kind) values) f).0) h
+  board_more unpair (asks.Failed team) h = fits_more team.0 (λ ms. names i ms) (λ ms f. f) h
+  board_more unpair (asks.Stopped team) h = fits_more team.0 (λ ms. names i ms) (λ ms f. f) h
+  board_more unpair (asks.Status team index) h =
+      fits_more team.0 (λ ms. names i ms && nat_le 1 index && nat_le index (length ms)) (λ ms f. first_three (names i ms) (nat_le 1 index) (nat_le index (length ms)) f) h
   board_more unpair (asks.Leave team k) h =
       let p = and_parts (is_image n i && has_joined control n b i team.0 k) (is_some (closing control team.0 k (members_at (teams_after n b) team.0) b)) h in
+      let q = and_parts (is_image n i) (has_joined control n b i team.0 k) p.0 in
       and_from (is_image n i && has_joined control n d i team.0 k) (is_some (closing control team.0 k (members_at (teams_after n d) team.0) d))
-      (sym (ap (λ z. is_image n i && z) (joined_same control team.0 k)) ∙ p.0) (closes_more control team.0 k p.1)
+      (and_from (is_image n i) (has_joined control n d i team.0 k) q.0 (joined_more control team.0 k q.1)) (closes_more control team.0 k q.1 p.1)
   board_more unpair (asks.Take team k) h =
       let p = and_parts (is_image n i && has_joined collective n b i team.0 k) (is_some (closing collective team.0 k (members_at (teams_after n b) team.0) b)) h in
+      let q = and_parts (is_image n i) (has_joined collective n b i team.0 k) p.0 in
       and_from (is_image n i && has_joined collective n d i team.0 k) (is_some (closing collective team.0 k (members_at (teams_after n d) team.0) d))
-      (sym (ap (λ z. is_image n i && z) (joined_same collective team.0 k)) ∙ p.0) (closes_more collective team.0 k p.1)
+      (and_from (is_image n i) (has_joined collective n d i team.0 k) q.0 (joined_more collective team.0 k q.1)) (closes_more collective team.0 k q.1 p.1)
   board_more unpair asks.Unpair h = unpair h
   board_more unpair (asks.Enter construct) h =
       let p = and_parts (is_image n i && true) (is_open (construct_after construct b)) h in

@@ -36,8 +36,9 @@ use Rattle.free_replies.proofs.Replies.{board_here, said_append}
 use Rattle.round_words.proofs.BoardWords.{own_arrivals, own_ends}
 use Rattle.round_words.proofs.Ahead.{follows_ahead, stopped_whole}
 use Rattle.round_words.proofs.Closing.{some_closed}
-use Rattle.round_words.proofs.RoundRuns.{round_front, members_are, IsArrival, is_arrival, number_at, member_at}
-use Rattle.round_words.proofs.RoundStops.{departs_closed}
+use Rattle.round_words.proofs.RoundRuns.{round_front, IsArrival, is_arrival, number_at, member_at}
+use Rattle.round_words.proofs.RoundStops.{departs_closed, departs_joined, joined_member}
+use Rattle.formed_teams.proofs.TeamsAhead.{members_ahead}
 use Rattle.round_words.specs.RoundRuns.{IsRoundRun, team_members}
 
 -- A step of rounds releases nothing, or is a departure from a round that was whole.
@@ -139,7 +140,7 @@ module _ (s : List Declared) (n : ℕ) (t : List Entry) (run_t : IsRoundRun s n 
   free_step : (x : Stands t) → is_free x.event.event.ask x.event.event.reply ≡ true
   free_step x = each_stands IsFree t run_t.free x
 
-  module _ (team : TeamNo) (k : ℕ) (f : List Entry) (run_f : IsRoundRun s n f) (fol_f : Follows (view n) (likes n) t f) (closed : has_closed (team_members n team.0) team.0 k (happened control f) ≡ true) where
+  module _ (team : TeamNo) (k : ℕ) (f : List Entry) (run_f : IsRoundRun s n f) (fol_f : Follows (view n) (likes n) t f) (closed : has_closed (team_members n t team.0) team.0 k (happened control f) ≡ true) where
     arrival_at : (z : Stands t) → act_of z.event ≡ arrives team.0 k → IsArrival control team.0 z.event.image.0 z.event.event.line z.event.event.ask z.event.event.reply
     arrival_at z act = is_arrival control team.0 z.event.image.0 z.event.event.line z.event.event.ask z.event.event.reply
         (act_arrives team.0 k z.event.image.0 z.event.event.line z.event.event.ask z.event.event.reply (free_step z) act).0
@@ -157,7 +158,7 @@ module _ (s : List Declared) (n : ℕ) (t : List Entry) (run_t : IsRoundRun s n 
     came : (z : Stands t) → act_of z.event ≡ arrives team.0 k → (nat_le k (joined_by team.0 z.event.image.0 f) ≡ true) ⊎ (said_by z.event.image.0 t ≡ said_by z.event.image.0 f)
     came z act =
         let i = z.event.image.0 in
-        let ms = team_members n team.0 in
+        let ms = team_members n t team.0 in
         let hs = happened control f in
         let all = (and_parts (list_any (λ m. has_arrived team.0 k m hs) ms) (list_all (λ m. has_arrived team.0 k m hs || has_ended m hs) ms) closed).1 in
         let mine = named_has (λ m. has_arrived team.0 k m hs || has_ended m hs) i ms all (member_at s n t run_t control team.0 z (arrival_at z act)) in
@@ -182,14 +183,17 @@ module _ (s : List Declared) (n : ℕ) (t : List Entry) (run_t : IsRoundRun s n 
         let asked : y.event.event.ask ≡ asks.Leave r.team r.number = sym (ap (λ (q : Said Ask Reply). q.ask) (said_same n t g fol x y same)) ∙ r.asked in
         let ready : IsTrue (board_ready n (at_board y.before) y.event.image.0 (asks.Leave r.team r.number)) =
         subst (λ b. IsTrue (board_ready n (at_board y.before) y.event.image.0 b)) asked (board_here s n g run.lawful y (ap place_of asked)).0 in
-        let some : is_some (closing control r.team.0 r.number (team_members n r.team.0) (at_board y.before)) ≡ true =
-        subst (λ ms. is_some (closing control r.team.0 r.number ms (at_board y.before)) ≡ true) (members_are s n y.before front r.team.0)
+        let fol_y = follows_front n t g y.before (y.event ∷ y.rest) y.split fol in
+        let ms = team_members n t r.team.0 in
+        let named = joined_member control n (at_board y.before) y.event.image.0 r.team.0 r.number (departs_joined control tt n (at_board y.before) y.event.image.0 r.team r.number ready) in
+        let some : is_some (closing control r.team.0 r.number ms (at_board y.before)) ≡ true =
+        subst (λ z. is_some (closing control r.team.0 r.number z (at_board y.before)) ≡ true) (members_ahead s n t y.before run_t front (follows_ahead n t y.before fol_y) y.event.image.0 r.team.0 named)
         (departs_closed control tt n (at_board y.before) y.event.image.0 r.team r.number ready) in
-        let closed = some_closed control r.team.0 r.number (team_members n r.team.0) y.before some in
+        let closed = some_closed control r.team.0 r.number ms y.before some in
         let act_y : act_of y.event ≡ leaves r.team.0 r.number true = sym (same_act Entry (Said Ask Reply) (view n) (likes n) t g fol x y same) ∙ r.act in
         let here : Within a (waiting (view n) (round r.team.0 r.number) x.before) = subst (λ q. Within a (released (view n) x.before x.event.image.0 q)) r.act w in
         subst (λ q. Within a (released (view n) y.before y.event.image.0 q)) (sym act_y)
-        (waits_still r.team r.number y.before front (follows_front n t g y.before (y.event ∷ y.rest) y.split fol) closed x.before (x.event ∷ x.rest) x.split a here))
+        (waits_still r.team r.number y.before front fol_y closed x.before (x.event ∷ x.rest) x.split a here))
   ]
 
   -- THE SAME SOURCES, where those of the ends of SYNC IMAGES and of EVENT WAIT are the same.

@@ -1,4 +1,4 @@
--- Rounds of the initial team and memories: a decided trace of them speaks for every other run.
+-- Rounds of teams and memories: a decided trace of them speaks for every other run.
 use Rattle.std.proofs.Common.{◌≡◌, ℕ, false, true, List, refl, subst}
 use Rattle.std.specs.List.{list_all}
 use Rattle.std.proofs.lemmas.Bool.{both_ways}
@@ -9,7 +9,6 @@ use Rattle.caf_base.specs.declared.place.Place.TheVariants as places
 use Rattle.caf_events.specs.declared.ask.Ask.{Ask}
 use Rattle.caf_events.specs.declared.ask.Ask.TheVariants as asks
 use Rattle.caf_events.specs.declared.reply.Reply.{Reply}
-use Rattle.caf_events.specs.declared.round.Arriving.TheVariants as arrivings
 use Rattle.caf_events.specs.declared.event.Entry.{Entry}
 use Rattle.caf_events.specs.Asks.{place_of}
 use Rattle.object_rules.specs.Cells.{Declared}
@@ -28,12 +27,8 @@ use Rattle.free_replies.proofs.Memories.{of_cells}
 use Rattle.round_replies.specs.Subsets.{is_of_rounds, IsOfRounds}
 use Rattle.round_replies.proofs.RoundSources.{is_taking}
 use Rattle.round_replies.proofs.NoTakings.{IsOfRound, is_no_event, no_unpair, no_wait}
-use Rattle.round_words.specs.RoundRuns.{FormsNone, IsRoundRun, is_no_form}
+use Rattle.round_words.specs.RoundRuns.{IsRoundRun}
 use Rattle.round_replies.proofs.AnyRounds.{TellsTakings, any_speak}
-
-no_form : (a : Ask) → is_of_rounds a ≡ true → is_no_form a ≡ true
-no_form (asks.Arrive team (arrivings.Form number new_index)) h = absurd (cc)
-no_form a h = refl
 
 -- at a memory such a step is an access
 pub access_there : (owner : ImageNo) (a : Ask) → is_of_rounds a ≡ true → place_of a ≡ places.Memory owner → is_of_cells a ≡ true
@@ -81,5 +76,5 @@ module _ {C : Type 0} (step : C → Move C Ask Reply) (hears : C → Reply → T
     (end : IsAtEnd (full_rules step hears) (full_beginning s n first) t) (decided : IsDecided n t) (alone : IsOfRounds n t) where
   pub rounds_speak : (u : List Entry) → IsCoreRun (full_rules step hears) (full_beginning s n first) u → SpeaksFor (full_rules step hears) (full_beginning s n first) s n t u
   rounds_speak u run =
-      any_speak step hears one s n first t declared fit core end decided (each_from FormsNone t (λ x. no_form x.event.event.ask (each_stands IsOfRound t alone.steps x)))
+      any_speak step hears one s n first t declared fit core end decided
       (λ run_t. no_takings s n t run_t alone) u run

@@ -1,8 +1,10 @@
 pub mod BoardWords
-pub mod FirstTeam
 pub mod SameKinds
 pub mod Ahead
 pub mod Closing
 pub mod Departing
 pub mod RoundRuns
 pub mod RoundStops
+pub mod Openings
+pub mod Brought
+pub mod ClosedRounds

@@ -1,4 +1,4 @@
--- Runs without FORM TEAM and without failures: their teams, and what an arrival is there.
+-- Runs without failures: the members of their teams, and what an arrival is there.
 use Rattle.std.proofs.Common.{◌≡◌, ℕ, suc, true, IsTrue, nat_eq, ◌&&◌, List, [], ◌∷◌, ◌++◌, length, refl, ap, sym, ◌∙◌, subst, append_assoc}
 use Rattle.std.specs.Prelude.{Some}
 use Rattle.std.specs.List.{list_all}
@@ -24,14 +24,15 @@ use Rattle.core_runs.specs.CoreRuns.{at_board, said_by}
 use Rattle.core_runs.specs.Sequences.{NothingAfterEnd}
 use Rattle.core_runs.proofs.Fronts.{lawful_trace_front}
 use Rattle.order_theory.specs.Races.{Stands}
+use Rattle.team_laws.proofs.Teams.{teams_stay, members_stay}
 use Rattle.answer_laws.proofs.RoundKinds.{joins_next, in_round}
 use Rattle.answer_laws.proofs.Served.{board_split}
 use Rattle.free_replies.proofs.Alike.{IsFree, each_front}
 use Rattle.free_replies.proofs.Replies.{board_here, said_append}
 use Rattle.round_words.proofs.BoardWords.{happened_board, own_arrivals}
-use Rattle.round_words.proofs.FirstTeam.{one_team}
+use Rattle.round_words.proofs.Closing.{board_append}
 use Rattle.round_words.proofs.SameKinds.{alike_is}
-use Rattle.round_words.specs.RoundRuns.{FormsNone, IsRoundRun, arrivals_said, team_members}
+use Rattle.round_words.specs.RoundRuns.{IsRoundRun, arrivals_said, team_members}
 
 empty_front : (xs ys : List (Said Ask Reply)) → xs ++ ys ≡ [] → xs ≡ []
 empty_front [] ys e = refl
@@ -44,12 +45,14 @@ pub round_front : (s : List Declared) (n : ℕ) (xs ys : List Entry) → IsRound
 round_front s n xs ys r = record {
   lawful = lawful_trace_front s n xs ys r.lawful;
   free = each_front IsFree xs ys r.free;
-  forms = each_front FormsNone xs ys r.forms;
   ends = λ i. nothing_front (said_by i xs) (said_by i ys) (subst NothingAfterEnd (said_append i xs ys) (r.ends i));
 }
 
-pub members_are : (s : List Declared) (n : ℕ) (g : List Entry) → IsRoundRun s n g → (team : ℕ) → members_at (teams_after n (at_board g)) team ≡ team_members n team
-members_are s n g r team = ap (λ ts. members_at ts team) (one_team n g r.forms)
+-- a team that has a member keeps its members
+pub members_front : (n : ℕ) (b h : List Entry) (i team : ℕ) → names i (team_members n b team) ≡ true → team_members n (b ++ h) team ≡ team_members n b team
+members_front n b h i team named =
+    let r = teams_stay n (at_board b) (at_board h) in
+    ap (λ z. members_at (teams_after n z) team) (board_append b h) ∙ ap (λ ts. members_at ts team) r.1 ∙ members_stay (teams_after n (at_board b)) r.0 i team named
 
 -- what an arrival at a team is
 pub record IsArrival (class : Class) (team i line : ℕ) (a : Ask) (r : Reply) : Type 0 where
@@ -124,7 +127,7 @@ module _ (s : List Declared) (n : ℕ) (g : List Entry) (run : IsRoundRun s n g)
       (r.opening, ap (opening_of team arrival.round) (sym (happened_board class g) ∙ ap (happened class) (sym whole)) ∙ r.opens, alike_is arrival.kind r.opening.kind r.alike)
 
   -- the image is a member
-  pub member_at : names i (team_members n team) ≡ true
+  pub member_at : names i (team_members n g team) ≡ true
   member_at =
-      let front = round_front s n z.before (z.event ∷ z.rest) (subst (IsRoundRun s n) z.split run) in
-      subst (λ ms. names i ms ≡ true) (members_are s n z.before front team) (arrival.fits n (at_board z.before) i (board_here s n g run.lawful z arrival.place).0)
+      let here = arrival.fits n (at_board z.before) i (board_here s n g run.lawful z arrival.place).0 in
+      subst (λ ms. names i ms ≡ true) (sym (ap (λ h. team_members n h team) z.split ∙ members_front n z.before (z.event ∷ z.rest) i team here)) here

@@ -16,9 +16,10 @@ use Rattle.caf_events.specs.declared.event.Entry.{Entry}
 use Rattle.caf_events.specs.Asks.{place_of}
 use Rattle.object_rules.specs.Cells.{Declared}
 use Rattle.object_rules.specs.Happenings.{Class, control, collective, images, happens, happened, has_stopped, has_failed}
-use Rattle.object_rules.specs.TeamRounds.{has_closed, missed_by}
+use Rattle.object_rules.specs.TeamRounds.{arrivals, has_closed, missed_by}
 use Rattle.object_rules.specs.BoardTeams.{arrives_there, teams_after, members_at, closing}
-use Rattle.object_rules.specs.BoardRules.{is_image, fits_board, can_come, board_ready}
+use Rattle.object_rules.specs.ImagePairs.{names}
+use Rattle.object_rules.specs.BoardRules.{is_image, has_joined, fits_board, can_come, board_ready}
 use Rattle.core_runs.specs.Lists.{said}
 use Rattle.core_runs.specs.CoreRuns.{at_board, of_image, said_by}
 use Rattle.core_runs.specs.Sequences.{IsDeparture, CutsShort, JoinsBehind, NothingAfterEnd}
@@ -32,7 +33,7 @@ use Rattle.round_words.proofs.BoardWords.{arrivals_append, is_stop_ask, stopped_
 use Rattle.round_words.proofs.Ahead.{front_ahead, arrivals_ahead, stops_at, stop_ends, stopped_whole}
 use Rattle.round_words.proofs.Closing.{ClosedBy, some_closed}
 use Rattle.round_words.proofs.Departing.{departs, Numbered, NoneCuts, Departed, departed}
-use Rattle.round_words.proofs.RoundRuns.{round_front, members_are, is_arrival, number_at}
+use Rattle.round_words.proofs.RoundRuns.{round_front, members_front, is_arrival, number_at}
 use Rattle.round_words.specs.RoundRuns.{IsAhead, IsRoundClass, IsRoundRun, arrivals_said, joins_by, team_members}
 
 departs_board : (class : Class) (team : TeamNo) (k : ℕ) → place_of (departs class team k) ≡ places.Board
@@ -46,6 +47,22 @@ pub departs_closed : (class : Class) → IsRoundClass class → (n : ℕ) (h : L
 departs_closed control round n h i team k ready = (and_parts (is_image n i && fits_board n h i (asks.Leave team k)) (can_come n h i (asks.Leave team k)) ready).1
 departs_closed collective round n h i team k ready = (and_parts (is_image n i && fits_board n h i (asks.Take team k)) (can_come n h i (asks.Take team k)) ready).1
 departs_closed images round n h i team k ready = absurd round
+
+-- and its image has joined the round
+pub departs_joined : (class : Class) → IsRoundClass class → (n : ℕ) (h : List Entry) (i : ℕ) (team : TeamNo) (k : ℕ) → IsTrue (board_ready n h i (departs class team k)) → has_joined class n h i team.0 k ≡ true
+departs_joined control round n h i team k ready =
+    let both = (and_parts (is_image n i && fits_board n h i (asks.Leave team k)) (can_come n h i (asks.Leave team k)) ready).0 in
+    (and_parts (is_image n i) (fits_board n h i (asks.Leave team k)) both).1
+departs_joined collective round n h i team k ready =
+    let both = (and_parts (is_image n i && fits_board n h i (asks.Take team k)) (can_come n h i (asks.Take team k)) ready).0 in
+    (and_parts (is_image n i) (fits_board n h i (asks.Take team k)) both).1
+departs_joined images round n h i team k ready = absurd round
+
+-- so it is a member of the team
+pub joined_member : (class : Class) (n : ℕ) (h : List Entry) (i team k : ℕ) → has_joined class n h i team k ≡ true → names i (members_at (teams_after n h) team) ≡ true
+joined_member class n h i team k e =
+    let p = (and_parts (names i (members_at (teams_after n h) team) && nat_le 1 k) (nat_le k (arrivals team i (happened class h))) e).0 in
+    (and_parts (names i (members_at (teams_after n h) team)) (nat_le 1 k) p).0
 
 stop_stays : (a : Ask) → is_stop_ask a ≡ true → IsDeparture a → ⊥
 stop_stays (asks.Stop code) h d = d
@@ -112,7 +129,7 @@ module _ (s : List Declared) (n : ℕ) (class : Class) (round : IsRoundClass cla
       numbered_from (b ++ w ∷ []) ws (cond (joins_by class team j w) 1 0 + c) (let a = arrivals_append class team j b (w ∷ []) in omega arith) (split ∙ sym (append_assoc b (w ∷ []) ws)),
     )
 
-  module _ (k : ℕ) (low : 1 ≤ k) (g : List Entry) (run : IsRoundRun s n g) (c : ClosedBy class team k (team_members n team) g) where
+  module _ (k : ℕ) (low : 1 ≤ k) (g : List Entry) (run : IsRoundRun s n g) (ms : List ℕ) (are : team_members n g team ≡ ms) (c : ClosedBy class team k ms g) where
     pub front_run : IsRoundRun s n c.front
     front_run = round_front s n c.front c.back (subst (IsRoundRun s n) c.split run)
 
@@ -127,13 +144,17 @@ module _ (s : List Declared) (n : ℕ) (class : Class) (round : IsRoundClass cla
         let ready : IsTrue (board_ready n (at_board h.earlier) h.entry.image.0 (departs class d.of_team k)) =
         subst (λ a. IsTrue (board_ready n (at_board h.earlier) h.entry.image.0 a)) asked (board_here s n c.front front_run.lawful z place).0 in
         let some = departs_closed class round n (at_board h.earlier) h.entry.image.0 d.of_team k ready in
-        let early = round_front s n h.earlier (h.entry ∷ h.later) (subst (IsRoundRun s n) h.split front_run) in
-        let here : is_some (closing class team k (team_members n team) (at_board h.earlier)) ≡ true =
-        subst (λ ms. is_some (closing class team k ms (at_board h.earlier)) ≡ true) (members_are s n h.earlier early team)
+        let named : names h.entry.image.0 (team_members n h.earlier team) ≡ true =
+        subst (λ t. names h.entry.image.0 (team_members n h.earlier t) ≡ true) d.is_team
+        (joined_member class n (at_board h.earlier) h.entry.image.0 d.of_team.0 k (departs_joined class round n (at_board h.earlier) h.entry.image.0 d.of_team k ready)) in
+        let all : g ≡ h.earlier ++ h.entry ∷ (h.later ++ c.back) = c.split ∙ ap (λ z. z ++ c.back) h.split ∙ append_assoc h.earlier (h.entry ∷ h.later) c.back in
+        let members : team_members n h.earlier team ≡ ms =
+        sym (ap (λ z. team_members n z team) all ∙ members_front n h.earlier (h.entry ∷ (h.later ++ c.back)) h.entry.image.0 team named) ∙ are in
+        let here : is_some (closing class team k ms (at_board h.earlier)) ≡ true =
+        subst (λ z. is_some (closing class team k z (at_board h.earlier)) ≡ true) members
         (subst (λ t. is_some (closing class t k (members_at (teams_after n (at_board h.earlier)) t) (at_board h.earlier)) ≡ true) d.is_team some) in
         let size = ap length (ap at_board h.split ∙ board_split h.earlier h.later h.entry place) ∙ length-append (at_board h.earlier) (h.entry ∷ at_board h.later) in
-        both_ways (has_closed (team_members n team) team k (happened class h.earlier)) (c.sooner h.earlier (h.entry ∷ h.later) h.split (omega arith))
-        (some_closed class team k (team_members n team) h.earlier here)
+        both_ways (has_closed ms team k (happened class h.earlier)) (c.sooner h.earlier (h.entry ∷ h.later) h.split (omega arith)) (some_closed class team k ms h.earlier here)
 
     -- Who had stopped by the close had not arrived at the round.
     pub stops_short : (m : ℕ) → stopped_said (said_by m c.front) ≡ true → arrivals_said class team m (said_by m c.front) < k
@@ -177,9 +198,8 @@ module _ (s : List Declared) (n : ℕ) (class : Class) (round : IsRoundClass cla
       ]
 
       -- WHO MISSED THE ROUND: the members that had stopped by its close.
-      pub missed_told : missed_by (team_members n team) (happened class (at_board c.front)) ≡ record { stopped = list_any (λ m. nat_lt (arrivals_said class team m (said_by m t)) k) (team_members n team); failed = false }
+      pub missed_told : missed_by ms (happened class (at_board c.front)) ≡ record { stopped = list_any (λ m. nat_lt (arrivals_said class team m (said_by m t)) k) ms; failed = false }
       missed_told =
-          let ms = team_members n team in
           let hs = happened class c.front in
           let closed = sym (closed_is class team k ms c.front front_run.free) ∙ c.closed in
           let all = (and_parts (list_any (λ m. nat_le k (arrivals_said class team m (said_by m c.front))) ms) (list_all (λ m. nat_le k (arrivals_said class team m (said_by m c.front)) || stopped_said (said_by m c.front)) ms) closed).1 in

@@ -1,43 +1,28 @@
--- Runs without FORM TEAM and without failures, and what images say of their rounds.
-use Rattle.std.specs.Prelude.{ℕ, ◌+◌, ◌≡◌, Bool, true, false, negsuc, cond, List, [], ◌∷◌, ◌++◌}
-use Rattle.std.specs.List.{range_with_len}
+-- Runs without failures, and what images say of their rounds.
+use Rattle.std.specs.Prelude.{ℕ, ◌+◌, ◌≡◌, Bool, true, cond, List, [], ◌∷◌, ◌++◌}
 use Rattle.trace_theory.specs.Entries.{Each}
 use Rattle.trace_theory.specs.Machines.{Said}
 use Rattle.caf_events.specs.declared.ask.Ask.{Ask}
-use Rattle.caf_events.specs.declared.ask.Ask.TheVariants as asks
 use Rattle.caf_events.specs.declared.reply.Reply.{Reply}
-use Rattle.caf_events.specs.declared.round.Arriving.TheVariants as arrivings
 use Rattle.caf_events.specs.declared.event.Entry.{Entry}
 use Rattle.object_rules.specs.Cells.{Declared}
 use Rattle.object_rules.specs.Happenings.{Class, control, collective, images, happens}
-use Rattle.object_rules.specs.BoardTeams.{Team, members_at, arrives_there}
-use Rattle.core_runs.specs.CoreRuns.{said_by}
+use Rattle.object_rules.specs.BoardTeams.{teams_after, members_at, arrives_there}
+use Rattle.core_runs.specs.CoreRuns.{at_board, said_by}
 use Rattle.core_runs.specs.Lawful.{IsLawfulTrace}
 use Rattle.core_runs.specs.Sequences.{NothingAfterEnd}
 use Rattle.every_order.specs.Decided.{is_free}
 
--- no arrival at FORM TEAM
-abbrev pub is_no_form : Ask → Bool
-is_no_form (asks.Arrive team (arrivings.Form number new_index)) = false
-is_no_form a = true
-
-abbrev pub FormsNone : Entry → Type 0
-FormsNone x = is_no_form x.event.ask ≡ true
-
--- a lawful trace without failures and FORM TEAM, in which nothing follows the end of an image
+-- a lawful trace of free steps, so without failures and with FORM TEAM of the initial team alone, in which nothing
+-- follows the end of an image
 pub record IsRoundRun (s : List Declared) (n : ℕ) (g : List Entry) : Type 0 where
   pub lawful : IsLawfulTrace s n g
   pub free : Each (λ x. is_free x.event.ask x.event.reply ≡ true) g
-  pub forms : Each FormsNone g
   pub ends : (i : ℕ) → NothingAfterEnd (said_by i g)
 
--- the initial team
-abbrev pub first_team : ℕ → Team
-first_team n = record { parent = 0; round = 0; number = negsuc 0; members = range_with_len 1 n }
-
--- the members of a team of such a run
-abbrev pub team_members : ℕ → ℕ → List ℕ
-team_members n team = members_at (first_team n ∷ []) team
+-- the members of a team after a run
+abbrev pub team_members : ℕ → List Entry → ℕ → List ℕ
+team_members n g team = members_at (teams_after n (at_board g)) team
 
 -- rounds are of image control statements or of collective subroutines
 abbrev pub IsRoundClass : Class → Type 0

@@ -14,7 +14,7 @@ ghost use Rattle.round_words.specs.RoundRuns.{IsRoundRun, IsAhead, IsRoundClass,
 /// ahead.
 pub fn law_who_missed()
     ensures { (s : List Declared) (n : ℕ) (class : Class) (team k : ℕ) (t g f : List Entry) → IsRoundRun s n t → IsRoundRun s n g → IsAhead t g
-        → IsRoundClass class → 1 ≤ k → closing class team k (team_members n team) (at_board g) ≡ Some f
-        → missed_by (team_members n team) (happened class f)
-        ≡ record { stopped = list_any (λ m. nat_lt (arrivals_said class team m (said_by m t)) k) (team_members n team); failed = false } }
+        → IsRoundClass class → 1 ≤ k → closing class team k (team_members n g team) (at_board g) ≡ Some f
+        → missed_by (team_members n g team) (happened class f)
+        ≡ record { stopped = list_any (λ m. nat_lt (arrivals_said class team m (said_by m t)) k) (team_members n g team); failed = false } }
 {}

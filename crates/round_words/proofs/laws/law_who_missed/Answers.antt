@@ -1,4 +1,4 @@
-use Rattle.std.proofs.Common.{◌≡◌, List, sym, ◌∙◌, ap}
+use Rattle.std.proofs.Common.{◌≡◌, List, refl, sym, ◌∙◌, ap}
 use Rattle.std.specs.Prelude.{Some}
 use Rattle.caf_events.specs.declared.event.Entry.{Entry}
 use Rattle.object_rules.specs.Happenings.{happened}
@@ -13,5 +13,5 @@ same f h e = cc
 
 pub returns : goal.returns
 returns c s n class team k t g f run_t run ahead round low is =
-    let at = closed_at class team k (team_members n team) g f is in
-    ap (λ h. missed_by (team_members n team) (happened class h)) (same f _ (sym is ∙ at.is)) ∙ missed_told s n class round team k low g run at t run_t.ends ahead
+    let at = closed_at class team k (team_members n g team) g f is in
+    ap (λ h. missed_by (team_members n g team) (happened class h)) (same f _ (sym is ∙ at.is)) ∙ missed_told s n class round team k low g run (team_members n g team) refl at t run_t.ends ahead
