@@ -23,8 +23,10 @@ behind s (b ∷ es) = behind (next s b) es
 -- file's first token
 abbrev pub innermost : Scope → List Open → Pos → Pos
 innermost k (o ∷ os) first = place_of o
-innermost (q.in_subroutine at t) [] first = at
-innermost (q.in_function at t) [] first = at
+innermost (q.in_subroutine u at t) [] first = at
+innermost (q.in_function u at t) [] first = at
+innermost (q.in_program_unit (q.module_at at) t) [] first = at
+innermost (q.between (q.module_at at)) [] first = at
 innermost k [] first = first
 
 -- the file's first token; where there is none, the beginning of the file
