@@ -1,5 +1,5 @@
--- Which parts may follow which in a program: a place is what is open there and how far its program unit has come
--- (ISO/IEC 1539-1:2018, 5.1 and clause 11).
+-- Which parts may follow which in a file, with modules or without: a place is what is open there and how far its program
+-- unit has come (ISO/IEC 1539-1:2018, 5.1, clause 11 and 14.2.1).
 use Rattle.std.specs.Prelude.{ℕ, zero, suc, Bool, true, false, List, [], ◌∷◌, length}
 use Rattle.caf_base.specs.declared.place.Pos.{Pos}
 use Rattle.reader_theory.specs.Words.{Mark, Verdict}
@@ -21,7 +21,8 @@ pub data Stage : Type 0 where
   in_declarations : Stage
   in_statements : Stage
 
--- a program unit: the main program that is a file by itself, that of a file that may have modules, or a module, with the place of its first token
+-- a program unit: the main program that is a file by itself, that of a file that may have modules, or a module, with the
+-- place of its first token
 pub data ProgramUnit : Type 0 where
   alone : ProgramUnit
   main : ProgramUnit
@@ -237,6 +238,10 @@ may_end s = is_over s.conditions s.blocks s.scope
 -- the rest of a file from a place on, where so many levels may be open
 abbrev pub Rest_of_file : ℕ → State → List Part → List (Mark Token) → Type 0
 Rest_of_file limit s es w = Rest (Part_at limit) forms next may_end es s w
+
+-- a whole file from a beginning on, where 64 levels may be open
+abbrev pub Parts_of : State → List Part → List (Mark Token) → Type 0
+Parts_of begin es w = Rest_of_file 64 begin es w
 
 -- its reader
 abbrev pub rest_reader : ℕ → ℕ → State → List Token → Verdict Token (List Part)

@@ -9,3 +9,4 @@ pub mod Late
 pub mod Turns
 pub mod Advances
 pub mod Walks
+pub mod Units

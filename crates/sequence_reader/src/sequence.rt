@@ -1,11 +1,12 @@
 //! The parts of a whole file, one behind the other.
 
-ghost use Rattle.std.specs.Prelude.{◌≡◌, ◌≤◌, ◌<◌, ◌+◌, List, [], length, map, IfOk, IfErr, MatchResult};
+ghost use Rattle.std.specs.Prelude.{◌≡◌, ◌≤◌, ◌<◌, ◌+◌, List, [], ◌∷◌, length, map, IfOk, IfErr, MatchResult};
 ghost use Rattle.expr_reader.specs.Results.{Gives, Fails};
-ghost use Rattle.expr_reader.specs.Words.{tokens_of};
+ghost use Rattle.expr_reader.specs.Words.{token_of, tokens_of};
 ghost use Rattle.part_reader.specs.Views as held;
 ghost use Rattle.fortran_grammar.specs.Tokens.{Token};
 ghost use Rattle.program_reader.specs.Sequence as theory;
+ghost use Rattle.program_reader.specs.Sequence.{State};
 ghost use Rattle.program_reader.specs.Unfinished as unfinished;
 ghost use Rattle.reader_theory.specs.Words.{found};
 ghost use Rattle.sequence_reader.specs.Answers as answers;
@@ -14,10 +15,10 @@ ghost use Rattle.sequence_reader.specs.Statements as statements;
 ghost use Rattle.sequence_reader.specs.Views as view;
 
 use crate::place::{best, further};
-use crate::state::{Scope, State, innermost, may_end, place_of, start, step};
+use crate::state::{Beginning, Scope, State, Unit, innermost, may_end, place_of, start, step};
 use caf_base::place::Pos;
 use expr_reader::error::{Cause, ReadError, Stop};
-use expr_reader::word::Word;
+use expr_reader::word::{Word, WordKind};
 use part_reader::part::Part;
 use std::alloc::Global;
 
@@ -43,8 +44,8 @@ fn advance<'a>(
         → MatchResult result
         (λ r. answers.Reached 64 every (view.state progress.new.state) (map held.part progress.new.parts.items) progress.new.fault (tokens_of r.now))
         (λ e. answers.Ends e every) }
-    ensures walks { (every : List Token) → halts.Walked 64 every (view.state progress.old.state) (map held.part progress.old.parts.items) (tokens_of words.now)
-        → IfOk result (λ r. halts.Walked 64 every (view.state progress.new.state) (map held.part progress.new.parts.items) (tokens_of r.now)) }
+    ensures walks { (begin : State) → (every : List Token) → halts.Walked 64 begin every (view.state progress.old.state) (map held.part progress.old.parts.items) (tokens_of words.now)
+        → IfOk result (λ r. halts.Walked 64 begin every (view.state progress.new.state) (map held.part progress.new.parts.items) (tokens_of r.now)) }
     ensures late { (every : List Token) → statements.On_the_way every (tokens_of words.now) progress.old.fault
         → MatchResult result (λ r. statements.On_the_way every (tokens_of r.now) progress.new.fault) (λ e. statements.Stops_before every e) }
 {
@@ -71,12 +72,12 @@ pub enum Halt {
     Memory,
     /// No file goes on with this word, or the 65th level begins at it. Of whole statements there is always a word left.
     Stopped(Stop),
-    /// The words are whole statements, and more were needed: what is open innermost, a construct, a procedure or the
-    /// main program, begins here.
-    Unfinished { stop: Stop, at: Pos },
+    /// The words are whole statements, and more were needed: what is open innermost, a construct, a procedure or a
+    /// program unit, begins here; where nothing is, a program was to follow.
+    Unfinished { stop: Stop, at: Option<Pos> },
 }
 
-/// The place of the first word; of an empty file its beginning.
+/// The place of the first word; where there is none, the beginning of a file.
 fn first_place(words: &[Word]) -> Pos
     ensures { result ≡ unfinished.first_place (tokens_of words.now) }
 {
@@ -86,19 +87,88 @@ fn first_place(words: &[Word]) -> Pos
     }
 }
 
-/// Where what is open innermost begins.
-fn open_place(state: &State, words: &[Word]) -> Pos
-    ensures { result ≡ unfinished.innermost (view.scope state.now.scope) (view.blocks state.now.blocks.items) (unfinished.first_place (tokens_of words.now)) }
+/// The word stands at this place.
+fn is_at(word: &Word, at: Pos) -> bool
+    ensures { result ≡ unfinished.is_at at (token_of word.now) }
 {
-    match innermost(state) {
-        Some(construct) => place_of(construct),
-        None => match state.scope {
-            Scope::MainProgram(_) => first_place(words),
-            Scope::Between => first_place(words),
-            Scope::InSubroutine { at, .. } => at,
-            Scope::InFunction { at, .. } => at,
-            Scope::Over => first_place(words),
-        },
+    word.at.line == at.line && word.at.col == at.col
+}
+
+/// The words from the one at this place on.
+fn from_place(words: &[Word], at: Pos) -> &[Word]
+    ensures { tokens_of result.now ≡ unfinished.from_place at (tokens_of words.now) }
+{
+    let mut rest = words;
+    while let Some((first, after)) = rest.split_first() {
+        if is_at(first, at) {
+            return rest;
+        }
+        rest = after;
+    }
+    rest
+}
+
+/// The words behind a statement.
+fn behind_statement(words: &[Word]) -> &[Word]
+    ensures { tokens_of result.now ≡ unfinished.behind_statement (tokens_of words.now) }
+{
+    let mut rest = words;
+    while let Some((first, after)) = rest.split_first() {
+        if matches!(first.kind, WordKind::End) {
+            return after;
+        }
+        rest = after;
+    }
+    rest
+}
+
+/// The words behind this part, where it ends a module; else all.
+fn behind_end<'a>(part: &Part, words: &'a [Word]) -> &'a [Word]
+    ensures { tokens_of result.now ≡ unfinished.unit_tokens (held.part part.now ∷ []) (tokens_of words.now) }
+{
+    match part {
+        Part::EndModule(end) => behind_statement(from_place(words, end.at)),
+        _ => words,
+    }
+}
+
+/// The words of the unit that is open, or is to begin: those behind the END of each module.
+#[tactic(auto, using(crate::proofs::Units::unit_laws))]
+fn unit_words<'a>(parts: &[Part], words: &'a [Word]) -> &'a [Word]
+    ensures { tokens_of result.now ≡ unfinished.unit_tokens (map held.part parts.now) (tokens_of words.now) }
+{
+    let mut rest = words;
+    for part in parts {
+        rest = behind_end(part, rest);
+    }
+    rest
+}
+
+/// The place of a program unit, of which that of a main program is given.
+fn unit_place(unit: Unit, main: Pos) -> Pos
+    ensures { result ≡ unfinished.unit_place (view.program_unit unit) main }
+{
+    match unit {
+        Unit::Alone => main,
+        Unit::Main => main,
+        Unit::Module(at) => at,
+    }
+}
+
+/// Where what is open innermost begins, if anything is open. The main program is given where it begins.
+fn open_place(state: &State, main: Pos) -> Option<Pos>
+    ensures { result ≡ unfinished.innermost (view.scope state.now.scope) (view.blocks state.now.blocks.items) main }
+{
+    if let Some(construct) = innermost(state) {
+        return Some(place_of(construct));
+    }
+    match state.scope {
+        Scope::NoUnit => None,
+        Scope::InUnit { unit, .. } => Some(unit_place(unit, main)),
+        Scope::Between(unit) => Some(unit_place(unit, main)),
+        Scope::InSubroutine { at, .. } => Some(at),
+        Scope::InFunction { at, .. } => Some(at),
+        Scope::Over => Some(main),
     }
 }
 
@@ -114,9 +184,9 @@ fn halted(e: ReadError) -> Halt
 
 /// The parts, where the file may end behind them.
 fn finished(progress: Progress, words: &[Word]) -> Result<Vec<Part>, Halt>
-    ensures { (every : answers.Answer) → answers.Reached 64 every (view.state progress.state) (map held.part progress.parts.items) progress.fault []
-        → halts.Walked 64 (tokens_of words.now) (view.state progress.state) (map held.part progress.parts.items) []
-        → MatchResult result (λ v. every ≡ answers.read (map held.part v.items)) (λ e. halts.Halts_as e every (tokens_of words.now)) }
+    ensures { (begin : State) → (every : answers.Answer) → answers.Reached 64 every (view.state progress.state) (map held.part progress.parts.items) progress.fault []
+        → halts.Walked 64 begin (tokens_of words.now) (view.state progress.state) (map held.part progress.parts.items) []
+        → MatchResult result (λ v. every ≡ answers.read (map held.part v.items)) (λ e. halts.Halts_as begin e every (tokens_of words.now)) }
 {
     let Progress {
         state,
@@ -124,7 +194,9 @@ fn finished(progress: Progress, words: &[Word]) -> Result<Vec<Part>, Halt>
         fault,
     } = progress;
     let ends = may_end(&state);
-    let at = open_place(&state, words);
+    let unit = unit_words(parts.as_slice(), words);
+    let main = first_place(unit);
+    let at = open_place(&state, main);
     drop(state);
     if ends {
         return Ok(parts);
@@ -141,16 +213,16 @@ fn finished(progress: Progress, words: &[Word]) -> Result<Vec<Part>, Halt>
 }
 
 /// Reads parts up to the last word.
-fn walk(alloc: Global, words: &[Word]) -> Result<Progress, ReadError>
+fn walk(alloc: Global, beginning: Beginning, words: &[Word]) -> Result<Progress, ReadError>
     ensures depth { IfOk result (λ p. p.state.conditions + length p.state.blocks.items ≤ 64) }
     ensures goes { MatchResult result
-        (λ p. answers.Reached 64 (answers.answer_of (halts.file_answer (tokens_of words.now))) (view.state p.state) (map held.part p.parts.items) p.fault [])
-        (λ e. answers.Ends e (answers.answer_of (halts.file_answer (tokens_of words.now)))) }
-    ensures walks { IfOk result (λ p. halts.Walked 64 (tokens_of words.now) (view.state p.state) (map held.part p.parts.items) []) }
+        (λ p. answers.Reached 64 (answers.answer_of (halts.file_answer (view.beginning beginning) (tokens_of words.now))) (view.state p.state) (map held.part p.parts.items) p.fault [])
+        (λ e. answers.Ends e (answers.answer_of (halts.file_answer (view.beginning beginning) (tokens_of words.now)))) }
+    ensures walks { IfOk result (λ p. halts.Walked 64 (view.beginning beginning) (tokens_of words.now) (view.state p.state) (map held.part p.parts.items) []) }
     ensures late { IfErr result (λ e. statements.Stops_before (tokens_of words.now) e) }
 {
     let mut progress = Progress {
-        state: start(alloc),
+        state: start(alloc, beginning),
         parts: Vec::new(alloc),
         fault: Stop {
             cause: Cause::Expected,
@@ -173,23 +245,31 @@ fn walk(alloc: Global, words: &[Word]) -> Result<Progress, ReadError>
 /// The parts of a file, whose words these are (ISO/IEC 1539-1:2018, R501), in their order. Reading stops at the first
 /// word with which no file goes on, or at which the 65th level begins; where the file ends too early, it is told what
 /// is open.
-pub fn read_parts(alloc: Global, words: &[Word]) -> Result<Vec<Part>, Halt>
-    ensures { MatchResult result (λ v. halts.file_answer (tokens_of words.now) ≡ found (map held.part v.items) []) (λ e. halts.Halts e (tokens_of words.now)) }
+pub fn read_parts(
+    alloc: Global,
+    beginning: Beginning,
+    words: &[Word],
+) -> Result<Vec<Part>, Halt>
+    ensures { MatchResult result (λ v. halts.file_answer (view.beginning beginning) (tokens_of words.now) ≡ found (map held.part v.items) []) (λ e. halts.Halts (view.beginning beginning) e (tokens_of words.now)) }
 {
-    match walk(alloc, words) {
+    match walk(alloc, beginning, words) {
         Ok(progress) => finished(progress, words),
         Err(e) => Err(halted(e)),
     }
 }
 
 /// The place behind these words, where they are whole parts that may begin a file; else where and why reading stops.
-pub fn place_behind(alloc: Global, words: &[Word]) -> Result<State, ReadError>
+pub fn place_behind(
+    alloc: Global,
+    beginning: Beginning,
+    words: &[Word],
+) -> Result<State, ReadError>
     ensures depth { IfOk result (λ s. s.conditions + length s.blocks.items ≤ 64) }
-    ensures leads { IfOk result (λ s. halts.Leads_to (tokens_of words.now) (view.state s)) }
-    ensures stops { IfErr result (λ e. Fails e (halts.file_answer (tokens_of words.now))) }
+    ensures leads { IfOk result (λ s. halts.Leads_to (view.beginning beginning) (tokens_of words.now) (view.state s)) }
+    ensures stops { IfErr result (λ e. Fails e (halts.file_answer (view.beginning beginning) (tokens_of words.now))) }
     ensures late { IfErr result (λ e. statements.Stops_before (tokens_of words.now) e) }
 {
-    let Progress { state, parts, .. } = walk(alloc, words)?;
+    let Progress { state, parts, .. } = walk(alloc, beginning, words)?;
     drop(parts);
     Ok(state)
 }
@@ -206,10 +286,14 @@ fn plain(halt: Halt) -> ReadError
 }
 
 /// The parts of a file, or where and why reading stops: the theory's answer.
-pub fn parts(alloc: Global, words: &[Word]) -> Result<Vec<Part>, ReadError>
-    ensures { Gives (λ v. (map held.part v.items, [])) result (theory.rest_reader 64 (length (tokens_of words.now)) theory.start (tokens_of words.now)) }
+pub fn parts(
+    alloc: Global,
+    beginning: Beginning,
+    words: &[Word],
+) -> Result<Vec<Part>, ReadError>
+    ensures { Gives (λ v. (map held.part v.items, [])) result (theory.rest_reader 64 (length (tokens_of words.now)) (view.beginning beginning) (tokens_of words.now)) }
 {
-    match read_parts(alloc, words) {
+    match read_parts(alloc, beginning, words) {
         Ok(parts) => Ok(parts),
         Err(halt) => Err(plain(halt)),
     }

@@ -44,9 +44,9 @@ pub returns-clause-walks : goal.returns-clause-walks
 returns-clause-walks c =
     let s = view.state c.args.progress.now.state in
     let items : c.push.new.self.items ≡ c.args.progress.now.parts.items ++ c.in-Some.part ∷ [] = search rules in
-    λ every w. subst (λ z. halts.Walked 64 every z (map held.part c.push.new.self.items) (tokens_of c.in-Some.rest.now)) (sym c.in-Ok.ensures)
-    (subst (λ z. halts.Walked 64 every (next s (held.part c.in-Some.part)) z (tokens_of c.in-Some.rest.now)) (sym (ap (map held.part) items ∙ held_more c.args.progress.now.parts.items c.in-Some.part))
-    (walk_on seen every s (map held.part c.args.progress.now.parts.items) (tokens_of c.args.words.now) _ c.in_ok-tried.tried.found c.in_ok-tried.tried.fault (c.in-Some.part, c.in-Some.rest) c.in_ok-tried.ensures c.in-Some.is w))
+    λ begin every w. subst (λ z. halts.Walked 64 begin every z (map held.part c.push.new.self.items) (tokens_of c.in-Some.rest.now)) (sym c.in-Ok.ensures)
+    (subst (λ z. halts.Walked 64 begin every (next s (held.part c.in-Some.part)) z (tokens_of c.in-Some.rest.now)) (sym (ap (map held.part) items ∙ held_more c.args.progress.now.parts.items c.in-Some.part))
+    (walk_on begin seen every s (map held.part c.args.progress.now.parts.items) (tokens_of c.args.words.now) _ c.in_ok-tried.tried.found c.in_ok-tried.tried.fault (c.in-Some.part, c.in-Some.rest) c.in_ok-tried.ensures c.in-Some.is w))
 
 pub returns-in_default-clause-late : goal.returns-in_default-clause-late
 returns-in_default-clause-late c = λ every w. late_on seen every (view.state c.args.progress.now.state) (tokens_of c.args.words.now) _ c.in_ok-tried.tried.found c.args.progress.now.fault c.in_ok-tried.tried.fault c.further-progress.result c.in_ok-tried.ensures
