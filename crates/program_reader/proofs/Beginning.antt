@@ -37,10 +37,10 @@ in_no_unit i (inr (inl e)) = inr (inl e)
 in_no_unit i (inr (inr m)) = inr (inr (inr m))
 
 in_main : (i : Form) (b : Part) → is_of i b ≡ true → is_of f.module_form b ≡ false → In i (scope_forms q.no_unit) → In i (scope_forms main_begins)
-in_main i b is no (inl e) = inl e
-in_main i b is no (inr (inl e)) = inr (inl e)
-in_main i b is no (inr (inr (inl e))) = absurd (true≢false (sym is ∙ (ap (λ k. is_of k b) e ∙ no)))
-in_main i b is no (inr (inr (inr m))) = inr (inr m)
+in_main i b is un (inl e) = inl e
+in_main i b is un (inr (inl e)) = inr (inl e)
+in_main i b is un (inr (inr (inl e))) = absurd (true≢false (sym is ∙ (ap (λ k. is_of k b) e ∙ un)))
+in_main i b is un (inr (inr (inr m))) = inr (inr m)
 
 module _ (limit : ℕ) where
   -- what follows where the main program begins follows at the beginning of a file
@@ -55,10 +55,10 @@ module _ (limit : ℕ) where
 
   -- and no module, no more than that
   pub no_module_follows : (b : Part) (es : List Part) (w : List (Mark Token)) → is_of f.module_form b ≡ false → Follows limit q.no_unit [] (b ∷ es) w → Follows limit main_begins [] (b ∷ es) w
-  no_module_follows b es w no k =
+  no_module_follows b es w un k =
       let y = first_part limit (place q.no_unit []) b es w k in
       let is = form_of_word y.form 0 limit 0 b y.front y.is_word in
-      let may = in_main y.form b is no y.may in
+      let may = in_main y.form b is un y.may in
       subst (Follows limit main_begins [] (b ∷ es)) (sym y.split)
       (step limit y.form (place main_begins []) b es y.front y.back may y.is_word
       (subst (λ s. Rest_of_file limit s es y.back) (same_next b (permits y.form (scope_forms main_begins) b may is)) y.further))

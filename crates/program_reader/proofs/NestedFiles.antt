@@ -138,8 +138,8 @@ module _ (limit : ℕ) where
   Nested_file es w = (x : UnitFile) × (es ≡ file_parts x) × Words (g.unit_file x) limit 0 w
 
   without_module : (b : Part) (es : List Part) (w : List (Mark Token)) → is_of f.module_form b ≡ false → Follows limit q.no_unit [] (b ∷ es) w → Nested_file (b ∷ es) w
-  without_module b es w no k =
-      let (x, is, o) = nested_main limit (b ∷ es) w (no_module_follows limit b es w no k) in
+  without_module b es w un k =
+      let (x, is, o) = nested_main limit (b ∷ es) w (no_module_follows limit b es w un k) in
       (record { modules = []; main = x }, is, ([], w, refl, o, refl))
 
   behind_module : (x : Module) (es rest : List Part) (w front back : List (Mark Token)) → es ≡ module_parts x rest → Words (g.module_unit x) limit 0 front → w ≡ front ++ back → Nested_file rest back → Nested_file es w

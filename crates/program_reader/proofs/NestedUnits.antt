@@ -24,7 +24,7 @@ use Rattle.program_reader.specs.Nesting.{use_parts, declaration_parts, implicit_
 use Rattle.program_reader.proofs.Grouping.{ungroup}
 use Rattle.program_reader.proofs.Steps.{In, place, step}
 use Rattle.program_reader.proofs.Flat.{Follows}
-use Rattle.program_reader.proofs.FlatUnits.{Unit_with, Executes, program_unit, subroutine_unit, function_unit}
+use Rattle.program_reader.proofs.FlatUnits.{Unit_with, program_unit, subroutine_unit, function_unit}
 use Rattle.program_reader.proofs.Beginning.{no_module_follows}
 use Rattle.program_reader.proofs.Nested.{permitted, begins, begins_first, only_other, First, first_part, may_be, whole_word, permits, form_of_word, nested_statements}
 
@@ -67,7 +67,7 @@ pub record Closing (y : ProgramUnit) (K : Stage → Scope) : Type 0 where
   pub one_unit : (t z : Stage) → q.program_unit (K t) ≡ q.program_unit (K z)
   pub goes_on : (t : Stage) → q.may_end (place (K t) []) ≡ false
 
-ends_known : (y : ProgramUnit) (i : Form) → In i (q.end_form y ∷ f.contains_form ∷ []) → In i closing_forms
+pub ends_known : (y : ProgramUnit) (i : Form) → In i (q.end_form y ∷ f.contains_form ∷ []) → In i closing_forms
 ends_known q.alone i m = in_front i (f.end_program_form ∷ f.contains_form ∷ []) (f.end_subroutine_form ∷ f.end_function_form ∷ f.end_module_form ∷ []) m
 ends_known q.main i m = in_front i (f.end_program_form ∷ f.contains_form ∷ []) (f.end_subroutine_form ∷ f.end_function_form ∷ f.end_module_form ∷ []) m
 ends_known (q.module_at p) i (inl e) = inr (inr (inr (inr (inl e))))
