@@ -142,7 +142,7 @@ module _ (begin : State) (ws : List Word) (st : Stop) (h : Stands st (file_answe
   one_there e = subst (λ z. one_statement z ≡ true) (sym statement_is) (one_alone inside x e)
 
   pub tells : begin.conditions ≡ 0 → (s : State) (o : Option ℕ) → Leads_to begin earlier s → whole_statements earlier ≡ true → place_at 64 s (tokens_of (take (suc m - b) (drop b ws))) ≡ o → RefusedFor (Parts_of begin) (tokens_of ws) (reason (shifted b o)) (tokens_of (drop m ws))
-  tells fresh s o (bs, w) whole e =
+  tells fresh s o (bs, n, w) whole e =
       let bare_is : earlier ≡ bare w.word = w.split ∙ append-nil (bare w.word) in
       let size : length w.word ≡ b = sym (bare_length w.word) ∙ (sym (ap length bare_is) ∙ taken_length ws b (omega arith)) in
       let conds = no_conditions 64 bs begin w.word w.is_word (subst (λ z. whole_statements z ≡ true) bare_is whole) (inl fresh) in

@@ -15,7 +15,7 @@ use Rattle.fortran_grammar.specs.ProgramGrammar.{Programs}
 use Rattle.statement_reader.specs.Parts as f
 use Rattle.statement_reader.specs.Parts.{Part, Form, formed}
 use Rattle.program_reader.specs.Sequence as q
-use Rattle.program_reader.specs.Sequence.{Scope, Open, State, start, block_forms, next, Rest_of_file}
+use Rattle.program_reader.specs.Sequence.{ProgramUnit, Scope, Open, State, start, block_forms, next, Rest_of_file}
 use Rattle.program_reader.specs.Unfinished.{Parts_from, behind}
 use Rattle.program_reader.proofs.Steps.{In, step}
 use Rattle.program_reader.proofs.NestedUnits.{nested_program}
@@ -113,16 +113,24 @@ module _ (limit : ℕ) (ts : List Token) (p : Pos) (new : stands ts p ≡ false)
   over_closed : Closing limit ts (at_place q.over [])
   over_closed = record { parts = []; word = []; is_rest = (refl, refl); shallow = tt; elsewhere = tt }
 
-  between_closed : Closing limit ts (at_place q.between [])
-  between_closed = closed_by f.end_program_form (at_place q.between []) (at_place q.over []) (f.end_program_part None p) (codes "end") (inl refl) (refl, (_ ∷ [], _ ∷ [], (refl, inl (p, refl)), (p, refl), refl)) refl (omega arith) over_closed
+  no_unit_closed : Closing limit ts (at_place q.no_unit [])
+  no_unit_closed = closed_by f.end_program_form (at_place q.no_unit []) (at_place q.over []) (f.end_program_part None p) (codes "end") (inl refl) (refl, (_ ∷ [], _ ∷ [], (refl, inl (p, refl)), (p, refl), refl)) refl (omega arith) over_closed
+
+  between_closed : (y : ProgramUnit) → Closing limit ts (at_place (q.between y) [])
+  between_closed q.alone = closed_by f.end_program_form (at_place (q.between q.alone) []) (at_place q.over []) (f.end_program_part None p) (codes "end") (inl refl) (refl, (_ ∷ [], _ ∷ [], (refl, inl (p, refl)), (p, refl), refl)) refl (omega arith) over_closed
+  between_closed q.main = closed_by f.end_program_form (at_place (q.between q.main) []) (at_place q.over []) (f.end_program_part None p) (codes "end") (inl refl) (refl, (_ ∷ [], _ ∷ [], (refl, inl (p, refl)), (p, refl), refl)) refl (omega arith) over_closed
+  between_closed (q.module_at g) = closed_by f.end_module_form (at_place (q.between (q.module_at g)) []) (at_place q.no_unit []) (f.end_module_part None p) (codes "end") (inl refl) (refl, (_ ∷ [], _ ∷ [], (refl, inr (p, refl)), (p, refl), refl)) refl (omega arith) no_unit_closed
 
   unit_closed : (k : Scope) → Closing limit ts (at_place k [])
-  unit_closed (q.main_program g) = closed_by f.end_program_form (at_place (q.main_program g) []) (at_place q.over []) (f.end_program_part None p) (codes "end") (inl refl) (refl, (_ ∷ [], _ ∷ [], (refl, inl (p, refl)), (p, refl), refl)) refl (omega arith) over_closed
-  unit_closed q.between = between_closed
-  unit_closed (q.in_subroutine at g) =
-      closed_by f.end_subroutine_form (at_place (q.in_subroutine at g) []) (at_place q.between []) (f.end_subroutine_part None p) (codes "end") (inl refl) (refl, (_ ∷ [], _ ∷ [], (refl, inr (p, refl)), (p, refl), refl)) refl (omega arith) between_closed
-  unit_closed (q.in_function at g) =
-      closed_by f.end_function_form (at_place (q.in_function at g) []) (at_place q.between []) (f.end_function_part None p) (codes "end") (inl refl) (refl, (_ ∷ [], _ ∷ [], (refl, inr (p, refl)), (p, refl), refl)) refl (omega arith) between_closed
+  unit_closed q.no_unit = no_unit_closed
+  unit_closed (q.in_program_unit q.alone t) = closed_by f.end_program_form (at_place (q.in_program_unit q.alone t) []) (at_place q.over []) (f.end_program_part None p) (codes "end") (inl refl) (refl, (_ ∷ [], _ ∷ [], (refl, inl (p, refl)), (p, refl), refl)) refl (omega arith) over_closed
+  unit_closed (q.in_program_unit q.main t) = closed_by f.end_program_form (at_place (q.in_program_unit q.main t) []) (at_place q.over []) (f.end_program_part None p) (codes "end") (inl refl) (refl, (_ ∷ [], _ ∷ [], (refl, inl (p, refl)), (p, refl), refl)) refl (omega arith) over_closed
+  unit_closed (q.in_program_unit (q.module_at g) t) = closed_by f.end_module_form (at_place (q.in_program_unit (q.module_at g) t) []) (at_place q.no_unit []) (f.end_module_part None p) (codes "end") (inl refl) (refl, (_ ∷ [], _ ∷ [], (refl, inr (p, refl)), (p, refl), refl)) refl (omega arith) no_unit_closed
+  unit_closed (q.between y) = between_closed y
+  unit_closed (q.in_subroutine y at g) =
+      closed_by f.end_subroutine_form (at_place (q.in_subroutine y at g) []) (at_place (q.between y) []) (f.end_subroutine_part None p) (codes "end") (inl refl) (refl, (_ ∷ [], _ ∷ [], (refl, inr (p, refl)), (p, refl), refl)) refl (omega arith) (between_closed y)
+  unit_closed (q.in_function y at g) =
+      closed_by f.end_function_form (at_place (q.in_function y at g) []) (at_place (q.between y) []) (f.end_function_part None p) (codes "end") (inl refl) (refl, (_ ∷ [], _ ∷ [], (refl, inr (p, refl)), (p, refl), refl)) refl (omega arith) (between_closed y)
   unit_closed q.over = over_closed
 
   all_closed : (os : List Open) (k : Scope) → length os ≤ limit → Closing limit ts (at_place k os)

@@ -1,6 +1,7 @@
 pub mod Spans
 pub mod Trees
 pub mod States
+pub mod Alone
 pub mod Standing
 pub mod Whole
 pub mod Going

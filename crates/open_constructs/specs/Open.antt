@@ -1,18 +1,17 @@
 -- Which construct is open where a source ends too early: in each program to which its words go on, the innermost one
 -- that begins among the words and ends behind them (ISO/IEC 1539-1:2018, 11.1; a procedure, 15.6.2; the main program,
--- 14.1; a module, 14.2.1).
-use Rattle.std.specs.Prelude.{◌≡◌, Bool, false, not, cond, ◌&&◌, ◌||◌, List, [], ◌∷◌, ◌++◌, Option, Some, None}
+-- 14.1).
+use Rattle.std.specs.Prelude.{◌≡◌, Bool, false, not, cond, nat_eq, ◌&&◌, ◌||◌, List, [], ◌∷◌, ◌++◌, Option, Some, None}
 use Rattle.caf_base.specs.declared.place.Pos.{Pos}
-use Rattle.reader_theory.specs.Words.{Mark}
 use Rattle.reader_theory.specs.Refusals.{Reads}
 use Rattle.fortran_tree.specs.Statements as s
 use Rattle.fortran_tree.specs.Statements.{Statement, Statements, ElseIfBlocks, ElseBlock, CaseBlocks}
 use Rattle.fortran_tree.specs.Units.{Procedure, Program}
-use Rattle.unit_tree.specs.Files.{Module, UnitFile}
 use Rattle.fortran_grammar.specs.Tokens.{Token}
-use Rattle.program_reader.specs.Unfinished.{first_place, is_at, behind_end}
+use Rattle.fortran_grammar.specs.ProgramGrammar.{Sources}
+use Rattle.program_reader.specs.Unfinished.{first_place}
 
--- a construct, a procedure or a module: the place of its first token, and that of the first token of its END statement
+-- a construct or a procedure: the place of its first token, and that of the first token of its END statement
 pub record Extent : Type 0 where
   pub from : Pos
   pub to : Pos
@@ -55,14 +54,10 @@ contained_extents (Some xs) = procedure_extents xs
 abbrev pub extents : Program → List Extent
 extents x = statements_extents x.body.statements ++ contained_extents x.procedures
 
-abbrev pub module_extents : List Module → List Extent
-module_extents [] = []
-module_extents (m ∷ ms) = record { from = m.at; to = m.end.at } ∷ (contained_extents m.procedures ++ module_extents ms)
-
-abbrev pub file_extents : UnitFile → List Extent
-file_extents x = module_extents x.modules ++ (statements_extents x.main.body.statements ++ contained_extents x.main.procedures)
-
 -- one of the tokens stands at this place
+abbrev pub is_at : Pos → Token → Bool
+is_at p y = nat_eq y.at.line p.line && nat_eq y.at.col p.col
+
 abbrev pub stands : List Token → Pos → Bool
 stands [] p = false
 stands (y ∷ ts) p = is_at p y || stands ts p
@@ -71,42 +66,25 @@ stands (y ∷ ts) p = is_at p y || stands ts p
 abbrev pub is_open : List Token → Extent → Bool
 is_open ts e = stands ts e.from && not (stands ts e.to)
 
--- where the last one that is open begins, else what is given: the others that are open go on behind the tokens too, and
--- so they are around it
-abbrev pub innermost : List Token → List Extent → Option Pos → Option Pos
+-- where the last one that is open begins, else the place that is given: the others that are open go on behind the
+-- tokens too, and so they are around it
+abbrev pub innermost : List Token → List Extent → Pos → Pos
 innermost ts [] outer = outer
-innermost ts (e ∷ es) outer = innermost ts es (cond (is_open ts e) (Some e.from) outer)
-
--- what is open behind these tokens of a program: the program itself from its first token on
-abbrev pub open_in_program : List Token → Program → Option Pos
-open_in_program ts x = innermost ts (extents x) (Some (first_place ts))
-
--- those of the main program, behind the END statement of each module
-abbrev pub main_tokens : List Module → List Token → List Token
-main_tokens [] ts = ts
-main_tokens (m ∷ ms) ts = main_tokens ms (behind_end m.end.at ts)
-
-abbrev pub maybe_first : List Token → Option Pos
-maybe_first [] = None
-maybe_first (y ∷ ts) = Some y.at
-
--- what is open behind these tokens of a file: the main program from its own first token on
-abbrev pub open_in_file : List Token → UnitFile → Option Pos
-open_in_file ts x = innermost ts (file_extents x) (maybe_first (main_tokens x.modules ts))
+innermost ts (e ∷ es) outer = innermost ts es (cond (is_open ts e) e.from outer)
 
 -- none of the second tokens stands at the place of one of the first
 abbrev pub AreElsewhere : List Token → List Token → Type 0
 AreElsewhere ts [] = Unit {0}
 AreElsewhere ts (y ∷ more) = (stands ts y.at ≡ false) × AreElsewhere ts more
 
--- with further words, which have places of their own, the words are this tree
-pub record GoesOnTo {X : Type 0} (L : X → List (Mark Token) → Type 0) (ts : List Token) (x : X) : Type 0 where
+-- with further words, which have places of their own, the words are this program
+pub record GoesOnTo (ts : List Token) (x : Program) : Type 0 where
   pub more : List Token
   pub elsewhere : AreElsewhere ts more
-  pub reads : Reads L (ts ++ more) x
+  pub reads : Reads Sources (ts ++ more) x
 
--- The words go on to trees. In each of them the innermost construct that the words begin and don't end begins at this
--- place, or there is none.
-pub record IsInnermostOpen {X : Type 0} (L : X → List (Mark Token) → Type 0) (open : List Token → X → Option Pos) (ts : List Token) (at : Option Pos) : Type 0 where
-  pub some : (x : X) × GoesOnTo L ts x
-  pub place : (x : X) → GoesOnTo L ts x → at ≡ open ts x
+-- The words go on to programs. In each of them the innermost construct that the words begin and don't end begins at
+-- this place; where there is none, it is that of the first word, at which the main program begins.
+pub record IsInnermostOpen (ts : List Token) (at : Pos) : Type 0 where
+  pub some : (x : Program) × GoesOnTo ts x
+  pub place : (x : Program) → GoesOnTo ts x → at ≡ innermost ts (extents x) (first_place ts)

@@ -1,13 +1,16 @@
 //! Laws of open constructs that no caller runs.
 
-ghost use Rattle.open_constructs.specs.Laws.{OpenIsTold, OpenInFileIsTold, OpenOnce, OpenInFileOnce};
+ghost use Rattle.open_constructs.specs.Laws.{OpenIsTold, OpenOnce, OpenInFileIsTold, OpenInFileOnce};
 
 /// Where whole statements need more behind them, the innermost block or procedure that their parts leave open, or else
-/// the program unit, is the innermost construct that is open in each program to which they go on; and it has one place.
-/// So it is with files that may have modules, in which nothing may be open.
+/// the main program, is the innermost construct that is open in each program to which they go on; and it has one place.
 pub fn innermost_open()
     ensures told { OpenIsTold }
-    ensures told_in_file { OpenInFileIsTold }
     ensures once { OpenOnce }
-    ensures once_in_file { OpenInFileOnce }
+{}
+
+/// So it is in a file that may have modules, where a module may be open, or nothing.
+pub fn innermost_open_in_file()
+    ensures told { OpenInFileIsTold }
+    ensures once { OpenInFileOnce }
 {}

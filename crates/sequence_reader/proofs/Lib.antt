@@ -9,4 +9,3 @@ pub mod Late
 pub mod Turns
 pub mod Advances
 pub mod Walks
-pub mod Units

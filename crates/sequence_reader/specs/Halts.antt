@@ -1,5 +1,5 @@
 -- Why a file isn't read, and where a file is refused that ends too early.
-use Rattle.std.specs.Prelude.{ℕ, ◌≡◌, List, [], ◌++◌, length}
+use Rattle.std.specs.Prelude.{ℕ, ◌≡◌, ◌+◌, List, [], ◌++◌, length}
 use Rattle.reader_theory.specs.Words.{Mark, bare, Shallow, Verdict}
 use Rattle.fortran_grammar.specs.Tokens.{Token}
 use Rattle.expr_reader.specs.Results.{Stands}
@@ -7,20 +7,22 @@ use Rattle.expr_reader.specs.declared.error.ReadError.{ReadError}
 use Rattle.expr_reader.specs.declared.error.ReadError.TheVariants as errors
 use Rattle.statement_reader.specs.Parts.{Part}
 use Rattle.program_reader.specs.Sequence.{State, rest_reader}
-use Rattle.program_reader.specs.Unfinished.{Parts_from, behind, Unfinished}
+use Rattle.program_reader.specs.Unfinished.{Parts_from, behind, Parted, Unfinished}
 use Rattle.sequence_reader.specs.declared.sequence.Halt.{Halt}
 use Rattle.sequence_reader.specs.declared.sequence.Halt.TheVariants as halts
 use Rattle.sequence_reader.specs.Answers.{Answer, stop_of}
 use Rattle.sequence_reader.specs.Statements.{Before_the_end}
 
 -- from a beginning on the whole text begins with the words of these parts, behind which stands this place and the rest of
--- the text
-pub record Walked (limit : ℕ) (begin : State) (every : List Token) (s : State) (bs : List Part) (ts : List Token) : Type 0 where
+-- the text; from the last unit's first token on so many tokens are left
+pub record Walked (limit : ℕ) (begin : State) (every : List Token) (s : State) (bs : List Part) (ts : List Token) (unit : ℕ) : Type 0 where
   pub word : List (Mark Token)
   pub is_word : Parts_from limit begin bs word
   pub shallow : Shallow word
   pub split : every ≡ bare word ++ ts
   pub place : behind begin bs ≡ s
+  pub parted : Parted limit begin bs word
+  pub from : unit ≡ length parted.rest + length ts
 
 -- what the reader of files answers for a whole text
 abbrev pub file_answer : State → List Token → Verdict Token (List Part)
@@ -28,7 +30,7 @@ file_answer begin ts = rest_reader 64 (length ts) begin ts
 
 -- the whole text is the words of some parts, behind which stands this place
 abbrev pub Leads_to : State → List Token → State → Type 0
-Leads_to begin every s = (bs : List Part) × Walked 64 begin every s bs []
+Leads_to begin every s = (bs : List Part) × (unit : ℕ) × Walked 64 begin every s bs [] unit
 
 -- the fault is that of the reader of files, and stands at a token where they are whole statements; where the file ends
 -- too early, the fault stands just past the last token, and the place is that of what is open innermost, if anything is

@@ -1,14 +1,15 @@
 //! The parts of a whole file, one behind the other.
 
-ghost use Rattle.std.specs.Prelude.{◌≡◌, ◌≤◌, ◌<◌, ◌+◌, List, [], ◌∷◌, length, map, IfOk, IfErr, MatchResult};
+ghost use Rattle.std.specs.Prelude.{◌≡◌, ◌≤◌, ◌<◌, ◌+◌, List, [], cond, length, map, IfOk, IfErr, MatchResult};
 ghost use Rattle.expr_reader.specs.Results.{Gives, Fails};
-ghost use Rattle.expr_reader.specs.Words.{token_of, tokens_of};
+ghost use Rattle.expr_reader.specs.Words.{tokens_of};
 ghost use Rattle.part_reader.specs.Views as held;
 ghost use Rattle.fortran_grammar.specs.Tokens.{Token};
 ghost use Rattle.program_reader.specs.Sequence as theory;
 ghost use Rattle.program_reader.specs.Sequence.{State};
 ghost use Rattle.program_reader.specs.Unfinished as unfinished;
 ghost use Rattle.reader_theory.specs.Words.{found};
+ghost use Rattle.statement_reader.specs.Parts.{is_of, end_module_form};
 ghost use Rattle.sequence_reader.specs.Answers as answers;
 ghost use Rattle.sequence_reader.specs.Halts as halts;
 ghost use Rattle.sequence_reader.specs.Statements as statements;
@@ -18,16 +19,28 @@ use crate::place::{best, further};
 use crate::state::{Beginning, Scope, State, Unit, innermost, may_end, place_of, start, step};
 use caf_base::place::Pos;
 use expr_reader::error::{Cause, ReadError, Stop};
-use expr_reader::word::{Word, WordKind};
+use expr_reader::word::Word;
 use part_reader::part::Part;
 use std::alloc::Global;
 
-/// The parts read so far, the place behind them, and the furthest fault so far of forms that aren't read.
+/// The parts read so far, the place behind them, the furthest fault so far of forms that aren't read, and how many words
+/// there are from the first one of the last unit on.
 #[derive(Drop)]
 struct Progress {
     state: State,
     parts: Vec<Part>,
     fault: Stop,
+    unit: usize,
+}
+
+/// The number of words from the last unit's first one on, behind a part: those that are left where it ends a module.
+fn unit_left(part: &Part, before: usize, left: usize) -> usize
+    ensures { result ≡ cond (is_of end_module_form (held.part part.now)) left before }
+{
+    match part {
+        Part::EndModule(_) => left,
+        _ => before,
+    }
 }
 
 /// Reads a part more.
@@ -44,8 +57,8 @@ fn advance<'a>(
         → MatchResult result
         (λ r. answers.Reached 64 every (view.state progress.new.state) (map held.part progress.new.parts.items) progress.new.fault (tokens_of r.now))
         (λ e. answers.Ends e every) }
-    ensures walks { (begin : State) → (every : List Token) → halts.Walked 64 begin every (view.state progress.old.state) (map held.part progress.old.parts.items) (tokens_of words.now)
-        → IfOk result (λ r. halts.Walked 64 begin every (view.state progress.new.state) (map held.part progress.new.parts.items) (tokens_of r.now)) }
+    ensures walks { (begin : State) → (every : List Token) → halts.Walked 64 begin every (view.state progress.old.state) (map held.part progress.old.parts.items) (tokens_of words.now) progress.old.unit
+        → IfOk result (λ r. halts.Walked 64 begin every (view.state progress.new.state) (map held.part progress.new.parts.items) (tokens_of r.now) progress.new.unit) }
     ensures late { (every : List Token) → statements.On_the_way every (tokens_of words.now) progress.old.fault
         → MatchResult result (λ r. statements.On_the_way every (tokens_of r.now) progress.new.fault) (λ e. statements.Stops_before every e) }
 {
@@ -62,6 +75,7 @@ fn advance<'a>(
             return Err(e);
         }
     }
+    progress.unit = unit_left(&part, progress.unit, rest.len());
     progress.parts.push(part)?;
     Ok(rest)
 }
@@ -77,86 +91,29 @@ pub enum Halt {
     Unfinished { stop: Stop, at: Option<Pos> },
 }
 
-/// The place of the first word; where there is none, the beginning of a file.
-fn first_place(words: &[Word]) -> Pos
-    ensures { result ≡ unfinished.first_place (tokens_of words.now) }
+/// The place of the first word.
+fn first_place(words: &[Word]) -> Option<Pos>
+    ensures { result ≡ unfinished.maybe_first (tokens_of words.now) }
 {
     match words.split_first() {
-        Some((first, _)) => first.at,
-        None => Pos { line: 1, col: 1 },
+        Some((first, _)) => Some(first.at),
+        None => None,
     }
-}
-
-/// The word stands at this place.
-fn is_at(word: &Word, at: Pos) -> bool
-    ensures { result ≡ unfinished.is_at at (token_of word.now) }
-{
-    word.at.line == at.line && word.at.col == at.col
-}
-
-/// The words from the one at this place on.
-fn from_place(words: &[Word], at: Pos) -> &[Word]
-    ensures { tokens_of result.now ≡ unfinished.from_place at (tokens_of words.now) }
-{
-    let mut rest = words;
-    while let Some((first, after)) = rest.split_first() {
-        if is_at(first, at) {
-            return rest;
-        }
-        rest = after;
-    }
-    rest
-}
-
-/// The words behind a statement.
-fn behind_statement(words: &[Word]) -> &[Word]
-    ensures { tokens_of result.now ≡ unfinished.behind_statement (tokens_of words.now) }
-{
-    let mut rest = words;
-    while let Some((first, after)) = rest.split_first() {
-        if matches!(first.kind, WordKind::End) {
-            return after;
-        }
-        rest = after;
-    }
-    rest
-}
-
-/// The words behind this part, where it ends a module; else all.
-fn behind_end<'a>(part: &Part, words: &'a [Word]) -> &'a [Word]
-    ensures { tokens_of result.now ≡ unfinished.unit_tokens (held.part part.now ∷ []) (tokens_of words.now) }
-{
-    match part {
-        Part::EndModule(end) => behind_statement(from_place(words, end.at)),
-        _ => words,
-    }
-}
-
-/// The words of the unit that is open, or is to begin: those behind the END of each module.
-#[tactic(auto, using(crate::proofs::Units::unit_laws))]
-fn unit_words<'a>(parts: &[Part], words: &'a [Word]) -> &'a [Word]
-    ensures { tokens_of result.now ≡ unfinished.unit_tokens (map held.part parts.now) (tokens_of words.now) }
-{
-    let mut rest = words;
-    for part in parts {
-        rest = behind_end(part, rest);
-    }
-    rest
 }
 
 /// The place of a program unit, of which that of a main program is given.
-fn unit_place(unit: Unit, main: Pos) -> Pos
+fn unit_place(unit: Unit, main: Option<Pos>) -> Option<Pos>
     ensures { result ≡ unfinished.unit_place (view.program_unit unit) main }
 {
     match unit {
         Unit::Alone => main,
         Unit::Main => main,
-        Unit::Module(at) => at,
+        Unit::Module(at) => Some(at),
     }
 }
 
 /// Where what is open innermost begins, if anything is open. The main program is given where it begins.
-fn open_place(state: &State, main: Pos) -> Option<Pos>
+fn open_place(state: &State, main: Option<Pos>) -> Option<Pos>
     ensures { result ≡ unfinished.innermost (view.scope state.now.scope) (view.blocks state.now.blocks.items) main }
 {
     if let Some(construct) = innermost(state) {
@@ -164,11 +121,11 @@ fn open_place(state: &State, main: Pos) -> Option<Pos>
     }
     match state.scope {
         Scope::NoUnit => None,
-        Scope::InUnit { unit, .. } => Some(unit_place(unit, main)),
-        Scope::Between(unit) => Some(unit_place(unit, main)),
+        Scope::InUnit { unit, .. } => unit_place(unit, main),
+        Scope::Between(unit) => unit_place(unit, main),
         Scope::InSubroutine { at, .. } => Some(at),
         Scope::InFunction { at, .. } => Some(at),
-        Scope::Over => Some(main),
+        Scope::Over => main,
     }
 }
 
@@ -185,17 +142,18 @@ fn halted(e: ReadError) -> Halt
 /// The parts, where the file may end behind them.
 fn finished(progress: Progress, words: &[Word]) -> Result<Vec<Part>, Halt>
     ensures { (begin : State) → (every : answers.Answer) → answers.Reached 64 every (view.state progress.state) (map held.part progress.parts.items) progress.fault []
-        → halts.Walked 64 begin (tokens_of words.now) (view.state progress.state) (map held.part progress.parts.items) []
+        → halts.Walked 64 begin (tokens_of words.now) (view.state progress.state) (map held.part progress.parts.items) [] progress.unit
         → MatchResult result (λ v. every ≡ answers.read (map held.part v.items)) (λ e. halts.Halts_as begin e every (tokens_of words.now)) }
 {
     let Progress {
         state,
         parts,
         fault,
+        unit,
     } = progress;
     let ends = may_end(&state);
-    let unit = unit_words(parts.as_slice(), words);
-    let main = first_place(unit);
+    let (_, last) = words.split_at(words.len().saturating_sub(unit));
+    let main = first_place(last);
     let at = open_place(&state, main);
     drop(state);
     if ends {
@@ -218,7 +176,7 @@ fn walk(alloc: Global, beginning: Beginning, words: &[Word]) -> Result<Progress,
     ensures goes { MatchResult result
         (λ p. answers.Reached 64 (answers.answer_of (halts.file_answer (view.beginning beginning) (tokens_of words.now))) (view.state p.state) (map held.part p.parts.items) p.fault [])
         (λ e. answers.Ends e (answers.answer_of (halts.file_answer (view.beginning beginning) (tokens_of words.now)))) }
-    ensures walks { IfOk result (λ p. halts.Walked 64 (view.beginning beginning) (tokens_of words.now) (view.state p.state) (map held.part p.parts.items) []) }
+    ensures walks { IfOk result (λ p. halts.Walked 64 (view.beginning beginning) (tokens_of words.now) (view.state p.state) (map held.part p.parts.items) [] p.unit) }
     ensures late { IfErr result (λ e. statements.Stops_before (tokens_of words.now) e) }
 {
     let mut progress = Progress {
@@ -228,6 +186,7 @@ fn walk(alloc: Global, beginning: Beginning, words: &[Word]) -> Result<Progress,
             cause: Cause::Expected,
             left: words.len(),
         },
+        unit: words.len(),
     };
     let mut rest = words;
     while !rest.is_empty() {

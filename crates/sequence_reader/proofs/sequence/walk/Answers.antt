@@ -9,7 +9,7 @@ use Rattle.sequence_reader.specs.Halts as halts
 use Rattle.sequence_reader.specs.Views as view
 use Rattle.sequence_reader.proofs.Advances.{begins_file}
 use Rattle.sequence_reader.proofs.Walks.{not_walked, fresh_depth}
-use Rattle.sequence_reader.proofs.Turns.{depth_held, unread_late}
+use Rattle.sequence_reader.proofs.Turns.{depth_held, unread_late, tokens_length}
 use Rattle.sequence_reader.proofs.sequence.walk.Goals as goal
 
 pub loop-rest-init : goal.loop-rest-init
@@ -18,8 +18,8 @@ loop-rest-init c =
       depth_held c.start.result (subst (λ z. answers.depth z ≤ 64) (sym c.start.ensures) (fresh_depth c.args.beginning)),
       subst (λ z. answers.Reached 64 every z (map held.part c.new.result.items) (record { cause = causes.Expected; left = length c.args.words.now }) (tokens_of c.args.words.now)) (sym c.start.ensures)
           (subst (λ z. answers.Reached 64 every (view.beginning c.args.beginning) (map held.part z) (record { cause = causes.Expected; left = length c.args.words.now }) (tokens_of c.args.words.now)) (sym c.new.ensures.items) (begins_file (view.beginning c.args.beginning) c.args.words.now)),
-      subst (λ z. halts.Walked 64 (view.beginning c.args.beginning) (tokens_of c.args.words.now) z (map held.part c.new.result.items) (tokens_of c.args.words.now)) (sym c.start.ensures)
-          (subst (λ z. halts.Walked 64 (view.beginning c.args.beginning) (tokens_of c.args.words.now) (view.beginning c.args.beginning) (map held.part z) (tokens_of c.args.words.now)) (sym c.new.ensures.items) (not_walked (view.beginning c.args.beginning) (tokens_of c.args.words.now))),
+      subst (λ z. halts.Walked 64 (view.beginning c.args.beginning) (tokens_of c.args.words.now) z (map held.part c.new.result.items) (tokens_of c.args.words.now) (length c.args.words.now)) (sym c.start.ensures)
+          (subst (λ z. halts.Walked 64 (view.beginning c.args.beginning) (tokens_of c.args.words.now) (view.beginning c.args.beginning) (map held.part z) (tokens_of c.args.words.now) (length c.args.words.now)) (sym c.new.ensures.items) (not_walked (view.beginning c.args.beginning) (tokens_of c.args.words.now) (length c.args.words.now) (sym (tokens_length c.args.words.now)))),
       (λ whole. whole, unread_late c.args.words.now),
     )
 
@@ -37,4 +37,4 @@ returns-clause-goes c =
 pub returns-clause-walks : goal.returns-clause-walks
 returns-clause-walks c =
     let none : length c.loop-rest.rest.now ≡ 0 = first_of (search rules, grind (arith, common_steps)) in
-    subst (λ z. halts.Walked 64 (view.beginning c.args.beginning) (tokens_of c.args.words.now) (view.state c.loop-rest.progress.state) (map held.part c.loop-rest.progress.parts.items) z) (words_none c.loop-rest.rest.now none) c.loop-rest.invariant.2
+    subst (λ z. halts.Walked 64 (view.beginning c.args.beginning) (tokens_of c.args.words.now) (view.state c.loop-rest.progress.state) (map held.part c.loop-rest.progress.parts.items) z c.loop-rest.progress.unit) (words_none c.loop-rest.rest.now none) c.loop-rest.invariant.2
