@@ -138,9 +138,15 @@ module _ (limit : ℕ) (ts : List Token) (p : Pos) (new : stands ts p ≡ false)
   all_closed (o ∷ os) k l =
       closed_by (end_form o) (at_place k (o ∷ os)) (at_place k os) (end_part p o) (end_word o) (end_allowed o) (ends_word p limit (suc (length os)) o) (ended p k o os) l (all_closed os k (omega arith))
 
+  -- whole statements with which a file begins go on to one
+  pub closes : (begin : State) (bs : List Part) (w : List (Mark Token)) → Parts_from limit begin bs w → (behind begin bs).conditions ≡ 0 → length (behind begin bs).blocks ≤ limit → (es : List Part) × (more : List (Mark Token)) × Rest_of_file limit begin es (w ++ more) × Shallow more × AreElsewhere ts (bare more)
+  closes begin bs w h z l =
+      let at_end : at_place (behind begin bs).scope (behind begin bs).blocks ≡ behind begin bs = ap (λ n. record { scope = (behind begin bs).scope; blocks = (behind begin bs).blocks; conditions = n }) (sym z) in
+      let c = subst (Closing limit ts) at_end (all_closed (behind begin bs).blocks (behind begin bs).scope l) in
+      (bs ++ c.parts, c.word, parts_then limit bs c.parts begin w c.word h c.is_rest, c.shallow, c.elsewhere)
+
   pub goes_on : (bs : List Part) (w : List (Mark Token)) → Parts_from limit start bs w → Shallow w → (behind start bs).conditions ≡ 0 → length (behind start bs).blocks ≤ limit → (x : Program) × (more : List Token) × AreElsewhere ts more × Reads (Programs limit) (bare w ++ more) x
   goes_on bs w h sh z l =
-      let at_end : at_place (behind start bs).scope (behind start bs).blocks ≡ behind start bs = ap (λ n. record { scope = (behind start bs).scope; blocks = (behind start bs).blocks; conditions = n }) (sym z) in
-      let c = subst (Closing limit ts) at_end (all_closed (behind start bs).blocks (behind start bs).scope l) in
-      let (x, is, k) = nested_program limit (bs ++ c.parts) (w ++ c.word) (parts_then limit bs c.parts start w c.word h c.is_rest) in
-      (x, bare c.word, c.elsewhere, (w ++ c.word, k, shallow_append w c.word sh c.shallow, sym (bare_append w c.word)))
+      let (es, more, rest, flat, elsewhere) = closes start bs w h z l in
+      let (x, is, k) = nested_program limit es (w ++ more) rest in
+      (x, bare more, elsewhere, (w ++ more, k, shallow_append w more sh flat, sym (bare_append w more)))

@@ -7,4 +7,5 @@ pub mod Whole
 pub mod Going
 pub mod Closing
 pub mod Opened
+pub mod OpenedInFiles
 mod Tries
