@@ -76,12 +76,7 @@ fn early(beginning: Beginning, words: &[Word], at: Option<Pos>) -> FileFault
 }
 
 /// Why words aren't read.
-fn refusal(
-    alloc: Global,
-    beginning: Beginning,
-    halt: Halt,
-    words: &[Word],
-) -> Refusal<FileFault>
+fn refusal(alloc: Global, beginning: Beginning, halt: Halt, words: &[Word]) -> Refusal<FileFault>
     requires whole { whole_statements (tokens_of words.now) ≡ true }
     requires some { 0 < length words.now }
     requires fits { length words.now < 4294967295 }

@@ -124,11 +124,7 @@ fn begins_only(words: &[Word]) -> bool
 
 /// ONLY with its items.
 #[tactic(auto, using(crate::proofs::Deepened::deep_laws))]
-fn only<'a>(
-    alloc: Global,
-    words: &'a [Word],
-    left: u32,
-) -> Result<(UseList, &'a [Word]), ReadError>
+fn only<'a>(alloc: Global, words: &'a [Word], left: u32) -> Result<(UseList, &'a [Word]), ReadError>
     ensures { Gives (λ r. (files.use_list r.0, tokens_of r.1.now)) result (spec.only_items left (tokens_of words.now)) }
 {
     let rest = key(words, b"only")?;

@@ -15,10 +15,10 @@ use fortran_tree::declaration::Declaration;
 use fortran_tree::name::Name;
 use fortran_tree::statement::End;
 use fortran_tree::unit::{Heading, Use};
-use unit_tree::file::Use as UnitUse;
 use part_reader::part::Part;
 use std::collections::VecDeque;
 use std::mem;
+use unit_tree::file::Use as UnitUse;
 
 /// The parts that are left: the next one, and those behind it.
 #[derive(Drop)]
@@ -216,7 +216,7 @@ impl Rest {
 
     /// The name of a module and its place, where its first statement comes next.
     pub(crate) fn module(&mut self) -> Option<(Name, Pos)>
-        ensures { MatchOption result (view.IsKept f.module_form self.old self.new) (λ module. view.left self.old ≡ Part.Module module.0 module.1 ∷ view.left self.new) }
+        ensures { MatchOption result (view.IsKept f.module_form self.old self.new) (λ first. view.left self.old ≡ Part.Module first.0 first.1 ∷ view.left self.new) }
     {
         match &self.next {
             Some(Part::Module { .. }) => {}

@@ -20,9 +20,9 @@ use fortran_tree::declaration::Declaration;
 use fortran_tree::name::Name;
 use fortran_tree::statement::Statement;
 use fortran_tree::unit::{Body, Heading, Procedure, Program, Use};
-use unit_tree::file::{MainProgram, Module, UnitFile, Use as UnitUse};
 use part_reader::part::Part;
 use std::alloc::Global;
+use unit_tree::file::{MainProgram, Module, UnitFile, Use as UnitUse};
 
 /// The USE statements that come next.
 #[tactic(auto, using(crate::proofs::Fronts::front_laws))]
@@ -164,12 +164,7 @@ pub fn program_of(alloc: Global, parts: Vec<Part>) -> Result<Program, NoMemory>
 }
 
 /// The module that has this first statement.
-fn module_of(
-    alloc: Global,
-    rest: &mut Rest,
-    name: Name,
-    at: Pos,
-) -> Result<Module, NoMemory>
+fn module_of(alloc: Global, rest: &mut Rest, name: Name, at: Pos) -> Result<Module, NoMemory>
     requires { view.Stands q.in_uses (q.in_program_unit (q.module_at at) q.starting) rest.old }
     ensures front { IfOk result (λ x. f.module_part name at ∷ view.parts rest.old ≡ nesting.module_parts (files.module_unit x) (view.parts rest.new)) }
     ensures follow { OnOk result (MayFollow q.start_of_units (view.parts rest.new)) }

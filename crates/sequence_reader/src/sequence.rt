@@ -204,11 +204,7 @@ fn walk(alloc: Global, beginning: Beginning, words: &[Word]) -> Result<Progress,
 /// The parts of a file, whose words these are (ISO/IEC 1539-1:2018, R501), in their order. Reading stops at the first
 /// word with which no file goes on, or at which the 65th level begins; where the file ends too early, it is told what
 /// is open.
-pub fn read_parts(
-    alloc: Global,
-    beginning: Beginning,
-    words: &[Word],
-) -> Result<Vec<Part>, Halt>
+pub fn read_parts(alloc: Global, beginning: Beginning, words: &[Word]) -> Result<Vec<Part>, Halt>
     ensures { MatchResult result (λ v. halts.file_answer (view.beginning beginning) (tokens_of words.now) ≡ found (map held.part v.items) []) (λ e. halts.Halts (view.beginning beginning) e (tokens_of words.now)) }
 {
     match walk(alloc, beginning, words) {
@@ -218,11 +214,7 @@ pub fn read_parts(
 }
 
 /// The place behind these words, where they are whole parts that may begin a file; else where and why reading stops.
-pub fn place_behind(
-    alloc: Global,
-    beginning: Beginning,
-    words: &[Word],
-) -> Result<State, ReadError>
+pub fn place_behind(alloc: Global, beginning: Beginning, words: &[Word]) -> Result<State, ReadError>
     ensures depth { IfOk result (λ s. s.conditions + length s.blocks.items ≤ 64) }
     ensures leads { IfOk result (λ s. halts.Leads_to (view.beginning beginning) (tokens_of words.now) (view.state s)) }
     ensures stops { IfErr result (λ e. Fails e (halts.file_answer (view.beginning beginning) (tokens_of words.now))) }
@@ -245,11 +237,7 @@ fn plain(halt: Halt) -> ReadError
 }
 
 /// The parts of a file, or where and why reading stops: the theory's answer.
-pub fn parts(
-    alloc: Global,
-    beginning: Beginning,
-    words: &[Word],
-) -> Result<Vec<Part>, ReadError>
+pub fn parts(alloc: Global, beginning: Beginning, words: &[Word]) -> Result<Vec<Part>, ReadError>
     ensures { Gives (λ v. (map held.part v.items, [])) result (theory.rest_reader 64 (length (tokens_of words.now)) (view.beginning beginning) (tokens_of words.now)) }
 {
     match read_parts(alloc, beginning, words) {

@@ -342,8 +342,8 @@ fn early(stage: Stage) -> &'static [Form]
 
 /// Those before the statements of a unit in a file that may have modules.
 fn unit_early(stage: Stage) -> &'static [Form]
-    ensures main { map view.form result.now ++ sequence.statement_forms ≡ sequence.stage_forms sequence.main (view.stage stage) }
-    ensures module { (at : Pos) → map view.form result.now ++ [] ≡ sequence.stage_forms (sequence.module_at at) (view.stage stage) }
+    ensures in_main { map view.form result.now ++ sequence.statement_forms ≡ sequence.stage_forms sequence.main (view.stage stage) }
+    ensures in_module { (at : Pos) → map view.form result.now ++ [] ≡ sequence.stage_forms (sequence.module_at at) (view.stage stage) }
 {
     match stage {
         Stage::Starting => &[
