@@ -10,8 +10,8 @@ use Rattle.sequence_reader.specs.declared.state.Stage.{Stage as HeldStage}
 use Rattle.sequence_reader.specs.declared.state.Stage.TheVariants as stages
 use Rattle.sequence_reader.specs.declared.state.Beginning.{Beginning}
 use Rattle.sequence_reader.specs.declared.state.Beginning.TheVariants as beginnings
-use Rattle.sequence_reader.specs.declared.state.Unit.{Unit as HeldUnit}
-use Rattle.sequence_reader.specs.declared.state.Unit.TheVariants as held_units
+use Rattle.sequence_reader.specs.declared.state.ProgramUnit.{ProgramUnit as HeldUnit}
+use Rattle.sequence_reader.specs.declared.state.ProgramUnit.TheVariants as held_units
 use Rattle.sequence_reader.specs.declared.state.Scope.{Scope as HeldScope}
 use Rattle.sequence_reader.specs.declared.state.Scope.TheVariants as scopes
 use Rattle.sequence_reader.specs.declared.state.Construct.{Construct}

@@ -16,7 +16,9 @@ ghost use Rattle.sequence_reader.specs.Statements as statements;
 ghost use Rattle.sequence_reader.specs.Views as view;
 
 use crate::place::{best, further};
-use crate::state::{Beginning, Scope, State, Unit, innermost, may_end, place_of, start, step};
+use crate::state::{
+    Beginning, ProgramUnit, Scope, State, innermost, may_end, place_of, start, step,
+};
 use caf_base::place::Pos;
 use expr_reader::error::{Cause, ReadError, Stop};
 use expr_reader::word::Word;
@@ -102,13 +104,13 @@ fn first_place(words: &[Word]) -> Option<Pos>
 }
 
 /// The place of a program unit, of which that of a main program is given.
-fn unit_place(unit: Unit, main: Option<Pos>) -> Option<Pos>
+fn unit_place(unit: ProgramUnit, main: Option<Pos>) -> Option<Pos>
     ensures { result ≡ unfinished.unit_place (view.program_unit unit) main }
 {
     match unit {
-        Unit::Alone => main,
-        Unit::Main => main,
-        Unit::Module(at) => Some(at),
+        ProgramUnit::Alone => main,
+        ProgramUnit::Main => main,
+        ProgramUnit::Module(at) => Some(at),
     }
 }
 

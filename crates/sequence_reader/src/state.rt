@@ -37,7 +37,7 @@ pub enum Beginning {
 
 /// A program unit.
 #[derive(Clone, Copy)]
-pub enum Unit {
+pub enum ProgramUnit {
     /// The main program that is a file by itself.
     Alone,
     /// The main program of a file that may have modules.
@@ -51,11 +51,22 @@ pub enum Unit {
 pub enum Scope {
     /// In a file that may have modules, at its beginning or behind the END of a module.
     NoUnit,
-    InUnit { unit: Unit, stage: Stage },
+    InUnit {
+        unit: ProgramUnit,
+        stage: Stage,
+    },
     /// Behind CONTAINS, in no procedure.
-    Between(Unit),
-    InSubroutine { unit: Unit, at: Pos, stage: Stage },
-    InFunction { unit: Unit, at: Pos, stage: Stage },
+    Between(ProgramUnit),
+    InSubroutine {
+        unit: ProgramUnit,
+        at: Pos,
+        stage: Stage,
+    },
+    InFunction {
+        unit: ProgramUnit,
+        at: Pos,
+        stage: Stage,
+    },
     /// Behind the main program's END.
     Over,
 }
@@ -91,7 +102,7 @@ pub fn start(alloc: Global, beginning: Beginning) -> State
 {
     let scope = match beginning {
         Beginning::Program => Scope::InUnit {
-            unit: Unit::Alone,
+            unit: ProgramUnit::Alone,
             stage: Stage::Starting,
         },
         Beginning::Units => Scope::NoUnit,
@@ -109,7 +120,7 @@ fn staged(stage: Stage, scope: Scope) -> Scope
 {
     match scope {
         Scope::NoUnit => Scope::InUnit {
-            unit: Unit::Main,
+            unit: ProgramUnit::Main,
             stage,
         },
         Scope::InUnit { unit, .. } => Scope::InUnit { unit, stage },
@@ -121,16 +132,16 @@ fn staged(stage: Stage, scope: Scope) -> Scope
 }
 
 /// The unit of a place.
-fn program_unit(scope: Scope) -> Unit
+fn program_unit(scope: Scope) -> ProgramUnit
     ensures { view.program_unit result ≡ sequence.program_unit (view.scope scope) }
 {
     match scope {
-        Scope::NoUnit => Unit::Main,
+        Scope::NoUnit => ProgramUnit::Main,
         Scope::InUnit { unit, .. } => unit,
         Scope::InSubroutine { unit, .. } => unit,
         Scope::InFunction { unit, .. } => unit,
         Scope::Between(unit) => unit,
-        Scope::Over => Unit::Alone,
+        Scope::Over => ProgramUnit::Alone,
     }
 }
 
@@ -241,7 +252,7 @@ fn in_unit(state: &mut State, scope: Scope)
 }
 
 /// In a procedure of the unit.
-fn unit_of(unit: Unit, heading: &Heading, at: Pos) -> Scope
+fn unit_of(unit: ProgramUnit, heading: &Heading, at: Pos) -> Scope
     ensures { view.scope result ≡ sequence.unit_of (view.program_unit unit) (units.heading heading.now) at }
 {
     match heading {
@@ -263,7 +274,7 @@ fn in_module(at: Pos) -> Scope
     ensures { view.scope result ≡ sequence.in_program_unit (sequence.module_at at) sequence.in_uses }
 {
     Scope::InUnit {
-        unit: Unit::Module(at),
+        unit: ProgramUnit::Module(at),
         stage: Stage::InUses,
     }
 }
@@ -360,21 +371,21 @@ fn unit_early(stage: Stage) -> &'static [Form]
 }
 
 /// The forms that a unit allows where nothing is open in it.
-fn in_unit_forms(unit: Unit, stage: Stage) -> Allowed
+fn in_unit_forms(unit: ProgramUnit, stage: Stage) -> Allowed
     ensures { map view.form result.own.now ++ (map view.form result.early.now ++ map view.form result.statements.now) ≡ sequence.scope_forms (sequence.in_program_unit (view.program_unit unit) (view.stage stage)) }
 {
     match unit {
-        Unit::Alone => Allowed {
+        ProgramUnit::Alone => Allowed {
             own: &[Form::EndProgram, Form::Contains],
             early: early(stage),
             statements: &STATEMENTS,
         },
-        Unit::Main => Allowed {
+        ProgramUnit::Main => Allowed {
             own: &[Form::EndProgram, Form::Contains],
             early: unit_early(stage),
             statements: &STATEMENTS,
         },
-        Unit::Module(_) => Allowed {
+        ProgramUnit::Module(_) => Allowed {
             own: &[Form::EndModule, Form::Contains],
             early: unit_early(stage),
             statements: &[],
@@ -383,13 +394,13 @@ fn in_unit_forms(unit: Unit, stage: Stage) -> Allowed
 }
 
 /// Those behind CONTAINS.
-fn procedure_forms(unit: Unit) -> &'static [Form]
+fn procedure_forms(unit: ProgramUnit) -> &'static [Form]
     ensures { map view.form result.now ≡ sequence.scope_forms (sequence.between (view.program_unit unit)) }
 {
     match unit {
-        Unit::Alone => &[Form::EndProgram, Form::Subroutine, Form::Function],
-        Unit::Main => &[Form::EndProgram, Form::Subroutine, Form::Function],
-        Unit::Module(_) => &[Form::EndModule, Form::Subroutine, Form::Function],
+        ProgramUnit::Alone => &[Form::EndProgram, Form::Subroutine, Form::Function],
+        ProgramUnit::Main => &[Form::EndProgram, Form::Subroutine, Form::Function],
+        ProgramUnit::Module(_) => &[Form::EndModule, Form::Subroutine, Form::Function],
     }
 }
 
