@@ -115,8 +115,8 @@ fn number(begin: usize, size: usize, from: Option<usize>) -> Option<usize>
     }
 }
 
-/// The number of the word at which a level too deep is open first, of all files that go on with the words up to and with
-/// the one at which reading stops, if any does.
+/// The number of the word at which a level too deep is open first, of all files that go on with the words up to the one
+/// at which reading stops and with it, if any does.
 pub fn sunk_word(
     alloc: Global,
     beginning: Beginning,

@@ -23,8 +23,8 @@ abbrev pub innermost_in : List Token → List Extent → Option Pos → Option P
 innermost_in ts [] outer = outer
 innermost_in ts (e ∷ es) outer = innermost_in ts es (cond (is_open ts e) (Some e.from) outer)
 
--- with further words, which have places of their own, the words are those of the modules and of the main program of this
--- file
+-- with further words, which have places of their own, the words are those of the modules and of the main program of
+-- this file
 pub record GoesOnToFile (ts : List Token) (x : UnitFile) : Type 0 where
   pub more : List Token
   pub elsewhere : AreElsewhere ts more

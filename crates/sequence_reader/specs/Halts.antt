@@ -13,8 +13,8 @@ use Rattle.sequence_reader.specs.declared.sequence.Halt.TheVariants as halts
 use Rattle.sequence_reader.specs.Answers.{Answer, stop_of}
 use Rattle.sequence_reader.specs.Statements.{Before_the_end}
 
--- from a beginning on the whole text begins with the words of these parts, behind which stands this place and the rest of
--- the text; from the last unit's first token on so many tokens are left
+-- from a beginning on the whole text begins with the words of these parts, behind which stands this place and the rest
+-- of the text; from the last unit's first token on so many tokens are left
 pub record Walked (limit : ℕ) (begin : State) (every : List Token) (s : State) (bs : List Part) (ts : List Token) (unit : ℕ) : Type 0 where
   pub word : List (Mark Token)
   pub is_word : Parts_from limit begin bs word

@@ -25,8 +25,8 @@ use expr_reader::word::Word;
 use part_reader::part::Part;
 use std::alloc::Global;
 
-/// The parts read so far, the place behind them, the furthest fault so far of forms that aren't read, and how many words
-/// there are from the first one of the last unit on.
+/// The parts read so far, the place behind them, the furthest fault so far of forms that aren't read, and how many
+/// words there are from the first one of the last unit on.
 #[derive(Drop)]
 struct Progress {
     state: State,
