@@ -9,3 +9,4 @@ pub mod Closing
 pub mod Opened
 pub mod OpenedInFiles
 mod Tries
+mod EarlyTries
