@@ -6,7 +6,6 @@ ghost use Rattle.expr_reader.specs.Words.{tokens_of};
 ghost use Rattle.part_reader.specs.Views as held;
 ghost use Rattle.fortran_grammar.specs.Tokens.{Token};
 ghost use Rattle.program_reader.specs.Sequence as theory;
-ghost use Rattle.program_reader.specs.Sequence.{State};
 ghost use Rattle.program_reader.specs.Unfinished as unfinished;
 ghost use Rattle.reader_theory.specs.Words.{found};
 ghost use Rattle.statement_reader.specs.Parts.{is_of, end_module_form};
@@ -59,7 +58,7 @@ fn advance<'a>(
         → MatchResult result
         (λ r. answers.Reached 64 every (view.state progress.new.state) (map held.part progress.new.parts.items) progress.new.fault (tokens_of r.now))
         (λ e. answers.Ends e every) }
-    ensures walks { (begin : State) → (every : List Token) → halts.Walked 64 begin every (view.state progress.old.state) (map held.part progress.old.parts.items) (tokens_of words.now) progress.old.unit
+    ensures walks { (begin : theory.State) → (every : List Token) → halts.Walked 64 begin every (view.state progress.old.state) (map held.part progress.old.parts.items) (tokens_of words.now) progress.old.unit
         → IfOk result (λ r. halts.Walked 64 begin every (view.state progress.new.state) (map held.part progress.new.parts.items) (tokens_of r.now) progress.new.unit) }
     ensures late { (every : List Token) → statements.On_the_way every (tokens_of words.now) progress.old.fault
         → MatchResult result (λ r. statements.On_the_way every (tokens_of r.now) progress.new.fault) (λ e. statements.Stops_before every e) }
@@ -143,7 +142,7 @@ fn halted(e: ReadError) -> Halt
 
 /// The parts, where the file may end behind them.
 fn finished(progress: Progress, words: &[Word]) -> Result<Vec<Part>, Halt>
-    ensures { (begin : State) → (every : answers.Answer) → answers.Reached 64 every (view.state progress.state) (map held.part progress.parts.items) progress.fault []
+    ensures { (begin : theory.State) → (every : answers.Answer) → answers.Reached 64 every (view.state progress.state) (map held.part progress.parts.items) progress.fault []
         → halts.Walked 64 begin (tokens_of words.now) (view.state progress.state) (map held.part progress.parts.items) [] progress.unit
         → MatchResult result (λ v. every ≡ answers.read (map held.part v.items)) (λ e. halts.Halts_as begin e every (tokens_of words.now)) }
 {
