@@ -1,5 +1,5 @@
--- Which parts may follow which in a file, with modules or without: a place is what is open there and how far its program
--- unit has come (ISO/IEC 1539-1:2018, 5.1, clause 11 and 14.2.1).
+-- Which parts may follow which in a file, with modules or without: a place is what is open there and how far its
+-- program unit has come (ISO/IEC 1539-1:2018, 5.1, clause 11 and 14.2.1).
 use Rattle.std.specs.Prelude.{ℕ, zero, suc, Bool, true, false, List, [], ◌∷◌, length}
 use Rattle.caf_base.specs.declared.place.Pos.{Pos}
 use Rattle.reader_theory.specs.Words.{Mark, Verdict}
@@ -21,8 +21,8 @@ pub data Stage : Type 0 where
   in_declarations : Stage
   in_statements : Stage
 
--- a program unit: the main program that is a file by itself, that of a file that may have modules, or a module, with the
--- place of its first token
+-- a program unit: the main program that is a file by itself, that of a file that may have modules, or a module, with
+-- the place of its first token
 pub data ProgramUnit : Type 0 where
   alone : ProgramUnit
   main : ProgramUnit
