@@ -1,6 +1,7 @@
 -- The parts of one program.
-use Rattle.std.proofs.Common.{◌≡◌, Bool, true, false, List, [], ◌∷◌, ◌++◌, length, Some, None, map, refl, sym, ap, ◌∙◌, subst, append_assoc}
+use Rattle.std.proofs.Common.{◌≡◌, Bool, true, false, List, [], ◌∷◌, ◌++◌, length, Some, None, map, refl, sym, ap, ◌∙◌, subst, append_assoc, arith}
 use Rattle.std.proofs.Math.Path.{fun_ext}
+use Rattle.std.proofs.lemmas.Bool.Decides.{nat_tests}
 use Rattle.std.proofs.lemmas.List.{append-nil}
 use Rattle.std.specs.Prelude.{cond, nat_eq}
 use Rattle.fortran_tree.specs.Units as u
@@ -76,7 +77,7 @@ and_some (x ∷ xs) ys = refl
 
 pub none_if : (xs : List Procedure) → nat_eq (length xs) 0 ≡ true → None ≡ and_procedures (map procedure xs) None
 none_if [] e = refl
-none_if (x ∷ xs) e = absurd (cc e)
+none_if (x ∷ xs) e = absurd (grind (arith, nat_tests))
 
 pub some_if : (xs : List Procedure) → nat_eq (length xs) 0 ≡ false → Some (map procedure xs) ≡ and_procedures (map procedure xs) None
 some_if [] e = absurd (cc e)

@@ -85,7 +85,7 @@ fn add_names(set: &mut Names, names: &[&Name]) -> Result<(), NoMemory>
     ensures { OnOk result (Adds set.new set.old (map text_of (seen names.now))) }
 {
     for name in names {
-        add_name(set, name)?;
+        add_name(set, *name)?;
     }
     Ok(())
 }
