@@ -45,11 +45,7 @@ fn spelled_item<S: Spells>(alloc: Global, names: &S, item: &Item) -> Result<Item
     }
 }
 
-fn spelled_items<S: Spells>(
-    alloc: Global,
-    names: &S,
-    items: &[Item],
-) -> Result<Vec<Item>, NoMemory>
+fn spelled_items<S: Spells>(alloc: Global, names: &S, items: &[Item]) -> Result<Vec<Item>, NoMemory>
     ensures { IfOk result (λ v. map view.item v.items ≡ map (renamed.item (S.spelling names.now)) (map view.item items.now)) }
 {
     let mut all = Vec::new(alloc);

@@ -49,11 +49,7 @@ pub fn spelled_type<S: Spells>(
     }
 }
 
-fn spelled_bounds<S: Spells>(
-    alloc: Global,
-    names: &S,
-    bounds: &Bounds,
-) -> Result<Bounds, NoMemory>
+fn spelled_bounds<S: Spells>(alloc: Global, names: &S, bounds: &Bounds) -> Result<Bounds, NoMemory>
     ensures { IfOk result (λ b. view.bounds b ≡ renamed.bounds (S.spelling names.now) (view.bounds bounds.now)) }
 {
     let lower = spelled_maybe(alloc, names, &bounds.lower)?;
@@ -177,11 +173,7 @@ fn spelled_attributes<S: Spells>(
     Ok(all)
 }
 
-fn spelled_entity<S: Spells>(
-    alloc: Global,
-    names: &S,
-    entity: &Entity,
-) -> Result<Entity, NoMemory>
+fn spelled_entity<S: Spells>(alloc: Global, names: &S, entity: &Entity) -> Result<Entity, NoMemory>
     ensures { IfOk result (λ e. view.entity e ≡ renamed.entity (S.spelling names.now) (view.entity entity.now)) }
 {
     let name = spelled_name(names, &entity.name)?;

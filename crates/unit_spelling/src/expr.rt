@@ -27,12 +27,7 @@ fn parenthesized(alloc: Global, inner: Expr, at: Pos) -> Result<Expr, NoMemory>
 
 /// An operator before its operand.
 #[tactic(auto, using(fortran_tree::specs::ExpressionViews::expression_prefix))]
-fn prefix(
-    alloc: Global,
-    operator: PrefixOperator,
-    operand: Expr,
-    at: Pos,
-) -> Result<Expr, NoMemory>
+fn prefix(alloc: Global, operator: PrefixOperator, operand: Expr, at: Pos) -> Result<Expr, NoMemory>
     ensures { IfOk result (λ e. view.expression e ≡ tree.prefix operator (view.expression operand) at) }
 {
     Ok(Expr::Prefix {

@@ -153,9 +153,9 @@ fn spelled_bracketed<S: Spells>(
     match specifier {
         BracketedSpecifier::Absent => Ok(BracketedSpecifier::Absent),
         BracketedSpecifier::Empty => Ok(BracketedSpecifier::Empty),
-        BracketedSpecifier::Present(specifier) => Ok(BracketedSpecifier::Present(
-            spelled_present(alloc, names, specifier)?,
-        )),
+        BracketedSpecifier::Present(specifier) => Ok(BracketedSpecifier::Present(spelled_present(
+            alloc, names, specifier,
+        )?)),
     }
 }
 
@@ -303,7 +303,14 @@ fn spelled_statement<S: Spells>(
             let body = spelled_statements(alloc, names, body)?;
             let else_ifs = spelled_else_ifs(alloc, names, else_ifs)?;
             let otherwise = spelled_else(alloc, names, otherwise)?;
-            if_of(alloc, names, condition, (body, else_ifs, otherwise), *at, *end)
+            if_of(
+                alloc,
+                names,
+                condition,
+                (body, else_ifs, otherwise),
+                *at,
+                *end,
+            )
         }
         Statement::Do {
             construct,
@@ -342,7 +349,14 @@ fn spelled_statement<S: Spells>(
             end,
         } => {
             let body = spelled_statements(alloc, names, body)?;
-            team_of(alloc, names, (team, specifiers, end_specifier), body, *at, *end)
+            team_of(
+                alloc,
+                names,
+                (team, specifiers, end_specifier),
+                body,
+                *at,
+                *end,
+            )
         }
     }
 }
