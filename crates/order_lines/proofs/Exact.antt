@@ -1,5 +1,5 @@
 -- Nothing keeps a run from speaking for every order where it does, and its line says so there alone.
-use Rattle.std.proofs.Common.{◌≡◌, ℕ, ◌<◌, true, false, List, get_or, sym, ap, ◌∙◌, subst, arith}
+use Rattle.std.proofs.Common.{◌≡◌, ℕ, true, false, List, get_or, sym, ap, ◌∙◌, subst, arith}
 use Rattle.std.specs.Prelude.{Option, Some, None, slice_get, ◌↔◌}
 use Rattle.trace_theory.specs.Entries.{Each}
 use Rattle.trace_theory.proofs.Snocs.{each_at}
@@ -16,7 +16,7 @@ use Rattle.decided_watch.specs.declared.watch.Reason.{Reason}
 use Rattle.decided_watch.proofs.Deciding.{no_reason}
 use Rattle.order_lines.specs.declared.bar.Cause.{Cause}
 use Rattle.order_lines.specs.declared.bar.Cause.TheVariants as causes
-use Rattle.order_lines.specs.Bars.{SpeaksForAll, IsCause, IsBar, TellsRace}
+use Rattle.order_lines.specs.Bars.{SpeaksForAll, IsCause, TellsRace}
 use Rattle.order_lines.specs.Lines.{cause_line, every_order_text, IsOrderLine}
 use Rattle.order_lines.proofs.Forms.{within}
 

@@ -1,5 +1,5 @@
 -- Whether the run of a trace speaks for every order of the images, and what keeps it from that.
-use Rattle.std.specs.Prelude.{ℕ, ◌≡◌, ◌<◌, false, List, Option, None, Some, MatchOption}
+use Rattle.std.specs.Prelude.{ℕ, ◌≡◌, ◌<◌, false, List, Option, Some, MatchOption}
 use Rattle.caf_events.specs.declared.event.Entry.{Entry}
 use Rattle.order_theory.specs.Races.{Cell, Stands, place}
 use Rattle.order_axioms.specs.Views.{edges}
