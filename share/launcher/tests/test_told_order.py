@@ -42,11 +42,11 @@ class SaidTest(unittest.TestCase):
         text = "another order may end otherwise: here a lock goes to who comes first"
         self.assertEqual(got[0], f"a.f90:1:1: note: {text} [ThisOrder]")
         self.assertEqual(got[1], "    1 | lock (a)")
-        self.assertEqual(got[3:], ["help: this makes the run in many orders:", "    caf explore -n 2 a.f90"])
+        self.assertEqual(got[3:], ["help: this runs it in many orders:", "    caf explore -n 2 a.f90"])
 
     def test_a_replay_has_no_other_orders(self) -> None:
         got = said(0, ["replay", "--every", "a.trace", "a.f90"], "this order: line 2, race")
-        self.assertEqual(got[0], "a.f90:2:3: note: another order may end otherwise: this races [ThisOrder]")
+        self.assertEqual(got[0], "a.f90:2:3: note: another order may end otherwise: this access is in a race [ThisOrder]")
         self.assertEqual(got[3:], [])
 
     def test_behind_what_is_said_of_the_end(self) -> None:
