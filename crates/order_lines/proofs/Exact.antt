@@ -32,7 +32,7 @@ no_cause n t k causes.Race (p, c, first) speaks =
     let b = first.second_place in
     let l = first.in_order in
     speaks.0.no_race first.first first.second (omega arith) (within t first.second) first.race
-no_cause n t k (causes.Undecided reason) (clean, x, at, is, none) speaks = none_some reason (sym (no_reason n t speaks.0 x) ∙ is)
+no_cause n t k (causes.Undecided reason) (clean, first) speaks = none_some reason (sym (no_reason n t speaks.0 first.0) ∙ first.2)
 no_cause n t k causes.Form (decided, first) speaks =
     let here = each_at (λ z. FormsNone z) first.entry.before first.entry.rest first.entry.event (subst (λ z. Each (λ y. FormsNone y) z) first.entry.split speaks.1) in
     false_true (sym first.forms ∙ here)

@@ -1,6 +1,7 @@
 //! The line of a run.
 
-ghost use Rattle.std.specs.Prelude.{◌≡◌, ◌++◌, OnOk, IfOk, slice_get};
+ghost use Rattle.std.specs.Prelude.{◌≡◌, ◌++◌, pos, OnOk, IfOk, slice_get};
+ghost use Rattle.caf_text.specs.Numbers.{decimal_text};
 ghost use Rattle.order_lines.specs.Lines as spec;
 ghost use Rattle.order_lines.specs.Lines.{this_order_text, cause_line, order_line, IsOrderLine};
 
@@ -47,14 +48,28 @@ fn cause_text(ask: &Ask, cause: Cause) -> &'static str
     }
 }
 
+// Appends a text and a number.
+fn push_numbered(out: &mut Vec<u8>, text: &str, number: u32) -> Result<(), NoMemory>
+    ensures { OnOk result (out.new.items ≡ out.old.items ++ (text.now ++ decimal_text (pos number))) }
+{
+    push_text(out, text)?;
+    push_count(out, u64::from(number))
+}
+
+// Appends two texts.
+fn push_texts(out: &mut Vec<u8>, first: &str, second: &str) -> Result<(), NoMemory>
+    ensures { OnOk result (out.new.items ≡ out.old.items ++ (first.now ++ second.now)) }
+{
+    push_text(out, first)?;
+    push_text(out, second)
+}
+
 // Appends the line that a run alone is so, with the line of a statement and the cause.
 fn push_this_order(out: &mut Vec<u8>, line: u32, cause: &str) -> Result<(), NoMemory>
     ensures { OnOk result (out.new.items ≡ out.old.items ++ this_order_text line cause.now) }
 {
-    push_text(out, "this order: line ")?;
-    push_count(out, u64::from(line))?;
-    push_text(out, ", ")?;
-    push_text(out, cause)?;
+    push_numbered(out, "this order: line ", line)?;
+    push_texts(out, ", ", cause)?;
     push_text(out, "\n")
 }
 

@@ -1,7 +1,7 @@
 use Rattle.order_lines.proofs.bar.bar_among.Goals as goal
 
 pub returns-in-Some : goal.returns-in-Some
-returns-in-Some c n race = (race, rw c.in-Some.is at c.in_ok-first_undecided.ensures)
+returns-in-Some c n race = (race, rw c.in-Some.is at c.in_ok-undecided.ensures)
 
 pub returns-in-None : goal.returns-in-None
-returns-in-None c n race = c.form_bar.ensures n race (rw c.in-None.is at c.in_ok-first_undecided.ensures)
+returns-in-None c n race = c.form_bar.ensures n race (rw c.in-None.is at c.in_ok-undecided.ensures)
