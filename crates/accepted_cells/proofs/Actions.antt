@@ -17,7 +17,8 @@ use Rattle.rule_definitions.specs.Names
 use Rattle.rule_definitions.specs.Names.{Scope, Meaning, Interface, SubroutineName, denotes}
 use Rattle.rule_definitions.specs.Parts.{Placed, plain, team, condition, bound_or_code, integer, is_listed}
 use Rattle.rule_definitions.specs.Specifiers.{all_breaks, order_written, stat_variable, acquired_variable, number_named}
-use Rattle.rule_definitions.specs.Arguments.{Actual, Binding, needed, optional, breaks_in_all, arguments, given_to, maybe_given_to, are_bound}
+use Rattle.rule_definitions.specs.Arguments.{Actual, Binding, breaks_in_all, arguments, given_to, maybe_given_to, are_bound}
+use Rattle.intrinsic_table.specs.Dummies.{needed, optional}
 use Rattle.rule_definitions.specs.IntrinsicFunctions.{an_integer}
 use Rattle.rule_definitions.specs.IntrinsicSubroutines.{optional_result, taken_with, event_of, found_event, an_event, is_coindexed_form, an_own_event, a_collected, numbers_of, written_as, called as called_intrinsic, four, five, value_dummies, atom_at, value_at, result_at, intrinsic_call}
 use Rattle.rule_definitions.specs.Expressions.{judged_arguments, judged_specifiers, placed}

@@ -12,7 +12,8 @@ use Rattle.rule_definitions.specs.Judgements.{Judgement, unknown, fine, refused,
 use Rattle.rule_definitions.specs.Names.{Scope, Symbol, is_declared_role}
 use Rattle.rule_definitions.specs.Constants.{known_extents, known_extent}
 use Rattle.rule_definitions.specs.Parts.{Placed, rank_of}
-use Rattle.rule_definitions.specs.Arguments.{Part, expression, triplet, Actual, matches_type, matches_shape, all_agree, takes_value, is_local_variable, matching_breaks, defined_breaks, argument_for, value_paired, paired_value, keyword_breaks, surplus, paired_all, number_breaks, arguments, IntrinsicDummy, Binding, bindings, bound_to, bound_placed, value_for, given_to, maybe_given_to, are_bound, has_needed, bound}
+use Rattle.rule_definitions.specs.Arguments.{Part, expression, triplet, Actual, matches_type, matches_shape, all_agree, takes_value, is_local_variable, matching_breaks, defined_breaks, argument_for, value_paired, paired_value, keyword_breaks, surplus, paired_all, number_breaks, arguments, Binding, bindings, bound_to, bound_placed, value_for, given_to, maybe_given_to, are_bound, has_needed, bound}
+use Rattle.intrinsic_table.specs.Dummies.{IntrinsicDummy}
 use Rattle.tree_meaning.specs.Environment.{rank_in}
 use Rattle.accepted_ranks.specs.Kinded as ranks
 use Rattle.accepted_ranks.specs.Scopes.{AreDummies}

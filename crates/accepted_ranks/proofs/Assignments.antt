@@ -43,9 +43,8 @@ module _ (ps : List Procedure) where
   images_formed : (l : Local) (k : Kind) (v : t.Form) (w : DataType) (r : ℕ) → ranks.HasRank ps v w r → Formed (images_assigned l k v)
   images_formed l k (t.intrinsic (t.failed_images m)) w r h = h.1
   images_formed l k (t.intrinsic (t.stopped_images m)) w r h = h.1
-  images_formed l k (t.intrinsic (t.abs x)) w r h = tt
-  images_formed l k (t.intrinsic (t.remainder x y o)) w r h = tt
-  images_formed l k (t.intrinsic (t.modulo x y o)) w r h = tt
+  images_formed l k (t.intrinsic (t.of_one f x)) w r h = tt
+  images_formed l k (t.intrinsic (t.of_two f x y o)) w r h = tt
   images_formed l k (t.intrinsic (t.min es)) w r h = tt
   images_formed l k (t.intrinsic (t.max es)) w r h = tt
   images_formed l k (t.intrinsic t.huge) w r h = tt

@@ -5,7 +5,8 @@ use Rattle.std.proofs.Math.Seq.{take-append_seam}
 use Rattle.std.specs.Prelude.{cond, not, nat_eq, replicate, ◌-◌, ◌&&◌, ◌||◌, Option, Some, None}
 use Rattle.rule_definitions.specs.Judgements.{Judgement, unknown, is_there}
 use Rattle.rule_definitions.specs.Parts.{Placed}
-use Rattle.rule_definitions.specs.Arguments.{Part, expression, triplet, Actual, is_triplet, IntrinsicDummy, Binding, bindings, is_number_in, with_number, is_bound, are_bound, bound_to, bound_placed, value_for, has_needed, given_to, bound}
+use Rattle.rule_definitions.specs.Arguments.{Part, expression, triplet, Actual, is_triplet, Binding, bindings, is_number_in, with_number, is_bound, are_bound, bound_to, bound_placed, value_for, has_needed, given_to, bound}
+use Rattle.intrinsic_table.specs.Dummies.{IntrinsicDummy}
 use Rattle.caf_base.specs.declared.place.Pos.{Pos}
 use Rattle.rule_definitions.specs.IntrinsicSubroutines.{numbers_of, written_as}
 use Rattle.tree_meaning.specs.Pieces.{written_dummies}

@@ -10,17 +10,21 @@ use Rattle.checked_tree.specs.declared.data.DataType.{DataType}
 use Rattle.checked_tree.specs.declared.data.DataType.TheVariants.{Intrinsic, Team}
 use Rattle.checked_tree.specs.declared.data.Object.{Object}
 use Rattle.checked_tree.specs.declared.data.Object.TheVariants as objects
+use Rattle.intrinsic_table.specs.declared.function.FunctionName.{FunctionName}
+use Rattle.intrinsic_table.specs.declared.function.FunctionName.TheVariants as functions
 use Rattle.rule_definitions.specs.declared.broken.Broken.{Broken}
 use Rattle.rule_definitions.specs.Judgements.{unless, is_nothing, Judgement, refused, made_of, made_of_both, made_of_three, is_there}
 use Rattle.rule_definitions.specs.Names
-use Rattle.rule_definitions.specs.Names.{Scope, FunctionName, symbol_of, is_integer}
+use Rattle.rule_definitions.specs.Names.{Scope, symbol_of, is_integer}
 use Rattle.rule_definitions.specs.Parts.{Placed, plain, type_of, rank_of, team_of, joint}
-use Rattle.rule_definitions.specs.Arguments.{Part, expression, triplet, Actual, breaks_in_all, needed, needed_list, optional, Binding, given_to, maybe_given_to, order_of, bound}
-use Rattle.rule_definitions.specs.IntrinsicFunctions.{taken, an_integer, of_integer_type, an_array, an_integer_list, is_allocatable_symbol, allocatable_of, found, an_allocatable, a_coarray, of_type, default_integer, the_team, of_team, two_integers, joint_type, named_breaks, unnamed_integers, several_breaks, several_integers, kind_argument, is_of_coarray, this_image, is_first_integer, is_first_unnamed, num_images, with_dim, intrinsic_reference, are_unnamed}
+use Rattle.rule_definitions.specs.Arguments.{Part, expression, triplet, Actual, breaks_in_all, Binding, given_to, maybe_given_to, order_of, bound}
+use Rattle.intrinsic_table.specs.Dummies.{needed, needed_list, optional, two_integers, name_of_one, first_name, second_name}
+use Rattle.rule_definitions.specs.IntrinsicFunctions.{taken, an_integer, of_integer_type, an_array, an_integer_list, is_allocatable_symbol, allocatable_of, found, an_allocatable, a_coarray, of_type, default_integer, of_team, joint_type, named_breaks, unnamed_integers, several_breaks, several_integers, kind_argument, is_of_coarray, this_image, is_first_integer, is_first_unnamed, num_images, intrinsic_reference, are_unnamed, one_of}
+use Rattle.intrinsic_table.specs.Dummies.{the_team, two_integers, with_dim}
 use Rattle.tree_meaning.specs.Expressions.{count_of}
 use Rattle.accepted_ranks.specs.Kinded as ranks
 use Rattle.accepted_ranks.proofs.Means.{Means, cons_nil, left_nothing, right_nothing, unless_nothing, no, and_right, same_number, fine_means, no_meaning, refused_means, ruled_means, under_means, made_means, both_means, three_means, then_means, cond_means}
-use Rattle.accepted_ranks.proofs.Parts.{Good, Scalar, plain_means, integer_means, number_typed, team_means}
+use Rattle.accepted_ranks.proofs.Parts.{Good, Scalar, plain_means, integer_means, number_typed, joint_numbers, team_means}
 use Rattle.accepted_ranks.proofs.Arguments.{PartGood, AllActuals, AllBindings, given_means, maybe_means, bound_means}
 
 some_rank : (r : ℕ) → not (nat_eq r 0) ≡ true → 1 ≤ r
@@ -163,10 +167,10 @@ module _ (ps : List Procedure) where
       (λ bs g. made_means (λ m. default_integer (t.num_images m)) (team_given bs 0 (cond (is_first_unnamed xs) 59 51) g) (λ m u. (refl, u))))
 
   two_means : (make : t.Expression → t.Expression → List Binding → t.Expression) (xs : List Actual) (p : Pos) (a b : List ℕ) → AllActuals ps xs
-      → ((x y : t.Expression) (bs : List Binding) → Scalar ps x → Scalar ps y → ranks.IsRanked ps (make x y bs))
+      → ((x y : t.Expression) (bs : List Binding) → Scalar ps x × ranks.IsNumber (type_of x) → Scalar ps y × ranks.IsNumber (type_of y) → ranks.IsRanked ps (make x y bs))
       → Means (bound (two_integers a b) xs p (λ bs. made_of_both (λ x y. make x y bs) (given_to bs 0 an_integer) (given_to bs 1 an_integer))) (ranks.IsRanked ps)
   two_means make xs p a b h f = bound_means ps (two_integers a b) xs p (λ bs. made_of_both (λ x y. make x y bs) (given_to bs 0 an_integer) (given_to bs 1 an_integer)) h
-      (λ bs g. both_means (λ x y. make x y bs) (given_means ps bs 0 an_integer g an_integer_means) (given_means ps bs 1 an_integer g an_integer_means) (λ x y u v. f x y bs u v))
+      (λ bs g. both_means (λ x y. make x y bs) (given_means ps bs 0 an_integer g (number_typed ps 59)) (given_means ps bs 1 an_integer g (number_typed ps 59)) (λ x y u v. f x y bs u v))
 
   array_bound : (make : t.Expression → t.Expression → List Binding → t.Expression) (xs : List Actual) (p : Pos) → AllActuals ps xs
       → ((x y : t.Expression) (bs : List Binding) → ranks.IsArray ps x → Scalar ps y → ranks.IsRanked ps (make x y bs))
@@ -201,27 +205,26 @@ module _ (ps : List Procedure) where
     allocatable_means e h = then_means (λ x. found (allocatable_of s x) e.at x) (plain_means ps e h) (λ x k. found_named (allocatable_of s x) e.at x (allocatable_named x))
 
     pub intrinsic_means : (n : FunctionName) (xs : List Actual) (p : Pos) → AllActuals ps xs → Means (intrinsic_reference s n xs p) (ranks.IsRanked ps)
-    intrinsic_means Names.abs xs p h = bound_means ps (needed (codes "a") ∷ []) xs p (λ bs. made_of (λ a. of_type (type_of a) (t.abs a)) (given_to bs 0 an_integer)) h (λ bs g. made_means (λ a. of_type (type_of a) (t.abs a)) (given_means ps bs 0 an_integer g (number_typed ps 59)) (λ x u. (u.1, refl, u.0)))
-    intrinsic_means Names.remainder xs p h = two_means (λ a q bs. of_type (joint (type_of a) (type_of q)) (t.remainder a q (order_of bs 0 1))) xs p (codes "a") (codes "p") h (λ x y bs u v. (refl, u, v))
-    intrinsic_means Names.modulo xs p h = two_means (λ a q bs. of_type (joint (type_of a) (type_of q)) (t.modulo a q (order_of bs 0 1))) xs p (codes "a") (codes "p") h (λ x y bs u v. (refl, u, v))
-    intrinsic_means Names.min xs p h = min_means xs p h
-    intrinsic_means Names.max xs p h = max_means xs p h
-    intrinsic_means Names.huge xs p h = bound_means ps (needed (codes "x") ∷ []) xs p (λ bs. made_of (λ x. of_type (type_of x) t.huge) (given_to bs 0 of_integer_type)) h (λ bs g. made_means (λ x. of_type (type_of x) t.huge) (any {j = given_to bs 0 of_integer_type}) (λ x u. refl))
-    intrinsic_means Names.int xs p h = bound_means ps (needed (codes "a") ∷ optional (codes "kind") ∷ []) xs p (λ bs. made_of_both (λ a k. of_type (Intrinsic k) (t.int a)) (given_to bs 0 an_integer) (kind_argument s bs 1)) h
+    intrinsic_means (functions.OfOne f) xs p h = bound_means ps (needed (name_of_one f) ∷ []) xs p (one_of f) h (λ bs g. made_means (λ a. of_type (type_of a) (t.of_one f a)) (given_means ps bs 0 an_integer g (number_typed ps 59)) (λ x u. (u.1, refl, u.0)))
+    intrinsic_means (functions.OfTwo f) xs p h = two_means (λ a b bs. of_type (joint (type_of a) (type_of b)) (t.of_two f a b (order_of bs 0 1))) xs p (first_name f) (second_name f) h (λ x y bs u v. (joint_numbers (type_of x) (type_of y) u.1 v.1, refl, u.0, v.0))
+    intrinsic_means functions.Min xs p h = min_means xs p h
+    intrinsic_means functions.Max xs p h = max_means xs p h
+    intrinsic_means functions.Huge xs p h = bound_means ps (needed (codes "x") ∷ []) xs p (λ bs. made_of (λ x. of_type (type_of x) t.huge) (given_to bs 0 of_integer_type)) h (λ bs g. made_means (λ x. of_type (type_of x) t.huge) (any {j = given_to bs 0 of_integer_type}) (λ x u. refl))
+    intrinsic_means functions.Int xs p h = bound_means ps (needed (codes "a") ∷ optional (codes "kind") ∷ []) xs p (λ bs. made_of_both (λ a k. of_type (Intrinsic k) (t.int a)) (given_to bs 0 an_integer) (kind_argument s bs 1)) h
         (λ bs g. both_means (λ a k. of_type (Intrinsic k) (t.int a)) (given_means ps bs 0 an_integer g an_integer_means) (any {j = kind_argument s bs 1}) (λ x k u v. (refl, u)))
-    intrinsic_means Names.size xs p h = bound_means ps (needed_list (codes "array") ∷ optional (codes "dim") ∷ []) xs p (λ bs. made_of_both (λ a d. default_integer (t.size a d (order_of bs 0 1))) (given_to bs 0 (λ e. an_array e.at e.judged)) (maybe_given_to bs 1 an_integer)) h
+    intrinsic_means functions.Size xs p h = bound_means ps (needed_list (codes "array") ∷ optional (codes "dim") ∷ []) xs p (λ bs. made_of_both (λ a d. default_integer (t.size a d (order_of bs 0 1))) (given_to bs 0 (λ e. an_array e.at e.judged)) (maybe_given_to bs 1 an_integer)) h
         (λ bs g. both_means (λ a d. default_integer (t.size a d (order_of bs 0 1))) (given_means ps bs 0 (λ e. an_array e.at e.judged) g (λ e k. array_means e.at e.judged k)) (maybe_means ps bs 1 an_integer g an_integer_means) (λ x d u v. (refl, u, v)))
-    intrinsic_means Names.lbound xs p h = array_bound (λ a d bs. default_integer (t.lbound a d (order_of bs 0 1))) xs p h (λ x y bs u v. (refl, u, v))
-    intrinsic_means Names.ubound xs p h = array_bound (λ a d bs. default_integer (t.ubound a d (order_of bs 0 1))) xs p h (λ x y bs u v. (refl, u, v))
-    intrinsic_means Names.allocated xs p h = bound_means ps (needed (codes "v") ∷ []) xs p (λ bs. made_of (λ o. of_type (Intrinsic L4) (t.allocated o)) (given_to bs 0 (an_allocatable s))) h
+    intrinsic_means functions.Lbound xs p h = array_bound (λ a d bs. default_integer (t.lbound a d (order_of bs 0 1))) xs p h (λ x y bs u v. (refl, u, v))
+    intrinsic_means functions.Ubound xs p h = array_bound (λ a d bs. default_integer (t.ubound a d (order_of bs 0 1))) xs p h (λ x y bs u v. (refl, u, v))
+    intrinsic_means functions.Allocated xs p h = bound_means ps (needed (codes "v") ∷ []) xs p (λ bs. made_of (λ o. of_type (Intrinsic L4) (t.allocated o)) (given_to bs 0 (an_allocatable s))) h
         (λ bs g. made_means (λ o. of_type (Intrinsic L4) (t.allocated o)) (given_means ps bs 0 (an_allocatable s) g allocatable_means) (λ o u. (refl, u)))
-    intrinsic_means Names.this_image xs p h = this_image_means xs p h
-    intrinsic_means Names.num_images xs p h = num_images_means xs p h
-    intrinsic_means Names.image_index xs p h = bound_means ps (needed (codes "coarray") ∷ needed (codes "sub") ∷ optional (codes "team") ∷ []) xs p (λ bs. made_of_three (λ n l m. default_integer (t.image_index n l m (order_of bs 1 2))) (given_to bs 0 a_coarray) (given_to bs 1 an_integer_list) (maybe_given_to bs 2 (team_of 51))) h
+    intrinsic_means functions.ThisImage xs p h = this_image_means xs p h
+    intrinsic_means functions.NumImages xs p h = num_images_means xs p h
+    intrinsic_means functions.ImageIndex xs p h = bound_means ps (needed (codes "coarray") ∷ needed (codes "sub") ∷ optional (codes "team") ∷ []) xs p (λ bs. made_of_three (λ n l m. default_integer (t.image_index n l m (order_of bs 1 2))) (given_to bs 0 a_coarray) (given_to bs 1 an_integer_list) (maybe_given_to bs 2 (team_of 51))) h
         (λ bs g. three_means (λ n l m. default_integer (t.image_index n l m (order_of bs 1 2))) (any {j = given_to bs 0 a_coarray}) (given_means ps bs 1 an_integer_list g list_means) (team_given bs 2 51 g) (λ n l m u v w. (refl, v, w)))
-    intrinsic_means Names.image_status xs p h = bound_means ps (needed (codes "image") ∷ optional (codes "team") ∷ []) xs p (λ bs. made_of_both (λ i m. default_integer (t.image_status i m (order_of bs 0 1))) (given_to bs 0 an_integer) (maybe_given_to bs 1 (team_of 51))) h
+    intrinsic_means functions.ImageStatus xs p h = bound_means ps (needed (codes "image") ∷ optional (codes "team") ∷ []) xs p (λ bs. made_of_both (λ i m. default_integer (t.image_status i m (order_of bs 0 1))) (given_to bs 0 an_integer) (maybe_given_to bs 1 (team_of 51))) h
         (λ bs g. both_means (λ i m. default_integer (t.image_status i m (order_of bs 0 1))) (given_means ps bs 0 an_integer g an_integer_means) (team_given bs 1 51 g) (λ i m u v. (refl, u, v)))
-    intrinsic_means Names.failed_images xs p h = of_team_means (λ m. t.typed (t.intrinsic (t.failed_images m)) (Intrinsic I4) 1) xs p h (λ m u. (omega arith, u))
-    intrinsic_means Names.stopped_images xs p h = of_team_means (λ m. t.typed (t.intrinsic (t.stopped_images m)) (Intrinsic I4) 1) xs p h (λ m u. (omega arith, u))
-    intrinsic_means Names.team_number xs p h = of_team_means (λ m. default_integer (t.number_of_team m)) xs p h (λ m u. (refl, u))
-    intrinsic_means Names.get_team xs p h = bound_means ps (optional (codes "level") ∷ []) xs p (λ bs. made_of (λ l. of_type Team (t.get_team l)) (maybe_given_to bs 0 an_integer)) h (λ bs g. made_means (λ l. of_type Team (t.get_team l)) (maybe_means ps bs 0 an_integer g an_integer_means) (λ l u. (refl, u)))
+    intrinsic_means functions.FailedImages xs p h = of_team_means (λ m. t.typed (t.intrinsic (t.failed_images m)) (Intrinsic I4) 1) xs p h (λ m u. (omega arith, u))
+    intrinsic_means functions.StoppedImages xs p h = of_team_means (λ m. t.typed (t.intrinsic (t.stopped_images m)) (Intrinsic I4) 1) xs p h (λ m u. (omega arith, u))
+    intrinsic_means functions.TeamNumber xs p h = of_team_means (λ m. default_integer (t.number_of_team m)) xs p h (λ m u. (refl, u))
+    intrinsic_means functions.GetTeam xs p h = bound_means ps (optional (codes "level") ∷ []) xs p (λ bs. made_of (λ l. of_type Team (t.get_team l)) (maybe_given_to bs 0 an_integer)) h (λ bs g. made_means (λ l. of_type Team (t.get_team l)) (maybe_means ps bs 0 an_integer g an_integer_means) (λ l u. (refl, u)))

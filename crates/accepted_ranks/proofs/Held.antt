@@ -15,12 +15,16 @@ use Rattle.checked_tree.specs.Statements.{Procedure}
 use Rattle.checked_tree.specs.declared.data.DataType.{DataType}
 use Rattle.checked_tree.specs.declared.data.DataType.TheVariants.{Intrinsic, Team}
 use Rattle.checked_tree.specs.declared.data.Object.TheVariants as objects
+use Rattle.intrinsic_table.specs.declared.function.FunctionName.{FunctionName}
+use Rattle.intrinsic_table.specs.declared.function.FunctionName.TheVariants as functions
 use Rattle.rule_definitions.specs.Judgements.{is_nothing, unless, formed, Judgement, fine, unknown, made_of, made_of_both, made_of_three, item_at}
 use Rattle.rule_definitions.specs.Names
-use Rattle.rule_definitions.specs.Names.{Scope, Symbol, ConstantSymbol, ConstantValue, Interface, Meaning, FunctionName, denotes}
+use Rattle.rule_definitions.specs.Names.{Scope, Symbol, ConstantSymbol, ConstantValue, Interface, Meaning, denotes}
 use Rattle.rule_definitions.specs.Parts.{plain, truth, fits, items, kind_written, operand, taken_by, prefix_taken_by, type_of, team, joint, applied, prefixed, in_brackets, first_type, literal, team_of}
-use Rattle.rule_definitions.specs.Arguments.{arguments, given_to, maybe_given_to, needed, needed_list, optional, order_of, Actual, IntrinsicDummy, Binding, breaks_in_all, bindings, are_bound, has_needed, bound}
-use Rattle.rule_definitions.specs.IntrinsicFunctions.{an_integer, of_integer_type, an_array, an_allocatable, a_coarray, an_integer_list, the_team, of_team, two_integers, unnamed_integers, kind_argument, is_first_unnamed, with_dim, default_integer, of_type, joint_type, several_breaks, several_integers, is_of_coarray, this_image, is_first_integer, num_images, intrinsic_reference}
+use Rattle.rule_definitions.specs.Arguments.{arguments, given_to, maybe_given_to, order_of, Actual, Binding, breaks_in_all, bindings, are_bound, has_needed, bound}
+use Rattle.intrinsic_table.specs.Dummies.{needed, needed_list, optional, IntrinsicDummy, two_integers, name_of_one, first_name, second_name}
+use Rattle.rule_definitions.specs.IntrinsicFunctions.{an_integer, of_integer_type, an_array, an_allocatable, a_coarray, an_integer_list, of_team, unnamed_integers, kind_argument, is_first_unnamed, default_integer, of_type, joint_type, several_breaks, several_integers, is_of_coarray, this_image, is_first_integer, num_images, intrinsic_reference, one_of, two_of}
+use Rattle.intrinsic_table.specs.Dummies.{the_team, two_integers, with_dim}
 use Rattle.rule_definitions.specs.Expressions.{subscripts_of, subscript_breaks, selection_breaks, judged_list, placed, WrittenSelector, typed_as, variable_part, scalar_value, constant_form, constant_part, unselected, rank_behind, call_typed, function_called, referenced, function_named, designated, judged, judged_brackets, judged_selector, judged_arguments}
 use Rattle.accepted_ranks.specs.Scopes.{IsKept, IsKeptIfTyped, AreRanks}
 use Rattle.accepted_ranks.proofs.Means.{Means, fine_means, no_meaning, unknown_means, refused_means, around_means, ruled_means, formed_means, made_means, both_means, three_means, then_means, cond_means}
@@ -87,25 +91,24 @@ num_images_held : (xs : List Actual) (p : Pos) → Means (num_images xs p) Held
 num_images_held xs p = cond_means (is_first_integer xs) (λ e. bound_held (needed (codes "team_number") ∷ []) xs p (λ bs. made_of (λ n. default_integer (t.num_images_of_number n)) (given_to bs 0 an_integer)) (λ bs. made_held (λ n. default_integer (t.num_images_of_number n)) (given_to bs 0 an_integer) (λ x. tt))) (λ e. bound_held the_team xs p (λ bs. made_of (λ m. default_integer (t.num_images m)) (maybe_given_to bs 0 (team_of (cond (is_first_unnamed xs) 59 51)))) (λ bs. made_held (λ m. default_integer (t.num_images m)) (maybe_given_to bs 0 (team_of (cond (is_first_unnamed xs) 59 51))) (λ x. tt)))
 
 intrinsic_held : (s : Scope) (n : FunctionName) (xs : List Actual) (p : Pos) → Means (intrinsic_reference s n xs p) Held
-intrinsic_held s Names.abs xs p = bound_held (needed (codes "a") ∷ []) xs p (λ bs. made_of (λ a. of_type (type_of a) (t.abs a)) (given_to bs 0 an_integer)) (λ bs. made_held (λ a. of_type (type_of a) (t.abs a)) (given_to bs 0 an_integer) (λ x. tt))
-intrinsic_held s Names.remainder xs p = bound_held (two_integers (codes "a") (codes "p")) xs p (λ bs. made_of_both (λ a q. of_type (joint (type_of a) (type_of q)) (t.remainder a q (order_of bs 0 1))) (given_to bs 0 an_integer) (given_to bs 1 an_integer)) (λ bs. both_held (λ a q. of_type (joint (type_of a) (type_of q)) (t.remainder a q (order_of bs 0 1))) (given_to bs 0 an_integer) (given_to bs 1 an_integer) (λ x y. tt))
-intrinsic_held s Names.modulo xs p = bound_held (two_integers (codes "a") (codes "p")) xs p (λ bs. made_of_both (λ a q. of_type (joint (type_of a) (type_of q)) (t.modulo a q (order_of bs 0 1))) (given_to bs 0 an_integer) (given_to bs 1 an_integer)) (λ bs. both_held (λ a q. of_type (joint (type_of a) (type_of q)) (t.modulo a q (order_of bs 0 1))) (given_to bs 0 an_integer) (given_to bs 1 an_integer) (λ x y. tt))
-intrinsic_held s Names.min xs p = several_held t.min xs p
-intrinsic_held s Names.max xs p = several_held t.max xs p
-intrinsic_held s Names.huge xs p = bound_held (needed (codes "x") ∷ []) xs p (λ bs. made_of (λ x. of_type (type_of x) t.huge) (given_to bs 0 of_integer_type)) (λ bs. made_held (λ x. of_type (type_of x) t.huge) (given_to bs 0 of_integer_type) (λ x. tt))
-intrinsic_held s Names.int xs p = bound_held (needed (codes "a") ∷ optional (codes "kind") ∷ []) xs p (λ bs. made_of_both (λ a k. of_type (Intrinsic k) (t.int a)) (given_to bs 0 an_integer) (kind_argument s bs 1)) (λ bs. both_held (λ a k. of_type (Intrinsic k) (t.int a)) (given_to bs 0 an_integer) (kind_argument s bs 1) (λ x y. tt))
-intrinsic_held s Names.size xs p = bound_held (needed_list (codes "array") ∷ optional (codes "dim") ∷ []) xs p (λ bs. made_of_both (λ a d. default_integer (t.size a d (order_of bs 0 1))) (given_to bs 0 (λ e. an_array e.at e.judged)) (maybe_given_to bs 1 an_integer)) (λ bs. both_held (λ a d. default_integer (t.size a d (order_of bs 0 1))) (given_to bs 0 (λ e. an_array e.at e.judged)) (maybe_given_to bs 1 an_integer) (λ x y. tt))
-intrinsic_held s Names.lbound xs p = bound_held with_dim xs p (λ bs. made_of_both (λ a d. default_integer (t.lbound a d (order_of bs 0 1))) (given_to bs 0 (λ e. an_array e.at (plain e))) (given_to bs 1 an_integer)) (λ bs. both_held (λ a d. default_integer (t.lbound a d (order_of bs 0 1))) (given_to bs 0 (λ e. an_array e.at (plain e))) (given_to bs 1 an_integer) (λ x y. tt))
-intrinsic_held s Names.ubound xs p = bound_held with_dim xs p (λ bs. made_of_both (λ a d. default_integer (t.ubound a d (order_of bs 0 1))) (given_to bs 0 (λ e. an_array e.at (plain e))) (given_to bs 1 an_integer)) (λ bs. both_held (λ a d. default_integer (t.ubound a d (order_of bs 0 1))) (given_to bs 0 (λ e. an_array e.at (plain e))) (given_to bs 1 an_integer) (λ x y. tt))
-intrinsic_held s Names.allocated xs p = bound_held (needed (codes "v") ∷ []) xs p (λ bs. made_of (λ o. of_type (Intrinsic L4) (t.allocated o)) (given_to bs 0 (an_allocatable s))) (λ bs. made_held (λ o. of_type (Intrinsic L4) (t.allocated o)) (given_to bs 0 (an_allocatable s)) (λ x. tt))
-intrinsic_held s Names.this_image xs p = this_image_held xs p
-intrinsic_held s Names.num_images xs p = num_images_held xs p
-intrinsic_held s Names.image_index xs p = bound_held (needed (codes "coarray") ∷ needed (codes "sub") ∷ optional (codes "team") ∷ []) xs p (λ bs. made_of_three (λ n l m. default_integer (t.image_index n l m (order_of bs 1 2))) (given_to bs 0 a_coarray) (given_to bs 1 an_integer_list) (maybe_given_to bs 2 team)) (λ bs. three_held (λ n l m. default_integer (t.image_index n l m (order_of bs 1 2))) (given_to bs 0 a_coarray) (given_to bs 1 an_integer_list) (maybe_given_to bs 2 team) (λ x y z. tt))
-intrinsic_held s Names.image_status xs p = bound_held (needed (codes "image") ∷ optional (codes "team") ∷ []) xs p (λ bs. made_of_both (λ i m. default_integer (t.image_status i m (order_of bs 0 1))) (given_to bs 0 an_integer) (maybe_given_to bs 1 team)) (λ bs. both_held (λ i m. default_integer (t.image_status i m (order_of bs 0 1))) (given_to bs 0 an_integer) (maybe_given_to bs 1 team) (λ x y. tt))
-intrinsic_held s Names.failed_images xs p = team_held (λ m. t.typed (t.intrinsic (t.failed_images m)) (Intrinsic I4) 1) xs p (λ m. tt)
-intrinsic_held s Names.stopped_images xs p = team_held (λ m. t.typed (t.intrinsic (t.stopped_images m)) (Intrinsic I4) 1) xs p (λ m. tt)
-intrinsic_held s Names.team_number xs p = team_held (λ m. default_integer (t.number_of_team m)) xs p (λ m. tt)
-intrinsic_held s Names.get_team xs p = bound_held (optional (codes "level") ∷ []) xs p (λ bs. made_of (λ l. of_type Team (t.get_team l)) (maybe_given_to bs 0 an_integer)) (λ bs. made_held (λ l. of_type Team (t.get_team l)) (maybe_given_to bs 0 an_integer) (λ x. tt))
+intrinsic_held s (functions.OfOne f) xs p = bound_held (needed (name_of_one f) ∷ []) xs p (one_of f) (λ bs. made_held (λ a. of_type (type_of a) (t.of_one f a)) (given_to bs 0 an_integer) (λ x. tt))
+intrinsic_held s (functions.OfTwo f) xs p = bound_held (two_integers (first_name f) (second_name f)) xs p (two_of f) (λ bs. both_held (λ a b. of_type (joint (type_of a) (type_of b)) (t.of_two f a b (order_of bs 0 1))) (given_to bs 0 an_integer) (given_to bs 1 an_integer) (λ x y. tt))
+intrinsic_held s functions.Min xs p = several_held t.min xs p
+intrinsic_held s functions.Max xs p = several_held t.max xs p
+intrinsic_held s functions.Huge xs p = bound_held (needed (codes "x") ∷ []) xs p (λ bs. made_of (λ x. of_type (type_of x) t.huge) (given_to bs 0 of_integer_type)) (λ bs. made_held (λ x. of_type (type_of x) t.huge) (given_to bs 0 of_integer_type) (λ x. tt))
+intrinsic_held s functions.Int xs p = bound_held (needed (codes "a") ∷ optional (codes "kind") ∷ []) xs p (λ bs. made_of_both (λ a k. of_type (Intrinsic k) (t.int a)) (given_to bs 0 an_integer) (kind_argument s bs 1)) (λ bs. both_held (λ a k. of_type (Intrinsic k) (t.int a)) (given_to bs 0 an_integer) (kind_argument s bs 1) (λ x y. tt))
+intrinsic_held s functions.Size xs p = bound_held (needed_list (codes "array") ∷ optional (codes "dim") ∷ []) xs p (λ bs. made_of_both (λ a d. default_integer (t.size a d (order_of bs 0 1))) (given_to bs 0 (λ e. an_array e.at e.judged)) (maybe_given_to bs 1 an_integer)) (λ bs. both_held (λ a d. default_integer (t.size a d (order_of bs 0 1))) (given_to bs 0 (λ e. an_array e.at e.judged)) (maybe_given_to bs 1 an_integer) (λ x y. tt))
+intrinsic_held s functions.Lbound xs p = bound_held with_dim xs p (λ bs. made_of_both (λ a d. default_integer (t.lbound a d (order_of bs 0 1))) (given_to bs 0 (λ e. an_array e.at (plain e))) (given_to bs 1 an_integer)) (λ bs. both_held (λ a d. default_integer (t.lbound a d (order_of bs 0 1))) (given_to bs 0 (λ e. an_array e.at (plain e))) (given_to bs 1 an_integer) (λ x y. tt))
+intrinsic_held s functions.Ubound xs p = bound_held with_dim xs p (λ bs. made_of_both (λ a d. default_integer (t.ubound a d (order_of bs 0 1))) (given_to bs 0 (λ e. an_array e.at (plain e))) (given_to bs 1 an_integer)) (λ bs. both_held (λ a d. default_integer (t.ubound a d (order_of bs 0 1))) (given_to bs 0 (λ e. an_array e.at (plain e))) (given_to bs 1 an_integer) (λ x y. tt))
+intrinsic_held s functions.Allocated xs p = bound_held (needed (codes "v") ∷ []) xs p (λ bs. made_of (λ o. of_type (Intrinsic L4) (t.allocated o)) (given_to bs 0 (an_allocatable s))) (λ bs. made_held (λ o. of_type (Intrinsic L4) (t.allocated o)) (given_to bs 0 (an_allocatable s)) (λ x. tt))
+intrinsic_held s functions.ThisImage xs p = this_image_held xs p
+intrinsic_held s functions.NumImages xs p = num_images_held xs p
+intrinsic_held s functions.ImageIndex xs p = bound_held (needed (codes "coarray") ∷ needed (codes "sub") ∷ optional (codes "team") ∷ []) xs p (λ bs. made_of_three (λ n l m. default_integer (t.image_index n l m (order_of bs 1 2))) (given_to bs 0 a_coarray) (given_to bs 1 an_integer_list) (maybe_given_to bs 2 team)) (λ bs. three_held (λ n l m. default_integer (t.image_index n l m (order_of bs 1 2))) (given_to bs 0 a_coarray) (given_to bs 1 an_integer_list) (maybe_given_to bs 2 team) (λ x y z. tt))
+intrinsic_held s functions.ImageStatus xs p = bound_held (needed (codes "image") ∷ optional (codes "team") ∷ []) xs p (λ bs. made_of_both (λ i m. default_integer (t.image_status i m (order_of bs 0 1))) (given_to bs 0 an_integer) (maybe_given_to bs 1 team)) (λ bs. both_held (λ i m. default_integer (t.image_status i m (order_of bs 0 1))) (given_to bs 0 an_integer) (maybe_given_to bs 1 team) (λ x y. tt))
+intrinsic_held s functions.FailedImages xs p = team_held (λ m. t.typed (t.intrinsic (t.failed_images m)) (Intrinsic I4) 1) xs p (λ m. tt)
+intrinsic_held s functions.StoppedImages xs p = team_held (λ m. t.typed (t.intrinsic (t.stopped_images m)) (Intrinsic I4) 1) xs p (λ m. tt)
+intrinsic_held s functions.TeamNumber xs p = team_held (λ m. default_integer (t.number_of_team m)) xs p (λ m. tt)
+intrinsic_held s functions.GetTeam xs p = bound_held (optional (codes "level") ∷ []) xs p (λ bs. made_of (λ l. of_type Team (t.get_team l)) (maybe_given_to bs 0 an_integer)) (λ bs. made_held (λ l. of_type Team (t.get_team l)) (maybe_given_to bs 0 an_integer) (λ x. tt))
 
 -- ---- references to functions of the program
 result_held : (o : Option DataType) (n r : ℕ) (es : t.Arguments) → Means (elim o [ None ↦ unknown {T = t.Expression} | Some y ↦ fine (t.typed (t.call n es) y r) ]) Held

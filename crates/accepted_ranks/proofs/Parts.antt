@@ -39,6 +39,14 @@ joint_number Team y e f = no e
 joint_number Event y e f = no e
 joint_number Lock y e f = no e
 
+pub joint_numbers : (x y : DataType) → ranks.IsNumber x → ranks.IsNumber y → ranks.IsNumber (joint x y)
+joint_numbers (Intrinsic I4) y u v = v
+joint_numbers (Intrinsic I8) y u v = tt
+joint_numbers (Intrinsic L4) y u v = elim u [ ]
+joint_numbers Team y u v = tt
+joint_numbers Event y u v = tt
+joint_numbers Lock y u v = tt
+
 module _ (ps : List Procedure) where
   abbrev pub Good : Placed → Type 0
   Good e = Means e.judged (ranks.IsRanked ps)

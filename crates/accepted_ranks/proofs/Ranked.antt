@@ -95,9 +95,8 @@ module _ (ps : List s.Procedure) where
     variable_ranked (t.part (objects.Coarray c) ss sel) r h = h
 
     intrinsic_ranked : (i : t.Intrinsic) (y : _) (r : ℕ) → kinded.HasIntrinsicRank ps i y r → ranks.HasIntrinsicRank ps i r
-    intrinsic_ranked (t.abs x) y r h = (h.1, of_rank x 0 h.2)
-    intrinsic_ranked (t.remainder a b o) y r h = (h.0, of_rank a 0 h.1, of_rank b 0 h.2)
-    intrinsic_ranked (t.modulo a b o) y r h = (h.0, of_rank a 0 h.1, of_rank b 0 h.2)
+    intrinsic_ranked (t.of_one f x) y r h = (h.1, of_rank x 0 h.2)
+    intrinsic_ranked (t.of_two f a b o) y r h = (h.1, of_rank a 0 h.2, of_rank b 0 h.3)
     intrinsic_ranked (t.min es) y r h = (h.0, some_ranked es h.1)
     intrinsic_ranked (t.max es) y r h = (h.0, some_ranked es h.1)
     intrinsic_ranked t.huge y r h = h

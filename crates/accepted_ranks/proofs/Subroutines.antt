@@ -15,7 +15,8 @@ use Rattle.rule_definitions.specs.Judgements.{breaks, unless, Judgement, fine, r
 use Rattle.rule_definitions.specs.Names
 use Rattle.rule_definitions.specs.Names.{SubroutineName, is_integer, is_logical, is_team}
 use Rattle.rule_definitions.specs.Parts.{Placed, plain, type_of, rank_of, is_taken, result_variable, unlike_breaks, scalar_breaks, is_listed}
-use Rattle.rule_definitions.specs.Arguments.{Actual, Binding, needed, optional, value_for, given_to, maybe_given_to, are_bound}
+use Rattle.rule_definitions.specs.Arguments.{Actual, Binding, value_for, given_to, maybe_given_to, are_bound}
+use Rattle.intrinsic_table.specs.Dummies.{needed, optional}
 use Rattle.rule_definitions.specs.IntrinsicFunctions.{an_integer}
 use Rattle.rule_definitions.specs.IntrinsicSubroutines.{optional_result, Atom, atom_kind, atom_with, atom_of, found_atom, an_atom, taken_with, atom_value_breaks, an_atom_value, event_of, found_event, an_event, is_coindexed_form, an_own_event, collected_with, collected_of, is_own_variable, collected_breaks, found_collected, a_collected, numbers_of, written_as, called, four, five, value_dummies, atom_at, value_at, result_at, intrinsic_call}
 use Rattle.accepted_ranks.specs.Kinded as ranks

@@ -108,9 +108,8 @@ module _ (procedures : List s.Procedure) where
 
     -- the intrinsic functions (16.9)
     pub HasIntrinsicRank : t.Intrinsic → DataType → ℕ → Type 0
-    HasIntrinsicRank (t.abs x) type r = IsNumber type × (r ≡ 0) × IsOfRank x 0
-    HasIntrinsicRank (t.remainder x y o) type r = (r ≡ 0) × IsOfRank x 0 × IsOfRank y 0
-    HasIntrinsicRank (t.modulo x y o) type r = (r ≡ 0) × IsOfRank x 0 × IsOfRank y 0
+    HasIntrinsicRank (t.of_one f x) type r = IsNumber type × (r ≡ 0) × IsOfRank x 0
+    HasIntrinsicRank (t.of_two f x y o) type r = IsNumber type × (r ≡ 0) × IsOfRank x 0 × IsOfRank y 0
     HasIntrinsicRank (t.min es) type r = (r ≡ 0) × AreSomeScalars es
     HasIntrinsicRank (t.max es) type r = (r ≡ 0) × AreSomeScalars es
     HasIntrinsicRank t.huge type r = r ≡ 0

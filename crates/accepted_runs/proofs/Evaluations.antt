@@ -287,9 +287,8 @@ module _ (e : Environment) where
     bounds_of_part_does (t.part (objects.Coarray c) (t.more_subscripts x ss) (t.selector cs which stat)) r h = (subscript_does x h.0.0, (subscripts_do ss h.0.1, ((tt, tt), (owner_does c r (t.selector cs which stat) h.2, (dropping_does 1, ((section_few (t.more_subscripts x ss) r h.1, tt), dropping_does (view.optional_size stat)))))))
 
     intrinsic_does : (i : t.Intrinsic) (y : DataType) (r : ℕ) → kinded.HasIntrinsicRank procedures i y r → PartsDo (view.intrinsic e i (kind_of y))
-    intrinsic_does (t.abs x) y r h = (scalar_does x 0 h.2, (h.0, tt))
-    intrinsic_does (t.remainder x p o) y r h = (as_written_does o _ _ (scalar_does x 0 h.1) (scalar_does p 0 h.2), (tt, tt))
-    intrinsic_does (t.modulo x p o) y r h = (as_written_does o _ _ (scalar_does x 0 h.1) (scalar_does p 0 h.2), (tt, tt))
+    intrinsic_does (t.of_one f x) y r h = (scalar_does x 0 h.2, (h.0, tt))
+    intrinsic_does (t.of_two f x z o) y r h = (as_written_does o _ _ (scalar_does x 0 h.2) (scalar_does z 0 h.3), (h.0, tt))
     intrinsic_does (t.min es) y r h = first_does a.least es tt h.1
     intrinsic_does (t.max es) y r h = first_does a.greatest es tt h.1
     intrinsic_does t.huge y r h = (tt, tt)

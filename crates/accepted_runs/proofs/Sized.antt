@@ -15,10 +15,11 @@ use Rattle.checked_tree.specs.declared.data.Object.{Object}
 use Rattle.checked_tree.specs.declared.data.Object.TheVariants as objects
 use Rattle.checked_tree.specs.declared.expr.ArithmeticOperator.{ArithmeticOperator}
 use Rattle.checked_tree.specs.declared.expr.ArithmeticOperator.TheVariants as arithmetics
+use Rattle.intrinsic_table.specs.Numbers.{number_of_one, number_of_two}
 use Rattle.rule_definitions.specs.Judgements.{item_at}
 use Rattle.rule_definitions.specs.Names.{Scope, KnownBounds}
 use Rattle.rule_definitions.specs.Constants
-use Rattle.rule_definitions.specs.Constants.{Constancy, value, values, no_constant, in_type, is_in_type, small_power, inverse, powered, calculated, of_integers, of_logicals, of_integer, denied, remainder_of, modulo_of, folded, least_of, huge_of, constructed, initial_values, Chosen, one, several, no_choice, TripletPart, unwritten, written, KnownSubscript, chosen, Selection, before_each, selected_with, selected_before, selected, element_at, first_value, taken_elements, part_of_constant, part_of_table, part_constancy, bound_constant, size_constant, known_sizes, known, known_form, known_items, known_intrinsic, known_subscripts, value_of}
+use Rattle.rule_definitions.specs.Constants.{Constancy, value, values, no_constant, in_type, is_in_type, small_power, inverse, powered, calculated, of_integers, of_logicals, of_integer, denied, in_type_if, folded, least_of, huge_of, constructed, initial_values, Chosen, one, several, no_choice, TripletPart, unwritten, written, KnownSubscript, chosen, Selection, before_each, selected_with, selected_before, selected, element_at, first_value, taken_elements, part_of_constant, part_of_table, part_constancy, bound_constant, size_constant, known_sizes, known, known_form, known_items, known_intrinsic, known_subscripts, value_of}
 
 -- how many elements an array of these extents has
 abbrev pub product : List ℕ → ℕ
@@ -88,6 +89,10 @@ small_sized y x n =
     (cond_sized (int_eq x (pos 0) || int_eq x (pos 1)) (value (Int x)) negative tt
     (cond_sized (int_eq x (neg_ℤ (pos 1))) (value (Int (cond (Constants.is_even n) (pos 1) x))) last tt
     (cond_sized (nat_le n 64) (in_type y (Constants.power_of x n)) no_constant (in_type_sized y (Constants.power_of x n)) tt)))
+
+if_sized : (y : DataType) (o : Option ℤ) → IsSized (Constants.in_type_if y o)
+if_sized y None = tt
+if_sized y (Some n) = in_type_sized y n
 
 nonzero_sized : (n : ℤ) (c : Constancy) → IsSized c → IsSized (cond (int_eq n (pos 0)) no_constant c)
 nonzero_sized n c h = cond_sized (int_eq n (pos 0)) no_constant c tt h
@@ -209,9 +214,8 @@ module _ (s : Scope) (h : AreSized s.constants) where
   designator_sized (objects.Coarray n) ks c = tt
 
   intrinsic_sized : (i : t.Intrinsic) (y : DataType) → IsSized (known_intrinsic s i y).constancy
-  intrinsic_sized (t.abs x) y = of_integer_sized (λ n. in_type y (pos (nat_abs n))) (known s x).constancy (λ n. in_type_sized y (pos (nat_abs n)))
-  intrinsic_sized (t.remainder a p o) y = of_integers_sized (remainder_of y) (known s a).constancy (known s p).constancy (λ m n. nonzero_sized n (in_type y (int_rem m n)) (in_type_sized y (int_rem m n)))
-  intrinsic_sized (t.modulo a p o) y = of_integers_sized (modulo_of y) (known s a).constancy (known s p).constancy (λ m n. nonzero_sized n (in_type y (int_rem (int_rem m n +ℤ n) n)) (in_type_sized y (int_rem (int_rem m n +ℤ n) n)))
+  intrinsic_sized (t.of_one f x) y = of_integer_sized (λ n. in_type y (number_of_one f n)) (known s x).constancy (λ n. in_type_sized y (number_of_one f n))
+  intrinsic_sized (t.of_two f a b o) y = of_integers_sized (λ m n. in_type_if y (number_of_two f m n)) (known s a).constancy (known s b).constancy (λ m n. if_sized y (number_of_two f m n))
   intrinsic_sized (t.min es) y = least_sized Constants.lesser (known_items s es).items (λ m n. tt)
   intrinsic_sized (t.max es) y = least_sized Constants.greater (known_items s es).items (λ m n. tt)
   intrinsic_sized t.huge y = huge_sized y

@@ -59,9 +59,8 @@ fn images_of(variable: Local, kind: Kind, function: Intrinsic) -> Option<Stateme
             images: ListedImages::Stopped,
             team: unboxed(team),
         }),
-        Intrinsic::Abs { .. }
-        | Intrinsic::Mod { .. }
-        | Intrinsic::Modulo { .. }
+        Intrinsic::OfOne { .. }
+        | Intrinsic::OfTwo { .. }
         | Intrinsic::Min(_)
         | Intrinsic::Max(_)
         | Intrinsic::Huge

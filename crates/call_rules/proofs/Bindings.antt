@@ -3,7 +3,8 @@ use Rattle.std.proofs.Common.{◌≡◌, ◌∙◌, refl, ap, sym, subst, arith,
 use Rattle.std.specs.Prelude.{zero, suc, Bool, true, false, cond, nat_eq, nat_le, bytes_eq, ◌+◌, ◌||◌, ◌++◌, Option, Some, None, length, map}
 use Rattle.std.proofs.lemmas.List.{append-nil, append_assoc}
 use Rattle.std.specs.List.{remove}
-use Rattle.rule_definitions.specs.Arguments.{Actual, Binding, IntrinsicDummy, named_dummy, bindings, dummy_of, binding_breaks, argument_breaks, value_for, bound_to, bound_placed, with_number, stands_before}
+use Rattle.rule_definitions.specs.Arguments.{Actual, Binding, named_dummy, bindings, dummy_of, binding_breaks, argument_breaks, value_for, bound_to, bound_placed, with_number, stands_before}
+use Rattle.intrinsic_table.specs.Dummies.{IntrinsicDummy}
 use Rattle.rule_definitions.specs.Judgements.{made, is_there, item_at}
 use Rattle.rule_definitions.specs.Parts.{Placed}
 use Rattle.fortran_tree.specs.declared.name.Name.{Name}

@@ -1,14 +1,11 @@
 -- Arguments bound to the dummies of an intrinsic procedure, as the rules see them.
 use Rattle.std.specs.Prelude.{ℕ, Bool, true, false, cond, nat_eq, nat_le, bytes_eq, ◌+◌, ◌||◌, List, [], ◌∷◌, Option, Some, None, length}
 use Rattle.fortran_tree.specs.declared.name.Name.{Name}
+use Rattle.intrinsic_table.specs.Dummies.{IntrinsicDummy}
 use Rattle.rule_definitions.specs.Arguments as a
 use Rattle.rule_definitions.specs.Judgements.{is_there}
 use Rattle.part_rules.specs.Brackets.{actual_seen}
-use Rattle.call_rules.specs.declared.binding.Dummy.{Dummy}
 use Rattle.call_rules.specs.declared.binding.Binding.{Binding}
-
-abbrev pub dummy_seen : Dummy → a.IntrinsicDummy
-dummy_seen d = record { name = d.name.now; is_needed = d.is_needed; takes_images = d.takes_images }
 
 abbrev pub bound_as : Option ℕ → a.Actual → a.Binding
 bound_as i x = record { index = i; actual = x }
@@ -17,12 +14,12 @@ abbrev pub binding_seen : Binding → a.Binding
 binding_seen b = bound_as b.index (actual_seen b.actual)
 
 -- the number of the dummy with this name, where the first has the number k
-abbrev pub named_from : ℕ → List a.IntrinsicDummy → List ℕ → Option ℕ
+abbrev pub named_from : ℕ → List IntrinsicDummy → List ℕ → Option ℕ
 named_from k [] n = None
 named_from k (d ∷ ds) n = cond (bytes_eq d.name n) (Some k) (named_from (k + 1) ds n)
 
 -- the number of the dummy of an argument with this keyword
-abbrev pub dummy_by : List a.IntrinsicDummy → ℕ → Bool → Option Name → Option ℕ
+abbrev pub dummy_by : List IntrinsicDummy → ℕ → Bool → Option Name → Option ℕ
 dummy_by ds k behind None = cond (behind || nat_le (length ds) k) None (Some k)
 dummy_by ds k behind (Some n) = a.named_dummy ds n.text
 

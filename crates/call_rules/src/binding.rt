@@ -7,49 +7,20 @@ ghost use Rattle.rule_definitions.specs.IntrinsicSubroutines as subroutines;
 ghost use Rattle.rule_definitions.specs.Judgements.{is_there};
 ghost use Rattle.part_rules.specs.Brackets.{actual_seen};
 ghost use Rattle.part_rules.specs.Views.{placed};
-ghost use Rattle.call_rules.specs.Bindings.{binding_seen, bound_as, dummy_by, dummy_seen, is_the_number, named_from, place_from, without};
+ghost use Rattle.call_rules.specs.Bindings.{binding_seen, bound_as, dummy_by, is_the_number, named_from, place_from, without};
+ghost use Rattle.intrinsic_table.specs.Dummies.{dummy_seen};
 
 use caf_base::place::Pos;
 use caf_base::refusal::NoMemory;
 use checked_tree::expr::WrittenOrder;
 use fortran_tree::name::Name;
+use intrinsic_table::form::Dummy;
 use part_rules::bracket::{Actual, Item, is_triplet};
 use part_rules::judged::{Judged, add_all, are_none, note_unless};
 use part_rules::part::{Part, plain};
 use rule_definitions::broken::Broken;
 use rule_definitions::rule;
 use std::alloc::Global;
-
-/// A dummy argument of an intrinsic procedure: its name, whether it must have an argument, and whether a list of images
-/// may stand for it.
-#[derive(Clone, Copy)]
-pub struct Dummy {
-    pub name: &'static [u8],
-    pub is_needed: bool,
-    pub takes_images: bool,
-}
-
-/// A dummy that must have an argument.
-pub fn needed(name: &'static [u8]) -> Dummy
-    ensures { dummy_seen result ≡ rules.needed name.now }
-{
-    Dummy {
-        name,
-        is_needed: true,
-        takes_images: false,
-    }
-}
-
-/// A dummy that may have an argument.
-pub fn optional(name: &'static [u8]) -> Dummy
-    ensures { dummy_seen result ≡ rules.optional name.now }
-{
-    Dummy {
-        name,
-        is_needed: false,
-        takes_images: false,
-    }
-}
 
 /// An actual argument with the number of its dummy, from 0, where it has one.
 #[derive(Drop)]

@@ -237,9 +237,8 @@ module _ (e : Environment) where
         (both (one tt) (quiet_dropping (view.optional_size stat)))))))
 
     quiet_intrinsic : (i : t.Intrinsic) (k : Kind) → Safe (view.intrinsic e i k)
-    quiet_intrinsic (t.abs x) k = both (quiet_expression x) (one tt)
-    quiet_intrinsic (t.remainder x p o) k = both (quiet_as_written o (view.expression e x) (view.expression e p) (quiet_expression x) (quiet_expression p)) (one tt)
-    quiet_intrinsic (t.modulo x p o) k = both (quiet_as_written o (view.expression e x) (view.expression e p) (quiet_expression x) (quiet_expression p)) (one tt)
+    quiet_intrinsic (t.of_one f x) k = both (quiet_expression x) (one tt)
+    quiet_intrinsic (t.of_two f x p o) k = both (quiet_as_written o (view.expression e x) (view.expression e p) (quiet_expression x) (quiet_expression p)) (one tt)
     quiet_intrinsic (t.min es) k = quiet_first a.least es
     quiet_intrinsic (t.max es) k = quiet_first a.greatest es
     quiet_intrinsic t.huge k = one tt

@@ -27,7 +27,8 @@ DoesOperator (a.multiply kind) = IsInteger kind
 DoesOperator (a.divide kind) = IsInteger kind
 DoesOperator (a.power kind) = IsInteger kind
 DoesOperator (a.negate kind) = IsInteger kind
-DoesOperator (a.absolute kind) = IsInteger kind
+DoesOperator (a.of_one f kind) = IsInteger kind
+DoesOperator (a.of_two f kind) = IsInteger kind
 DoesOperator act = Unit {0}
 
 abbrev pub DoesOnBounds : a.BoundsAct → Type 0

@@ -64,7 +64,8 @@ fn does(step: Step) -> bool
         | Step::Divide(kind)
         | Step::Power(kind)
         | Step::Negate(kind)
-        | Step::Absolute(kind) => is_integer(kind),
+        | Step::OfOne(_, kind)
+        | Step::OfTwo(_, kind) => is_integer(kind),
         Step::Ask(ask) => asks(ask),
         _ => true,
     }

@@ -3,6 +3,7 @@
 
 use crate::data::{DataType, Local, Object};
 use caf_base::value::Kind;
+use intrinsic_table::function::{OfOne, OfTwo};
 
 /// A typed expression: what it is, its type with its kind, and its rank.
 #[cycle(typed)]
@@ -244,17 +245,14 @@ pub enum WrittenOrder {
 #[cycle(typed)]
 #[derive(Drop)]
 pub enum Intrinsic {
-    Abs {
+    OfOne {
+        function: OfOne,
         a: Box<TypedExpr>,
     },
-    Mod {
+    OfTwo {
+        function: OfTwo,
         a: Box<TypedExpr>,
-        p: Box<TypedExpr>,
-        order: WrittenOrder,
-    },
-    Modulo {
-        a: Box<TypedExpr>,
-        p: Box<TypedExpr>,
+        b: Box<TypedExpr>,
         order: WrittenOrder,
     },
     /// Two or more.

@@ -5,11 +5,10 @@ ghost use Rattle.std.specs.Option.{option_map};
 ghost use Rattle.rule_definitions.specs.Declarations as rules;
 ghost use Rattle.rule_definitions.specs.Names.{denotes, intrinsic_function};
 ghost use Rattle.scope_table.specs.Scopes.{denoted};
-ghost use Rattle.scope_table.specs.Symbols.{function_name};
 
 use fortran_tree::name::Name;
+use intrinsic_table::function::FunctionName;
 use scope_table::scope::{Denoted, Scope};
-use scope_table::symbol::FunctionName;
 
 /// Whether a name denotes a function of the program.
 pub(crate) fn names_function(scope: &Scope<'_>, name: &Name) -> bool
@@ -64,13 +63,12 @@ fn is_huge(found: Option<Denoted<'_>>) -> bool
 }
 
 fn is_name_of_huge(name: FunctionName) -> bool
-    ensures { result ≡ rules.is_huge (Some (intrinsic_function (function_name name))) }
+    ensures { result ≡ rules.is_huge (Some (intrinsic_function name)) }
 {
     match name {
         FunctionName::Huge => true,
-        FunctionName::Abs
-        | FunctionName::Mod
-        | FunctionName::Modulo
+        FunctionName::OfOne(_)
+        | FunctionName::OfTwo(_)
         | FunctionName::Min
         | FunctionName::Max
         | FunctionName::Int

@@ -5,6 +5,8 @@ ghost use Rattle.std.specs.Prelude.{◌≡◌, neg_ℤ, pos, nat_abs, unsigned_a
 ghost use Rattle.std.specs.Int.{w128};
 ghost use Rattle.std.specs.Option.{SomeIff};
 ghost use Rattle.std.specs.Ordering.{int_eq};
+ghost use Rattle.caf_base.specs.Arithmetic.{with_sign_of};
+ghost use Rattle.intrinsic_table.specs.Numbers.{number_of_one, number_of_two, of_division};
 ghost use Rattle.checked_tree.specs.declared.expr.ArithmeticOperator.TheVariants as arithmetics;
 ghost use Rattle.rule_definitions.specs.Constants as rules;
 ghost use Rattle.rule_definitions.specs.Constants.{as_constant};
@@ -12,6 +14,7 @@ ghost use Rattle.rule_definitions.specs.Constants.{as_constant};
 use caf_base::value::Kind;
 use checked_tree::data::DataType;
 use checked_tree::expr::ArithmeticOperator;
+use intrinsic_table::function::{OfOne, OfTwo};
 
 // The same number.
 pub(crate) fn wide(number: i64) -> i128
@@ -186,16 +189,33 @@ pub(crate) fn negated(of_type: DataType, number: i64) -> Option<i64>
     in_type(of_type, -i128::from(number))
 }
 
-/// ABS (16.9.2).
-pub(crate) fn magnitude(of_type: DataType, number: i64) -> Option<i64>
-    ensures { as_constant result ≡ rules.in_type of_type (pos (nat_abs number)) }
+/// A function of one integer (16.9).
+pub(crate) fn given_by_one(function: OfOne, of_type: DataType, number: i64) -> Option<i64>
+    ensures { as_constant result ≡ rules.in_type of_type (number_of_one function number) }
 {
-    in_type(of_type, i128::from(number.unsigned_abs()))
+    match function {
+        OfOne::Abs => in_type(of_type, i128::from(number.unsigned_abs())),
+    }
 }
 
-/// MOD (16.9.135), with the sign of the first.
-pub(crate) fn remainder(of_type: DataType, number: i64, divisor: i64) -> Option<i64>
-    ensures { as_constant result ≡ rules.remainder_of of_type number divisor }
+/// A function of two integers (16.9).
+pub(crate) fn given_by_two(
+    function: OfTwo,
+    of_type: DataType,
+    left: i64,
+    right: i64,
+) -> Option<i64>
+    ensures { as_constant result ≡ rules.in_type_if of_type (number_of_two function left right) }
+{
+    match function {
+        OfTwo::Mod => remainder(of_type, left, right),
+        OfTwo::Modulo => modulo(of_type, left, right),
+    }
+}
+
+// MOD (16.9.135), with the sign of the first.
+fn remainder(of_type: DataType, number: i64, divisor: i64) -> Option<i64>
+    ensures { as_constant result ≡ rules.in_type_if of_type (of_division divisor (int_rem number divisor)) }
 {
     if is_zero(divisor) {
         None
@@ -204,24 +224,33 @@ pub(crate) fn remainder(of_type: DataType, number: i64, divisor: i64) -> Option<
     }
 }
 
-/// MODULO (16.9.136), with the sign of the second.
-pub(crate) fn modulo(of_type: DataType, number: i64, divisor: i64) -> Option<i64>
-    ensures { as_constant result ≡ rules.modulo_of of_type number divisor }
+// MODULO (16.9.136), with the sign of the second.
+fn modulo(of_type: DataType, number: i64, divisor: i64) -> Option<i64>
+    ensures { as_constant result ≡ rules.in_type_if of_type (of_division divisor (with_sign_of divisor (int_rem number divisor))) }
 {
     if is_zero(divisor) {
         None
     } else {
-        in_type(of_type, modulo_rest(number, divisor))
+        let rest = left_of(wide(number), wide(divisor));
+        in_type(of_type, with_sign_of(wide(divisor), rest))
     }
 }
 
-// A remainder with the sign of the divisor.
-fn modulo_rest(number: i64, divisor: i64) -> i128
-    requires { int_eq divisor (pos 0) ≡ false }
-    ensures { result ≡ int_rem (int_rem number divisor +ℤ divisor) divisor }
+// What a division leaves, with the sign of the divisor.
+fn with_sign_of(divisor: i128, rest: i128) -> i128
+    requires divisor { unsigned_abs divisor ≤ 2 ^ 63 }
+    requires rest { unsigned_abs rest ≤ 2 ^ 63 }
+    ensures { result ≡ with_sign_of divisor rest }
 {
-    let rest = left_of(wide(number), wide(divisor));
-    left_of(sum(rest, wide(divisor)), wide(divisor))
+    if rest == 0 {
+        rest
+    } else if rest < 0 {
+        if divisor < 0 { rest } else { rest + divisor }
+    } else if divisor < 0 {
+        rest + divisor
+    } else {
+        rest
+    }
 }
 
 /// HUGE (16.9.86): the greatest number of a kind.

@@ -16,8 +16,7 @@ use crate::inquiry::{inquired_bounds, known_sizes, lower_bound, upper_bound};
 use crate::items::{KnownItems, add_item, constructed, no_items};
 use crate::known::{Known, alone, as_value, integer, logical, number, scalar, truth};
 use crate::operation::{
-    calculated_pair, compared_pair, converted, denied, magnitude_of, modulo_pair, negative,
-    reasoned_pair, remainder_pair,
+    calculated_pair, compared_pair, converted, denied, negative, of_one, of_two, reasoned_pair,
 };
 use crate::part::{Part, Section};
 use caf_base::listing::Listing;
@@ -285,19 +284,14 @@ fn known_intrinsic(
     ensures { IfOk result (λ k. seen k ≡ rules.known_intrinsic scope.now (intrinsic function.now) of_type) }
 {
     match function {
-        Intrinsic::Abs { a } => {
+        Intrinsic::OfOne { function, a } => {
             let a = known_integer(alloc, scope, a)?;
-            Ok(number(alloc, magnitude_of(of_type, a)))
+            Ok(number(alloc, of_one(*function, of_type, a)))
         }
-        Intrinsic::Mod { a, p, .. } => {
+        Intrinsic::OfTwo { function, a, b, .. } => {
             let a = known_integer(alloc, scope, a)?;
-            let p = known_integer(alloc, scope, p)?;
-            Ok(number(alloc, remainder_pair(of_type, a, p)))
-        }
-        Intrinsic::Modulo { a, p, .. } => {
-            let a = known_integer(alloc, scope, a)?;
-            let p = known_integer(alloc, scope, p)?;
-            Ok(number(alloc, modulo_pair(of_type, a, p)))
+            let b = known_integer(alloc, scope, b)?;
+            Ok(number(alloc, of_two(*function, of_type, a, b)))
         }
         Intrinsic::Min(values) => {
             let list = known_items(alloc, scope, values)?;

@@ -2,14 +2,16 @@
 
 ghost use Rattle.std.specs.Prelude.{◌≡◌, neg_ℤ, pos, nat_abs, not};
 ghost use Rattle.caf_base.specs.declared.value.Value.TheVariants.{Bool as Truth};
+ghost use Rattle.intrinsic_table.specs.Numbers.{number_of_one, number_of_two};
 ghost use Rattle.rule_definitions.specs.Constants as rules;
 ghost use Rattle.rule_definitions.specs.Constants.{as_constant};
 ghost use Rattle.constant_values.specs.Views.{as_truth, of_number, of_numbers, of_truths};
 
-use crate::arithmetic::{calculated, in_type, magnitude, modulo, negated, remainder, wide};
+use crate::arithmetic::{calculated, given_by_one, given_by_two, in_type, negated, wide};
 use crate::relation::{compared, reasoned};
 use checked_tree::data::DataType;
 use checked_tree::expr::{ArithmeticOperator, LogicalOperator, RelationalOperator};
+use intrinsic_table::function::{OfOne, OfTwo};
 
 /// An arithmetic operator of two operands.
 pub(crate) fn calculated_pair(
@@ -74,40 +76,27 @@ pub(crate) fn denied(operand: Option<bool>) -> Option<bool>
     }
 }
 
-/// ABS.
-pub(crate) fn magnitude_of(of_type: DataType, operand: Option<i64>) -> Option<i64>
-    ensures { as_constant result ≡ of_number (λ n. rules.in_type of_type (pos (nat_abs n))) operand }
+/// A function of one integer.
+pub(crate) fn of_one(function: OfOne, of_type: DataType, operand: Option<i64>) -> Option<i64>
+    ensures { as_constant result ≡ of_number (λ n. rules.in_type of_type (number_of_one function n)) operand }
 {
     match operand {
-        Some(operand) => magnitude(of_type, operand),
+        Some(operand) => given_by_one(function, of_type, operand),
         None => None,
     }
 }
 
-/// MOD.
-pub(crate) fn remainder_pair(
+/// A function of two integers.
+pub(crate) fn of_two(
+    function: OfTwo,
     of_type: DataType,
-    number: Option<i64>,
-    divisor: Option<i64>,
+    left: Option<i64>,
+    right: Option<i64>,
 ) -> Option<i64>
-    ensures { as_constant result ≡ of_numbers (rules.remainder_of of_type) number divisor }
+    ensures { as_constant result ≡ of_numbers (λ m n. rules.in_type_if of_type (number_of_two function m n)) left right }
 {
-    match (number, divisor) {
-        (Some(number), Some(divisor)) => remainder(of_type, number, divisor),
-        (_, _) => None,
-    }
-}
-
-/// MODULO.
-pub(crate) fn modulo_pair(
-    of_type: DataType,
-    number: Option<i64>,
-    divisor: Option<i64>,
-) -> Option<i64>
-    ensures { as_constant result ≡ of_numbers (rules.modulo_of of_type) number divisor }
-{
-    match (number, divisor) {
-        (Some(number), Some(divisor)) => modulo(of_type, number, divisor),
+    match (left, right) {
+        (Some(left), Some(right)) => given_by_two(function, of_type, left, right),
         (_, _) => None,
     }
 }

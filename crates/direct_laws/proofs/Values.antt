@@ -1,5 +1,5 @@
 -- The acts of an expression come to its value.
-use Rattle.std.proofs.Common.{arith, ◌≡◌, refl, ap, sym, subst, ℕ, zero, suc, ◌+◌, ◌≤◌, ◌==◌, le_refl, ℤ, pos, negsuc, ◌-ℤ◌, false, not, cond, List, [], ◌∷◌, ◌++◌, length, Some, int_rem}
+use Rattle.std.proofs.Common.{arith, ◌≡◌, refl, ap, sym, subst, ℕ, zero, suc, ◌+◌, ◌≤◌, ◌==◌, le_refl, ℤ, pos, negsuc, ◌-ℤ◌, false, not, cond, List, [], ◌∷◌, ◌++◌, length, Some}
 use Rattle.std.specs.Ordering.{int_eq}
 use Rattle.caf_base.specs.declared.value.Kind.{Kind}
 use Rattle.coarray_types.specs.Places.{extent_of, size_of}
@@ -8,9 +8,10 @@ use Rattle.walk_theory.specs.Syntax.{Parts, end_parts}
 use Rattle.walk_theory.specs.Terms.{found}
 use Rattle.checked_tree.specs.declared.data.Object.TheVariants as objects
 use Rattle.checked_tree.specs.Expressions as t
-use Rattle.caf_base.specs.Arithmetic.{truth, is_true, fits_kind, magnitude, lesser, greater_of, with_sign_of}
+use Rattle.caf_base.specs.Arithmetic.{truth, is_true, fits_kind, lesser, greater_of}
+use Rattle.intrinsic_table.specs.Numbers.{number_of_one, number_of_two}
 use Rattle.image_acts.specs.Faults.{overflow, shape_fault}
-use Rattle.image_acts.specs.Operate.Operators.{in_kind, divided}
+use Rattle.image_acts.specs.Operate.Operators.{in_kind, in_kind_if}
 use Rattle.image_acts.specs.Acts as a
 use Rattle.image_acts.specs.Acts.{Act, Scope, operator, selector, bounded, stack, ask, variable}
 use Rattle.image_acts.specs.Core.{Core, pushed, with_array, row, elements_in}
@@ -387,16 +388,11 @@ module _ (e : Environment) (calls : ℕ → List Passed → Does Value) where
 
     intrinsic_comes : (n : ℕ) (i : t.Intrinsic) (k : Kind) (l : ℕ) (c : Core) → HasRoom n c → FunctionWithin n i
         → Comes (put_down c) (Leaves c.used) (intrinsic e calls i k l (state_of c)) (told (parts.intrinsic e i k) l c)
-    intrinsic_comes n (t.abs x) k l c r h = one_comes (value e calls x) (λ v. in_kind k (magnitude v)) (a.absolute k) (expression e x) l c
+    intrinsic_comes n (t.of_one f x) k l c r h = one_comes (value e calls x) (λ v. in_kind k (number_of_one f v)) (a.of_one f k) (expression e x) l c
         (λ v d. refl) (value_comes n x l c r h)
-    intrinsic_comes n (t.remainder x y o) k l c r h =
-        written_comes o (value e calls x) (value e calls y) (λ v w. divided w (found (int_rem v w))) a.remainder (expression e x)
+    intrinsic_comes n (t.of_two f x y o) k l c r h =
+        written_comes o (value e calls x) (value e calls y) (λ v w. in_kind_if k (number_of_two f v w)) (a.of_two f k) (expression e x)
         (expression e y) l c (λ v w d. refl) (value_comes n x l c r h.0)
-        (λ v z b. value_comes n x l (pushed v (with_state z c)) (room_beside n c z r b) h.0) (value_comes n y l c r h.1)
-        (λ v z b. value_comes n y l (pushed v (with_state z c)) (room_beside n c z r b) h.1)
-    intrinsic_comes n (t.modulo x y o) k l c r h =
-        written_comes o (value e calls x) (value e calls y) (λ v w. divided w (found (with_sign_of w (int_rem v w)))) a.modulo
-        (expression e x) (expression e y) l c (λ v w d. refl) (value_comes n x l c r h.0)
         (λ v z b. value_comes n x l (pushed v (with_state z c)) (room_beside n c z r b) h.0) (value_comes n y l c r h.1)
         (λ v z b. value_comes n y l (pushed v (with_state z c)) (room_beside n c z r b) h.1)
     intrinsic_comes n (t.min t.no_expressions) k l c r h = tt

@@ -98,9 +98,8 @@ abbrev mutual
   BoundsWithin n (t.typed f type rank) = ⊥
 
   pub FunctionWithin : ℕ → t.Intrinsic → Type 0
-  FunctionWithin n (t.abs x) = Within n x
-  FunctionWithin n (t.remainder x y o) = Within n x × Within n y
-  FunctionWithin n (t.modulo x y o) = Within n x × Within n y
+  FunctionWithin n (t.of_one f x) = Within n x
+  FunctionWithin n (t.of_two f x y o) = Within n x × Within n y
   FunctionWithin n (t.min es) = AllWithin n es
   FunctionWithin n (t.max es) = AllWithin n es
   FunctionWithin n t.huge = Unit {0}

@@ -1,6 +1,7 @@
 -- Values, asks and faults of expressions, worked out by hand from the standard and the profile.
 use Rattle.caf_events.specs.declared.ask.Ask.{Ask}
 use Rattle.caf_events.specs.declared.reply.Reply.{Reply}
+use Rattle.intrinsic_table.specs.declared.function.OfTwo.TheVariants as twos
 use Rattle.checked_tree.specs.declared.expr.ArithmeticOperator.{ArithmeticOperator}
 use Rattle.std.proofs.Common.{◌≡◌, refl, ℕ, ℤ, pos, negsuc, true, List, [], ◌∷◌}
 use Rattle.caf_base.specs.declared.value.Kind.TheVariants as kinds
@@ -117,19 +118,19 @@ unfolding env st
 both_operands = refl
 
 -- mod(-7, 3) is -1, modulo(-7, 3) is 2, modulo(7, -3) is -2; mod(p=1/0, a=huge(0)+1) evaluates p first
-mods : val (fn (t.remainder (num (negsuc 6)) (num (pos 3)) orders.Same)) st ≡ is (negsuc 0)
+mods : val (fn (t.of_two twos.Mod (num (negsuc 6)) (num (pos 3)) orders.Same)) st ≡ is (negsuc 0)
 unfolding env st
 mods = refl
 
-modulos : val (fn (t.modulo (num (negsuc 6)) (num (pos 3)) orders.Same)) st ≡ is (pos 2)
+modulos : val (fn (t.of_two twos.Modulo (num (negsuc 6)) (num (pos 3)) orders.Same)) st ≡ is (pos 2)
 unfolding env st
 modulos = refl
 
-modulo_negative : val (fn (t.modulo (num (pos 7)) (num (negsuc 2)) orders.Same)) st ≡ is (negsuc 1)
+modulo_negative : val (fn (t.of_two twos.Modulo (num (pos 7)) (num (negsuc 2)) orders.Same)) st ≡ is (negsuc 1)
 unfolding env st
 modulo_negative = refl
 
-by_keyword : val (fn (t.remainder (add huge (num (pos 1))) (op arithmetics.Divide (num (pos 1)) (num (pos 0))) orders.Reversed)) st ≡ faults 2 1 st
+by_keyword : val (fn (t.of_two twos.Mod (add huge (num (pos 1))) (op arithmetics.Divide (num (pos 1)) (num (pos 0))) orders.Reversed)) st ≡ faults 2 1 st
 unfolding env st
 by_keyword = refl
 

@@ -1,7 +1,7 @@
 -- The value of an expression, one clause a form (ISO/IEC 1539-1:2018, 10.1; 9.4 to 9.6; 15.5; 16.9). Operands are
 -- evaluated from left to right. A designator evaluates its subscripts, its cosubscripts, its team and the subscripts of
 -- its STAT= variable, makes one access, and sets that variable.
-use Rattle.std.specs.Prelude.{ℕ, zero, suc, ◌==◌, ℤ, pos, ◌-ℤ◌, Bool, false, not, int_rem, List, [], ◌∷◌, ◌++◌, length, Option, None, Some, is_some}
+use Rattle.std.specs.Prelude.{ℕ, zero, suc, ◌==◌, ℤ, pos, ◌-ℤ◌, Bool, false, not, List, [], ◌∷◌, ◌++◌, length, Option, None, Some, is_some}
 use Rattle.coarray_types.specs.Places.{extent_of, size_of}
 use Rattle.caf_base.specs.declared.value.Kind.{Kind}
 use Rattle.caf_events.specs.declared.ask.Ask.TheVariants as asks
@@ -12,12 +12,13 @@ use Rattle.checked_tree.specs.declared.program.Dummy.{Dummy}
 use Rattle.checked_tree.specs.declared.expr.WrittenOrder.{WrittenOrder}
 use Rattle.checked_tree.specs.declared.expr.WrittenOrder.TheVariants as orders
 use Rattle.checked_tree.specs.Expressions as t
-use Rattle.caf_base.specs.Arithmetic.{huge_of, truth, is_true, fits_kind, magnitude, lesser, greater_of, with_sign_of}
+use Rattle.caf_base.specs.Arithmetic.{huge_of, truth, is_true, fits_kind, lesser, greater_of}
+use Rattle.intrinsic_table.specs.Numbers.{number_of_one, number_of_two}
 use Rattle.image_acts.specs.Faults.{overflow, cobounds_fault, shape_fault}
 use Rattle.image_acts.specs.Acts.{Scope}
 use Rattle.image_acts.specs.Words.{word}
 use Rattle.image_acts.specs.Core.{row}
-use Rattle.image_acts.specs.Operate.Operators.{in_kind, divided}
+use Rattle.image_acts.specs.Operate.Operators.{in_kind, in_kind_if}
 use Rattle.image_acts.specs.Places.{Place, Subscript, single, triplet, extents_of}
 use Rattle.image_acts.specs.Teams.{index_of, is_index_of}
 use Rattle.tree_meaning.specs.Environment.{Environment, scope_of, kind_of, constant_place, procedure_in, rank_in, corank}
@@ -210,9 +211,8 @@ module _ (e : Environment) (calls : ℕ → List Passed → Does Value) where
         all_of ss rank ▹ (λ xs. coarray_part c rank xs ▹ (λ p. selected (scalars cs) (selected_team which) (optional_target stat) c p (λ i g. giving (from_one (extents_of p)))))
 
     pub intrinsic : t.Intrinsic → Kind → Does Value
-    intrinsic (t.abs x) k = value x ▹ℤ (λ v. number_found (in_kind k (magnitude v)))
-    intrinsic (t.remainder x p o) k = scalars_as_written o (value x) (value p) (λ v w. number_found (divided w (found (int_rem v w))))
-    intrinsic (t.modulo x p o) k = scalars_as_written o (value x) (value p) (λ v w. number_found (divided w (found (with_sign_of w (int_rem v w)))))
+    intrinsic (t.of_one f x) k = value x ▹ℤ (λ v. number_found (in_kind k (number_of_one f v)))
+    intrinsic (t.of_two f x y o) k = scalars_as_written o (value x) (value y) (λ v w. number_found (in_kind_if k (number_of_two f v w)))
     intrinsic (t.min es) k = chosen lesser es
     intrinsic (t.max es) k = chosen greater_of es
     intrinsic t.huge k = giving (number (huge_of k))

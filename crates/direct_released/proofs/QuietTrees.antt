@@ -1,17 +1,18 @@
 -- Expressions whose acts take no evaluation cell leave those in use as they are.
-use Rattle.std.proofs.Common.{arith, ◌≡◌, refl, subst, ℕ, zero, suc, ◌+◌, ◌==◌, ◌||◌, ℤ, pos, ◌-ℤ◌, not, Bool, true, false, true≢false, cond, List, [], ◌∷◌, length, Some, int_rem}
+use Rattle.std.proofs.Common.{arith, ◌≡◌, refl, subst, ℕ, zero, suc, ◌+◌, ◌==◌, ◌||◌, ℤ, pos, ◌-ℤ◌, not, Bool, true, false, true≢false, cond, List, [], ◌∷◌, length, Some}
 use Rattle.caf_base.specs.declared.value.Kind.{Kind}
-use Rattle.caf_base.specs.Arithmetic.{truth, is_true, fits_kind, magnitude, lesser, greater_of, with_sign_of}
+use Rattle.caf_base.specs.Arithmetic.{truth, is_true, fits_kind, lesser, greater_of}
 use Rattle.coarray_types.specs.Places.{extent_of, size_of}
 use Rattle.walk_theory.specs.Syntax.{Parts}
 use Rattle.walk_theory.specs.Terms.{found}
 use Rattle.checked_tree.specs.declared.data.Object.TheVariants as objects
 use Rattle.checked_tree.specs.Expressions as t
+use Rattle.intrinsic_table.specs.Numbers.{number_of_one, number_of_two}
 use Rattle.image_acts.specs.Faults.{overflow, shape_fault}
 use Rattle.image_acts.specs.Acts as a
 use Rattle.image_acts.specs.Acts.{Act, Scope, here, host, stack, variable, operator, bounded, selector, ask}
 use Rattle.image_acts.specs.Core.{Array, Local}
-use Rattle.image_acts.specs.Operate.Operators.{in_kind, divided}
+use Rattle.image_acts.specs.Operate.Operators.{in_kind, in_kind_if}
 use Rattle.image_acts.specs.Places.{Place, single, triplet, extents_of, place_size}
 use Rattle.image_acts.specs.Teams.{index_of}
 use Rattle.tree_meaning.specs.Environment.{Environment, scope_of, kind_of, constant_place, corank}
@@ -331,18 +332,13 @@ module _ (e : Environment) (calls : ℕ → List Passed → Does Value) where
 
     quiet_intrinsic : (n : ℕ) (i : t.Intrinsic) (k : Kind) → FunctionWithin n i → takes (parts.intrinsic e i k) ≡ false
         → IsQuiet (intrinsic e calls i k)
-    quiet_intrinsic n (t.abs x) k h q = q_scalar_then (V x) (λ v. number_found (in_kind k (magnitude v)))
-        (quiet_value n x h (neither (T x) false q).0) (λ v. q_number_found (in_kind k (magnitude v)))
-    quiet_intrinsic n (t.remainder x y o) k h q =
+    quiet_intrinsic n (t.of_one f x) k h q = q_scalar_then (V x) (λ v. number_found (in_kind k (number_of_one f v)))
+        (quiet_value n x h (neither (T x) false q).0) (λ v. q_number_found (in_kind k (number_of_one f v)))
+    quiet_intrinsic n (t.of_two f x y o) k h q =
         let i = written_takes o (expression e x) (expression e y)
         (neither (takes (parts.as_written o (expression e x) (expression e y))) false q).0 in
-        q_scalars_written o (V x) (V y) (λ v w. number_found (divided w (found (int_rem v w)))) (quiet_value n x h.0 i.0)
-        (quiet_value n y h.1 i.1) (λ v w. q_number_found (divided w (found (int_rem v w))))
-    quiet_intrinsic n (t.modulo x y o) k h q =
-        let i = written_takes o (expression e x) (expression e y)
-        (neither (takes (parts.as_written o (expression e x) (expression e y))) false q).0 in
-        q_scalars_written o (V x) (V y) (λ v w. number_found (divided w (found (with_sign_of w (int_rem v w))))) (quiet_value n x h.0 i.0)
-        (quiet_value n y h.1 i.1) (λ v w. q_number_found (divided w (found (with_sign_of w (int_rem v w)))))
+        q_scalars_written o (V x) (V y) (λ v w. number_found (in_kind_if k (number_of_two f v w))) (quiet_value n x h.0 i.0)
+        (quiet_value n y h.1 i.1) (λ v w. q_number_found (in_kind_if k (number_of_two f v w)))
     quiet_intrinsic n (t.min es) k h q = quiet_chosen n lesser a.least es h q
     quiet_intrinsic n (t.max es) k h q = quiet_chosen n greater_of a.greatest es h q
     quiet_intrinsic n t.huge k h q = λ l z. (refl, refl)

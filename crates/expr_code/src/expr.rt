@@ -587,37 +587,27 @@ fn push_intrinsic(
     ensures { OnOk result (draft.new ≡ written line (meaning.intrinsic (environment env.now) (view.intrinsic intrinsic.now) kind) draft.old) }
 {
     match intrinsic {
-        Intrinsic::Abs { a } => {
+        Intrinsic::OfOne { function, a } => {
             push_expr(draft, env, a, line)?;
-            draft.push(Step::Absolute(kind), line)
+            draft.push(Step::OfOne(*function, kind), line)
         }
-        Intrinsic::Mod { a, p, order } => {
+        Intrinsic::OfTwo {
+            function,
+            a,
+            b,
+            order,
+        } => {
             match order {
                 WrittenOrder::Same => {
                     push_expr(draft, env, a, line)?;
-                    push_expr(draft, env, p, line)?;
-                    draft.push(Step::Remainder, line)
+                    push_expr(draft, env, b, line)?;
+                    draft.push(Step::OfTwo(*function, kind), line)
                 }
                 WrittenOrder::Reversed => {
-                    push_expr(draft, env, p, line)?;
+                    push_expr(draft, env, b, line)?;
                     push_expr(draft, env, a, line)?;
                     draft.push(Step::Bring(1, 1), line)?;
-                    draft.push(Step::Remainder, line)
-                }
-            }
-        }
-        Intrinsic::Modulo { a, p, order } => {
-            match order {
-                WrittenOrder::Same => {
-                    push_expr(draft, env, a, line)?;
-                    push_expr(draft, env, p, line)?;
-                    draft.push(Step::Modulo, line)
-                }
-                WrittenOrder::Reversed => {
-                    push_expr(draft, env, p, line)?;
-                    push_expr(draft, env, a, line)?;
-                    draft.push(Step::Bring(1, 1), line)?;
-                    draft.push(Step::Modulo, line)
+                    draft.push(Step::OfTwo(*function, kind), line)
                 }
             }
         }

@@ -3,23 +3,25 @@ use Rattle.std.proofs.Common.{◌≡◌, ◌∙◌, refl, ap, sym, ℕ, ◌+◌,
 use Rattle.std.specs.Prelude.{Bool, true, false, cond, bytes_eq, codes, ◌||◌, Option, Some, None}
 use Rattle.caf_base.specs.declared.place.Pos.{Pos}
 use Rattle.fortran_tree.specs.declared.name.Name.{Name}
+use Rattle.intrinsic_table.specs.declared.function.FunctionName.{FunctionName}
+use Rattle.intrinsic_table.specs.declared.function.FunctionName.TheVariants as functions
+use Rattle.intrinsic_table.specs.declared.form.Form.{Form}
+use Rattle.intrinsic_table.specs.declared.form.Form.TheVariants as forms
 use Rattle.rule_definitions.specs.Arguments.{Actual, Part, expression, triplet}
 use Rattle.rule_definitions.specs.IntrinsicFunctions.{intrinsic_reference, is_of_coarray, is_first_integer, is_first_unnamed, is_integer_argument, has_keyword}
 use Rattle.rule_definitions.specs.Names as n
 use Rattle.part_rules.specs.Brackets.{actual_seen}
 use Rattle.part_rules.specs.declared.bracket.Actual.{Actual as HeldActual}
 use Rattle.function_rules.specs.Forms.{is_integer_part, is_named, is_team_number, referred, row_of}
-use Rattle.function_rules.specs.declared.form.Form.{Form}
-use Rattle.function_rules.specs.declared.form.Form.TheVariants as forms
 use Rattle.function_rules.specs.declared.form.Row.TheVariants as rows
 
 either : (b : Bool) (s : n.Scope) (x y : Form) (as' : List Actual) (p : Pos) → cond b (referred s (rows.Bound x) as' p) (referred s (rows.Bound y) as' p) ≡ referred s (rows.Bound (cond b x y)) as' p
 either true s x y as' p = refl
 either false s x y as' p = refl
 
-pub row_is : (s : n.Scope) (f : n.FunctionName) (as' : List Actual) (p : Pos) → intrinsic_reference s f as' p ≡ referred s (row_of f as') as' p
-row_is s n.this_image as' p = either (is_of_coarray as') s forms.ThisCosubscript forms.ThisImage as' p
-row_is s n.num_images as' p = either (is_first_integer as') s forms.NumImagesOfNumber (forms.NumImages (cond (is_first_unnamed as') 59 51)) as' p
+pub row_is : (s : n.Scope) (f : FunctionName) (as' : List Actual) (p : Pos) → intrinsic_reference s f as' p ≡ referred s (row_of f as') as' p
+row_is s functions.ThisImage as' p = either (is_of_coarray as') s forms.ThisCosubscript forms.ThisImage as' p
+row_is s functions.NumImages as' p = either (is_first_integer as') s forms.NumImagesOfNumber (forms.NumImages (cond (is_first_unnamed as') 59 51)) as' p
 row_is s f as' p = refl
 
 named : (x : List ℕ) (o : Option Name) → elim o [ None ↦ false | Some k ↦ bytes_eq k.text x ] ≡ is_named x o

@@ -1,19 +1,18 @@
-//! The forms of references to intrinsic functions, and their dummies.
+//! How a reference to an intrinsic function takes its arguments, and which form it has.
 
 ghost use Rattle.std.specs.Prelude.{◌≡◌, cond, map};
 ghost use Rattle.rule_definitions.specs.IntrinsicFunctions as rules;
-ghost use Rattle.scope_table.specs.Symbols.{function_name};
 ghost use Rattle.part_rules.specs.Brackets.{actual_seen, item_seen};
-ghost use Rattle.call_rules.specs.Bindings.{dummy_seen};
 ghost use Rattle.function_rules.specs.Forms as forms;
-ghost use Rattle.function_rules.specs.declared.form.Form.TheVariants as heldforms;
+ghost use Rattle.intrinsic_table.specs.declared.form.Form.TheVariants as heldforms;
 
-use call_rules::binding::{Dummy, is_written};
+use call_rules::binding::is_written;
 use fortran_tree::name::Name;
+use intrinsic_table::form::Form;
+use intrinsic_table::function::FunctionName;
 use part_rules::bracket::{Actual, Item};
 use part_rules::types::is_integer_type;
 use rule_definitions::rule;
-use scope_table::symbol::FunctionName;
 
 /// MIN or MAX.
 #[derive(Clone, Copy)]
@@ -22,153 +21,11 @@ pub enum Extreme {
     Greatest,
 }
 
-/// A function with dummies, or a form of one.
-#[derive(Clone, Copy)]
-pub enum Form {
-    Abs,
-    Mod,
-    Modulo,
-    Huge,
-    Int,
-    Size,
-    Lbound,
-    Ubound,
-    Allocated,
-    ThisImage,
-    /// `THIS_IMAGE(COARRAY, DIM [, TEAM])`
-    ThisCosubscript,
-    /// With the rule that what is no team breaks.
-    NumImages(u8),
-    /// `NUM_IMAGES(TEAM_NUMBER)`
-    NumImagesOfNumber,
-    ImageIndex,
-    ImageStatus,
-    FailedImages,
-    StoppedImages,
-    TeamNumber,
-    GetTeam,
-}
-
 /// How a function takes its arguments: two or more by position alone, or bound to dummies.
 #[derive(Clone, Copy)]
 pub enum Row {
     Several(Extreme),
     Bound(Form),
-}
-
-const A: Dummy = Dummy {
-    name: b"a",
-    is_needed: true,
-    takes_images: false,
-};
-
-const P: Dummy = Dummy {
-    name: b"p",
-    is_needed: true,
-    takes_images: false,
-};
-
-const X: Dummy = Dummy {
-    name: b"x",
-    is_needed: true,
-    takes_images: false,
-};
-
-const KIND: Dummy = Dummy {
-    name: b"kind",
-    is_needed: false,
-    takes_images: false,
-};
-
-const LISTED_ARRAY: Dummy = Dummy {
-    name: b"array",
-    is_needed: true,
-    takes_images: true,
-};
-
-const OPTIONAL_DIM: Dummy = Dummy {
-    name: b"dim",
-    is_needed: false,
-    takes_images: false,
-};
-
-const ARRAY: Dummy = Dummy {
-    name: b"array",
-    is_needed: true,
-    takes_images: false,
-};
-
-const DIM: Dummy = Dummy {
-    name: b"dim",
-    is_needed: true,
-    takes_images: false,
-};
-
-const V: Dummy = Dummy {
-    name: b"v",
-    is_needed: true,
-    takes_images: false,
-};
-
-const TEAM: Dummy = Dummy {
-    name: b"team",
-    is_needed: false,
-    takes_images: false,
-};
-
-const COARRAY: Dummy = Dummy {
-    name: b"coarray",
-    is_needed: true,
-    takes_images: false,
-};
-
-const TEAM_NUMBER: Dummy = Dummy {
-    name: b"team_number",
-    is_needed: true,
-    takes_images: false,
-};
-
-const SUB: Dummy = Dummy {
-    name: b"sub",
-    is_needed: true,
-    takes_images: false,
-};
-
-const IMAGE: Dummy = Dummy {
-    name: b"image",
-    is_needed: true,
-    takes_images: false,
-};
-
-const LEVEL: Dummy = Dummy {
-    name: b"level",
-    is_needed: false,
-    takes_images: false,
-};
-
-/// The dummies of a form.
-pub fn dummies_of(form: Form) -> &'static [Dummy]
-    ensures { map dummy_seen result.now ≡ forms.dummies_of form }
-{
-    match form {
-        Form::Abs => &[A],
-        Form::Mod | Form::Modulo => &[A, P],
-        Form::Huge => &[X],
-        Form::Int => &[A, KIND],
-        Form::Size => &[LISTED_ARRAY, OPTIONAL_DIM],
-        Form::Lbound | Form::Ubound => &[ARRAY, DIM],
-        Form::Allocated => &[V],
-        Form::ThisCosubscript => &[COARRAY, DIM, TEAM],
-        Form::NumImagesOfNumber => &[TEAM_NUMBER],
-        Form::ImageIndex => &[COARRAY, SUB, TEAM],
-        Form::ImageStatus => &[IMAGE, TEAM],
-        Form::ThisImage
-        | Form::NumImages(_)
-        | Form::FailedImages
-        | Form::StoppedImages
-        | Form::TeamNumber => &[TEAM],
-        Form::GetTeam => &[LEVEL],
-    }
 }
 
 /// Whether a keyword is this one.
@@ -271,12 +128,11 @@ fn num_images_form(actuals: &[Actual]) -> Form
 
 /// How a function takes these arguments.
 pub fn row_of(function: FunctionName, actuals: &[Actual]) -> Row
-    ensures { result ≡ forms.row_of (function_name function) (map actual_seen actuals.now) }
+    ensures { result ≡ forms.row_of function (map actual_seen actuals.now) }
 {
     match function {
-        FunctionName::Abs => Row::Bound(Form::Abs),
-        FunctionName::Mod => Row::Bound(Form::Mod),
-        FunctionName::Modulo => Row::Bound(Form::Modulo),
+        FunctionName::OfOne(function) => Row::Bound(Form::OfOne(function)),
+        FunctionName::OfTwo(function) => Row::Bound(Form::OfTwo(function)),
         FunctionName::Min => Row::Several(Extreme::Least),
         FunctionName::Max => Row::Several(Extreme::Greatest),
         FunctionName::Huge => Row::Bound(Form::Huge),

@@ -5,22 +5,23 @@ ghost use Rattle.std.specs.Option.{option_map};
 ghost use Rattle.checked_tree.specs.ExpressionViews.{expression};
 ghost use Rattle.rule_definitions.specs.Arguments as arguments;
 ghost use Rattle.rule_definitions.specs.IntrinsicFunctions as rules;
-ghost use Rattle.scope_table.specs.Symbols.{function_name};
 ghost use Rattle.part_rules.specs.Brackets.{actual_seen};
 ghost use Rattle.call_rules.specs.Bindings.{binding_seen};
+ghost use Rattle.intrinsic_table.specs.Dummies.{dummies_of};
 ghost use Rattle.function_rules.specs.Forms as forms;
 
-use crate::form::{Form, Row, dummies_of, row_of};
+use crate::form::{Row, row_of};
 use crate::several::several;
 use crate::{image, inquiry, numeric};
 use caf_base::place::Pos;
 use caf_base::refusal::NoMemory;
 use call_rules::binding::{Binding, are_all_bound, bind, unbound};
 use checked_tree::expr::TypedExpr;
+use intrinsic_table::form::{Form, dummies_of};
+use intrinsic_table::function::FunctionName;
 use part_rules::bracket::Actual;
 use part_rules::judged::Judged;
 use scope_table::scope::Scope;
-use scope_table::symbol::FunctionName;
 use std::alloc::Global;
 
 /// A form with its arguments bound.
@@ -34,9 +35,8 @@ fn formed(
     ensures meaning { IfOk result (λ j. option_map expression j.meaning ≡ (forms.formed_as scope.now form (map binding_seen bindings.items)).meaning) }
 {
     match form {
-        Form::Abs => numeric::abs(alloc, bindings),
-        Form::Mod => numeric::remainder(alloc, bindings),
-        Form::Modulo => numeric::modulo(alloc, bindings),
+        Form::OfOne(function) => numeric::of_one(alloc, function, bindings),
+        Form::OfTwo(function) => numeric::of_two(alloc, function, bindings),
         Form::Huge => numeric::huge(alloc, bindings),
         Form::Int => numeric::int(alloc, scope, bindings),
         Form::Size => inquiry::size(alloc, bindings),
@@ -64,8 +64,8 @@ fn bound_form(
     actuals: Vec<Actual>,
     at: Pos,
 ) -> Result<Judged<TypedExpr>, NoMemory>
-    ensures breaks { IfOk result (λ j. j.breaks.items ≡ (arguments.bound (forms.dummies_of form) (map actual_seen actuals.items) at (forms.formed_as scope.now form)).breaks) }
-    ensures meaning { IfOk result (λ j. option_map expression j.meaning ≡ (arguments.bound (forms.dummies_of form) (map actual_seen actuals.items) at (forms.formed_as scope.now form)).meaning) }
+    ensures breaks { IfOk result (λ j. j.breaks.items ≡ (arguments.bound (dummies_of form) (map actual_seen actuals.items) at (forms.formed_as scope.now form)).breaks) }
+    ensures meaning { IfOk result (λ j. option_map expression j.meaning ≡ (arguments.bound (dummies_of form) (map actual_seen actuals.items) at (forms.formed_as scope.now form)).meaning) }
 {
     let dummies = dummies_of(form);
     let bindings = bind(alloc, dummies, actuals)?;
@@ -85,8 +85,8 @@ pub fn intrinsic_reference(
     actuals: Vec<Actual>,
     at: Pos,
 ) -> Result<Judged<TypedExpr>, NoMemory>
-    ensures breaks { IfOk result (λ j. j.breaks.items ≡ (rules.intrinsic_reference scope.now (function_name function) (map actual_seen actuals.items) at).breaks) }
-    ensures meaning { IfOk result (λ j. option_map expression j.meaning ≡ (rules.intrinsic_reference scope.now (function_name function) (map actual_seen actuals.items) at).meaning) }
+    ensures breaks { IfOk result (λ j. j.breaks.items ≡ (rules.intrinsic_reference scope.now function (map actual_seen actuals.items) at).breaks) }
+    ensures meaning { IfOk result (λ j. option_map expression j.meaning ≡ (rules.intrinsic_reference scope.now function (map actual_seen actuals.items) at).meaning) }
 {
     match row_of(function, actuals.as_slice()) {
         Row::Several(function) => several(alloc, function, actuals, at),

@@ -10,7 +10,7 @@ ghost use Rattle.checked_tree.specs.ExpressionViews.{expression, intrinsic as in
 ghost use Rattle.rule_definitions.specs.IntrinsicFunctions.{default_integer, of_type as as_type};
 ghost use Rattle.rule_definitions.specs.Judgements.{both, made, three};
 ghost use Rattle.call_rules.specs.Bindings.{binding_seen};
-ghost use Rattle.function_rules.specs.Forms as forms;
+ghost use Rattle.rule_definitions.specs.IntrinsicFunctions as rules;
 ghost use Rattle.call_rules.specs.Views.{boxed};
 
 use caf_base::refusal::NoMemory;
@@ -61,8 +61,8 @@ fn this_image_of(team: Option<Option<Box<TypedExpr>>>) -> Option<TypedExpr>
 
 /// THIS_IMAGE of a team (16.9).
 pub fn this_image(alloc: Global, bindings: Vec<Binding>) -> Result<Judged<TypedExpr>, NoMemory>
-    ensures breaks { IfOk result (λ j. j.breaks.items ≡ (forms.this_image_of (map binding_seen bindings.items)).breaks) }
-    ensures meaning { IfOk result (λ j. option_map expression j.meaning ≡ (forms.this_image_of (map binding_seen bindings.items)).meaning) }
+    ensures breaks { IfOk result (λ j. j.breaks.items ≡ (rules.this_image_of (map binding_seen bindings.items)).breaks) }
+    ensures meaning { IfOk result (λ j. option_map expression j.meaning ≡ (rules.this_image_of (map binding_seen bindings.items)).meaning) }
 {
     let mut bindings = bindings;
     let mut breaks = Vec::new(alloc);
@@ -87,8 +87,8 @@ fn failed_images_of(team: Option<Option<Box<TypedExpr>>>) -> Option<TypedExpr>
 
 /// FAILED_IMAGES (16.9).
 pub fn failed_images(alloc: Global, bindings: Vec<Binding>) -> Result<Judged<TypedExpr>, NoMemory>
-    ensures breaks { IfOk result (λ j. j.breaks.items ≡ (forms.failed_images_of (map binding_seen bindings.items)).breaks) }
-    ensures meaning { IfOk result (λ j. option_map expression j.meaning ≡ (forms.failed_images_of (map binding_seen bindings.items)).meaning) }
+    ensures breaks { IfOk result (λ j. j.breaks.items ≡ (rules.failed_images_of (map binding_seen bindings.items)).breaks) }
+    ensures meaning { IfOk result (λ j. option_map expression j.meaning ≡ (rules.failed_images_of (map binding_seen bindings.items)).meaning) }
 {
     let mut bindings = bindings;
     let mut breaks = Vec::new(alloc);
@@ -113,8 +113,8 @@ fn stopped_images_of(team: Option<Option<Box<TypedExpr>>>) -> Option<TypedExpr>
 
 /// STOPPED_IMAGES (16.9).
 pub fn stopped_images(alloc: Global, bindings: Vec<Binding>) -> Result<Judged<TypedExpr>, NoMemory>
-    ensures breaks { IfOk result (λ j. j.breaks.items ≡ (forms.stopped_images_of (map binding_seen bindings.items)).breaks) }
-    ensures meaning { IfOk result (λ j. option_map expression j.meaning ≡ (forms.stopped_images_of (map binding_seen bindings.items)).meaning) }
+    ensures breaks { IfOk result (λ j. j.breaks.items ≡ (rules.stopped_images_of (map binding_seen bindings.items)).breaks) }
+    ensures meaning { IfOk result (λ j. option_map expression j.meaning ≡ (rules.stopped_images_of (map binding_seen bindings.items)).meaning) }
 {
     let mut bindings = bindings;
     let mut breaks = Vec::new(alloc);
@@ -139,8 +139,8 @@ fn team_number_of(team: Option<Option<Box<TypedExpr>>>) -> Option<TypedExpr>
 
 /// TEAM_NUMBER (16.9).
 pub fn team_number(alloc: Global, bindings: Vec<Binding>) -> Result<Judged<TypedExpr>, NoMemory>
-    ensures breaks { IfOk result (λ j. j.breaks.items ≡ (forms.team_number_of (map binding_seen bindings.items)).breaks) }
-    ensures meaning { IfOk result (λ j. option_map expression j.meaning ≡ (forms.team_number_of (map binding_seen bindings.items)).meaning) }
+    ensures breaks { IfOk result (λ j. j.breaks.items ≡ (rules.team_number_of (map binding_seen bindings.items)).breaks) }
+    ensures meaning { IfOk result (λ j. option_map expression j.meaning ≡ (rules.team_number_of (map binding_seen bindings.items)).meaning) }
 {
     let mut bindings = bindings;
     let mut breaks = Vec::new(alloc);
@@ -169,8 +169,8 @@ pub fn num_images(
     rule: u8,
     bindings: Vec<Binding>,
 ) -> Result<Judged<TypedExpr>, NoMemory>
-    ensures breaks { IfOk result (λ j. j.breaks.items ≡ (forms.num_images_of rule (map binding_seen bindings.items)).breaks) }
-    ensures meaning { IfOk result (λ j. option_map expression j.meaning ≡ (forms.num_images_of rule (map binding_seen bindings.items)).meaning) }
+    ensures breaks { IfOk result (λ j. j.breaks.items ≡ (rules.num_images_of rule (map binding_seen bindings.items)).breaks) }
+    ensures meaning { IfOk result (λ j. option_map expression j.meaning ≡ (rules.num_images_of rule (map binding_seen bindings.items)).meaning) }
 {
     let mut bindings = bindings;
     let mut breaks = Vec::new(alloc);
@@ -198,8 +198,8 @@ pub fn num_images_of_number(
     alloc: Global,
     bindings: Vec<Binding>,
 ) -> Result<Judged<TypedExpr>, NoMemory>
-    ensures breaks { IfOk result (λ j. j.breaks.items ≡ (forms.num_images_of_number_of (map binding_seen bindings.items)).breaks) }
-    ensures meaning { IfOk result (λ j. option_map expression j.meaning ≡ (forms.num_images_of_number_of (map binding_seen bindings.items)).meaning) }
+    ensures breaks { IfOk result (λ j. j.breaks.items ≡ (rules.num_images_of_number_of (map binding_seen bindings.items)).breaks) }
+    ensures meaning { IfOk result (λ j. option_map expression j.meaning ≡ (rules.num_images_of_number_of (map binding_seen bindings.items)).meaning) }
 {
     let mut bindings = bindings;
     let mut breaks = Vec::new(alloc);
@@ -228,8 +228,8 @@ fn get_team_of(level: Option<Option<Box<TypedExpr>>>) -> Option<TypedExpr>
 
 /// GET_TEAM (16.9).
 pub fn get_team(alloc: Global, bindings: Vec<Binding>) -> Result<Judged<TypedExpr>, NoMemory>
-    ensures breaks { IfOk result (λ j. j.breaks.items ≡ (forms.get_team_of (map binding_seen bindings.items)).breaks) }
-    ensures meaning { IfOk result (λ j. option_map expression j.meaning ≡ (forms.get_team_of (map binding_seen bindings.items)).meaning) }
+    ensures breaks { IfOk result (λ j. j.breaks.items ≡ (rules.get_team_of (map binding_seen bindings.items)).breaks) }
+    ensures meaning { IfOk result (λ j. option_map expression j.meaning ≡ (rules.get_team_of (map binding_seen bindings.items)).meaning) }
 {
     let mut bindings = bindings;
     let mut breaks = Vec::new(alloc);
@@ -264,8 +264,8 @@ fn image_status_of(
 /// IMAGE_STATUS (16.9).
 #[tactic(auto, using(call_rules::proofs::Taking::taken_away))]
 pub fn image_status(alloc: Global, bindings: Vec<Binding>) -> Result<Judged<TypedExpr>, NoMemory>
-    ensures breaks { IfOk result (λ j. j.breaks.items ≡ (forms.image_status_of (map binding_seen bindings.items)).breaks) }
-    ensures meaning { IfOk result (λ j. option_map expression j.meaning ≡ (forms.image_status_of (map binding_seen bindings.items)).meaning) }
+    ensures breaks { IfOk result (λ j. j.breaks.items ≡ (rules.image_status_of (map binding_seen bindings.items)).breaks) }
+    ensures meaning { IfOk result (λ j. option_map expression j.meaning ≡ (rules.image_status_of (map binding_seen bindings.items)).meaning) }
 {
     let order = order_of(bindings.as_slice(), 0, 1);
     let mut bindings = bindings;
@@ -316,8 +316,8 @@ pub fn this_cosubscript(
     alloc: Global,
     bindings: Vec<Binding>,
 ) -> Result<Judged<TypedExpr>, NoMemory>
-    ensures breaks { IfOk result (λ j. j.breaks.items ≡ (forms.this_cosubscript_of (map binding_seen bindings.items)).breaks) }
-    ensures meaning { IfOk result (λ j. option_map expression j.meaning ≡ (forms.this_cosubscript_of (map binding_seen bindings.items)).meaning) }
+    ensures breaks { IfOk result (λ j. j.breaks.items ≡ (rules.this_cosubscript_of (map binding_seen bindings.items)).breaks) }
+    ensures meaning { IfOk result (λ j. option_map expression j.meaning ≡ (rules.this_cosubscript_of (map binding_seen bindings.items)).meaning) }
 {
     let order = order_of(bindings.as_slice(), 1, 2);
     let mut bindings = bindings;
@@ -366,8 +366,8 @@ fn image_index_of(
 /// IMAGE_INDEX (16.9).
 #[tactic(auto, using(call_rules::proofs::Taking::taken_away))]
 pub fn image_index(alloc: Global, bindings: Vec<Binding>) -> Result<Judged<TypedExpr>, NoMemory>
-    ensures breaks { IfOk result (λ j. j.breaks.items ≡ (forms.image_index_of (map binding_seen bindings.items)).breaks) }
-    ensures meaning { IfOk result (λ j. option_map expression j.meaning ≡ (forms.image_index_of (map binding_seen bindings.items)).meaning) }
+    ensures breaks { IfOk result (λ j. j.breaks.items ≡ (rules.image_index_of (map binding_seen bindings.items)).breaks) }
+    ensures meaning { IfOk result (λ j. option_map expression j.meaning ≡ (rules.image_index_of (map binding_seen bindings.items)).meaning) }
 {
     let order = order_of(bindings.as_slice(), 1, 2);
     let mut bindings = bindings;

@@ -9,7 +9,7 @@ ghost use Rattle.checked_tree.specs.ExpressionViews.{expression, optional_expres
 ghost use Rattle.rule_definitions.specs.IntrinsicFunctions.{default_integer, of_type as as_type};
 ghost use Rattle.rule_definitions.specs.Judgements.{both, made};
 ghost use Rattle.call_rules.specs.Bindings.{binding_seen};
-ghost use Rattle.function_rules.specs.Forms as forms;
+ghost use Rattle.rule_definitions.specs.IntrinsicFunctions as rules;
 ghost use Rattle.call_rules.specs.Views.{boxed};
 
 use caf_base::refusal::NoMemory;
@@ -50,8 +50,8 @@ fn size_of(
 /// SIZE (16.9).
 #[tactic(auto, using(call_rules::proofs::Taking::taken_away))]
 pub fn size(alloc: Global, bindings: Vec<Binding>) -> Result<Judged<TypedExpr>, NoMemory>
-    ensures breaks { IfOk result (λ j. j.breaks.items ≡ (forms.size_of (map binding_seen bindings.items)).breaks) }
-    ensures meaning { IfOk result (λ j. option_map expression j.meaning ≡ (forms.size_of (map binding_seen bindings.items)).meaning) }
+    ensures breaks { IfOk result (λ j. j.breaks.items ≡ (rules.size_of (map binding_seen bindings.items)).breaks) }
+    ensures meaning { IfOk result (λ j. option_map expression j.meaning ≡ (rules.size_of (map binding_seen bindings.items)).meaning) }
 {
     let order = order_of(bindings.as_slice(), 0, 1);
     let mut bindings = bindings;
@@ -92,8 +92,8 @@ fn lbound_of(
 /// LBOUND (16.9).
 #[tactic(auto, using(call_rules::proofs::Taking::taken_away))]
 pub fn lbound(alloc: Global, bindings: Vec<Binding>) -> Result<Judged<TypedExpr>, NoMemory>
-    ensures breaks { IfOk result (λ j. j.breaks.items ≡ (forms.lbound_of (map binding_seen bindings.items)).breaks) }
-    ensures meaning { IfOk result (λ j. option_map expression j.meaning ≡ (forms.lbound_of (map binding_seen bindings.items)).meaning) }
+    ensures breaks { IfOk result (λ j. j.breaks.items ≡ (rules.lbound_of (map binding_seen bindings.items)).breaks) }
+    ensures meaning { IfOk result (λ j. option_map expression j.meaning ≡ (rules.lbound_of (map binding_seen bindings.items)).meaning) }
 {
     let order = order_of(bindings.as_slice(), 0, 1);
     let mut bindings = bindings;
@@ -134,8 +134,8 @@ fn ubound_of(
 /// UBOUND (16.9).
 #[tactic(auto, using(call_rules::proofs::Taking::taken_away))]
 pub fn ubound(alloc: Global, bindings: Vec<Binding>) -> Result<Judged<TypedExpr>, NoMemory>
-    ensures breaks { IfOk result (λ j. j.breaks.items ≡ (forms.ubound_of (map binding_seen bindings.items)).breaks) }
-    ensures meaning { IfOk result (λ j. option_map expression j.meaning ≡ (forms.ubound_of (map binding_seen bindings.items)).meaning) }
+    ensures breaks { IfOk result (λ j. j.breaks.items ≡ (rules.ubound_of (map binding_seen bindings.items)).breaks) }
+    ensures meaning { IfOk result (λ j. option_map expression j.meaning ≡ (rules.ubound_of (map binding_seen bindings.items)).meaning) }
 {
     let order = order_of(bindings.as_slice(), 0, 1);
     let mut bindings = bindings;
@@ -170,8 +170,8 @@ pub fn allocated(
     scope: &Scope<'_>,
     bindings: Vec<Binding>,
 ) -> Result<Judged<TypedExpr>, NoMemory>
-    ensures breaks { IfOk result (λ j. j.breaks.items ≡ (forms.allocated_of scope.now (map binding_seen bindings.items)).breaks) }
-    ensures meaning { IfOk result (λ j. option_map expression j.meaning ≡ (forms.allocated_of scope.now (map binding_seen bindings.items)).meaning) }
+    ensures breaks { IfOk result (λ j. j.breaks.items ≡ (rules.allocated_of scope.now (map binding_seen bindings.items)).breaks) }
+    ensures meaning { IfOk result (λ j. option_map expression j.meaning ≡ (rules.allocated_of scope.now (map binding_seen bindings.items)).meaning) }
 {
     let mut bindings = bindings;
     let mut breaks = Vec::new(alloc);

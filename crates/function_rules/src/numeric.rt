@@ -1,4 +1,4 @@
-//! Functions of integers: ABS, MOD, MODULO, HUGE, INT (16.9).
+//! Functions of integers (16.9).
 
 ghost use Rattle.std.specs.Prelude.{◌≡◌, ◌++◌, IfOk, map};
 ghost use Rattle.std.specs.Option.{option_map};
@@ -10,7 +10,7 @@ ghost use Rattle.rule_definitions.specs.IntrinsicFunctions.{an_integer, of_type 
 ghost use Rattle.rule_definitions.specs.Judgements.{both, made};
 ghost use Rattle.rule_definitions.specs.Parts.{joint, type_of};
 ghost use Rattle.call_rules.specs.Bindings.{binding_seen};
-ghost use Rattle.function_rules.specs.Forms as forms;
+ghost use Rattle.rule_definitions.specs.IntrinsicFunctions as rules;
 ghost use Rattle.call_rules.specs.Views.{boxed};
 
 use caf_base::refusal::NoMemory;
@@ -20,32 +20,37 @@ use call_rules::binding::{Binding, order_of, take};
 use call_rules::kind::kind_at;
 use checked_tree::data::DataType;
 use checked_tree::expr::{ExprForm, Intrinsic, TypedExpr, WrittenOrder};
+use intrinsic_table::function::{OfOne, OfTwo};
 use part_rules::judged::{Judged, unknown};
 use part_rules::types::joint_type;
 use rule_definitions::broken::Broken;
 use scope_table::scope::Scope;
 use std::alloc::Global;
 
-/// The absolute value of an integer.
+/// A function of an integer.
 #[tactic(auto, using(checked_tree::specs::ExpressionViews::typed_forms))]
-fn absolute(a: Option<Box<TypedExpr>>) -> Option<TypedExpr>
-    ensures { option_map expression result ≡ made (λ x. as_type (type_of x) (t.abs x)) (option_map boxed a) }
+fn given_by_one(function: OfOne, a: Option<Box<TypedExpr>>) -> Option<TypedExpr>
+    ensures { option_map expression result ≡ made (λ x. as_type (type_of x) (t.of_one function x)) (option_map boxed a) }
 {
     let Some(a) = a else {
         return None;
     };
     let of_type = a.of_type;
     Some(TypedExpr {
-        form: ExprForm::Intrinsic(Intrinsic::Abs { a }),
+        form: ExprForm::Intrinsic(Intrinsic::OfOne { function, a }),
         of_type,
         rank: 0,
     })
 }
 
-/// ABS (16.9).
-pub fn abs(alloc: Global, bindings: Vec<Binding>) -> Result<Judged<TypedExpr>, NoMemory>
-    ensures breaks { IfOk result (λ j. j.breaks.items ≡ (forms.abs_of (map binding_seen bindings.items)).breaks) }
-    ensures meaning { IfOk result (λ j. option_map expression j.meaning ≡ (forms.abs_of (map binding_seen bindings.items)).meaning) }
+/// A reference to a function of one integer.
+pub fn of_one(
+    alloc: Global,
+    function: OfOne,
+    bindings: Vec<Binding>,
+) -> Result<Judged<TypedExpr>, NoMemory>
+    ensures breaks { IfOk result (λ j. j.breaks.items ≡ (rules.one_of function (map binding_seen bindings.items)).breaks) }
+    ensures meaning { IfOk result (λ j. option_map expression j.meaning ≡ (rules.one_of function (map binding_seen bindings.items)).meaning) }
 {
     let mut bindings = bindings;
     let mut breaks = Vec::new(alloc);
@@ -53,7 +58,7 @@ pub fn abs(alloc: Global, bindings: Vec<Binding>) -> Result<Judged<TypedExpr>, N
     drop(bindings);
     Ok(Judged {
         breaks,
-        meaning: absolute(a),
+        meaning: given_by_one(function, a),
     })
 }
 
@@ -84,35 +89,45 @@ fn two_integers(alloc: Global, bindings: Vec<Binding>) -> Result<Pair, NoMemory>
     })
 }
 
-/// The remainder of a division.
+/// A function of two integers.
 #[tactic(auto, using(checked_tree::specs::ExpressionViews::typed_forms))]
-fn remainder_of(
+fn given_by_two(
+    function: OfTwo,
     a: Option<Box<TypedExpr>>,
-    p: Option<Box<TypedExpr>>,
+    b: Option<Box<TypedExpr>>,
     order: WrittenOrder,
 ) -> Option<TypedExpr>
-    ensures { option_map expression result ≡ both (λ x y. as_type (joint (type_of x) (type_of y)) (t.remainder x y order)) (option_map boxed a) (option_map boxed p) }
+    ensures { option_map expression result ≡ both (λ x y. as_type (joint (type_of x) (type_of y)) (t.of_two function x y order)) (option_map boxed a) (option_map boxed b) }
 {
     let Some(a) = a else {
-        drop(p);
+        drop(b);
         return None;
     };
-    let Some(p) = p else {
+    let Some(b) = b else {
         drop(a);
         return None;
     };
-    let of_type = joint_type(a.of_type, p.of_type);
+    let of_type = joint_type(a.of_type, b.of_type);
     Some(TypedExpr {
-        form: ExprForm::Intrinsic(Intrinsic::Mod { a, p, order }),
+        form: ExprForm::Intrinsic(Intrinsic::OfTwo {
+            function,
+            a,
+            b,
+            order,
+        }),
         of_type,
         rank: 0,
     })
 }
 
-/// MOD (16.9).
-pub fn remainder(alloc: Global, bindings: Vec<Binding>) -> Result<Judged<TypedExpr>, NoMemory>
-    ensures breaks { IfOk result (λ j. j.breaks.items ≡ (forms.remainder_of (map binding_seen bindings.items)).breaks) }
-    ensures meaning { IfOk result (λ j. option_map expression j.meaning ≡ (forms.remainder_of (map binding_seen bindings.items)).meaning) }
+/// A reference to a function of two integers.
+pub fn of_two(
+    alloc: Global,
+    function: OfTwo,
+    bindings: Vec<Binding>,
+) -> Result<Judged<TypedExpr>, NoMemory>
+    ensures breaks { IfOk result (λ j. j.breaks.items ≡ (rules.two_of function (map binding_seen bindings.items)).breaks) }
+    ensures meaning { IfOk result (λ j. option_map expression j.meaning ≡ (rules.two_of function (map binding_seen bindings.items)).meaning) }
 {
     let order = order_of(bindings.as_slice(), 0, 1);
     let Pair {
@@ -122,49 +137,7 @@ pub fn remainder(alloc: Global, bindings: Vec<Binding>) -> Result<Judged<TypedEx
     } = two_integers(alloc, bindings)?;
     Ok(Judged {
         breaks,
-        meaning: remainder_of(first, second, order),
-    })
-}
-
-/// The remainder of a division, with the sign of the divisor.
-#[tactic(auto, using(checked_tree::specs::ExpressionViews::typed_forms))]
-fn modulo_of(
-    a: Option<Box<TypedExpr>>,
-    p: Option<Box<TypedExpr>>,
-    order: WrittenOrder,
-) -> Option<TypedExpr>
-    ensures { option_map expression result ≡ both (λ x y. as_type (joint (type_of x) (type_of y)) (t.modulo x y order)) (option_map boxed a) (option_map boxed p) }
-{
-    let Some(a) = a else {
-        drop(p);
-        return None;
-    };
-    let Some(p) = p else {
-        drop(a);
-        return None;
-    };
-    let of_type = joint_type(a.of_type, p.of_type);
-    Some(TypedExpr {
-        form: ExprForm::Intrinsic(Intrinsic::Modulo { a, p, order }),
-        of_type,
-        rank: 0,
-    })
-}
-
-/// MODULO (16.9).
-pub fn modulo(alloc: Global, bindings: Vec<Binding>) -> Result<Judged<TypedExpr>, NoMemory>
-    ensures breaks { IfOk result (λ j. j.breaks.items ≡ (forms.modulo_of (map binding_seen bindings.items)).breaks) }
-    ensures meaning { IfOk result (λ j. option_map expression j.meaning ≡ (forms.modulo_of (map binding_seen bindings.items)).meaning) }
-{
-    let order = order_of(bindings.as_slice(), 0, 1);
-    let Pair {
-        breaks,
-        first,
-        second,
-    } = two_integers(alloc, bindings)?;
-    Ok(Judged {
-        breaks,
-        meaning: modulo_of(first, second, order),
+        meaning: given_by_two(function, first, second, order),
     })
 }
 
@@ -187,8 +160,8 @@ fn greatest_of(value: Option<TypedExpr>) -> Option<TypedExpr>
 
 /// HUGE (16.9).
 pub fn huge(alloc: Global, bindings: Vec<Binding>) -> Result<Judged<TypedExpr>, NoMemory>
-    ensures breaks { IfOk result (λ j. j.breaks.items ≡ (forms.huge_of (map binding_seen bindings.items)).breaks) }
-    ensures meaning { IfOk result (λ j. option_map expression j.meaning ≡ (forms.huge_of (map binding_seen bindings.items)).meaning) }
+    ensures breaks { IfOk result (λ j. j.breaks.items ≡ (rules.huge_of (map binding_seen bindings.items)).breaks) }
+    ensures meaning { IfOk result (λ j. option_map expression j.meaning ≡ (rules.huge_of (map binding_seen bindings.items)).meaning) }
 {
     let mut bindings = bindings;
     let part = take(&mut bindings, 0);
@@ -229,8 +202,8 @@ pub fn int(
     scope: &Scope<'_>,
     bindings: Vec<Binding>,
 ) -> Result<Judged<TypedExpr>, NoMemory>
-    ensures breaks { IfOk result (λ j. j.breaks.items ≡ (forms.int_of scope.now (map binding_seen bindings.items)).breaks) }
-    ensures meaning { IfOk result (λ j. option_map expression j.meaning ≡ (forms.int_of scope.now (map binding_seen bindings.items)).meaning) }
+    ensures breaks { IfOk result (λ j. j.breaks.items ≡ (rules.int_of scope.now (map binding_seen bindings.items)).breaks) }
+    ensures meaning { IfOk result (λ j. option_map expression j.meaning ≡ (rules.int_of scope.now (map binding_seen bindings.items)).meaning) }
 {
     let mut bindings = bindings;
     let mut breaks = Vec::new(alloc);

@@ -2,6 +2,7 @@
 
 use caf_base::value::{AtomicOp, Kind};
 use caf_events::round::GatherOp;
+use intrinsic_table::function::{OfOne, OfTwo};
 use std::mem::size_of;
 
 /// Whose variable: one of the running procedure or main program, or one of the main program by host association
@@ -82,12 +83,10 @@ pub enum Step {
     Power(Kind),
     /// The number with the other sign. (`kind`)
     Negate(Kind),
-    /// ABS: the number without its sign. (`kind`)
-    Absolute(Kind),
-    /// MOD.
-    Remainder,
-    /// MODULO.
-    Modulo,
+    /// A function of one integer (16.9). (`function`, `kind`)
+    OfOne(OfOne, Kind),
+    /// A function of two integers. (`function`, `kind`)
+    OfTwo(OfTwo, Kind),
     /// MIN of two.
     Least,
     /// MAX of two.

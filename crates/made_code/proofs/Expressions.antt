@@ -268,9 +268,8 @@ module _ (e : Environment) where
         coindexed_bounds s ss r c (view.optional_size stat) h.1 (subscript_turns s h.0.0) (subscripts_turns ss h.0.1) (owner_turns c r (t.selector cs which stat) h.2)
 
     intrinsic_turns : (i : t.Intrinsic) (k : Kind) (r : ℕ) → ranks.HasIntrinsicRank e.program.procedures i r → Turns (valued r) (view.intrinsic e i k)
-    intrinsic_turns (t.abs x) k r h = of_rank_0 h.0 (one_operand refl (scalar_turns x h.1))
-    intrinsic_turns (t.remainder x y o) k r h = of_rank_0 h.0 (then_one (numbers 0 1) (written_two o (scalar_turns x h.1) (scalar_turns y h.2)) (omega arith))
-    intrinsic_turns (t.modulo x y o) k r h = of_rank_0 h.0 (then_one (numbers 0 1) (written_two o (scalar_turns x h.1) (scalar_turns y h.2)) (omega arith))
+    intrinsic_turns (t.of_one f x) k r h = of_rank_0 h.0 (one_operand refl (scalar_turns x h.1))
+    intrinsic_turns (t.of_two f x y o) k r h = of_rank_0 h.0 (then_one (numbers 0 1) (written_two o (scalar_turns x h.1) (scalar_turns y h.2)) (omega arith))
     intrinsic_turns (t.min es) k r h = of_rank_0 h.0 (first_turns a.least refl es h.1)
     intrinsic_turns (t.max es) k r h = of_rank_0 h.0 (first_turns a.greatest refl es h.1)
     intrinsic_turns t.huge k r h = of_rank_0 h (pushed (huge_of k))

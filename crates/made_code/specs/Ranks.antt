@@ -154,9 +154,8 @@ module _ (procedures : List s.Procedure) where
 
     -- the intrinsic functions (16.9)
     pub HasIntrinsicRank : t.Intrinsic → ℕ → Type 0
-    HasIntrinsicRank (t.abs x) r = (r ≡ 0) × IsOfRank x 0
-    HasIntrinsicRank (t.remainder x y o) r = (r ≡ 0) × IsOfRank x 0 × IsOfRank y 0
-    HasIntrinsicRank (t.modulo x y o) r = (r ≡ 0) × IsOfRank x 0 × IsOfRank y 0
+    HasIntrinsicRank (t.of_one f x) r = (r ≡ 0) × IsOfRank x 0
+    HasIntrinsicRank (t.of_two f x y o) r = (r ≡ 0) × IsOfRank x 0 × IsOfRank y 0
     HasIntrinsicRank (t.min es) r = (r ≡ 0) × AreSomeScalars es
     HasIntrinsicRank (t.max es) r = (r ≡ 0) × AreSomeScalars es
     HasIntrinsicRank t.huge r = r ≡ 0

@@ -4,11 +4,13 @@ ghost use Rattle.std.specs.Prelude.{◌≡◌, pos, ◌+ℤ◌, ◌-ℤ◌, ◌*
 ghost use Rattle.std.specs.Ordering.{int_eq};
 ghost use Rattle.caf_base.specs.Arithmetic.{fits_kind, magnitude};
 ghost use Rattle.image_acts.specs.Operate.Operators.{in_kind};
+ghost use Rattle.intrinsic_table.specs.Numbers.{number_of_one};
 ghost use Rattle.number_operators.specs.Kinds.{IsInteger};
 ghost use Rattle.number_operators.specs.Operators.{as_found};
 
 use caf_base::value::Kind;
 use caf_events::fault::OVERFLOW;
+use intrinsic_table::function::OfOne;
 
 /// A result, or the number of a run fault.
 #[derive(Clone, Copy)]
@@ -78,8 +80,18 @@ pub fn product(kind: Kind, v: i64, w: i64) -> Computed
     }
 }
 
-/// A number without its sign (16.9.2).
-pub fn absolute(kind: Kind, v: i64) -> Computed
+/// A function of one integer (16.9).
+pub fn of_one(function: OfOne, kind: Kind, v: i64) -> Computed
+    requires { IsInteger kind }
+    ensures { as_found result ≡ in_kind kind (number_of_one function v) }
+{
+    match function {
+        OfOne::Abs => absolute(kind, v),
+    }
+}
+
+// A number without its sign (16.9.2).
+fn absolute(kind: Kind, v: i64) -> Computed
     requires { IsInteger kind }
     ensures { as_found result ≡ in_kind kind (magnitude v) }
 {

@@ -5,15 +5,16 @@
 ghost use Rattle.std.specs.Prelude.{◌≡◌, ◌<◌, ◌^◌, ◌≤ℤ◌, pos, false, int_div, int_rem};
 ghost use Rattle.std.specs.Option.{IfSome};
 ghost use Rattle.std.specs.Ordering.{int_eq};
-ghost use Rattle.walk_theory.specs.Terms.{found};
 ghost use Rattle.caf_base.specs.Arithmetic.{with_sign_of};
-ghost use Rattle.image_acts.specs.Operate.Operators.{in_kind, divided, quotient};
+ghost use Rattle.intrinsic_table.specs.Numbers.{number_of_two, of_division};
+ghost use Rattle.image_acts.specs.Operate.Operators.{in_kind, in_kind_if, quotient};
 ghost use Rattle.number_operators.specs.Kinds.{IsInteger};
 ghost use Rattle.number_operators.specs.Operators.{as_found};
 
 use crate::arithmetic::{Computed, in_kind, is_zero};
 use caf_base::value::Kind;
 use caf_events::fault::{DIVIDE_BY_ZERO, OVERFLOW};
+use intrinsic_table::function::OfTwo;
 
 /// A quotient, truncated toward 0.
 #[inline(always)]
@@ -65,27 +66,41 @@ fn shifted(v: i64, k: u32) -> i64
     v >> k
 }
 
+/// A function of two integers (16.9).
+#[inline(always)]
+pub fn of_two(function: OfTwo, kind: Kind, v: i64, w: i64) -> Computed
+    requires { IsInteger kind }
+    ensures { as_found result ≡ in_kind_if kind (number_of_two function v w) }
+{
+    match function {
+        OfTwo::Mod => remainder(kind, v, w),
+        OfTwo::Modulo => modulo(kind, v, w),
+    }
+}
+
 /// MOD: what a division leaves, with the sign of the first number.
 #[inline(always)]
-pub fn remainder(v: i64, w: i64) -> Computed
-    ensures { as_found result ≡ divided w (found (int_rem v w)) }
+fn remainder(kind: Kind, v: i64, w: i64) -> Computed
+    requires { IsInteger kind }
+    ensures { as_found result ≡ in_kind_if kind (of_division w (int_rem v w)) }
 {
     if is_zero(w) {
         Computed::Fault(DIVIDE_BY_ZERO)
     } else {
-        Computed::Value(rest(v, w))
+        in_kind(kind, rest(v, w))
     }
 }
 
 /// MODULO: what a division leaves, with the sign of the second number.
 #[inline(always)]
-pub fn modulo(v: i64, w: i64) -> Computed
-    ensures { as_found result ≡ divided w (found (with_sign_of w (int_rem v w))) }
+fn modulo(kind: Kind, v: i64, w: i64) -> Computed
+    requires { IsInteger kind }
+    ensures { as_found result ≡ in_kind_if kind (of_division w (with_sign_of w (int_rem v w))) }
 {
     if is_zero(w) {
         Computed::Fault(DIVIDE_BY_ZERO)
     } else {
-        Computed::Value(with_sign_of(w, rest(v, w)))
+        in_kind(kind, with_sign_of(w, rest(v, w)))
     }
 }
 

@@ -4,10 +4,11 @@ ghost use Rattle.std.specs.Prelude.{◌≡◌};
 ghost use Rattle.caf_base.specs.Arithmetic.{truth};
 ghost use Rattle.number_operators.specs.Operators.{IsExact, IsExactOfOne, result_of, result_of_one, as_found};
 
-use crate::arithmetic::{Computed, absolute, difference, product, sum};
-use crate::division::{modulo, quotient, remainder};
+use crate::arithmetic::{Computed, difference, of_one, product, sum};
+use crate::division::{of_two, quotient};
 use crate::powers::power;
 use caf_base::value::Kind;
+use intrinsic_table::function::{OfOne, OfTwo};
 
 /// An operator of two operands.
 #[derive(Clone, Copy)]
@@ -17,8 +18,7 @@ pub enum Binary {
     Multiply(Kind),
     Divide(Kind),
     Power(Kind),
-    Remainder,
-    Modulo,
+    OfTwo(OfTwo, Kind),
     Least,
     Greatest,
     Equal,
@@ -35,7 +35,7 @@ pub enum Binary {
 #[derive(Clone, Copy)]
 pub enum Unary {
     Negate(Kind),
-    Absolute(Kind),
+    OfOne(OfOne, Kind),
     Negation,
 }
 
@@ -50,8 +50,7 @@ pub fn result(op: Binary, v: i64, w: i64) -> Computed
         Binary::Multiply(kind) => product(kind, v, w),
         Binary::Divide(kind) => quotient(kind, v, w),
         Binary::Power(kind) => power(kind, v, w),
-        Binary::Remainder => remainder(v, w),
-        Binary::Modulo => modulo(v, w),
+        Binary::OfTwo(function, kind) => of_two(function, kind, v, w),
         Binary::Least => Computed::Value(if v <= w { v } else { w }),
         Binary::Greatest => Computed::Value(if v <= w { w } else { v }),
         Binary::Equal => Computed::Value(truth(v == w)),
@@ -72,7 +71,7 @@ pub fn result_of_one(op: Unary, v: i64) -> Computed
 {
     match op {
         Unary::Negate(kind) => difference(kind, 0, v),
-        Unary::Absolute(kind) => absolute(kind, v),
+        Unary::OfOne(function, kind) => of_one(function, kind, v),
         Unary::Negation => Computed::Value(truth(v == 0)),
     }
 }

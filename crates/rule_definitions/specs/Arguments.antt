@@ -8,6 +8,7 @@ use Rattle.checked_tree.specs.declared.data.DataType.{DataType}
 use Rattle.checked_tree.specs.declared.data.Object.TheVariants as objects
 use Rattle.checked_tree.specs.declared.expr.WrittenOrder.{WrittenOrder}
 use Rattle.checked_tree.specs.declared.expr.WrittenOrder.TheVariants.{Same, Reversed}
+use Rattle.intrinsic_table.specs.Dummies.{IntrinsicDummy}
 use Rattle.rule_definitions.specs.declared.broken.Broken.{Broken}
 use Rattle.rule_definitions.specs.Judgements.{breaks, unless, is_nothing, Judgement, fine, refused, unknown, ruled, under, made_of, made_of_both, made, is_there, item_at}
 use Rattle.rule_definitions.specs.Names.{Scope, Symbol, intent_is_in, is_declared_role, is_type}
@@ -112,21 +113,6 @@ abbrev pub arguments : Scope → List Symbol → List Actual → Pos → Judgeme
 arguments s ds as' p = ruled (paired_all s ds as') (number_breaks ds as' p)
 
 -- Intrinsic procedures
-
--- a dummy argument of an intrinsic procedure, and whether it takes a list of images
-pub record IntrinsicDummy : Type 0 where
-  pub name : List ℕ
-  pub is_needed : Bool
-  pub takes_images : Bool
-
-abbrev pub needed : List ℕ → IntrinsicDummy
-needed n = record { name = n; is_needed = true; takes_images = false }
-
-abbrev pub needed_list : List ℕ → IntrinsicDummy
-needed_list n = record { name = n; is_needed = true; takes_images = true }
-
-abbrev pub optional : List ℕ → IntrinsicDummy
-optional n = record { name = n; is_needed = false; takes_images = false }
 
 -- an actual argument with the number of its dummy, where it has one
 pub record Binding : Type 0 where

@@ -1,5 +1,5 @@
 -- Constant expressions (10.1.12), and what is known before the run of the shapes of expressions.
-use Rattle.std.specs.Prelude.{ℕ, zero, suc, ℤ, pos, neg_ℤ, nat_abs, ◌+ℤ◌, ◌-ℤ◌, ◌*ℤ◌, int_lt, int_le, int_div, int_rem, Bool, true, false, not, cond, nat_eq, nat_lt, nat_le, ◌+◌, ◌%◌, List, [], ◌∷◌, ◌++◌, ◌||◌, ◌&&◌, Option, Some, None, map, length, replicate, get_or}
+use Rattle.std.specs.Prelude.{ℕ, zero, suc, ℤ, pos, neg_ℤ, nat_abs, ◌+ℤ◌, ◌-ℤ◌, ◌*ℤ◌, int_lt, int_le, int_div, Bool, true, false, not, cond, nat_eq, nat_lt, nat_le, ◌+◌, ◌%◌, List, [], ◌∷◌, ◌++◌, ◌||◌, ◌&&◌, Option, Some, None, map, length, replicate, get_or}
 use Rattle.std.specs.Ordering.{int_eq}
 use Rattle.caf_base.specs.declared.value.Kind.{Kind}
 use Rattle.caf_base.specs.declared.value.Kind.TheVariants.{I4, I8, L4}
@@ -20,6 +20,7 @@ use Rattle.checked_tree.specs.declared.expr.RelationalOperator.{RelationalOperat
 use Rattle.checked_tree.specs.declared.expr.RelationalOperator.TheVariants as relations
 use Rattle.checked_tree.specs.declared.expr.LogicalOperator.{LogicalOperator}
 use Rattle.checked_tree.specs.declared.expr.LogicalOperator.TheVariants as logics
+use Rattle.intrinsic_table.specs.Numbers.{number_of_one, number_of_two}
 use Rattle.rule_definitions.specs.Names.{KnownBounds, Scope, Symbol, Interface, symbol_of}
 use Rattle.rule_definitions.specs.Judgements.{item_at, made}
 
@@ -117,12 +118,10 @@ abbrev pub denied : Constancy → Constancy
 denied (value (Truth b)) = value (Truth (not b))
 denied c = no_constant
 
--- MOD has the sign of A, MODULO that of P (16.9)
-abbrev pub remainder_of : DataType → ℤ → ℤ → Constancy
-remainder_of y a p = cond (int_eq p (pos 0)) no_constant (in_type y (int_rem a p))
-
-abbrev pub modulo_of : DataType → ℤ → ℤ → Constancy
-modulo_of y a p = cond (int_eq p (pos 0)) no_constant (in_type y (int_rem (int_rem a p +ℤ p) p))
+-- the number that a function gives, where it gives one
+abbrev pub in_type_if : DataType → Option ℤ → Constancy
+in_type_if y None = no_constant
+in_type_if y (Some n) = in_type y n
 
 abbrev pub greater : ℤ → ℤ → Constancy
 greater a b = value (Int (cond (int_lt a b) b a))
@@ -440,9 +439,8 @@ abbrev mutual
   known_optional s (t.given e) = written (known s e).constancy
 
   pub known_intrinsic : Scope → t.Intrinsic → DataType → Known
-  known_intrinsic s (t.abs a) y = scalar (of_integer (λ n. in_type y (pos (nat_abs n))) (known s a).constancy)
-  known_intrinsic s (t.remainder a p o) y = scalar (of_integers (remainder_of y) (known s a).constancy (known s p).constancy)
-  known_intrinsic s (t.modulo a p o) y = scalar (of_integers (modulo_of y) (known s a).constancy (known s p).constancy)
+  known_intrinsic s (t.of_one f a) y = scalar (of_integer (λ n. in_type y (number_of_one f n)) (known s a).constancy)
+  known_intrinsic s (t.of_two f a b o) y = scalar (of_integers (λ m n. in_type_if y (number_of_two f m n)) (known s a).constancy (known s b).constancy)
   known_intrinsic s (t.min es) y = scalar (least_of lesser (known_items s es).items)
   known_intrinsic s (t.max es) y = scalar (least_of greater (known_items s es).items)
   known_intrinsic s t.huge y = scalar (huge_of y)

@@ -22,6 +22,7 @@ use Rattle.checked_tree.specs.declared.data.Codimensions.TheVariants as coshapes
 use Rattle.checked_tree.specs.declared.data.Initial.{Initial}
 use Rattle.checked_tree.specs.declared.data.Initial.TheVariants as initials
 use Rattle.checked_tree.specs.declared.data.Constant.{Constant}
+use Rattle.intrinsic_table.specs.declared.function.FunctionName.TheVariants as functions
 use Rattle.rule_definitions.specs.declared.broken.Broken.{Broken}
 use Rattle.rule_definitions.specs.Judgements.{breaks, unless, is_nothing, Judgement, fine, refused, unknown, ruled, formed, under, made_of, made_of_both, then, said_of, is_there, breaks_of}
 use Rattle.rule_definitions.specs.Names
@@ -50,7 +51,7 @@ has_brackets f.no_section_subscripts = false
 has_brackets (f.more_section_subscripts x rest) = true
 
 abbrev pub is_huge : Option Meaning → Bool
-is_huge (Some (Names.intrinsic_function Names.huge)) = true
+is_huge (Some (Names.intrinsic_function functions.Huge)) = true
 is_huge m = false
 
 -- an inquiry is constant of a variable and of a constant expression alone (10.1.12); nothing is said of what broke

@@ -10,10 +10,15 @@ use Rattle.checked_tree.specs.declared.data.Object.{Object}
 use Rattle.checked_tree.specs.declared.data.Object.TheVariants as objects
 use Rattle.rule_definitions.specs.declared.broken.Broken.{Broken}
 use Rattle.rule_definitions.specs.Judgements.{unless, is_nothing, Judgement, fine, refused, ruled, under, made_of, made_of_both, made_of_three, then, is_there}
-use Rattle.rule_definitions.specs.Names
-use Rattle.rule_definitions.specs.Names.{Scope, Symbol, FunctionName, symbol_of, is_integer, is_team}
+use Rattle.rule_definitions.specs.Names.{Scope, Symbol, symbol_of, is_integer, is_team}
 use Rattle.rule_definitions.specs.Parts.{Placed, plain, type_of, rank_of, integer, integer_kind, kind_value, team, team_of, unlike_breaks, joint}
-use Rattle.rule_definitions.specs.Arguments.{Actual, Binding, IntrinsicDummy, needed, needed_list, optional, breaks_in, breaks_in_all, bound, value_for, given_to, maybe_given_to, order_of, is_triplet, expression, triplet}
+use Rattle.rule_definitions.specs.Arguments.{Actual, Binding, breaks_in, breaks_in_all, bound, value_for, given_to, maybe_given_to, order_of, is_triplet, expression, triplet}
+use Rattle.intrinsic_table.specs.declared.function.OfOne.{OfOne}
+use Rattle.intrinsic_table.specs.declared.function.OfTwo.{OfTwo}
+use Rattle.intrinsic_table.specs.declared.function.FunctionName.{FunctionName}
+use Rattle.intrinsic_table.specs.declared.function.FunctionName.TheVariants as functions
+use Rattle.intrinsic_table.specs.declared.form.Form.TheVariants as forms
+use Rattle.intrinsic_table.specs.Dummies.{dummies_of, the_team}
 
 -- Rule 59: what the function doesn't take; rule 51 for a team
 abbrev pub taken : Bool → Pos → t.Expression → List Broken
@@ -64,15 +69,9 @@ of_type y i = t.typed (t.intrinsic i) y 0
 abbrev pub default_integer : t.Intrinsic → t.Expression
 default_integer i = of_type (Intrinsic I4) i
 
-abbrev pub the_team : List IntrinsicDummy
-the_team = optional (codes "team") ∷ []
-
 -- a function with an optional TEAM alone
 abbrev pub of_team : (t.OptionalExpression → t.Expression) → List Actual → Pos → Judgement t.Expression
 of_team make as' p = bound the_team as' p (λ bs. made_of make (maybe_given_to bs 0 team))
-
-abbrev pub two_integers : List ℕ → List ℕ → List IntrinsicDummy
-two_integers a b = needed a ∷ needed b ∷ []
 
 abbrev pub joint_type : t.Expressions → DataType
 joint_type t.no_expressions = Intrinsic I4
@@ -115,11 +114,6 @@ has_keyword n (a ∷ rest) = is_keyword n a || has_keyword n rest
 abbrev pub is_of_coarray : List Actual → Bool
 is_of_coarray as' = nat_le 2 (length as') || (has_keyword (codes "coarray") as' || has_keyword (codes "dim") as')
 
-abbrev pub this_image : List Actual → Pos → Judgement t.Expression
-this_image as' p = cond (is_of_coarray as')
-    (bound (needed (codes "coarray") ∷ needed (codes "dim") ∷ optional (codes "team") ∷ []) as' p (λ bs. made_of_three (λ n d m. default_integer (t.this_cosubscript n d m (order_of bs 1 2))) (given_to bs 0 a_coarray) (given_to bs 1 an_integer) (maybe_given_to bs 2 team)))
-    (of_team (λ m. default_integer (t.this_image m)) as' p)
-
 abbrev pub is_integer_argument : Option t.Expression → Bool
 is_integer_argument None = false
 is_integer_argument (Some x) = is_integer (type_of x)
@@ -132,35 +126,86 @@ abbrev pub is_first_unnamed : List Actual → Bool
 is_first_unnamed [] = false
 is_first_unnamed (a ∷ rest) = not (is_there a.keyword)
 
+-- a function of one integer, and one of two: MOD has the greater of the kinds of both
+abbrev pub one_of : OfOne → List Binding → Judgement t.Expression
+one_of f bs = made_of (λ a. of_type (type_of a) (t.of_one f a)) (given_to bs 0 an_integer)
+
+abbrev pub two_of : OfTwo → List Binding → Judgement t.Expression
+two_of f bs = made_of_both (λ a b. of_type (joint (type_of a) (type_of b)) (t.of_two f a b (order_of bs 0 1))) (given_to bs 0 an_integer) (given_to bs 1 an_integer)
+
+abbrev pub huge_of : List Binding → Judgement t.Expression
+huge_of bs = made_of (λ x. of_type (type_of x) t.huge) (given_to bs 0 of_integer_type)
+
+abbrev pub int_of : Scope → List Binding → Judgement t.Expression
+int_of s bs = made_of_both (λ a k. of_type (Intrinsic k) (t.int a)) (given_to bs 0 an_integer) (kind_argument s bs 1)
+
+abbrev pub size_of : List Binding → Judgement t.Expression
+size_of bs = made_of_both (λ a d. default_integer (t.size a d (order_of bs 0 1))) (given_to bs 0 (λ e. an_array e.at e.judged)) (maybe_given_to bs 1 an_integer)
+
+abbrev pub lbound_of : List Binding → Judgement t.Expression
+lbound_of bs = made_of_both (λ a d. default_integer (t.lbound a d (order_of bs 0 1))) (given_to bs 0 (λ e. an_array e.at (plain e))) (given_to bs 1 an_integer)
+
+abbrev pub ubound_of : List Binding → Judgement t.Expression
+ubound_of bs = made_of_both (λ a d. default_integer (t.ubound a d (order_of bs 0 1))) (given_to bs 0 (λ e. an_array e.at (plain e))) (given_to bs 1 an_integer)
+
+abbrev pub allocated_of : Scope → List Binding → Judgement t.Expression
+allocated_of s bs = made_of (λ o. of_type (Intrinsic L4) (t.allocated o)) (given_to bs 0 (an_allocatable s))
+
+abbrev pub this_image_of : List Binding → Judgement t.Expression
+this_image_of bs = made_of (λ m. default_integer (t.this_image m)) (maybe_given_to bs 0 team)
+
+abbrev pub this_cosubscript_of : List Binding → Judgement t.Expression
+this_cosubscript_of bs = made_of_three (λ n d m. default_integer (t.this_cosubscript n d m (order_of bs 1 2))) (given_to bs 0 a_coarray) (given_to bs 1 an_integer) (maybe_given_to bs 2 team)
+
+abbrev pub num_images_of : ℕ → List Binding → Judgement t.Expression
+num_images_of rule bs = made_of (λ m. default_integer (t.num_images m)) (maybe_given_to bs 0 (team_of rule))
+
+abbrev pub num_images_of_number_of : List Binding → Judgement t.Expression
+num_images_of_number_of bs = made_of (λ n. default_integer (t.num_images_of_number n)) (given_to bs 0 an_integer)
+
+abbrev pub image_index_of : List Binding → Judgement t.Expression
+image_index_of bs = made_of_three (λ n l m. default_integer (t.image_index n l m (order_of bs 1 2))) (given_to bs 0 a_coarray) (given_to bs 1 an_integer_list) (maybe_given_to bs 2 team)
+
+abbrev pub image_status_of : List Binding → Judgement t.Expression
+image_status_of bs = made_of_both (λ i m. default_integer (t.image_status i m (order_of bs 0 1))) (given_to bs 0 an_integer) (maybe_given_to bs 1 team)
+
+abbrev pub failed_images_of : List Binding → Judgement t.Expression
+failed_images_of bs = made_of (λ m. t.typed (t.intrinsic (t.failed_images m)) (Intrinsic I4) 1) (maybe_given_to bs 0 team)
+
+abbrev pub stopped_images_of : List Binding → Judgement t.Expression
+stopped_images_of bs = made_of (λ m. t.typed (t.intrinsic (t.stopped_images m)) (Intrinsic I4) 1) (maybe_given_to bs 0 team)
+
+abbrev pub team_number_of : List Binding → Judgement t.Expression
+team_number_of bs = made_of (λ m. default_integer (t.number_of_team m)) (maybe_given_to bs 0 team)
+
+abbrev pub get_team_of : List Binding → Judgement t.Expression
+get_team_of bs = made_of (λ l. of_type Team (t.get_team l)) (maybe_given_to bs 0 an_integer)
+
+abbrev pub this_image : List Actual → Pos → Judgement t.Expression
+this_image as' p = cond (is_of_coarray as') (bound (dummies_of forms.ThisCosubscript) as' p this_cosubscript_of) (bound (dummies_of forms.ThisImage) as' p this_image_of)
+
 -- NUM_IMAGES: of a team, or of a team number
 abbrev pub num_images : List Actual → Pos → Judgement t.Expression
 num_images as' p = cond (is_first_integer as')
-    (bound (needed (codes "team_number") ∷ []) as' p (λ bs. made_of (λ n. default_integer (t.num_images_of_number n)) (given_to bs 0 an_integer)))
-    (bound the_team as' p (λ bs. made_of (λ m. default_integer (t.num_images m)) (maybe_given_to bs 0 (team_of (cond (is_first_unnamed as') 59 51)))))
-
-abbrev pub with_dim : List IntrinsicDummy
-with_dim = needed (codes "array") ∷ needed (codes "dim") ∷ []
-
-abbrev pub list_of_images : (t.OptionalExpression → t.Intrinsic) → List Actual → Pos → Judgement t.Expression
-list_of_images make as' p = of_team (λ m. t.typed (t.intrinsic (make m)) (Intrinsic I4) 1) as' p
+    (bound (dummies_of forms.NumImagesOfNumber) as' p num_images_of_number_of)
+    (bound the_team as' p (num_images_of (cond (is_first_unnamed as') 59 51)))
 
 abbrev pub intrinsic_reference : Scope → FunctionName → List Actual → Pos → Judgement t.Expression
-intrinsic_reference s Names.abs as' p = bound (needed (codes "a") ∷ []) as' p (λ bs. made_of (λ a. of_type (type_of a) (t.abs a)) (given_to bs 0 an_integer))
-intrinsic_reference s Names.remainder as' p = bound (two_integers (codes "a") (codes "p")) as' p (λ bs. made_of_both (λ a q. of_type (joint (type_of a) (type_of q)) (t.remainder a q (order_of bs 0 1))) (given_to bs 0 an_integer) (given_to bs 1 an_integer))
-intrinsic_reference s Names.modulo as' p = bound (two_integers (codes "a") (codes "p")) as' p (λ bs. made_of_both (λ a q. of_type (joint (type_of a) (type_of q)) (t.modulo a q (order_of bs 0 1))) (given_to bs 0 an_integer) (given_to bs 1 an_integer))
-intrinsic_reference s Names.min as' p = several_integers t.min as' p
-intrinsic_reference s Names.max as' p = several_integers t.max as' p
-intrinsic_reference s Names.huge as' p = bound (needed (codes "x") ∷ []) as' p (λ bs. made_of (λ x. of_type (type_of x) t.huge) (given_to bs 0 of_integer_type))
-intrinsic_reference s Names.int as' p = bound (needed (codes "a") ∷ optional (codes "kind") ∷ []) as' p (λ bs. made_of_both (λ a k. of_type (Intrinsic k) (t.int a)) (given_to bs 0 an_integer) (kind_argument s bs 1))
-intrinsic_reference s Names.size as' p = bound (needed_list (codes "array") ∷ optional (codes "dim") ∷ []) as' p (λ bs. made_of_both (λ a d. default_integer (t.size a d (order_of bs 0 1))) (given_to bs 0 (λ e. an_array e.at e.judged)) (maybe_given_to bs 1 an_integer))
-intrinsic_reference s Names.lbound as' p = bound with_dim as' p (λ bs. made_of_both (λ a d. default_integer (t.lbound a d (order_of bs 0 1))) (given_to bs 0 (λ e. an_array e.at (plain e))) (given_to bs 1 an_integer))
-intrinsic_reference s Names.ubound as' p = bound with_dim as' p (λ bs. made_of_both (λ a d. default_integer (t.ubound a d (order_of bs 0 1))) (given_to bs 0 (λ e. an_array e.at (plain e))) (given_to bs 1 an_integer))
-intrinsic_reference s Names.allocated as' p = bound (needed (codes "v") ∷ []) as' p (λ bs. made_of (λ o. of_type (Intrinsic L4) (t.allocated o)) (given_to bs 0 (an_allocatable s)))
-intrinsic_reference s Names.this_image as' p = this_image as' p
-intrinsic_reference s Names.num_images as' p = num_images as' p
-intrinsic_reference s Names.image_index as' p = bound (needed (codes "coarray") ∷ needed (codes "sub") ∷ optional (codes "team") ∷ []) as' p (λ bs. made_of_three (λ n l m. default_integer (t.image_index n l m (order_of bs 1 2))) (given_to bs 0 a_coarray) (given_to bs 1 an_integer_list) (maybe_given_to bs 2 team))
-intrinsic_reference s Names.image_status as' p = bound (needed (codes "image") ∷ optional (codes "team") ∷ []) as' p (λ bs. made_of_both (λ i m. default_integer (t.image_status i m (order_of bs 0 1))) (given_to bs 0 an_integer) (maybe_given_to bs 1 team))
-intrinsic_reference s Names.failed_images as' p = list_of_images t.failed_images as' p
-intrinsic_reference s Names.stopped_images as' p = list_of_images t.stopped_images as' p
-intrinsic_reference s Names.team_number as' p = of_team (λ m. default_integer (t.number_of_team m)) as' p
-intrinsic_reference s Names.get_team as' p = bound (optional (codes "level") ∷ []) as' p (λ bs. made_of (λ l. of_type Team (t.get_team l)) (maybe_given_to bs 0 an_integer))
+intrinsic_reference s (functions.OfOne f) as' p = bound (dummies_of (forms.OfOne f)) as' p (one_of f)
+intrinsic_reference s (functions.OfTwo f) as' p = bound (dummies_of (forms.OfTwo f)) as' p (two_of f)
+intrinsic_reference s functions.Min as' p = several_integers t.min as' p
+intrinsic_reference s functions.Max as' p = several_integers t.max as' p
+intrinsic_reference s functions.Huge as' p = bound (dummies_of forms.Huge) as' p huge_of
+intrinsic_reference s functions.Int as' p = bound (dummies_of forms.Int) as' p (int_of s)
+intrinsic_reference s functions.Size as' p = bound (dummies_of forms.Size) as' p size_of
+intrinsic_reference s functions.Lbound as' p = bound (dummies_of forms.Lbound) as' p lbound_of
+intrinsic_reference s functions.Ubound as' p = bound (dummies_of forms.Ubound) as' p ubound_of
+intrinsic_reference s functions.Allocated as' p = bound (dummies_of forms.Allocated) as' p (allocated_of s)
+intrinsic_reference s functions.ThisImage as' p = this_image as' p
+intrinsic_reference s functions.NumImages as' p = num_images as' p
+intrinsic_reference s functions.ImageIndex as' p = bound (dummies_of forms.ImageIndex) as' p image_index_of
+intrinsic_reference s functions.ImageStatus as' p = bound (dummies_of forms.ImageStatus) as' p image_status_of
+intrinsic_reference s functions.FailedImages as' p = bound (dummies_of forms.FailedImages) as' p failed_images_of
+intrinsic_reference s functions.StoppedImages as' p = bound (dummies_of forms.StoppedImages) as' p stopped_images_of
+intrinsic_reference s functions.TeamNumber as' p = bound (dummies_of forms.TeamNumber) as' p team_number_of
+intrinsic_reference s functions.GetTeam as' p = bound (dummies_of forms.GetTeam) as' p get_team_of

@@ -16,7 +16,8 @@ use Rattle.rule_definitions.specs.Names.{SubroutineName, is_integer, is_logical,
 use Rattle.rule_definitions.specs.declared.taken.Taken.TheVariants.{Integers as integers, Logicals as logicals, IntegersOrLogicals as integers_or_logicals}
 use Rattle.rule_definitions.specs.declared.taken.Taken.{Taken}
 use Rattle.rule_definitions.specs.Parts.{Placed, plain, type_of, rank_of, is_taken, result_variable, unlike_breaks, scalar_breaks}
-use Rattle.rule_definitions.specs.Arguments.{Actual, Binding, IntrinsicDummy, needed, optional, bound, value_for, given_to, maybe_given_to}
+use Rattle.rule_definitions.specs.Arguments.{Actual, Binding, bound, value_for, given_to, maybe_given_to}
+use Rattle.intrinsic_table.specs.Dummies.{IntrinsicDummy, needed, optional}
 use Rattle.rule_definitions.specs.IntrinsicFunctions.{an_integer}
 
 abbrev pub optional_result : List Binding → ℕ → Judgement t.OptionalResult

@@ -1,5 +1,5 @@
 -- What names stand for in a scope (19.3, 19.5.1.4, 14.2.2).
-use Rattle.std.specs.Prelude.{ℕ, ℤ, pos, Bool, true, false, cond, nat_eq, bytes_eq, codes, List, [], ◌∷◌, ◌||◌, ◌&&◌, Option, Some, None}
+use Rattle.std.specs.Prelude.{ℕ, ℤ, pos, Bool, true, false, cond, nat_eq, bytes_eq, codes, List, [], ◌∷◌, ◌++◌, map, ◌||◌, ◌&&◌, Option, Some, None}
 use Rattle.caf_base.specs.declared.place.Pos.{Pos}
 use Rattle.caf_base.specs.declared.value.Kind.{Kind}
 use Rattle.caf_base.specs.declared.value.Kind.TheVariants.{I4, I8, L4}
@@ -20,6 +20,8 @@ use Rattle.checked_tree.specs.declared.action.AtomicChange.{AtomicChange}
 use Rattle.checked_tree.specs.declared.action.AtomicChange.TheVariants as changes
 use Rattle.checked_tree.specs.declared.action.Combination.{Combination}
 use Rattle.checked_tree.specs.declared.action.Combination.TheVariants as combinations
+use Rattle.intrinsic_table.specs.declared.function.FunctionName.{FunctionName}
+use Rattle.intrinsic_table.specs.Functions.{NamedFunction, intrinsic_functions}
 use Rattle.rule_definitions.specs.Judgements.{or_else}
 
 -- bounds, as far as they are known before the run
@@ -65,28 +67,6 @@ pub record Interface : Type 0 where
   pub name : List ℕ
   pub dummies : List Symbol
   pub result : Option Symbol
-
--- the intrinsic functions (16.9)
-pub data FunctionName : Type 0 where
-  abs : FunctionName
-  remainder : FunctionName
-  modulo : FunctionName
-  min : FunctionName
-  max : FunctionName
-  huge : FunctionName
-  int : FunctionName
-  size : FunctionName
-  lbound : FunctionName
-  ubound : FunctionName
-  allocated : FunctionName
-  this_image : FunctionName
-  num_images : FunctionName
-  image_index : FunctionName
-  image_status : FunctionName
-  failed_images : FunctionName
-  stopped_images : FunctionName
-  team_number : FunctionName
-  get_team : FunctionName
 
 -- the intrinsic subroutines (16.9)
 pub data SubroutineName : Type 0 where
@@ -140,28 +120,12 @@ pub record Scope : Type 0 where
   pub constants : List Constant
 
 -- the intrinsic procedures (16.9)
-abbrev pub intrinsic_procedures : List Named
-intrinsic_procedures =
-    named (codes "abs") (intrinsic_function abs)
-    ∷ named (codes "mod") (intrinsic_function remainder)
-    ∷ named (codes "modulo") (intrinsic_function modulo)
-    ∷ named (codes "min") (intrinsic_function min)
-    ∷ named (codes "max") (intrinsic_function max)
-    ∷ named (codes "huge") (intrinsic_function huge)
-    ∷ named (codes "int") (intrinsic_function int)
-    ∷ named (codes "size") (intrinsic_function size)
-    ∷ named (codes "lbound") (intrinsic_function lbound)
-    ∷ named (codes "ubound") (intrinsic_function ubound)
-    ∷ named (codes "allocated") (intrinsic_function allocated)
-    ∷ named (codes "this_image") (intrinsic_function this_image)
-    ∷ named (codes "num_images") (intrinsic_function num_images)
-    ∷ named (codes "image_index") (intrinsic_function image_index)
-    ∷ named (codes "image_status") (intrinsic_function image_status)
-    ∷ named (codes "failed_images") (intrinsic_function failed_images)
-    ∷ named (codes "stopped_images") (intrinsic_function stopped_images)
-    ∷ named (codes "team_number") (intrinsic_function team_number)
-    ∷ named (codes "get_team") (intrinsic_function get_team)
-    ∷ named (codes "atomic_define") (intrinsic_subroutine atomic_define)
+abbrev pub intrinsic_named : NamedFunction → Named
+intrinsic_named f = named f.name (intrinsic_function f.function)
+
+abbrev pub intrinsic_subroutines : List Named
+intrinsic_subroutines =
+    named (codes "atomic_define") (intrinsic_subroutine atomic_define)
     ∷ named (codes "atomic_ref") (intrinsic_subroutine atomic_ref)
     ∷ named (codes "atomic_add") (intrinsic_subroutine (atomic_change changes.Add))
     ∷ named (codes "atomic_and") (intrinsic_subroutine (atomic_change changes.And))
@@ -178,6 +142,9 @@ intrinsic_procedures =
     ∷ named (codes "co_max") (intrinsic_subroutine (combine combinations.Max))
     ∷ named (codes "co_broadcast") (intrinsic_subroutine broadcast)
     ∷ []
+
+abbrev pub intrinsic_procedures : List Named
+intrinsic_procedures = map intrinsic_named intrinsic_functions ++ intrinsic_subroutines
 
 -- the module ISO_FORTRAN_ENV (16.10.2)
 abbrev pub module_names : List Named

@@ -7,7 +7,8 @@ use Rattle.rule_definitions.specs.Judgements.{breaks, unless, is_nothing, Judgem
 use Rattle.rule_definitions.specs.declared.broken.Broken.{Broken}
 use Rattle.rule_definitions.specs.Names.{Scope, Symbol}
 use Rattle.rule_definitions.specs.Parts.{Placed, plain}
-use Rattle.rule_definitions.specs.Arguments.{Part, expression, triplet, Actual, breaks_in, breaks_in_all, is_triplet, matches_type, matches_shape, takes_value, is_local_variable, matching_breaks, defined_breaks, argument_for, value_paired, paired_value, keyword_breaks, paired, surplus, paired_all, arguments, IntrinsicDummy, Binding, bindings, is_bound, with_number, takes_images_at, bound_breaks_in, argument_breaks, binding_breaks, are_bound, bound_to, has_needed, unbound_breaks, bound_placed, value_for, given_to, maybe_given_to, bound}
+use Rattle.rule_definitions.specs.Arguments.{Part, expression, triplet, Actual, breaks_in, breaks_in_all, is_triplet, matches_type, matches_shape, takes_value, is_local_variable, matching_breaks, defined_breaks, argument_for, value_paired, paired_value, keyword_breaks, paired, surplus, paired_all, arguments, Binding, bindings, is_bound, with_number, takes_images_at, bound_breaks_in, argument_breaks, binding_breaks, are_bound, bound_to, has_needed, unbound_breaks, bound_placed, value_for, given_to, maybe_given_to, bound}
+use Rattle.intrinsic_table.specs.Dummies.{IntrinsicDummy}
 use Rattle.rule_laws.proofs.Sound.{AreNumbered, IsSound, none_numbered, breaks_numbered, cond_numbered, unless_numbered, both_numbered, left_nothing, right_nothing, cons_nil, fine_sound, refused_sound, unknown_sound, weaker, ruled_plain, under_sound, made_sound, made_of_both_sound, cond_sound, cond_plain, breaks_some}
 use Rattle.rule_laws.proofs.Known.{and_left, and_right, no}
 use Rattle.rule_laws.proofs.PartsSound.{plain_sound}

@@ -5,12 +5,16 @@ use Rattle.caf_base.specs.declared.place.Pos.{Pos}
 use Rattle.caf_base.specs.declared.value.Kind.TheVariants.{I4, L4}
 use Rattle.checked_tree.specs.Expressions as t
 use Rattle.checked_tree.specs.declared.data.DataType.TheVariants.{Intrinsic, Team}
+use Rattle.intrinsic_table.specs.declared.function.FunctionName.{FunctionName}
+use Rattle.intrinsic_table.specs.declared.function.FunctionName.TheVariants as functions
 use Rattle.rule_definitions.specs.Judgements.{is_nothing, Judgement, fine, refused, made_of, made_of_both, made_of_three, is_there}
 use Rattle.rule_definitions.specs.Names
-use Rattle.rule_definitions.specs.Names.{Scope, FunctionName, is_integer, is_team}
+use Rattle.rule_definitions.specs.Names.{Scope, is_integer, is_team}
 use Rattle.rule_definitions.specs.Parts.{Placed, plain, type_of, rank_of, joint, integer_kind, kind_value, team, team_of}
-use Rattle.rule_definitions.specs.Arguments.{Part, expression, triplet, Actual, Binding, breaks_in, breaks_in_all, needed, needed_list, optional, value_for, given_to, maybe_given_to, order_of, bound}
-use Rattle.rule_definitions.specs.IntrinsicFunctions.{taken, an_integer, of_integer_type, an_array, an_integer_list, allocatable_of, coarray_of, found, an_allocatable, a_coarray, of_type, default_integer, the_team, of_team, two_integers, joint_type, unnamed_integer, unnamed_integers, are_unnamed, several_integers, kind_argument, is_of_coarray, this_image, is_first_integer, is_first_unnamed, num_images, with_dim, intrinsic_reference}
+use Rattle.rule_definitions.specs.Arguments.{Part, expression, triplet, Actual, Binding, breaks_in, breaks_in_all, value_for, given_to, maybe_given_to, order_of, bound}
+use Rattle.intrinsic_table.specs.Dummies.{needed, needed_list, optional, two_integers, name_of_one, first_name, second_name}
+use Rattle.rule_definitions.specs.IntrinsicFunctions.{taken, an_integer, of_integer_type, an_array, an_integer_list, allocatable_of, coarray_of, found, an_allocatable, a_coarray, of_type, default_integer, of_team, joint_type, unnamed_integer, unnamed_integers, are_unnamed, several_integers, kind_argument, is_of_coarray, this_image, is_first_integer, is_first_unnamed, num_images, intrinsic_reference, one_of}
+use Rattle.intrinsic_table.specs.Dummies.{the_team, two_integers, with_dim}
 use Rattle.rule_laws.proofs.Sound.{is_numbered, AreNumbered, IsSound, none_numbered, cond_numbered, unless_numbered, fine_sound, refused_sound, weaker, ruled_plain, under_sound, made_sound, made_of_both_sound, made_of_three_sound, then_plain, cond_plain}
 use Rattle.rule_laws.proofs.PartsSound.{plain_sound, unlike_numbered, integer_sound, team_of_sound, kind_value_sound}
 use Rattle.rule_laws.proofs.ArgumentsSound.{PartSound, AllActuals, AllBindings, bound_sound, maybe_sound, value_sound, given_sound}
@@ -107,38 +111,37 @@ array_dim_sound {H = H} make xs p h =
     bound_sound H with_dim xs p _ h (λ bs k. made_of_both_sound (make bs) (given_sound H with_dim bs 0 _ (λ e. an_array e.at (plain e)) refl refl k (λ e g. an_array_sound e.at (plain_sound e g))) (given_sound H with_dim bs 1 _ an_integer refl refl k (λ e. an_integer_sound e)))
 
 pub intrinsic_sound : {H : Type 0} (s : Scope) (n : FunctionName) (xs : List Actual) (p : Pos) → AllActuals H xs → IsSound H (intrinsic_reference s n xs p)
-intrinsic_sound {H = H} s Names.abs xs p h =
-    let ds = needed (codes "a") ∷ [] in
-    bound_sound H ds xs p (λ bs. made_of (λ a. of_type (type_of a) (t.abs a)) (given_to bs 0 an_integer)) h (λ bs k. made_sound (λ a. of_type (type_of a) (t.abs a)) (given_sound H ds bs 0 _ an_integer refl refl k (λ e. an_integer_sound e)))
-intrinsic_sound s Names.remainder xs p h = two_sound (λ bs a q. of_type (joint (type_of a) (type_of q)) (t.remainder a q (order_of bs 0 1))) (codes "a") (codes "p") xs p h
-intrinsic_sound s Names.modulo xs p h = two_sound (λ bs a q. of_type (joint (type_of a) (type_of q)) (t.modulo a q (order_of bs 0 1))) (codes "a") (codes "p") xs p h
-intrinsic_sound s Names.min xs p h = several_sound t.min xs p h
-intrinsic_sound s Names.max xs p h = several_sound t.max xs p h
-intrinsic_sound {H = H} s Names.huge xs p h =
+intrinsic_sound {H = H} s (functions.OfOne f) xs p h =
+    let ds = needed (name_of_one f) ∷ [] in
+    bound_sound H ds xs p (one_of f) h (λ bs k. made_sound (λ a. of_type (type_of a) (t.of_one f a)) (given_sound H ds bs 0 _ an_integer refl refl k (λ e. an_integer_sound e)))
+intrinsic_sound s (functions.OfTwo f) xs p h = two_sound (λ bs a b. of_type (joint (type_of a) (type_of b)) (t.of_two f a b (order_of bs 0 1))) (first_name f) (second_name f) xs p h
+intrinsic_sound s functions.Min xs p h = several_sound t.min xs p h
+intrinsic_sound s functions.Max xs p h = several_sound t.max xs p h
+intrinsic_sound {H = H} s functions.Huge xs p h =
     let ds = needed (codes "x") ∷ [] in
     bound_sound H ds xs p (λ bs. made_of (λ x. of_type (type_of x) t.huge) (given_to bs 0 of_integer_type)) h (λ bs k. made_sound (λ x. of_type (type_of x) t.huge) (given_sound H ds bs 0 _ of_integer_type refl refl k (λ e. of_integer_type_sound e)))
-intrinsic_sound {H = H} s Names.int xs p h =
+intrinsic_sound {H = H} s functions.Int xs p h =
     let ds = needed (codes "a") ∷ optional (codes "kind") ∷ [] in
     bound_sound H ds xs p (λ bs. made_of_both (λ a k. of_type (Intrinsic k) (t.int a)) (given_to bs 0 an_integer) (kind_argument s bs 1)) h (λ bs k. made_of_both_sound (λ a k. of_type (Intrinsic k) (t.int a)) (given_sound H ds bs 0 _ an_integer refl refl k (λ e. an_integer_sound e)) (weaker (λ z. z.0) (kind_argument_sound H s bs 1 k)))
-intrinsic_sound {H = H} s Names.size xs p h =
+intrinsic_sound {H = H} s functions.Size xs p h =
     let ds = needed_list (codes "array") ∷ optional (codes "dim") ∷ [] in
     bound_sound H ds xs p (λ bs. made_of_both (λ a d. default_integer (t.size a d (order_of bs 0 1))) (given_to bs 0 (λ e. an_array e.at e.judged)) (maybe_given_to bs 1 an_integer)) h (λ bs k. made_of_both_sound (λ a d. default_integer (t.size a d (order_of bs 0 1))) (given_sound H ds bs 0 _ (λ e. an_array e.at e.judged) refl refl k (λ e g. an_array_sound e.at g)) (weaker (λ z. z.0) (maybe_sound H bs 1 an_integer k (λ e. an_integer_sound e))))
-intrinsic_sound s Names.lbound xs p h = array_dim_sound (λ bs a d. default_integer (t.lbound a d (order_of bs 0 1))) xs p h
-intrinsic_sound s Names.ubound xs p h = array_dim_sound (λ bs a d. default_integer (t.ubound a d (order_of bs 0 1))) xs p h
-intrinsic_sound {H = H} s Names.allocated xs p h =
+intrinsic_sound s functions.Lbound xs p h = array_dim_sound (λ bs a d. default_integer (t.lbound a d (order_of bs 0 1))) xs p h
+intrinsic_sound s functions.Ubound xs p h = array_dim_sound (λ bs a d. default_integer (t.ubound a d (order_of bs 0 1))) xs p h
+intrinsic_sound {H = H} s functions.Allocated xs p h =
     let ds = needed (codes "v") ∷ [] in
     bound_sound H ds xs p (λ bs. made_of (λ o. of_type (Intrinsic L4) (t.allocated o)) (given_to bs 0 (an_allocatable s))) h (λ bs k. made_sound (λ o. of_type (Intrinsic L4) (t.allocated o)) (given_sound H ds bs 0 _ (an_allocatable s) refl refl k (λ e. an_allocatable_sound s e)))
-intrinsic_sound s Names.this_image xs p h = this_image_sound xs p h
-intrinsic_sound s Names.num_images xs p h = num_images_sound xs p h
-intrinsic_sound {H = H} s Names.image_index xs p h =
+intrinsic_sound s functions.ThisImage xs p h = this_image_sound xs p h
+intrinsic_sound s functions.NumImages xs p h = num_images_sound xs p h
+intrinsic_sound {H = H} s functions.ImageIndex xs p h =
     let ds = needed (codes "coarray") ∷ needed (codes "sub") ∷ optional (codes "team") ∷ [] in
     bound_sound H ds xs p (λ bs. made_of_three (λ n l m. default_integer (t.image_index n l m (order_of bs 1 2))) (given_to bs 0 a_coarray) (given_to bs 1 an_integer_list) (maybe_given_to bs 2 team)) h (λ bs k. made_of_three_sound (λ n l m. default_integer (t.image_index n l m (order_of bs 1 2))) (given_sound H ds bs 0 _ a_coarray refl refl k (λ e. a_coarray_sound e)) (given_sound H ds bs 1 _ an_integer_list refl refl k (λ e. an_integer_list_sound e)) (weaker (λ z. z.0) (maybe_sound H bs 2 team k (λ e. team_sound e))))
-intrinsic_sound {H = H} s Names.image_status xs p h =
+intrinsic_sound {H = H} s functions.ImageStatus xs p h =
     let ds = needed (codes "image") ∷ optional (codes "team") ∷ [] in
     bound_sound H ds xs p (λ bs. made_of_both (λ i m. default_integer (t.image_status i m (order_of bs 0 1))) (given_to bs 0 an_integer) (maybe_given_to bs 1 team)) h (λ bs k. made_of_both_sound (λ i m. default_integer (t.image_status i m (order_of bs 0 1))) (given_sound H ds bs 0 _ an_integer refl refl k (λ e. an_integer_sound e)) (weaker (λ z. z.0) (maybe_sound H bs 1 team k (λ e. team_sound e))))
-intrinsic_sound s Names.failed_images xs p h = of_team_sound (λ m. t.typed (t.intrinsic (t.failed_images m)) (Intrinsic I4) 1) xs p h
-intrinsic_sound s Names.stopped_images xs p h = of_team_sound (λ m. t.typed (t.intrinsic (t.stopped_images m)) (Intrinsic I4) 1) xs p h
-intrinsic_sound s Names.team_number xs p h = of_team_sound (λ m. default_integer (t.number_of_team m)) xs p h
-intrinsic_sound {H = H} s Names.get_team xs p h =
+intrinsic_sound s functions.FailedImages xs p h = of_team_sound (λ m. t.typed (t.intrinsic (t.failed_images m)) (Intrinsic I4) 1) xs p h
+intrinsic_sound s functions.StoppedImages xs p h = of_team_sound (λ m. t.typed (t.intrinsic (t.stopped_images m)) (Intrinsic I4) 1) xs p h
+intrinsic_sound s functions.TeamNumber xs p h = of_team_sound (λ m. default_integer (t.number_of_team m)) xs p h
+intrinsic_sound {H = H} s functions.GetTeam xs p h =
     let ds = optional (codes "level") ∷ [] in
     bound_sound H ds xs p (λ bs. made_of (λ l. of_type Team (t.get_team l)) (maybe_given_to bs 0 an_integer)) h (λ bs k. weaker (λ z. z.0) (made_sound (λ l. of_type Team (t.get_team l)) (maybe_sound H bs 0 an_integer k (λ e. an_integer_sound e))))

@@ -11,14 +11,19 @@ use Rattle.checked_tree.specs.declared.data.DataType.{DataType}
 use Rattle.checked_tree.specs.declared.data.DataType.TheVariants.{Intrinsic, Team, Event, Lock}
 use Rattle.checked_tree.specs.declared.expr.ArithmeticOperator.{ArithmeticOperator}
 use Rattle.checked_tree.specs.declared.expr.ArithmeticOperator.TheVariants as arithmetics
+use Rattle.intrinsic_table.specs.declared.function.FunctionName.{FunctionName}
+use Rattle.intrinsic_table.specs.declared.function.FunctionName.TheVariants as functions
+use Rattle.intrinsic_table.specs.Numbers.{number_of_one, number_of_two}
 use Rattle.rule_definitions.specs.Judgements.{breaks, is_nothing, Judgement, fine, unknown, refused_around, made_of, made_of_both, made_of_three, item_at}
 use Rattle.rule_definitions.specs.declared.broken.Broken.{Broken}
 use Rattle.rule_definitions.specs.Names
-use Rattle.rule_definitions.specs.Names.{Scope, Interface, Symbol, FunctionName, Meaning, KnownBounds}
-use Rattle.rule_definitions.specs.Arguments.{Actual, Binding, IntrinsicDummy, arguments, breaks_in_all, are_bound, has_needed, unbound_breaks, bindings, bound, needed, needed_list, optional, given_to, maybe_given_to, order_of}
+use Rattle.rule_definitions.specs.Names.{Scope, Interface, Symbol, Meaning, KnownBounds}
+use Rattle.rule_definitions.specs.Arguments.{Actual, Binding, arguments, breaks_in_all, are_bound, has_needed, unbound_breaks, bindings, bound, given_to, maybe_given_to, order_of}
+use Rattle.intrinsic_table.specs.Dummies.{IntrinsicDummy, needed, needed_list, optional, two_integers, name_of_one, first_name, second_name}
 use Rattle.rule_definitions.specs.Constants
-use Rattle.rule_definitions.specs.Constants.{Constancy, value, values, no_constant, Known, TripletPart, is_in_type, in_type, small_power, power_of, is_even, inverse, powered, calculated, of_integers, of_logicals, of_integer, denied, remainder_of, modulo_of, greater, lesser, folded, least_of, huge_of, known, known_items, known_optional, known_intrinsic, known_sizes, known_size, known_extent, dimension_at, size_constant, bound_constant, inquired_bounds, lower_of, upper_of, shown_bounds, value_of}
-use Rattle.rule_definitions.specs.IntrinsicFunctions.{intrinsic_reference, of_type, unnamed_integers, joint_type, is_of_coarray, is_first_integer, is_first_unnamed, of_team, the_team, several_integers, several_breaks, this_image, num_images, default_integer, a_coarray, an_integer, an_array, an_integer_list, of_integer_type, an_allocatable, two_integers, with_dim, kind_argument}
+use Rattle.rule_definitions.specs.Constants.{Constancy, value, values, no_constant, Known, TripletPart, is_in_type, in_type, small_power, power_of, is_even, inverse, powered, calculated, of_integers, of_logicals, of_integer, denied, in_type_if, greater, lesser, folded, least_of, huge_of, known, known_items, known_optional, known_intrinsic, known_sizes, known_size, known_extent, dimension_at, size_constant, bound_constant, inquired_bounds, lower_of, upper_of, shown_bounds, value_of}
+use Rattle.rule_definitions.specs.IntrinsicFunctions.{intrinsic_reference, of_type, unnamed_integers, joint_type, is_of_coarray, is_first_integer, is_first_unnamed, of_team, several_integers, several_breaks, this_image, num_images, default_integer, a_coarray, an_integer, an_array, an_integer_list, of_integer_type, an_allocatable, kind_argument, one_of, two_of}
+use Rattle.intrinsic_table.specs.Dummies.{the_team, two_integers, with_dim}
 use Rattle.rule_definitions.specs.Parts.{plain, type_of, joint, team, team_of}
 use Rattle.rule_definitions.specs.Expressions.{call_typed, function_called, referenced}
 use Rattle.rule_laws.proofs.Sound.{none_some}
@@ -105,10 +110,13 @@ sizes_flat [] k = refl
 sizes_flat (d ∷ ds) Constants.unwritten = size_flat (known_size (d ∷ ds))
 sizes_flat (d ∷ ds) (Constants.written c) = integer_flat (λ n. size_constant (known_extent (dimension_at (d ∷ ds) n))) c (λ n. size_flat (known_extent (dimension_at (d ∷ ds) n)))
 
+if_flat : (y : DataType) (o : Option ℤ) → is_array (in_type_if y o) ≡ false
+if_flat y None = refl
+if_flat y (Some n) = in_type_flat y n
+
 pub intrinsic_flat : (s : Scope) (i : t.Intrinsic) (y : DataType) → is_array (known_intrinsic s i y).constancy ≡ false
-intrinsic_flat s (t.abs a) y = integer_flat (λ n. in_type y (pos (nat_abs n))) (known s a).constancy (λ n. in_type_flat y (pos (nat_abs n)))
-intrinsic_flat s (t.remainder a p o) y = integers_flat (remainder_of y) (known s a).constancy (known s p).constancy (λ m n. flat_cond (int_eq n (pos 0)) no_constant (in_type y (int_rem m n)) refl (in_type_flat y (int_rem m n)))
-intrinsic_flat s (t.modulo a p o) y = integers_flat (modulo_of y) (known s a).constancy (known s p).constancy (λ m n. flat_cond (int_eq n (pos 0)) no_constant (in_type y (int_rem (int_rem m n +ℤ n) n)) refl (in_type_flat y (int_rem (int_rem m n +ℤ n) n)))
+intrinsic_flat s (t.of_one f a) y = integer_flat (λ n. in_type y (number_of_one f n)) (known s a).constancy (λ n. in_type_flat y (number_of_one f n))
+intrinsic_flat s (t.of_two f a b o) y = integers_flat (λ m n. in_type_if y (number_of_two f m n)) (known s a).constancy (known s b).constancy (λ m n. if_flat y (number_of_two f m n))
 intrinsic_flat s (t.min es) y = least_flat lesser (known_items s es).items (λ m n. refl)
 intrinsic_flat s (t.max es) y = least_flat greater (known_items s es).items (λ m n. refl)
 intrinsic_flat s t.huge y = huge_flat y
@@ -156,25 +164,24 @@ num_images_yields xs p = cond_yields IsReference (is_first_integer xs)
     (bound_yields IsReference the_team xs p (λ bs. made_of (λ m. default_integer (t.num_images m)) (maybe_given_to bs 0 (team_of (cond (is_first_unnamed xs) 59 51)))) (λ bs. made_yields IsReference (λ m. default_integer (t.num_images m)) (maybe_given_to bs 0 (team_of (cond (is_first_unnamed xs) 59 51))) (λ x e. refl)))
 
 pub function_yields : (s : Scope) (n : FunctionName) (xs : List Actual) (p : Pos) → Yields IsReference (intrinsic_reference s n xs p)
-function_yields s Names.abs xs p = bound_yields IsReference (needed (codes "a") ∷ []) xs p (λ bs. made_of (λ a. of_type (type_of a) (t.abs a)) (given_to bs 0 an_integer)) (λ bs. made_yields IsReference (λ a. of_type (type_of a) (t.abs a)) (given_to bs 0 an_integer) (λ x e. refl))
-function_yields s Names.remainder xs p = bound_yields IsReference (two_integers (codes "a") (codes "p")) xs p (λ bs. made_of_both (λ a q. of_type (joint (type_of a) (type_of q)) (t.remainder a q (order_of bs 0 1))) (given_to bs 0 an_integer) (given_to bs 1 an_integer)) (λ bs. both_yields IsReference (λ a q. of_type (joint (type_of a) (type_of q)) (t.remainder a q (order_of bs 0 1))) (given_to bs 0 an_integer) (given_to bs 1 an_integer) (λ x y e g. refl))
-function_yields s Names.modulo xs p = bound_yields IsReference (two_integers (codes "a") (codes "p")) xs p (λ bs. made_of_both (λ a q. of_type (joint (type_of a) (type_of q)) (t.modulo a q (order_of bs 0 1))) (given_to bs 0 an_integer) (given_to bs 1 an_integer)) (λ bs. both_yields IsReference (λ a q. of_type (joint (type_of a) (type_of q)) (t.modulo a q (order_of bs 0 1))) (given_to bs 0 an_integer) (given_to bs 1 an_integer) (λ x y e g. refl))
-function_yields s Names.min xs p = several_yields t.min xs p
-function_yields s Names.max xs p = several_yields t.max xs p
-function_yields s Names.huge xs p = bound_yields IsReference (needed (codes "x") ∷ []) xs p (λ bs. made_of (λ x. of_type (type_of x) t.huge) (given_to bs 0 of_integer_type)) (λ bs. made_yields IsReference (λ x. of_type (type_of x) t.huge) (given_to bs 0 of_integer_type) (λ x e. refl))
-function_yields s Names.int xs p = bound_yields IsReference (needed (codes "a") ∷ optional (codes "kind") ∷ []) xs p (λ bs. made_of_both (λ a k. of_type (Intrinsic k) (t.int a)) (given_to bs 0 an_integer) (kind_argument s bs 1)) (λ bs. both_yields IsReference (λ a k. of_type (Intrinsic k) (t.int a)) (given_to bs 0 an_integer) (kind_argument s bs 1) (λ x y e g. refl))
-function_yields s Names.size xs p = bound_yields IsReference (needed_list (codes "array") ∷ optional (codes "dim") ∷ []) xs p (λ bs. made_of_both (λ a d. default_integer (t.size a d (order_of bs 0 1))) (given_to bs 0 (λ e. an_array e.at e.judged)) (maybe_given_to bs 1 an_integer)) (λ bs. both_yields IsReference (λ a d. default_integer (t.size a d (order_of bs 0 1))) (given_to bs 0 (λ e. an_array e.at e.judged)) (maybe_given_to bs 1 an_integer) (λ x y e g. refl))
-function_yields s Names.lbound xs p = bound_yields IsReference with_dim xs p (λ bs. made_of_both (λ a d. default_integer (t.lbound a d (order_of bs 0 1))) (given_to bs 0 (λ e. an_array e.at (plain e))) (given_to bs 1 an_integer)) (λ bs. both_yields IsReference (λ a d. default_integer (t.lbound a d (order_of bs 0 1))) (given_to bs 0 (λ e. an_array e.at (plain e))) (given_to bs 1 an_integer) (λ x y e g. refl))
-function_yields s Names.ubound xs p = bound_yields IsReference with_dim xs p (λ bs. made_of_both (λ a d. default_integer (t.ubound a d (order_of bs 0 1))) (given_to bs 0 (λ e. an_array e.at (plain e))) (given_to bs 1 an_integer)) (λ bs. both_yields IsReference (λ a d. default_integer (t.ubound a d (order_of bs 0 1))) (given_to bs 0 (λ e. an_array e.at (plain e))) (given_to bs 1 an_integer) (λ x y e g. refl))
-function_yields s Names.allocated xs p = bound_yields IsReference (needed (codes "v") ∷ []) xs p (λ bs. made_of (λ o. of_type (Intrinsic L4) (t.allocated o)) (given_to bs 0 (an_allocatable s))) (λ bs. made_yields IsReference (λ o. of_type (Intrinsic L4) (t.allocated o)) (given_to bs 0 (an_allocatable s)) (λ x e. refl))
-function_yields s Names.this_image xs p = this_image_yields xs p
-function_yields s Names.num_images xs p = num_images_yields xs p
-function_yields s Names.image_index xs p = bound_yields IsReference (needed (codes "coarray") ∷ needed (codes "sub") ∷ optional (codes "team") ∷ []) xs p (λ bs. made_of_three (λ n l m. default_integer (t.image_index n l m (order_of bs 1 2))) (given_to bs 0 a_coarray) (given_to bs 1 an_integer_list) (maybe_given_to bs 2 team)) (λ bs. three_yields IsReference (λ n l m. default_integer (t.image_index n l m (order_of bs 1 2))) (given_to bs 0 a_coarray) (given_to bs 1 an_integer_list) (maybe_given_to bs 2 team) (λ x y z. refl))
-function_yields s Names.image_status xs p = bound_yields IsReference (needed (codes "image") ∷ optional (codes "team") ∷ []) xs p (λ bs. made_of_both (λ i m. default_integer (t.image_status i m (order_of bs 0 1))) (given_to bs 0 an_integer) (maybe_given_to bs 1 team)) (λ bs. both_yields IsReference (λ i m. default_integer (t.image_status i m (order_of bs 0 1))) (given_to bs 0 an_integer) (maybe_given_to bs 1 team) (λ x y e g. refl))
-function_yields s Names.failed_images xs p = team_yields (λ m. t.typed (t.intrinsic (t.failed_images m)) (Intrinsic I4) 1) xs p (λ m. refl)
-function_yields s Names.stopped_images xs p = team_yields (λ m. t.typed (t.intrinsic (t.stopped_images m)) (Intrinsic I4) 1) xs p (λ m. refl)
-function_yields s Names.team_number xs p = team_yields (λ m. default_integer (t.number_of_team m)) xs p (λ m. refl)
-function_yields s Names.get_team xs p = bound_yields IsReference (optional (codes "level") ∷ []) xs p (λ bs. made_of (λ l. of_type Team (t.get_team l)) (maybe_given_to bs 0 an_integer)) (λ bs. made_yields IsReference (λ l. of_type Team (t.get_team l)) (maybe_given_to bs 0 an_integer) (λ x e. refl))
+function_yields s (functions.OfOne f) xs p = bound_yields IsReference (needed (name_of_one f) ∷ []) xs p (one_of f) (λ bs. made_yields IsReference (λ a. of_type (type_of a) (t.of_one f a)) (given_to bs 0 an_integer) (λ x e. refl))
+function_yields s (functions.OfTwo f) xs p = bound_yields IsReference (two_integers (first_name f) (second_name f)) xs p (two_of f) (λ bs. both_yields IsReference (λ a b. of_type (joint (type_of a) (type_of b)) (t.of_two f a b (order_of bs 0 1))) (given_to bs 0 an_integer) (given_to bs 1 an_integer) (λ x y e g. refl))
+function_yields s functions.Min xs p = several_yields t.min xs p
+function_yields s functions.Max xs p = several_yields t.max xs p
+function_yields s functions.Huge xs p = bound_yields IsReference (needed (codes "x") ∷ []) xs p (λ bs. made_of (λ x. of_type (type_of x) t.huge) (given_to bs 0 of_integer_type)) (λ bs. made_yields IsReference (λ x. of_type (type_of x) t.huge) (given_to bs 0 of_integer_type) (λ x e. refl))
+function_yields s functions.Int xs p = bound_yields IsReference (needed (codes "a") ∷ optional (codes "kind") ∷ []) xs p (λ bs. made_of_both (λ a k. of_type (Intrinsic k) (t.int a)) (given_to bs 0 an_integer) (kind_argument s bs 1)) (λ bs. both_yields IsReference (λ a k. of_type (Intrinsic k) (t.int a)) (given_to bs 0 an_integer) (kind_argument s bs 1) (λ x y e g. refl))
+function_yields s functions.Size xs p = bound_yields IsReference (needed_list (codes "array") ∷ optional (codes "dim") ∷ []) xs p (λ bs. made_of_both (λ a d. default_integer (t.size a d (order_of bs 0 1))) (given_to bs 0 (λ e. an_array e.at e.judged)) (maybe_given_to bs 1 an_integer)) (λ bs. both_yields IsReference (λ a d. default_integer (t.size a d (order_of bs 0 1))) (given_to bs 0 (λ e. an_array e.at e.judged)) (maybe_given_to bs 1 an_integer) (λ x y e g. refl))
+function_yields s functions.Lbound xs p = bound_yields IsReference with_dim xs p (λ bs. made_of_both (λ a d. default_integer (t.lbound a d (order_of bs 0 1))) (given_to bs 0 (λ e. an_array e.at (plain e))) (given_to bs 1 an_integer)) (λ bs. both_yields IsReference (λ a d. default_integer (t.lbound a d (order_of bs 0 1))) (given_to bs 0 (λ e. an_array e.at (plain e))) (given_to bs 1 an_integer) (λ x y e g. refl))
+function_yields s functions.Ubound xs p = bound_yields IsReference with_dim xs p (λ bs. made_of_both (λ a d. default_integer (t.ubound a d (order_of bs 0 1))) (given_to bs 0 (λ e. an_array e.at (plain e))) (given_to bs 1 an_integer)) (λ bs. both_yields IsReference (λ a d. default_integer (t.ubound a d (order_of bs 0 1))) (given_to bs 0 (λ e. an_array e.at (plain e))) (given_to bs 1 an_integer) (λ x y e g. refl))
+function_yields s functions.Allocated xs p = bound_yields IsReference (needed (codes "v") ∷ []) xs p (λ bs. made_of (λ o. of_type (Intrinsic L4) (t.allocated o)) (given_to bs 0 (an_allocatable s))) (λ bs. made_yields IsReference (λ o. of_type (Intrinsic L4) (t.allocated o)) (given_to bs 0 (an_allocatable s)) (λ x e. refl))
+function_yields s functions.ThisImage xs p = this_image_yields xs p
+function_yields s functions.NumImages xs p = num_images_yields xs p
+function_yields s functions.ImageIndex xs p = bound_yields IsReference (needed (codes "coarray") ∷ needed (codes "sub") ∷ optional (codes "team") ∷ []) xs p (λ bs. made_of_three (λ n l m. default_integer (t.image_index n l m (order_of bs 1 2))) (given_to bs 0 a_coarray) (given_to bs 1 an_integer_list) (maybe_given_to bs 2 team)) (λ bs. three_yields IsReference (λ n l m. default_integer (t.image_index n l m (order_of bs 1 2))) (given_to bs 0 a_coarray) (given_to bs 1 an_integer_list) (maybe_given_to bs 2 team) (λ x y z. refl))
+function_yields s functions.ImageStatus xs p = bound_yields IsReference (needed (codes "image") ∷ optional (codes "team") ∷ []) xs p (λ bs. made_of_both (λ i m. default_integer (t.image_status i m (order_of bs 0 1))) (given_to bs 0 an_integer) (maybe_given_to bs 1 team)) (λ bs. both_yields IsReference (λ i m. default_integer (t.image_status i m (order_of bs 0 1))) (given_to bs 0 an_integer) (maybe_given_to bs 1 team) (λ x y e g. refl))
+function_yields s functions.FailedImages xs p = team_yields (λ m. t.typed (t.intrinsic (t.failed_images m)) (Intrinsic I4) 1) xs p (λ m. refl)
+function_yields s functions.StoppedImages xs p = team_yields (λ m. t.typed (t.intrinsic (t.stopped_images m)) (Intrinsic I4) 1) xs p (λ m. refl)
+function_yields s functions.TeamNumber xs p = team_yields (λ m. default_integer (t.number_of_team m)) xs p (λ m. refl)
+function_yields s functions.GetTeam xs p = bound_yields IsReference (optional (codes "level") ∷ []) xs p (λ bs. made_of (λ l. of_type Team (t.get_team l)) (maybe_given_to bs 0 an_integer)) (λ bs. made_yields IsReference (λ l. of_type Team (t.get_team l)) (maybe_given_to bs 0 an_integer) (λ x e. refl))
 
 result_yields : (o : Option DataType) (n : ℕ) (xs : t.Arguments) (ds : List KnownBounds) → Yields IsReference (elim o [ None ↦ unknown {T = t.Expression} | Some y ↦ fine (t.typed (t.call n xs) y (length ds)) ])
 result_yields None n xs ds = nothing_yields IsReference []

@@ -88,6 +88,12 @@ three_lists start a b c p q r n e f g h =
     h n ∙ ap (λ k. or_else k (denoted_in r n)) (g n ∙ ap (λ k. or_else k (denoted_in q n)) (f n ∙ ap (λ k. or_else (denoted_in k n) (denoted_in p n)) e))
     ∙ else_else (denoted_in p n) (denoted_in q n) (denoted_in r n)
 
+-- two lists behind one another
+pub follows_both : (a b c p q : List Named) → Follows b a p → Follows c b q → Follows c a (p ++ q)
+follows_both a b c p q f g = λ n.
+    g n ∙ ap (λ k. or_else k (denoted_in q n)) (f n) ∙ else_else (denoted_in a n) (denoted_in p n) (denoted_in q n)
+    ∙ ap (or_else (denoted_in a n)) (sym (in_both p q n))
+
 pub drop_at : {A : Type 0} (xs : List A) (i : ℕ) (d : A) → i < length xs → drop i xs ≡ get_or xs i d ∷ drop (i + 1) xs
 drop_at xs i d h =
     let n : suc i ≡ i + 1 = omega arith in

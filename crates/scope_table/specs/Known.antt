@@ -5,14 +5,14 @@ use Rattle.rule_definitions.specs.Names as n
 use Rattle.rule_definitions.specs.Names.{Named, Meaning, named, denoted_in}
 use Rattle.scope_table.specs.declared.known.Known.{Known}
 use Rattle.scope_table.specs.declared.known.Known.TheVariants as knowns
-use Rattle.scope_table.specs.Symbols.{function_name, subroutine_name}
+use Rattle.scope_table.specs.Symbols.{subroutine_name}
 
 abbrev pub known_meaning : Known → Meaning
 known_meaning (knowns.Subroutine k) = n.subroutine k
 known_meaning (knowns.Function k) = n.function k
 known_meaning (knowns.ModuleConstant z) = n.module_constant z
 known_meaning (knowns.ModuleType y) = n.module_type y
-known_meaning (knowns.IntrinsicFunction f) = n.intrinsic_function (function_name f)
+known_meaning (knowns.IntrinsicFunction f) = n.intrinsic_function f
 known_meaning (knowns.IntrinsicSubroutine f) = n.intrinsic_subroutine (subroutine_name f)
 
 -- names, each with its meaning

@@ -8,7 +8,7 @@ use Rattle.rule_definitions.specs.Names.{Named, Meaning, named}
 use Rattle.checked_tree.specs.declared.data.Object.{Object}
 use Rattle.rule_definitions.specs.Units.{hosted, hosted_meaning, hosted_object}
 use Rattle.scope_table.specs.declared.symbol.Entry.{Entry}
-use Rattle.scope_table.specs.Symbols.{entry_name, entry_meaning, symbol, seen_from, constant_symbol, function_name, subroutine_name}
+use Rattle.scope_table.specs.Symbols.{entry_name, entry_meaning, symbol, seen_from, constant_symbol, subroutine_name}
 use Rattle.scope_table.specs.declared.symbol.Symbol.{Symbol}
 use Rattle.scope_table.specs.declared.table.Table.{Table}
 use Rattle.scope_table.specs.declared.pending.Pending.{Pending}
@@ -26,7 +26,7 @@ denoted (denotations.Subroutine k) = n.subroutine k
 denoted (denotations.Function k) = n.function k
 denoted (denotations.ModuleConstant z) = n.module_constant z
 denoted (denotations.ModuleType y) = n.module_type y
-denoted (denotations.IntrinsicFunction f) = n.intrinsic_function (function_name f)
+denoted (denotations.IntrinsicFunction f) = n.intrinsic_function f
 denoted (denotations.IntrinsicSubroutine f) = n.intrinsic_subroutine (subroutine_name f)
 
 -- what a declared name stands for, seen from its scope or from a procedure of it

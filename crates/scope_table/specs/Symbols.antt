@@ -14,8 +14,6 @@ use Rattle.scope_table.specs.declared.symbol.ConstantSymbol.{ConstantSymbol}
 use Rattle.scope_table.specs.declared.symbol.Entry.{Entry}
 use Rattle.scope_table.specs.declared.symbol.Entry.TheVariants as entries
 use Rattle.scope_table.specs.declared.symbol.Interface.{Interface}
-use Rattle.scope_table.specs.declared.symbol.FunctionName.{FunctionName}
-use Rattle.scope_table.specs.declared.symbol.FunctionName.TheVariants as functions
 use Rattle.scope_table.specs.declared.symbol.SubroutineName.{SubroutineName}
 use Rattle.scope_table.specs.declared.symbol.SubroutineName.TheVariants as subroutines
 
@@ -65,27 +63,6 @@ entry x = n.named (entry_name x) (entry_meaning x)
 
 abbrev pub interface : Interface → n.Interface
 interface x = record { name = x.name; dummies = map symbol x.dummies.items; result = option_map symbol x.result }
-
-abbrev pub function_name : FunctionName → n.FunctionName
-function_name functions.Abs = n.abs
-function_name functions.Mod = n.remainder
-function_name functions.Modulo = n.modulo
-function_name functions.Min = n.min
-function_name functions.Max = n.max
-function_name functions.Huge = n.huge
-function_name functions.Int = n.int
-function_name functions.Size = n.size
-function_name functions.Lbound = n.lbound
-function_name functions.Ubound = n.ubound
-function_name functions.Allocated = n.allocated
-function_name functions.ThisImage = n.this_image
-function_name functions.NumImages = n.num_images
-function_name functions.ImageIndex = n.image_index
-function_name functions.ImageStatus = n.image_status
-function_name functions.FailedImages = n.failed_images
-function_name functions.StoppedImages = n.stopped_images
-function_name functions.TeamNumber = n.team_number
-function_name functions.GetTeam = n.get_team
 
 abbrev pub subroutine_name : SubroutineName → n.SubroutineName
 subroutine_name subroutines.AtomicDefine = n.atomic_define

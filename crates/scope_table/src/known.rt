@@ -8,10 +8,11 @@ ghost use Rattle.scope_table.specs.Known.{known_meaning, with_first};
 
 use crate::item::item;
 use crate::names::Names;
-use crate::symbol::{FunctionName, SubroutineName};
+use crate::symbol::SubroutineName;
 use caf_base::listing::Text;
 use caf_base::refusal::NoMemory;
 use checked_tree::data::DataType;
+use intrinsic_table::function::FunctionName;
 use std::alloc::Global;
 use std::marker::Model;
 

@@ -4,67 +4,26 @@ ghost use Rattle.std.specs.Prelude.{◌≡◌, ◌∷◌, ℕ, [], List, map, le
 ghost use Rattle.std.specs.Option.{option_map};
 ghost use Rattle.fortran_tree.specs.UnitViews.{use_statement, procedure, heading as heading_seen};
 ghost use Rattle.rule_definitions.specs.Judgements.{or_else};
-ghost use Rattle.rule_definitions.specs.Names.{denoted_in, named, module_names, intrinsic_procedures, Named};
+ghost use Rattle.intrinsic_table.specs.Functions.{row as function_row};
+ghost use Rattle.rule_definitions.specs.Names.{denoted_in, intrinsic_named, named, module_names, intrinsic_procedures, Named};
 ghost use Rattle.rule_definitions.specs.Units.{accessible_of, accessible_by, accessible_name, accessible_names, procedure_names, is_module, headed, meaning_of_heading};
 ghost use Rattle.scope_table.specs.Known.{known_meaning};
 ghost use Rattle.scope_table.specs.Outside.{Follows, Holds, headings, named_heading, outer, row};
 
 use crate::known::{Known, KnownNames};
-use crate::symbol::{FunctionName, SubroutineName};
+use crate::symbol::SubroutineName;
 use caf_base::listing::Listing;
 use caf_base::refusal::NoMemory;
 use checked_tree::action::{AtomicChange, Combination};
 use checked_tree::data::DataType;
 use fortran_tree::name::Name;
 use fortran_tree::unit::{Heading, Procedure, Use};
+use intrinsic_table::function::{FunctionName, functions};
 use std::alloc::Global;
 use std::marker::Model;
 
-/// The intrinsic procedures (ISO/IEC 1539-1:2018, 16.9).
-const INTRINSICS: [(&[u8], Known); 35] = [
-    (b"abs", Known::IntrinsicFunction(FunctionName::Abs)),
-    (b"mod", Known::IntrinsicFunction(FunctionName::Mod)),
-    (b"modulo", Known::IntrinsicFunction(FunctionName::Modulo)),
-    (b"min", Known::IntrinsicFunction(FunctionName::Min)),
-    (b"max", Known::IntrinsicFunction(FunctionName::Max)),
-    (b"huge", Known::IntrinsicFunction(FunctionName::Huge)),
-    (b"int", Known::IntrinsicFunction(FunctionName::Int)),
-    (b"size", Known::IntrinsicFunction(FunctionName::Size)),
-    (b"lbound", Known::IntrinsicFunction(FunctionName::Lbound)),
-    (b"ubound", Known::IntrinsicFunction(FunctionName::Ubound)),
-    (
-        b"allocated",
-        Known::IntrinsicFunction(FunctionName::Allocated),
-    ),
-    (
-        b"this_image",
-        Known::IntrinsicFunction(FunctionName::ThisImage),
-    ),
-    (
-        b"num_images",
-        Known::IntrinsicFunction(FunctionName::NumImages),
-    ),
-    (
-        b"image_index",
-        Known::IntrinsicFunction(FunctionName::ImageIndex),
-    ),
-    (
-        b"image_status",
-        Known::IntrinsicFunction(FunctionName::ImageStatus),
-    ),
-    (
-        b"failed_images",
-        Known::IntrinsicFunction(FunctionName::FailedImages),
-    ),
-    (
-        b"stopped_images",
-        Known::IntrinsicFunction(FunctionName::StoppedImages),
-    ),
-    (
-        b"team_number",
-        Known::IntrinsicFunction(FunctionName::TeamNumber),
-    ),
-    (b"get_team", Known::IntrinsicFunction(FunctionName::GetTeam)),
+/// The intrinsic subroutines (ISO/IEC 1539-1:2018, 16.9).
+const SUBROUTINES: [(&[u8], Known); 16] = [
     (
         b"atomic_define",
         Known::IntrinsicSubroutine(SubroutineName::AtomicDefine),
@@ -184,7 +143,7 @@ impl<'a> Outside<'a> {
         let mut names = KnownNames::new(alloc);
         add_procedures(&mut names, procedures)?;
         add_uses(alloc, &mut names, uses)?;
-        add_all(alloc, &mut names, &INTRINSICS)?;
+        add_intrinsics(alloc, &mut names)?;
         Ok(Outside {
             uses,
             procedures,
@@ -198,6 +157,40 @@ impl<'a> Outside<'a> {
     {
         self.names.find(name)
     }
+}
+
+// Puts the names of the intrinsic procedures behind the others.
+#[tactic(auto, using(crate::proofs::Orders::follows_both))]
+fn add_intrinsics(alloc: Global, names: &mut KnownNames) -> Result<(), NoMemory>
+    ensures { OnOk result (Follows names.new names.old intrinsic_procedures) }
+{
+    add_functions(alloc, names, functions())?;
+    add_all(alloc, names, &SUBROUTINES)
+}
+
+// Puts the names of functions behind the others.
+fn add_functions(
+    alloc: Global,
+    names: &mut KnownNames,
+    table: &[(&[u8], FunctionName)],
+) -> Result<(), NoMemory>
+    ensures { OnOk result (Follows names.new names.old (map intrinsic_named (map function_row table.now))) }
+{
+    for line in table {
+        add_function(alloc, names, line)?;
+    }
+    Ok(())
+}
+
+#[tactic(auto, using(crate::proofs::Orders::follows_first))]
+fn add_function(
+    alloc: Global,
+    names: &mut KnownNames,
+    line: &(&[u8], FunctionName),
+) -> Result<(), NoMemory>
+    ensures { OnOk result (Follows names.new names.old (intrinsic_named (function_row line.now) ∷ [])) }
+{
+    names.add(Listing::from_slice(alloc, line.0)?, Known::IntrinsicFunction(line.1))
 }
 
 // Puts the names of a table behind the others.

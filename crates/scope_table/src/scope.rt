@@ -14,9 +14,10 @@ use crate::known::Known;
 use crate::object::is_same_object;
 use crate::outside::Outside;
 use crate::pending::Pending;
-use crate::symbol::{ConstantSymbol, Entry, FunctionName, Interface, SubroutineName, Symbol};
+use crate::symbol::{ConstantSymbol, Entry, Interface, SubroutineName, Symbol};
 use crate::table::Table;
 use checked_tree::data::{Constant, DataType, Home, Object};
+use intrinsic_table::function::FunctionName;
 use std::marker::Model;
 
 /// A variable as it is seen from a scope: its own one, or that of the main program by host association (ISO/IEC

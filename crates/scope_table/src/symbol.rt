@@ -72,30 +72,6 @@ pub struct Interface {
     pub result: Option<Symbol>,
 }
 
-/// The intrinsic functions (16.9).
-#[derive(Clone, Copy)]
-pub enum FunctionName {
-    Abs,
-    Mod,
-    Modulo,
-    Min,
-    Max,
-    Huge,
-    Int,
-    Size,
-    Lbound,
-    Ubound,
-    Allocated,
-    ThisImage,
-    NumImages,
-    ImageIndex,
-    ImageStatus,
-    FailedImages,
-    StoppedImages,
-    TeamNumber,
-    GetTeam,
-}
-
 /// The intrinsic subroutines (16.9).
 #[derive(Clone, Copy)]
 pub enum SubroutineName {

@@ -6,7 +6,8 @@ use Rattle.checked_tree.specs.Statements as ts
 use Rattle.rule_definitions.specs.Judgements.{Judgement}
 use Rattle.rule_definitions.specs.Names
 use Rattle.rule_definitions.specs.Names.{SubroutineName}
-use Rattle.rule_definitions.specs.Arguments.{Actual, Binding, IntrinsicDummy, bindings, are_bound, has_needed, unbound_breaks, bound}
+use Rattle.rule_definitions.specs.Arguments.{Actual, Binding, bindings, are_bound, has_needed, unbound_breaks, bound}
+use Rattle.intrinsic_table.specs.Dummies.{IntrinsicDummy}
 use Rattle.rule_definitions.specs.IntrinsicSubroutines.{called, intrinsic_call}
 use Rattle.subroutine_rules.specs.Parts.{Parts, parts_of, found, refused, found_arguments, rule_of, dummies_of, judged_found}
 

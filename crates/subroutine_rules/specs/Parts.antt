@@ -12,7 +12,8 @@ use Rattle.rule_definitions.specs.Judgements.{Judgement, both, three, fine, unkn
 use Rattle.rule_definitions.specs.Names
 use Rattle.rule_definitions.specs.Names.{SubroutineName}
 use Rattle.rule_definitions.specs.Parts.{Placed, result_variable}
-use Rattle.rule_definitions.specs.Arguments.{Actual, Binding, IntrinsicDummy, needed, optional, bindings, are_bound, has_needed, unbound_breaks, value_for}
+use Rattle.rule_definitions.specs.Arguments.{Actual, Binding, bindings, are_bound, has_needed, unbound_breaks, value_for}
+use Rattle.intrinsic_table.specs.Dummies.{IntrinsicDummy, needed, optional}
 use Rattle.rule_definitions.specs.IntrinsicFunctions.{an_integer}
 use Rattle.rule_definitions.specs.IntrinsicSubroutines.{an_atom, taken_with, an_atom_value, an_own_event, a_collected, numbers_of, written_as, four, five, value_dummies}
 

@@ -4,14 +4,16 @@ ghost use Rattle.std.specs.Prelude.{◌≡◌, ◌++◌, ◌-◌, IfOk, length, 
 ghost use Rattle.rule_definitions.specs.Arguments as arguments;
 ghost use Rattle.rule_definitions.specs.IntrinsicSubroutines as rules;
 ghost use Rattle.part_rules.specs.Brackets.{actual_seen};
-ghost use Rattle.call_rules.specs.Bindings.{binding_seen, dummy_seen};
+ghost use Rattle.call_rules.specs.Bindings.{binding_seen};
+ghost use Rattle.intrinsic_table.specs.Dummies.{dummy_seen};
 ghost use Rattle.subroutine_rules.specs.Parts as spec;
 ghost use Rattle.subroutine_rules.specs.Views.{found_seen, parts_seen};
 
 use caf_base::place::Pos;
 use caf_base::refusal::NoMemory;
-use call_rules::binding::{Binding, Dummy, are_all_bound, bind, numbers_of, take, unbound};
+use call_rules::binding::{Binding, are_all_bound, bind, numbers_of, take, unbound};
 use checked_tree::action::WrittenArguments;
+use intrinsic_table::form::Dummy;
 use part_rules::bracket::Actual;
 use part_rules::judged::Judged;
 use part_rules::part::Part;

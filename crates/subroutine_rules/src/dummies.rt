@@ -1,12 +1,12 @@
 //! The dummies of the intrinsic subroutines (16.9), in their order.
 
 ghost use Rattle.std.specs.Prelude.{◌≡◌, IfOk, map};
-ghost use Rattle.call_rules.specs.Bindings.{dummy_seen};
+ghost use Rattle.intrinsic_table.specs.Dummies.{dummy_seen};
 ghost use Rattle.scope_table.specs.Symbols.{subroutine_name};
 ghost use Rattle.subroutine_rules.specs.Parts.{dummies_of as dummies_named};
 
 use caf_base::refusal::NoMemory;
-use call_rules::binding::{Dummy, needed, optional};
+use intrinsic_table::form::{Dummy, needed, optional};
 use scope_table::symbol::SubroutineName;
 use std::alloc::Global;
 

@@ -9,6 +9,8 @@ use Rattle.caf_events.specs.declared.ask.Ask.TheVariants as asks
 use Rattle.caf_events.specs.declared.fault.FaultKind.TheVariants as faulty
 use Rattle.caf_events.specs.declared.reply.Reply.TheVariants as replies
 use Rattle.caf_events.specs.declared.round.Arriving.TheVariants as arrivals
+use Rattle.intrinsic_table.specs.declared.function.OfTwo.TheVariants as twos
+use Rattle.intrinsic_table.specs.declared.function.OfOne.TheVariants as ones
 use Rattle.checked_tree.specs.declared.action.AtomicChange.TheVariants as changes
 use Rattle.checked_tree.specs.declared.data.Codimensions.TheVariants as codimensions
 use Rattle.checked_tree.specs.declared.data.DataType.TheVariants as types
@@ -91,15 +93,15 @@ three = t.more_expressions (num (pos 3)) (two (num (pos 1)) (num (pos 2)))
 
 functions : said (program [] [] 0 ((
   1,
-  shown (by (t.abs (num (negsuc 2))) ∷ by (t.remainder (num (negsuc 6)) (num (pos 3)) orders.Same) ∷ by (t.modulo (num (negsuc 6)) (num (pos 3)) orders.Same)
-      ∷ by (t.modulo (num (pos 7)) (num (negsuc 2)) orders.Same) ∷ by (t.min three) ∷ by (t.max three) ∷ by (t.int (num (pos 9))) ∷ []),
+  shown (by (t.of_one ones.Abs (num (negsuc 2))) ∷ by (t.of_two twos.Mod (num (negsuc 6)) (num (pos 3)) orders.Same) ∷ by (t.of_two twos.Modulo (num (negsuc 6)) (num (pos 3)) orders.Same)
+      ∷ by (t.of_two twos.Modulo (num (pos 7)) (num (negsuc 2)) orders.Same) ∷ by (t.min three) ∷ by (t.max three) ∷ by (t.int (num (pos 9))) ∷ []),
 ) ∷ []) 2) 100 1 1 (done ∷ [])
     ≡ (prints (codes "3 -1 2 -2 1 3 9"), 1) ∷ (stops, 2) ∷ []
 unfolding shown by three digits
 functions = refl
 
 -- the operands of mod(p=2, a=7) are evaluated as they are written, and mean what their names say
-by_keyword : said (program [] [] 0 ((1, shown (by (t.remainder (num (pos 7)) (num (pos 2)) orders.Reversed) ∷ [])) ∷ []) 2) 100 1 1 (done ∷ []) ≡ (prints (codes "1"), 1) ∷ (stops, 2) ∷ []
+by_keyword : said (program [] [] 0 ((1, shown (by (t.of_two twos.Mod (num (pos 7)) (num (pos 2)) orders.Reversed) ∷ [])) ∷ []) 2) 100 1 1 (done ∷ []) ≡ (prints (codes "1"), 1) ∷ (stops, 2) ∷ []
 unfolding shown by digits
 by_keyword = refl
 

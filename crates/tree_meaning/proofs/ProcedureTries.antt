@@ -3,6 +3,7 @@ use Rattle.std.proofs.Common.{◌≡◌, refl, ℕ, ℤ, pos, negsuc, true, fals
 use Rattle.std.specs.Fmt.{digits}
 use Rattle.caf_base.specs.declared.value.Kind.TheVariants as kinds
 use Rattle.caf_events.specs.declared.fault.FaultKind.TheVariants as faulty
+use Rattle.intrinsic_table.specs.declared.function.OfTwo.TheVariants as twos
 use Rattle.checked_tree.specs.declared.data.Object.TheVariants as objects
 use Rattle.checked_tree.specs.declared.program.Dummy.{Dummy}
 use Rattle.checked_tree.specs.declared.statement.CaseRange.TheVariants as ranges
@@ -118,7 +119,7 @@ past_the_end : said (program (scalar int ∷ []) [] 1 ((1, s.do_counted (own 0) 
 past_the_end = refl
 
 -- ELSE IF has its own line: `if (1 == 2) then`, `else if (1/0 == 1) then`
-else_if_line : said (program [] [] 0 ((1, s.if (eq (num (pos 1)) (num (pos 2))) s.no_statements (s.more_else_ifs (eq (t.typed (t.intrinsic (t.remainder (num (pos 1)) (num (pos 0)) orders.Same)) int 0) (num (pos 1))) s.no_statements 2 s.no_else_ifs) s.no_statements) ∷ []) 4) 100 1 1 [] ≡ (faults faulty.DivideByZero, 2) ∷ []
+else_if_line : said (program [] [] 0 ((1, s.if (eq (num (pos 1)) (num (pos 2))) s.no_statements (s.more_else_ifs (eq (t.typed (t.intrinsic (t.of_two twos.Mod (num (pos 1)) (num (pos 0)) orders.Same)) int 0) (num (pos 1))) s.no_statements 2 s.no_else_ifs) s.no_statements) ∷ []) 4) 100 1 1 [] ≡ (faults faulty.DivideByZero, 2) ∷ []
 else_if_line = refl
 
 -- evaluation cells: `print *, [1, 2, 3], g(5)`, where g prints its argument; then `sync memory`. The three of the

@@ -10,6 +10,7 @@ use Rattle.caf_events.specs.declared.reply.Reply.{Reply}
 use Rattle.caf_events.specs.declared.reply.Reply.TheVariants as replies
 use Rattle.caf_events.specs.declared.round.Arriving.TheVariants as arrivals
 use Rattle.caf_events.specs.declared.round.GatherOp.TheVariants as gathers
+use Rattle.intrinsic_table.specs.declared.function.OfTwo.TheVariants as twos
 use Rattle.checked_tree.specs.declared.action.AtomicChange.TheVariants as changes
 use Rattle.checked_tree.specs.declared.action.Combination.TheVariants as combinations
 use Rattle.checked_tree.specs.declared.data.Codimensions.TheVariants as codimensions
@@ -200,7 +201,7 @@ own_number = t.typed (t.intrinsic (t.number_of_team t.missing)) int 0
 
 siblings : s.Program
 siblings = program (scalar types.Team ∷ coscalar int ∷ []) (1 ∷ []) 0
-    ((4, put 0 me) ∷ (5, s.form_team (sub (num (pos 2)) (t.typed (t.intrinsic (t.remainder me (num (pos 2)) orders.Same)) int 0)) (own 0) t.missing t.no_result orders.Same)
+    ((4, put 0 me) ∷ (5, s.form_team (sub (num (pos 2)) (t.typed (t.intrinsic (t.of_two twos.Mod me (num (pos 2)) orders.Same)) int 0)) (own 0) t.missing t.no_result orders.Same)
     ∷ (
       6,
       s.change_team (t.typed (t.designator (target 0)) types.Team 0) t.no_result (block

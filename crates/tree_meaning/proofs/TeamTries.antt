@@ -7,6 +7,7 @@ use Rattle.caf_events.specs.declared.ask.Ask.TheVariants as asks
 use Rattle.caf_events.specs.declared.reply.Reply.{Reply}
 use Rattle.caf_events.specs.declared.reply.Reply.TheVariants as replies
 use Rattle.caf_events.specs.declared.round.Arriving.TheVariants as arrivals
+use Rattle.intrinsic_table.specs.declared.function.OfTwo.TheVariants as twos
 use Rattle.checked_tree.specs.declared.data.DataType.TheVariants as types
 use Rattle.checked_tree.specs.declared.data.Object.TheVariants as objects
 use Rattle.checked_tree.specs.declared.data.Dimensions.TheVariants as dimensions
@@ -33,7 +34,7 @@ both a b = t.typed (t.logic logics.And a b) log 0
 -- a failure inside a team, on image 4 of 6: the even team is the second one
 two_teams : s.Program
 two_teams = program (scalar types.Team ∷ scalar int ∷ []) [] 0
-    ((4, s.form_team (sub (num (pos 2)) (t.typed (t.intrinsic (t.remainder me (num (pos 2)) orders.Same)) int 0)) (own 0) t.missing t.no_result orders.Same)
+    ((4, s.form_team (sub (num (pos 2)) (t.typed (t.intrinsic (t.of_two twos.Mod me (num (pos 2)) orders.Same)) int 0)) (own 0) t.missing t.no_result orders.Same)
     ∷ (
       5,
       s.change_team (team_var 0) (to 1) (block

@@ -391,9 +391,8 @@ module _ (e : Environment) where
 
     -- the intrinsic functions
     pub intrinsic : t.Intrinsic → Kind → Parts Act
-    intrinsic (t.abs x) k = expression x ▸ operating (a.absolute k)
-    intrinsic (t.remainder x p o) k = as_written o (expression x) (expression p) ▸ operating a.remainder
-    intrinsic (t.modulo x p o) k = as_written o (expression x) (expression p) ▸ operating a.modulo
+    intrinsic (t.of_one f x) k = expression x ▸ operating (a.of_one f k)
+    intrinsic (t.of_two f x y o) k = as_written o (expression x) (expression y) ▸ operating (a.of_two f k)
     intrinsic (t.min es) k = first_and_folded a.least es
     intrinsic (t.max es) k = first_and_folded a.greatest es
     intrinsic t.huge k = pushing (huge_of k)

@@ -29,9 +29,8 @@ fn gives_images(function: &Intrinsic) -> bool
 {
     match function {
         Intrinsic::FailedImages { .. } | Intrinsic::StoppedImages { .. } => true,
-        Intrinsic::Abs { .. }
-        | Intrinsic::Mod { .. }
-        | Intrinsic::Modulo { .. }
+        Intrinsic::OfOne { .. }
+        | Intrinsic::OfTwo { .. }
         | Intrinsic::Min(_)
         | Intrinsic::Max(_)
         | Intrinsic::Huge

@@ -1,5 +1,5 @@
 use Rattle.std.specs.Prelude.{map}
-use Rattle.call_rules.specs.Bindings.{dummy_seen}
+use Rattle.intrinsic_table.specs.Dummies.{dummy_seen}
 use Rattle.call_rules.proofs.Bindings.{behind_more, bound_more}
 use Rattle.call_rules.proofs.binding.bind.Goals as goal
 

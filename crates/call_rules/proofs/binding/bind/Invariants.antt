@@ -1,7 +1,8 @@
 use Rattle.std.proofs.Common.{◌≡◌, false, map}
 use Rattle.rule_definitions.specs.Arguments as rules
 use Rattle.part_rules.specs.Brackets.{actual_seen}
-use Rattle.call_rules.specs.Bindings.{binding_seen, dummy_seen, is_behind}
+use Rattle.call_rules.specs.Bindings.{binding_seen, is_behind}
+use Rattle.intrinsic_table.specs.Dummies.{dummy_seen}
 use Rattle.call_rules.proofs.binding.bind.Given as goal
 
 abbrev pub invariant-loop-actual : goal.invariant-loop-actual

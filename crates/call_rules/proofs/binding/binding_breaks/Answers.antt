@@ -2,7 +2,8 @@ use Rattle.std.proofs.Common.{ap, sym, ◌∙◌}
 use Rattle.std.specs.Prelude.{[], ◌++◌, map}
 use Rattle.rule_definitions.specs.Arguments as rules
 use Rattle.part_rules.proofs.Gathering.{mapped_behind}
-use Rattle.call_rules.specs.Bindings.{binding_seen, dummy_seen, taken_behind}
+use Rattle.call_rules.specs.Bindings.{binding_seen, taken_behind}
+use Rattle.intrinsic_table.specs.Dummies.{dummy_seen}
 use Rattle.call_rules.proofs.Bindings.{breaks_more, taken_more}
 use Rattle.call_rules.proofs.binding.binding_breaks.Goals as goal
 

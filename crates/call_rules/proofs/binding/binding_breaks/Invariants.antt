@@ -1,6 +1,7 @@
 use Rattle.std.proofs.Common.{◌≡◌, [], map}
 use Rattle.rule_definitions.specs.Arguments as rules
-use Rattle.call_rules.specs.Bindings.{binding_seen, dummy_seen, taken_behind}
+use Rattle.call_rules.specs.Bindings.{binding_seen, taken_behind}
+use Rattle.intrinsic_table.specs.Dummies.{dummy_seen}
 use Rattle.call_rules.proofs.binding.binding_breaks.Given as goal
 
 abbrev pub invariant-loop-binding : goal.invariant-loop-binding

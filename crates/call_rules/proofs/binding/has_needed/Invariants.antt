@@ -1,6 +1,7 @@
 use Rattle.std.proofs.Common.{◌≡◌, drop, map}
 use Rattle.rule_definitions.specs.Arguments as rules
-use Rattle.call_rules.specs.Bindings.{binding_seen, dummy_seen}
+use Rattle.call_rules.specs.Bindings.{binding_seen}
+use Rattle.intrinsic_table.specs.Dummies.{dummy_seen}
 use Rattle.call_rules.proofs.binding.has_needed.Given as goal
 
 abbrev pub invariant-loop-number : goal.invariant-loop-number

@@ -1,5 +1,6 @@
 use Rattle.std.proofs.Common.{◌≡◌, drop, map}
-use Rattle.call_rules.specs.Bindings.{dummy_seen, named_from}
+use Rattle.call_rules.specs.Bindings.{named_from}
+use Rattle.intrinsic_table.specs.Dummies.{dummy_seen}
 use Rattle.call_rules.proofs.binding.named_dummy.Given as goal
 
 abbrev pub invariant-loop-number : goal.invariant-loop-number

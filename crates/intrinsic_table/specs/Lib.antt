@@ -1,0 +1,3 @@
+pub mod Dummies
+pub mod Functions
+pub mod Numbers
