@@ -10,16 +10,19 @@ use Rattle.checked_tree.specs.declared.data.DataType.{DataType}
 use Rattle.checked_tree.specs.declared.data.DataType.TheVariants.{Intrinsic, Team}
 use Rattle.checked_tree.specs.declared.data.Object.{Object}
 use Rattle.checked_tree.specs.declared.data.Object.TheVariants as objects
+use Rattle.intrinsic_table.specs.declared.function.ResultKind.{ResultKind}
+use Rattle.intrinsic_table.specs.declared.function.ResultKind.TheVariants as results
 use Rattle.intrinsic_table.specs.declared.function.FunctionName.{FunctionName}
 use Rattle.intrinsic_table.specs.declared.function.FunctionName.TheVariants as functions
+use Rattle.intrinsic_table.specs.Numbers.{result_kind}
 use Rattle.rule_definitions.specs.declared.broken.Broken.{Broken}
 use Rattle.rule_definitions.specs.Judgements.{unless, is_nothing, Judgement, refused, made_of, made_of_both, made_of_three, is_there}
 use Rattle.rule_definitions.specs.Names
 use Rattle.rule_definitions.specs.Names.{Scope, symbol_of, is_integer}
-use Rattle.rule_definitions.specs.Parts.{Placed, plain, type_of, rank_of, team_of, joint}
+use Rattle.rule_definitions.specs.Parts.{Placed, plain, type_of, rank_of, team_of}
 use Rattle.rule_definitions.specs.Arguments.{Part, expression, triplet, Actual, breaks_in_all, Binding, given_to, maybe_given_to, order_of, bound}
 use Rattle.intrinsic_table.specs.Dummies.{needed, needed_list, optional, two_integers, name_of_one, first_name, second_name}
-use Rattle.rule_definitions.specs.IntrinsicFunctions.{taken, an_integer, of_integer_type, an_array, an_integer_list, is_allocatable_symbol, allocatable_of, found, an_allocatable, a_coarray, of_type, default_integer, of_team, joint_type, named_breaks, unnamed_integers, several_breaks, several_integers, kind_argument, is_of_coarray, this_image, is_first_integer, is_first_unnamed, num_images, intrinsic_reference, are_unnamed, one_of}
+use Rattle.rule_definitions.specs.IntrinsicFunctions.{taken, an_integer, of_integer_type, an_array, an_integer_list, is_allocatable_symbol, allocatable_of, found, an_allocatable, a_coarray, of_type, default_integer, of_team, joint_type, named_breaks, unnamed_integers, several_breaks, several_integers, kind_argument, is_of_coarray, this_image, is_first_integer, is_first_unnamed, num_images, intrinsic_reference, are_unnamed, one_of, type_by}
 use Rattle.intrinsic_table.specs.Dummies.{the_team, two_integers, with_dim}
 use Rattle.tree_meaning.specs.Expressions.{count_of}
 use Rattle.accepted_ranks.specs.Kinded as ranks
@@ -34,6 +37,10 @@ some_rank (suc r) e = omega arith
 test_taken : (b : Bool) (p : Pos) (x : t.Expression) → taken b p x ≡ [] → b ≡ true
 test_taken true p x e = refl
 test_taken false p x e = cons_nil _ [] e
+
+number_by : (k : ResultKind) (x y : DataType) → ranks.IsNumber x → ranks.IsNumber y → ranks.IsNumber (type_by k x y)
+number_by results.First x y u v = u
+number_by results.Greater x y u v = joint_numbers x y u v
 
 module _ (ps : List Procedure) where
   abbrev Any : {T : Type 0} → T → Type 0
@@ -206,7 +213,7 @@ module _ (ps : List Procedure) where
 
     pub intrinsic_means : (n : FunctionName) (xs : List Actual) (p : Pos) → AllActuals ps xs → Means (intrinsic_reference s n xs p) (ranks.IsRanked ps)
     intrinsic_means (functions.OfOne f) xs p h = bound_means ps (needed (name_of_one f) ∷ []) xs p (one_of f) h (λ bs g. made_means (λ a. of_type (type_of a) (t.of_one f a)) (given_means ps bs 0 an_integer g (number_typed ps 59)) (λ x u. (u.1, refl, u.0)))
-    intrinsic_means (functions.OfTwo f) xs p h = two_means (λ a b bs. of_type (joint (type_of a) (type_of b)) (t.of_two f a b (order_of bs 0 1))) xs p (first_name f) (second_name f) h (λ x y bs u v. (joint_numbers (type_of x) (type_of y) u.1 v.1, refl, u.0, v.0))
+    intrinsic_means (functions.OfTwo f) xs p h = two_means (λ a b bs. of_type (type_by (result_kind f) (type_of a) (type_of b)) (t.of_two f a b (order_of bs 0 1))) xs p (first_name f) (second_name f) h (λ x y bs u v. (number_by (result_kind f) (type_of x) (type_of y) u.1 v.1, refl, u.0, v.0))
     intrinsic_means functions.Min xs p h = min_means xs p h
     intrinsic_means functions.Max xs p h = max_means xs p h
     intrinsic_means functions.Huge xs p h = bound_means ps (needed (codes "x") ∷ []) xs p (λ bs. made_of (λ x. of_type (type_of x) t.huge) (given_to bs 0 of_integer_type)) h (λ bs g. made_means (λ x. of_type (type_of x) t.huge) (any {j = given_to bs 0 of_integer_type}) (λ x u. refl))

@@ -17,13 +17,14 @@ use Rattle.checked_tree.specs.declared.data.DataType.TheVariants.{Intrinsic, Tea
 use Rattle.checked_tree.specs.declared.data.Object.TheVariants as objects
 use Rattle.intrinsic_table.specs.declared.function.FunctionName.{FunctionName}
 use Rattle.intrinsic_table.specs.declared.function.FunctionName.TheVariants as functions
+use Rattle.intrinsic_table.specs.Numbers.{result_kind}
 use Rattle.rule_definitions.specs.Judgements.{is_nothing, unless, formed, Judgement, fine, unknown, made_of, made_of_both, made_of_three, item_at}
 use Rattle.rule_definitions.specs.Names
 use Rattle.rule_definitions.specs.Names.{Scope, Symbol, ConstantSymbol, ConstantValue, Interface, Meaning, denotes}
-use Rattle.rule_definitions.specs.Parts.{plain, truth, fits, items, kind_written, operand, taken_by, prefix_taken_by, type_of, team, joint, applied, prefixed, in_brackets, first_type, literal, team_of}
+use Rattle.rule_definitions.specs.Parts.{plain, truth, fits, items, kind_written, operand, taken_by, prefix_taken_by, type_of, team, applied, prefixed, in_brackets, first_type, literal, team_of}
 use Rattle.rule_definitions.specs.Arguments.{arguments, given_to, maybe_given_to, order_of, Actual, Binding, breaks_in_all, bindings, are_bound, has_needed, bound}
 use Rattle.intrinsic_table.specs.Dummies.{needed, needed_list, optional, IntrinsicDummy, two_integers, name_of_one, first_name, second_name}
-use Rattle.rule_definitions.specs.IntrinsicFunctions.{an_integer, of_integer_type, an_array, an_allocatable, a_coarray, an_integer_list, of_team, unnamed_integers, kind_argument, is_first_unnamed, default_integer, of_type, joint_type, several_breaks, several_integers, is_of_coarray, this_image, is_first_integer, num_images, intrinsic_reference, one_of, two_of}
+use Rattle.rule_definitions.specs.IntrinsicFunctions.{an_integer, of_integer_type, an_array, an_allocatable, a_coarray, an_integer_list, of_team, unnamed_integers, kind_argument, is_first_unnamed, default_integer, of_type, joint_type, several_breaks, several_integers, is_of_coarray, this_image, is_first_integer, num_images, intrinsic_reference, one_of, two_of, type_by}
 use Rattle.intrinsic_table.specs.Dummies.{the_team, two_integers, with_dim}
 use Rattle.rule_definitions.specs.Expressions.{subscripts_of, subscript_breaks, selection_breaks, judged_list, placed, WrittenSelector, typed_as, variable_part, scalar_value, constant_form, constant_part, unselected, rank_behind, call_typed, function_called, referenced, function_named, designated, judged, judged_brackets, judged_selector, judged_arguments}
 use Rattle.accepted_ranks.specs.Scopes.{IsKept, IsKeptIfTyped, AreRanks}
@@ -92,7 +93,7 @@ num_images_held xs p = cond_means (is_first_integer xs) (λ e. bound_held (neede
 
 intrinsic_held : (s : Scope) (n : FunctionName) (xs : List Actual) (p : Pos) → Means (intrinsic_reference s n xs p) Held
 intrinsic_held s (functions.OfOne f) xs p = bound_held (needed (name_of_one f) ∷ []) xs p (one_of f) (λ bs. made_held (λ a. of_type (type_of a) (t.of_one f a)) (given_to bs 0 an_integer) (λ x. tt))
-intrinsic_held s (functions.OfTwo f) xs p = bound_held (two_integers (first_name f) (second_name f)) xs p (two_of f) (λ bs. both_held (λ a b. of_type (joint (type_of a) (type_of b)) (t.of_two f a b (order_of bs 0 1))) (given_to bs 0 an_integer) (given_to bs 1 an_integer) (λ x y. tt))
+intrinsic_held s (functions.OfTwo f) xs p = bound_held (two_integers (first_name f) (second_name f)) xs p (two_of f) (λ bs. both_held (λ a b. of_type (type_by (result_kind f) (type_of a) (type_of b)) (t.of_two f a b (order_of bs 0 1))) (given_to bs 0 an_integer) (given_to bs 1 an_integer) (λ x y. tt))
 intrinsic_held s functions.Min xs p = several_held t.min xs p
 intrinsic_held s functions.Max xs p = several_held t.max xs p
 intrinsic_held s functions.Huge xs p = bound_held (needed (codes "x") ∷ []) xs p (λ bs. made_of (λ x. of_type (type_of x) t.huge) (given_to bs 0 of_integer_type)) (λ bs. made_held (λ x. of_type (type_of x) t.huge) (given_to bs 0 of_integer_type) (λ x. tt))

@@ -2,7 +2,7 @@
 use Rattle.std.proofs.Common.{◌≡◌, ◌∙◌, ℕ, zero, suc, ◌+◌, ◌*◌, ℤ, pos, ◌+ℤ◌, ◌-ℤ◌, ◌*ℤ◌, Bool, true, false, List, [], ◌∷◌, length, refl, ap, arith}
 use Rattle.std.proofs.lemmas.List.{length-map, length-append}
 use Rattle.std.specs.Ordering.{int_eq}
-use Rattle.std.specs.Prelude.{cond, nat_abs, neg_ℤ, nat_eq, nat_le, ◌||◌, int_lt, int_div, int_rem, map, Option, Some, None}
+use Rattle.std.specs.Prelude.{cond, nat_abs, neg_ℤ, nat_eq, nat_le, ◌||◌, int_lt, int_div, map, Option, Some, None}
 use Rattle.caf_base.specs.declared.value.Kind.TheVariants.{I4, I8, L4}
 use Rattle.caf_base.specs.declared.value.Value.{Value}
 use Rattle.caf_base.specs.declared.value.Value.TheVariants.{Int, Bool as Truth}

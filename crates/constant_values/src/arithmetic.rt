@@ -1,7 +1,7 @@
 //! Arithmetic of constant expressions (ISO/IEC 1539-1:2018, 10.1.5.2 and 16.9): nothing where a result leaves its kind
 //! or a divisor is 0.
 
-ghost use Rattle.std.specs.Prelude.{◌≡◌, neg_ℤ, pos, nat_abs, unsigned_abs, int_div, int_rem, false, ◌≤◌, ◌^◌, ◌+ℤ◌, FitsSigned};
+ghost use Rattle.std.specs.Prelude.{◌≡◌, neg_ℤ, pos, unsigned_abs, int_div, int_rem, false, ◌≤◌, ◌^◌, ◌+ℤ◌, FitsSigned};
 ghost use Rattle.std.specs.Int.{w128};
 ghost use Rattle.std.specs.Option.{SomeIff};
 ghost use Rattle.std.specs.Ordering.{int_eq};

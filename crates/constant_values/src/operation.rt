@@ -1,6 +1,6 @@
 //! Operators and functions of operands of which an integer or a logical may be known.
 
-ghost use Rattle.std.specs.Prelude.{◌≡◌, neg_ℤ, pos, nat_abs, not};
+ghost use Rattle.std.specs.Prelude.{◌≡◌, neg_ℤ, not};
 ghost use Rattle.caf_base.specs.declared.value.Value.TheVariants.{Bool as Truth};
 ghost use Rattle.intrinsic_table.specs.Numbers.{number_of_one, number_of_two};
 ghost use Rattle.rule_definitions.specs.Constants as rules;

@@ -5,10 +5,11 @@ ghost use Rattle.std.specs.Option.{option_map};
 ghost use Rattle.checked_tree.specs.Expressions as t;
 ghost use Rattle.checked_tree.specs.ExpressionViews.{expression};
 ghost use Rattle.checked_tree.specs.declared.data.DataType.TheVariants as types;
+ghost use Rattle.intrinsic_table.specs.Numbers.{result_kind};
 ghost use Rattle.rule_definitions.specs.Arguments as arguments;
 ghost use Rattle.rule_definitions.specs.IntrinsicFunctions.{an_integer, of_type as as_type};
 ghost use Rattle.rule_definitions.specs.Judgements.{both, made};
-ghost use Rattle.rule_definitions.specs.Parts.{joint, type_of};
+ghost use Rattle.rule_definitions.specs.Parts.{type_of};
 ghost use Rattle.call_rules.specs.Bindings.{binding_seen};
 ghost use Rattle.rule_definitions.specs.IntrinsicFunctions as rules;
 ghost use Rattle.call_rules.specs.Views.{boxed};
@@ -20,7 +21,7 @@ use call_rules::binding::{Binding, order_of, take};
 use call_rules::kind::kind_at;
 use checked_tree::data::DataType;
 use checked_tree::expr::{ExprForm, Intrinsic, TypedExpr, WrittenOrder};
-use intrinsic_table::function::{OfOne, OfTwo};
+use intrinsic_table::function::{OfOne, OfTwo, ResultKind, result_kind};
 use part_rules::judged::{Judged, unknown};
 use part_rules::types::joint_type;
 use rule_definitions::broken::Broken;
@@ -89,6 +90,16 @@ fn two_integers(alloc: Global, bindings: Vec<Binding>) -> Result<Pair, NoMemory>
     })
 }
 
+/// The type of what a function of two integers gives.
+fn type_by(kind: ResultKind, first: DataType, second: DataType) -> DataType
+    ensures { result ≡ rules.type_by kind first second }
+{
+    match kind {
+        ResultKind::First => first,
+        ResultKind::Greater => joint_type(first, second),
+    }
+}
+
 /// A function of two integers.
 #[tactic(auto, using(checked_tree::specs::ExpressionViews::typed_forms))]
 fn given_by_two(
@@ -97,7 +108,7 @@ fn given_by_two(
     b: Option<Box<TypedExpr>>,
     order: WrittenOrder,
 ) -> Option<TypedExpr>
-    ensures { option_map expression result ≡ both (λ x y. as_type (joint (type_of x) (type_of y)) (t.of_two function x y order)) (option_map boxed a) (option_map boxed b) }
+    ensures { option_map expression result ≡ both (λ x y. as_type (rules.type_by (result_kind function) (type_of x) (type_of y)) (t.of_two function x y order)) (option_map boxed a) (option_map boxed b) }
 {
     let Some(a) = a else {
         drop(b);
@@ -107,7 +118,7 @@ fn given_by_two(
         drop(a);
         return None;
     };
-    let of_type = joint_type(a.of_type, b.of_type);
+    let of_type = type_by(result_kind(function), a.of_type, b.of_type);
     Some(TypedExpr {
         form: ExprForm::Intrinsic(Intrinsic::OfTwo {
             function,

@@ -7,6 +7,8 @@ use Rattle.intrinsic_table.specs.declared.function.OfOne.{OfOne}
 use Rattle.intrinsic_table.specs.declared.function.OfOne.TheVariants as ones
 use Rattle.intrinsic_table.specs.declared.function.OfTwo.{OfTwo}
 use Rattle.intrinsic_table.specs.declared.function.OfTwo.TheVariants as twos
+use Rattle.intrinsic_table.specs.declared.function.ResultKind.{ResultKind}
+use Rattle.intrinsic_table.specs.declared.function.ResultKind.TheVariants as results
 
 -- ABS is the number without its sign (16.9.2)
 abbrev pub number_of_one : OfOne → ℤ → ℤ
@@ -20,3 +22,8 @@ of_division w z = cond (int_eq w (pos 0)) None (Some z)
 abbrev pub number_of_two : OfTwo → ℤ → ℤ → Option ℤ
 number_of_two twos.Mod v w = of_division w (int_rem v w)
 number_of_two twos.Modulo v w = of_division w (with_sign_of w (int_rem v w))
+
+-- the kind of that number
+abbrev pub result_kind : OfTwo → ResultKind
+result_kind twos.Mod = results.Greater
+result_kind twos.Modulo = results.Greater

@@ -2,6 +2,7 @@
 
 ghost use Rattle.std.specs.Prelude.{◌≡◌, map};
 ghost use Rattle.intrinsic_table.specs.Functions.{intrinsic_functions, row};
+ghost use Rattle.intrinsic_table.specs.Numbers as numbers;
 
 /// A function of one integer, which gives one of its kind.
 #[derive(Clone, Copy)]
@@ -9,11 +10,20 @@ pub enum OfOne {
     Abs,
 }
 
-/// A function of two integers, which gives one of the greater of their kinds.
+/// A function of two integers, which gives one.
 #[derive(Clone, Copy)]
 pub enum OfTwo {
     Mod,
     Modulo,
+}
+
+/// Of which kind the number is that a function of two integers gives.
+#[derive(Clone, Copy)]
+pub enum ResultKind {
+    /// That of the first.
+    First,
+    /// The greater one of the two.
+    Greater,
 }
 
 /// The intrinsic functions (16.9): those of one shape stand together.
@@ -66,4 +76,13 @@ pub fn functions() -> &'static [(&'static [u8], FunctionName)]
     ensures { map row result.now ≡ intrinsic_functions }
 {
     &FUNCTIONS
+}
+
+/// The kind of what a function of two integers gives.
+pub fn result_kind(function: OfTwo) -> ResultKind
+    ensures { result ≡ numbers.result_kind function }
+{
+    match function {
+        OfTwo::Mod | OfTwo::Modulo => ResultKind::Greater,
+    }
 }

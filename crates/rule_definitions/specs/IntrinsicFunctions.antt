@@ -17,7 +17,10 @@ use Rattle.intrinsic_table.specs.declared.function.OfOne.{OfOne}
 use Rattle.intrinsic_table.specs.declared.function.OfTwo.{OfTwo}
 use Rattle.intrinsic_table.specs.declared.function.FunctionName.{FunctionName}
 use Rattle.intrinsic_table.specs.declared.function.FunctionName.TheVariants as functions
+use Rattle.intrinsic_table.specs.declared.function.ResultKind.{ResultKind}
+use Rattle.intrinsic_table.specs.declared.function.ResultKind.TheVariants as results
 use Rattle.intrinsic_table.specs.declared.form.Form.TheVariants as forms
+use Rattle.intrinsic_table.specs.Numbers.{result_kind}
 use Rattle.intrinsic_table.specs.Dummies.{dummies_of, the_team}
 
 -- Rule 59: what the function doesn't take; rule 51 for a team
@@ -126,12 +129,17 @@ abbrev pub is_first_unnamed : List Actual → Bool
 is_first_unnamed [] = false
 is_first_unnamed (a ∷ rest) = not (is_there a.keyword)
 
--- a function of one integer, and one of two: MOD has the greater of the kinds of both
+-- the type of what a function of two integers gives
+abbrev pub type_by : ResultKind → DataType → DataType → DataType
+type_by results.First x y = x
+type_by results.Greater x y = joint x y
+
+-- a function of one integer, and one of two
 abbrev pub one_of : OfOne → List Binding → Judgement t.Expression
 one_of f bs = made_of (λ a. of_type (type_of a) (t.of_one f a)) (given_to bs 0 an_integer)
 
 abbrev pub two_of : OfTwo → List Binding → Judgement t.Expression
-two_of f bs = made_of_both (λ a b. of_type (joint (type_of a) (type_of b)) (t.of_two f a b (order_of bs 0 1))) (given_to bs 0 an_integer) (given_to bs 1 an_integer)
+two_of f bs = made_of_both (λ a b. of_type (type_by (result_kind f) (type_of a) (type_of b)) (t.of_two f a b (order_of bs 0 1))) (given_to bs 0 an_integer) (given_to bs 1 an_integer)
 
 abbrev pub huge_of : List Binding → Judgement t.Expression
 huge_of bs = made_of (λ x. of_type (type_of x) t.huge) (given_to bs 0 of_integer_type)

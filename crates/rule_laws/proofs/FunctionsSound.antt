@@ -7,13 +7,14 @@ use Rattle.checked_tree.specs.Expressions as t
 use Rattle.checked_tree.specs.declared.data.DataType.TheVariants.{Intrinsic, Team}
 use Rattle.intrinsic_table.specs.declared.function.FunctionName.{FunctionName}
 use Rattle.intrinsic_table.specs.declared.function.FunctionName.TheVariants as functions
+use Rattle.intrinsic_table.specs.Numbers.{result_kind}
 use Rattle.rule_definitions.specs.Judgements.{is_nothing, Judgement, fine, refused, made_of, made_of_both, made_of_three, is_there}
 use Rattle.rule_definitions.specs.Names
 use Rattle.rule_definitions.specs.Names.{Scope, is_integer, is_team}
-use Rattle.rule_definitions.specs.Parts.{Placed, plain, type_of, rank_of, joint, integer_kind, kind_value, team, team_of}
+use Rattle.rule_definitions.specs.Parts.{Placed, plain, type_of, rank_of, integer_kind, kind_value, team, team_of}
 use Rattle.rule_definitions.specs.Arguments.{Part, expression, triplet, Actual, Binding, breaks_in, breaks_in_all, value_for, given_to, maybe_given_to, order_of, bound}
 use Rattle.intrinsic_table.specs.Dummies.{needed, needed_list, optional, two_integers, name_of_one, first_name, second_name}
-use Rattle.rule_definitions.specs.IntrinsicFunctions.{taken, an_integer, of_integer_type, an_array, an_integer_list, allocatable_of, coarray_of, found, an_allocatable, a_coarray, of_type, default_integer, of_team, joint_type, unnamed_integer, unnamed_integers, are_unnamed, several_integers, kind_argument, is_of_coarray, this_image, is_first_integer, is_first_unnamed, num_images, intrinsic_reference, one_of}
+use Rattle.rule_definitions.specs.IntrinsicFunctions.{taken, an_integer, of_integer_type, an_array, an_integer_list, allocatable_of, coarray_of, found, an_allocatable, a_coarray, of_type, default_integer, of_team, joint_type, unnamed_integer, unnamed_integers, are_unnamed, several_integers, kind_argument, is_of_coarray, this_image, is_first_integer, is_first_unnamed, num_images, intrinsic_reference, one_of, type_by}
 use Rattle.intrinsic_table.specs.Dummies.{the_team, two_integers, with_dim}
 use Rattle.rule_laws.proofs.Sound.{is_numbered, AreNumbered, IsSound, none_numbered, cond_numbered, unless_numbered, fine_sound, refused_sound, weaker, ruled_plain, under_sound, made_sound, made_of_both_sound, made_of_three_sound, then_plain, cond_plain}
 use Rattle.rule_laws.proofs.PartsSound.{plain_sound, unlike_numbered, integer_sound, team_of_sound, kind_value_sound}
@@ -114,7 +115,7 @@ pub intrinsic_sound : {H : Type 0} (s : Scope) (n : FunctionName) (xs : List Act
 intrinsic_sound {H = H} s (functions.OfOne f) xs p h =
     let ds = needed (name_of_one f) ∷ [] in
     bound_sound H ds xs p (one_of f) h (λ bs k. made_sound (λ a. of_type (type_of a) (t.of_one f a)) (given_sound H ds bs 0 _ an_integer refl refl k (λ e. an_integer_sound e)))
-intrinsic_sound s (functions.OfTwo f) xs p h = two_sound (λ bs a b. of_type (joint (type_of a) (type_of b)) (t.of_two f a b (order_of bs 0 1))) (first_name f) (second_name f) xs p h
+intrinsic_sound s (functions.OfTwo f) xs p h = two_sound (λ bs a b. of_type (type_by (result_kind f) (type_of a) (type_of b)) (t.of_two f a b (order_of bs 0 1))) (first_name f) (second_name f) xs p h
 intrinsic_sound s functions.Min xs p h = several_sound t.min xs p h
 intrinsic_sound s functions.Max xs p h = several_sound t.max xs p h
 intrinsic_sound {H = H} s functions.Huge xs p h =

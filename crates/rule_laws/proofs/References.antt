@@ -1,6 +1,6 @@
 -- A reference to a function stands for a call or an intrinsic function, and is no constant array.
 use Rattle.std.proofs.Common.{◌≡◌, ℕ, ℤ, Bool, true, false, List, [], ◌∷◌, refl}
-use Rattle.std.specs.Prelude.{cond, int_lt, pos, neg_ℤ, nat_abs, nat_eq, nat_le, ◌*ℤ◌, ◌+ℤ◌, ◌-ℤ◌, int_div, int_rem, ◌||◌, ◌&&◌, codes, length, Option, Some, None}
+use Rattle.std.specs.Prelude.{cond, int_lt, pos, neg_ℤ, nat_abs, nat_eq, nat_le, ◌*ℤ◌, ◌+ℤ◌, ◌-ℤ◌, int_div, ◌||◌, ◌&&◌, codes, length, Option, Some, None}
 use Rattle.std.specs.Ordering.{int_eq}
 use Rattle.caf_base.specs.declared.place.Pos.{Pos}
 use Rattle.caf_base.specs.declared.value.Kind.TheVariants.{I4, I8, L4}
@@ -13,7 +13,7 @@ use Rattle.checked_tree.specs.declared.expr.ArithmeticOperator.{ArithmeticOperat
 use Rattle.checked_tree.specs.declared.expr.ArithmeticOperator.TheVariants as arithmetics
 use Rattle.intrinsic_table.specs.declared.function.FunctionName.{FunctionName}
 use Rattle.intrinsic_table.specs.declared.function.FunctionName.TheVariants as functions
-use Rattle.intrinsic_table.specs.Numbers.{number_of_one, number_of_two}
+use Rattle.intrinsic_table.specs.Numbers.{number_of_one, number_of_two, result_kind}
 use Rattle.rule_definitions.specs.Judgements.{breaks, is_nothing, Judgement, fine, unknown, refused_around, made_of, made_of_both, made_of_three, item_at}
 use Rattle.rule_definitions.specs.declared.broken.Broken.{Broken}
 use Rattle.rule_definitions.specs.Names
@@ -22,9 +22,9 @@ use Rattle.rule_definitions.specs.Arguments.{Actual, Binding, arguments, breaks_
 use Rattle.intrinsic_table.specs.Dummies.{IntrinsicDummy, needed, needed_list, optional, two_integers, name_of_one, first_name, second_name}
 use Rattle.rule_definitions.specs.Constants
 use Rattle.rule_definitions.specs.Constants.{Constancy, value, values, no_constant, Known, TripletPart, is_in_type, in_type, small_power, power_of, is_even, inverse, powered, calculated, of_integers, of_logicals, of_integer, denied, in_type_if, greater, lesser, folded, least_of, huge_of, known, known_items, known_optional, known_intrinsic, known_sizes, known_size, known_extent, dimension_at, size_constant, bound_constant, inquired_bounds, lower_of, upper_of, shown_bounds, value_of}
-use Rattle.rule_definitions.specs.IntrinsicFunctions.{intrinsic_reference, of_type, unnamed_integers, joint_type, is_of_coarray, is_first_integer, is_first_unnamed, of_team, several_integers, several_breaks, this_image, num_images, default_integer, a_coarray, an_integer, an_array, an_integer_list, of_integer_type, an_allocatable, kind_argument, one_of, two_of}
+use Rattle.rule_definitions.specs.IntrinsicFunctions.{intrinsic_reference, of_type, unnamed_integers, joint_type, is_of_coarray, is_first_integer, is_first_unnamed, of_team, several_integers, several_breaks, this_image, num_images, default_integer, a_coarray, an_integer, an_array, an_integer_list, of_integer_type, an_allocatable, kind_argument, one_of, two_of, type_by}
 use Rattle.intrinsic_table.specs.Dummies.{the_team, two_integers, with_dim}
-use Rattle.rule_definitions.specs.Parts.{plain, type_of, joint, team, team_of}
+use Rattle.rule_definitions.specs.Parts.{plain, type_of, team, team_of}
 use Rattle.rule_definitions.specs.Expressions.{call_typed, function_called, referenced}
 use Rattle.rule_laws.proofs.Sound.{none_some}
 use Rattle.rule_laws.proofs.Known.{no}
@@ -165,7 +165,7 @@ num_images_yields xs p = cond_yields IsReference (is_first_integer xs)
 
 pub function_yields : (s : Scope) (n : FunctionName) (xs : List Actual) (p : Pos) → Yields IsReference (intrinsic_reference s n xs p)
 function_yields s (functions.OfOne f) xs p = bound_yields IsReference (needed (name_of_one f) ∷ []) xs p (one_of f) (λ bs. made_yields IsReference (λ a. of_type (type_of a) (t.of_one f a)) (given_to bs 0 an_integer) (λ x e. refl))
-function_yields s (functions.OfTwo f) xs p = bound_yields IsReference (two_integers (first_name f) (second_name f)) xs p (two_of f) (λ bs. both_yields IsReference (λ a b. of_type (joint (type_of a) (type_of b)) (t.of_two f a b (order_of bs 0 1))) (given_to bs 0 an_integer) (given_to bs 1 an_integer) (λ x y e g. refl))
+function_yields s (functions.OfTwo f) xs p = bound_yields IsReference (two_integers (first_name f) (second_name f)) xs p (two_of f) (λ bs. both_yields IsReference (λ a b. of_type (type_by (result_kind f) (type_of a) (type_of b)) (t.of_two f a b (order_of bs 0 1))) (given_to bs 0 an_integer) (given_to bs 1 an_integer) (λ x y e g. refl))
 function_yields s functions.Min xs p = several_yields t.min xs p
 function_yields s functions.Max xs p = several_yields t.max xs p
 function_yields s functions.Huge xs p = bound_yields IsReference (needed (codes "x") ∷ []) xs p (λ bs. made_of (λ x. of_type (type_of x) t.huge) (given_to bs 0 of_integer_type)) (λ bs. made_yields IsReference (λ x. of_type (type_of x) t.huge) (given_to bs 0 of_integer_type) (λ x e. refl))
