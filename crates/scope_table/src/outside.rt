@@ -160,12 +160,12 @@ impl<'a> Outside<'a> {
 }
 
 // Puts the names of the intrinsic procedures behind the others.
-#[tactic(auto, using(crate::proofs::Orders::follows_both))]
 fn add_intrinsics(alloc: Global, names: &mut KnownNames) -> Result<(), NoMemory>
     ensures { OnOk result (Follows names.new names.old intrinsic_procedures) }
 {
     add_functions(alloc, names, functions())?;
-    add_all(alloc, names, &SUBROUTINES)
+    add_all(alloc, names, &SUBROUTINES)?;
+    Ok(())
 }
 
 // Puts the names of functions behind the others.

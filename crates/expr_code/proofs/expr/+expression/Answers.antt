@@ -24,59 +24,59 @@ push_expr-returns-in_ok-push_expr-in-Logic-2 t c = rw (c.in-Logic.is, form_logic
 pub push_result_place-returns : goal.push_result_place-returns
 push_result_place-returns t c = rw (result_variable_is, result_placed) (search (rules, on_ok_weaker))
 
-pub push_intrinsic-returns-in_ok-push_optional-in-Same-order-2 : goal.push_intrinsic-returns-in_ok-push_optional-in-Same-order-2
-push_intrinsic-returns-in_ok-push_optional-in-Same-order-2 t c =
+pub push_intrinsic-returns-in_ok-push_optional-in-Same-order-1 : goal.push_intrinsic-returns-in_ok-push_optional-in-Same-order-1
+push_intrinsic-returns-in_ok-push_optional-in-Same-order-1 t c =
     let e = environment c.args.env.now in
     let x = view.expression c.in-Size.array.value in
     let y = view.optional_expression c.in-Size.dim in
-    let same : view.intrinsic c.args.intrinsic.now ≡ tree.size x y orders.Same = ap view.intrinsic c.in-Size.is ∙ intrinsic_size _ _ _ ∙ ap (λ o. tree.size x y o) c.in-Same-order-2.is in
+    let same : view.intrinsic c.args.intrinsic.now ≡ tree.size x y orders.Same = ap view.intrinsic c.in-Size.is ∙ intrinsic_size _ _ _ ∙ ap (λ o. tree.size x y o) c.in-Same-order-1.is in
     let done : OnOk c.push_extent.result (c.push_extent.new.draft ≡ written c.args.line (bounds_of_array e x ▸ optional e y ▸ extent_by y) c.args.draft.now) = search (rules, on_ok_weaker) in
     on_ok_weaker c.push_extent.result (of_function e _ (tree.size x y orders.Same) c.args.kind c.args.line (bounds_of_array e x ▸ optional e y ▸ extent_by y) c.args.draft.now _ same (size_written e x y orders.Same c.args.kind c.args.line c.args.draft.now)) done
+
+pub push_intrinsic-returns-in_ok-push_bounds-in-Reversed-order-1 : goal.push_intrinsic-returns-in_ok-push_bounds-in-Reversed-order-1
+push_intrinsic-returns-in_ok-push_bounds-in-Reversed-order-1 t c =
+    let e = environment c.args.env.now in
+    let x = view.expression c.in-Size.array.value in
+    let y = view.optional_expression c.in-Size.dim in
+    let same : view.intrinsic c.args.intrinsic.now ≡ tree.size x y orders.Reversed = ap view.intrinsic c.in-Size.is ∙ intrinsic_size _ _ _ ∙ ap (λ o. tree.size x y o) c.in-Reversed-order-1.is in
+    let done : OnOk c.push_extent-in-Reversed-order-1.result (c.push_extent-in-Reversed-order-1.new.draft ≡ written c.args.line (optional e y ▸ bounds_of_array e x ▸ extent_by y) c.args.draft.now) = search (rules, on_ok_weaker) in
+    on_ok_weaker c.push_extent-in-Reversed-order-1.result (of_function e _ (tree.size x y orders.Reversed) c.args.kind c.args.line (optional e y ▸ bounds_of_array e x ▸ extent_by y) c.args.draft.now _ same (size_written e x y orders.Reversed c.args.kind c.args.line c.args.draft.now)) done
+
+pub push_intrinsic-returns-in_ok-push_expr-in-Same-order-2 : goal.push_intrinsic-returns-in_ok-push_expr-in-Same-order-2
+push_intrinsic-returns-in_ok-push_expr-in-Same-order-2 t c =
+    let e = environment c.args.env.now in
+    let x = view.expression c.in-Lbound.array.value in
+    let y = view.expression c.in-Lbound.dim.value in
+    let same : view.intrinsic c.args.intrinsic.now ≡ tree.lbound x y orders.Same = ap view.intrinsic c.in-Lbound.is ∙ intrinsic_lbound _ _ _ ∙ ap (λ o. tree.lbound x y o) c.in-Same-order-2.is in
+    let done : OnOk c.push-in-Same-order-2.result (c.push-in-Same-order-2.new.self ≡ written c.args.line (bounds_of_array e x ▸ expression e y ▸ doing (bounded a.lower_bound ∷ [])) c.args.draft.now) = search (rules, on_ok_weaker) in
+    on_ok_weaker c.push-in-Same-order-2.result (of_function e _ (tree.lbound x y orders.Same) c.args.kind c.args.line (bounds_of_array e x ▸ expression e y ▸ doing (bounded a.lower_bound ∷ [])) c.args.draft.now _ same (lbound_written e x y orders.Same c.args.kind c.args.line c.args.draft.now)) done
 
 pub push_intrinsic-returns-in_ok-push_bounds-in-Reversed-order-2 : goal.push_intrinsic-returns-in_ok-push_bounds-in-Reversed-order-2
 push_intrinsic-returns-in_ok-push_bounds-in-Reversed-order-2 t c =
     let e = environment c.args.env.now in
-    let x = view.expression c.in-Size.array.value in
-    let y = view.optional_expression c.in-Size.dim in
-    let same : view.intrinsic c.args.intrinsic.now ≡ tree.size x y orders.Reversed = ap view.intrinsic c.in-Size.is ∙ intrinsic_size _ _ _ ∙ ap (λ o. tree.size x y o) c.in-Reversed-order-2.is in
-    let done : OnOk c.push_extent-in-Reversed-order-2.result (c.push_extent-in-Reversed-order-2.new.draft ≡ written c.args.line (optional e y ▸ bounds_of_array e x ▸ extent_by y) c.args.draft.now) = search (rules, on_ok_weaker) in
-    on_ok_weaker c.push_extent-in-Reversed-order-2.result (of_function e _ (tree.size x y orders.Reversed) c.args.kind c.args.line (optional e y ▸ bounds_of_array e x ▸ extent_by y) c.args.draft.now _ same (size_written e x y orders.Reversed c.args.kind c.args.line c.args.draft.now)) done
+    let x = view.expression c.in-Lbound.array.value in
+    let y = view.expression c.in-Lbound.dim.value in
+    let same : view.intrinsic c.args.intrinsic.now ≡ tree.lbound x y orders.Reversed = ap view.intrinsic c.in-Lbound.is ∙ intrinsic_lbound _ _ _ ∙ ap (λ o. tree.lbound x y o) c.in-Reversed-order-2.is in
+    let done : OnOk c.push-in-Reversed-order-2.result (c.push-in-Reversed-order-2.new.self ≡ written c.args.line (expression e y ▸ bounds_of_array e x ▸ doing (bounded a.lower_bound ∷ [])) c.args.draft.now) = search (rules, on_ok_weaker) in
+    on_ok_weaker c.push-in-Reversed-order-2.result (of_function e _ (tree.lbound x y orders.Reversed) c.args.kind c.args.line (expression e y ▸ bounds_of_array e x ▸ doing (bounded a.lower_bound ∷ [])) c.args.draft.now _ same (lbound_written e x y orders.Reversed c.args.kind c.args.line c.args.draft.now)) done
 
 pub push_intrinsic-returns-in_ok-push_expr-in-Same-order-3 : goal.push_intrinsic-returns-in_ok-push_expr-in-Same-order-3
 push_intrinsic-returns-in_ok-push_expr-in-Same-order-3 t c =
     let e = environment c.args.env.now in
-    let x = view.expression c.in-Lbound.array.value in
-    let y = view.expression c.in-Lbound.dim.value in
-    let same : view.intrinsic c.args.intrinsic.now ≡ tree.lbound x y orders.Same = ap view.intrinsic c.in-Lbound.is ∙ intrinsic_lbound _ _ _ ∙ ap (λ o. tree.lbound x y o) c.in-Same-order-3.is in
-    let done : OnOk c.push-in-Same-order-3.result (c.push-in-Same-order-3.new.self ≡ written c.args.line (bounds_of_array e x ▸ expression e y ▸ doing (bounded a.lower_bound ∷ [])) c.args.draft.now) = search (rules, on_ok_weaker) in
-    on_ok_weaker c.push-in-Same-order-3.result (of_function e _ (tree.lbound x y orders.Same) c.args.kind c.args.line (bounds_of_array e x ▸ expression e y ▸ doing (bounded a.lower_bound ∷ [])) c.args.draft.now _ same (lbound_written e x y orders.Same c.args.kind c.args.line c.args.draft.now)) done
+    let x = view.expression c.in-Ubound.array.value in
+    let y = view.expression c.in-Ubound.dim.value in
+    let same : view.intrinsic c.args.intrinsic.now ≡ tree.ubound x y orders.Same = ap view.intrinsic c.in-Ubound.is ∙ intrinsic_ubound _ _ _ ∙ ap (λ o. tree.ubound x y o) c.in-Same-order-3.is in
+    let done : OnOk c.push-in-Same-order-3.result (c.push-in-Same-order-3.new.self ≡ written c.args.line (bounds_of_array e x ▸ expression e y ▸ doing (bounded a.upper_bound ∷ [])) c.args.draft.now) = search (rules, on_ok_weaker) in
+    on_ok_weaker c.push-in-Same-order-3.result (of_function e _ (tree.ubound x y orders.Same) c.args.kind c.args.line (bounds_of_array e x ▸ expression e y ▸ doing (bounded a.upper_bound ∷ [])) c.args.draft.now _ same (ubound_written e x y orders.Same c.args.kind c.args.line c.args.draft.now)) done
 
 pub push_intrinsic-returns-in_ok-push_bounds-in-Reversed-order-3 : goal.push_intrinsic-returns-in_ok-push_bounds-in-Reversed-order-3
 push_intrinsic-returns-in_ok-push_bounds-in-Reversed-order-3 t c =
     let e = environment c.args.env.now in
-    let x = view.expression c.in-Lbound.array.value in
-    let y = view.expression c.in-Lbound.dim.value in
-    let same : view.intrinsic c.args.intrinsic.now ≡ tree.lbound x y orders.Reversed = ap view.intrinsic c.in-Lbound.is ∙ intrinsic_lbound _ _ _ ∙ ap (λ o. tree.lbound x y o) c.in-Reversed-order-3.is in
-    let done : OnOk c.push-in-Reversed-order-3.result (c.push-in-Reversed-order-3.new.self ≡ written c.args.line (expression e y ▸ bounds_of_array e x ▸ doing (bounded a.lower_bound ∷ [])) c.args.draft.now) = search (rules, on_ok_weaker) in
-    on_ok_weaker c.push-in-Reversed-order-3.result (of_function e _ (tree.lbound x y orders.Reversed) c.args.kind c.args.line (expression e y ▸ bounds_of_array e x ▸ doing (bounded a.lower_bound ∷ [])) c.args.draft.now _ same (lbound_written e x y orders.Reversed c.args.kind c.args.line c.args.draft.now)) done
-
-pub push_intrinsic-returns-in_ok-push_expr-in-Same-order-4 : goal.push_intrinsic-returns-in_ok-push_expr-in-Same-order-4
-push_intrinsic-returns-in_ok-push_expr-in-Same-order-4 t c =
-    let e = environment c.args.env.now in
     let x = view.expression c.in-Ubound.array.value in
     let y = view.expression c.in-Ubound.dim.value in
-    let same : view.intrinsic c.args.intrinsic.now ≡ tree.ubound x y orders.Same = ap view.intrinsic c.in-Ubound.is ∙ intrinsic_ubound _ _ _ ∙ ap (λ o. tree.ubound x y o) c.in-Same-order-4.is in
-    let done : OnOk c.push-in-Same-order-4.result (c.push-in-Same-order-4.new.self ≡ written c.args.line (bounds_of_array e x ▸ expression e y ▸ doing (bounded a.upper_bound ∷ [])) c.args.draft.now) = search (rules, on_ok_weaker) in
-    on_ok_weaker c.push-in-Same-order-4.result (of_function e _ (tree.ubound x y orders.Same) c.args.kind c.args.line (bounds_of_array e x ▸ expression e y ▸ doing (bounded a.upper_bound ∷ [])) c.args.draft.now _ same (ubound_written e x y orders.Same c.args.kind c.args.line c.args.draft.now)) done
-
-pub push_intrinsic-returns-in_ok-push_bounds-in-Reversed-order-4 : goal.push_intrinsic-returns-in_ok-push_bounds-in-Reversed-order-4
-push_intrinsic-returns-in_ok-push_bounds-in-Reversed-order-4 t c =
-    let e = environment c.args.env.now in
-    let x = view.expression c.in-Ubound.array.value in
-    let y = view.expression c.in-Ubound.dim.value in
-    let same : view.intrinsic c.args.intrinsic.now ≡ tree.ubound x y orders.Reversed = ap view.intrinsic c.in-Ubound.is ∙ intrinsic_ubound _ _ _ ∙ ap (λ o. tree.ubound x y o) c.in-Reversed-order-4.is in
-    let done : OnOk c.push-in-Reversed-order-4.result (c.push-in-Reversed-order-4.new.self ≡ written c.args.line (expression e y ▸ bounds_of_array e x ▸ doing (bounded a.upper_bound ∷ [])) c.args.draft.now) = search (rules, on_ok_weaker) in
-    on_ok_weaker c.push-in-Reversed-order-4.result (of_function e _ (tree.ubound x y orders.Reversed) c.args.kind c.args.line (expression e y ▸ bounds_of_array e x ▸ doing (bounded a.upper_bound ∷ [])) c.args.draft.now _ same (ubound_written e x y orders.Reversed c.args.kind c.args.line c.args.draft.now)) done
+    let same : view.intrinsic c.args.intrinsic.now ≡ tree.ubound x y orders.Reversed = ap view.intrinsic c.in-Ubound.is ∙ intrinsic_ubound _ _ _ ∙ ap (λ o. tree.ubound x y o) c.in-Reversed-order-3.is in
+    let done : OnOk c.push-in-Reversed-order-3.result (c.push-in-Reversed-order-3.new.self ≡ written c.args.line (expression e y ▸ bounds_of_array e x ▸ doing (bounded a.upper_bound ∷ [])) c.args.draft.now) = search (rules, on_ok_weaker) in
+    on_ok_weaker c.push-in-Reversed-order-3.result (of_function e _ (tree.ubound x y orders.Reversed) c.args.kind c.args.line (expression e y ▸ bounds_of_array e x ▸ doing (bounded a.upper_bound ∷ [])) c.args.draft.now _ same (ubound_written e x y orders.Reversed c.args.kind c.args.line c.args.draft.now)) done
 
 pub push_intrinsic-returns-in-GetTeam : goal.push_intrinsic-returns-in-GetTeam
 push_intrinsic-returns-in-GetTeam t c =
