@@ -22,9 +22,8 @@ use Rattle.rule_definitions.specs.Names
 use Rattle.rule_definitions.specs.Names.{Scope, Symbol, ConstantSymbol, ConstantValue, Interface, Meaning, denotes}
 use Rattle.rule_definitions.specs.Parts.{plain, truth, fits, items, kind_written, operand, taken_by, prefix_taken_by, type_of, team, applied, prefixed, in_brackets, first_type, literal, team_of}
 use Rattle.rule_definitions.specs.Arguments.{arguments, given_to, maybe_given_to, order_of, Actual, Binding, breaks_in_all, bindings, are_bound, has_needed, bound}
-use Rattle.intrinsic_table.specs.Dummies.{needed, needed_list, optional, IntrinsicDummy, two_integers, name_of_one, first_name, second_name}
+use Rattle.intrinsic_table.specs.Dummies.{needed, needed_list, optional, IntrinsicDummy, two_integers, name_of_one, first_name, second_name, the_team, with_dim}
 use Rattle.rule_definitions.specs.IntrinsicFunctions.{an_integer, of_integer_type, an_array, an_allocatable, a_coarray, an_integer_list, of_team, unnamed_integers, kind_argument, is_first_unnamed, default_integer, of_type, joint_type, several_breaks, several_integers, is_of_coarray, this_image, is_first_integer, num_images, intrinsic_reference, one_of, two_of, type_by}
-use Rattle.intrinsic_table.specs.Dummies.{the_team, two_integers, with_dim}
 use Rattle.rule_definitions.specs.Expressions.{subscripts_of, subscript_breaks, selection_breaks, judged_list, placed, WrittenSelector, typed_as, variable_part, scalar_value, constant_form, constant_part, unselected, rank_behind, call_typed, function_called, referenced, function_named, designated, judged, judged_brackets, judged_selector, judged_arguments}
 use Rattle.object_rules.specs.Cells.{Declared}
 use Rattle.accepted_cells.specs.Scopes.{IsOf, IsOfIfTyped, AreHeld}

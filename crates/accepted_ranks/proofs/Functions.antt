@@ -21,9 +21,8 @@ use Rattle.rule_definitions.specs.Names
 use Rattle.rule_definitions.specs.Names.{Scope, symbol_of, is_integer}
 use Rattle.rule_definitions.specs.Parts.{Placed, plain, type_of, rank_of, team_of}
 use Rattle.rule_definitions.specs.Arguments.{Part, expression, triplet, Actual, breaks_in_all, Binding, given_to, maybe_given_to, order_of, bound}
-use Rattle.intrinsic_table.specs.Dummies.{needed, needed_list, optional, two_integers, name_of_one, first_name, second_name}
+use Rattle.intrinsic_table.specs.Dummies.{needed, needed_list, optional, two_integers, name_of_one, first_name, second_name, the_team, with_dim}
 use Rattle.rule_definitions.specs.IntrinsicFunctions.{taken, an_integer, of_integer_type, an_array, an_integer_list, is_allocatable_symbol, allocatable_of, found, an_allocatable, a_coarray, of_type, default_integer, of_team, joint_type, named_breaks, unnamed_integers, several_breaks, several_integers, kind_argument, is_of_coarray, this_image, is_first_integer, is_first_unnamed, num_images, intrinsic_reference, are_unnamed, one_of, type_by}
-use Rattle.intrinsic_table.specs.Dummies.{the_team, two_integers, with_dim}
 use Rattle.tree_meaning.specs.Expressions.{count_of}
 use Rattle.accepted_ranks.specs.Kinded as ranks
 use Rattle.accepted_ranks.proofs.Means.{Means, cons_nil, left_nothing, right_nothing, unless_nothing, no, and_right, same_number, fine_means, no_meaning, refused_means, ruled_means, under_means, made_means, both_means, three_means, then_means, cond_means}

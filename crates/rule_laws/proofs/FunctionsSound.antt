@@ -13,9 +13,8 @@ use Rattle.rule_definitions.specs.Names
 use Rattle.rule_definitions.specs.Names.{Scope, is_integer, is_team}
 use Rattle.rule_definitions.specs.Parts.{Placed, plain, type_of, rank_of, integer_kind, kind_value, team, team_of}
 use Rattle.rule_definitions.specs.Arguments.{Part, expression, triplet, Actual, Binding, breaks_in, breaks_in_all, value_for, given_to, maybe_given_to, order_of, bound}
-use Rattle.intrinsic_table.specs.Dummies.{needed, needed_list, optional, two_integers, name_of_one, first_name, second_name}
+use Rattle.intrinsic_table.specs.Dummies.{needed, needed_list, optional, two_integers, name_of_one, first_name, second_name, the_team, with_dim}
 use Rattle.rule_definitions.specs.IntrinsicFunctions.{taken, an_integer, of_integer_type, an_array, an_integer_list, allocatable_of, coarray_of, found, an_allocatable, a_coarray, of_type, default_integer, of_team, joint_type, unnamed_integer, unnamed_integers, are_unnamed, several_integers, kind_argument, is_of_coarray, this_image, is_first_integer, is_first_unnamed, num_images, intrinsic_reference, one_of, type_by}
-use Rattle.intrinsic_table.specs.Dummies.{the_team, two_integers, with_dim}
 use Rattle.rule_laws.proofs.Sound.{is_numbered, AreNumbered, IsSound, none_numbered, cond_numbered, unless_numbered, fine_sound, refused_sound, weaker, ruled_plain, under_sound, made_sound, made_of_both_sound, made_of_three_sound, then_plain, cond_plain}
 use Rattle.rule_laws.proofs.PartsSound.{plain_sound, unlike_numbered, integer_sound, team_of_sound, kind_value_sound}
 use Rattle.rule_laws.proofs.ArgumentsSound.{PartSound, AllActuals, AllBindings, bound_sound, maybe_sound, value_sound, given_sound}

@@ -19,11 +19,10 @@ use Rattle.rule_definitions.specs.declared.broken.Broken.{Broken}
 use Rattle.rule_definitions.specs.Names
 use Rattle.rule_definitions.specs.Names.{Scope, Interface, Symbol, Meaning, KnownBounds}
 use Rattle.rule_definitions.specs.Arguments.{Actual, Binding, arguments, breaks_in_all, are_bound, has_needed, unbound_breaks, bindings, bound, given_to, maybe_given_to, order_of}
-use Rattle.intrinsic_table.specs.Dummies.{IntrinsicDummy, needed, needed_list, optional, two_integers, name_of_one, first_name, second_name}
+use Rattle.intrinsic_table.specs.Dummies.{IntrinsicDummy, needed, needed_list, optional, two_integers, name_of_one, first_name, second_name, the_team, with_dim}
 use Rattle.rule_definitions.specs.Constants
 use Rattle.rule_definitions.specs.Constants.{Constancy, value, values, no_constant, Known, TripletPart, is_in_type, in_type, small_power, power_of, is_even, inverse, powered, calculated, of_integers, of_logicals, of_integer, denied, in_type_if, greater, lesser, folded, least_of, huge_of, known, known_items, known_optional, known_intrinsic, known_sizes, known_size, known_extent, dimension_at, size_constant, bound_constant, inquired_bounds, lower_of, upper_of, shown_bounds, value_of}
 use Rattle.rule_definitions.specs.IntrinsicFunctions.{intrinsic_reference, of_type, unnamed_integers, joint_type, is_of_coarray, is_first_integer, is_first_unnamed, of_team, several_integers, several_breaks, this_image, num_images, default_integer, a_coarray, an_integer, an_array, an_integer_list, of_integer_type, an_allocatable, kind_argument, one_of, two_of, type_by}
-use Rattle.intrinsic_table.specs.Dummies.{the_team, two_integers, with_dim}
 use Rattle.rule_definitions.specs.Parts.{plain, type_of, team, team_of}
 use Rattle.rule_definitions.specs.Expressions.{call_typed, function_called, referenced}
 use Rattle.rule_laws.proofs.Sound.{none_some}
