@@ -199,12 +199,7 @@ pub(crate) fn given_by_one(function: OfOne, of_type: DataType, number: i64) -> O
 }
 
 /// A function of two integers (16.9).
-pub(crate) fn given_by_two(
-    function: OfTwo,
-    of_type: DataType,
-    left: i64,
-    right: i64,
-) -> Option<i64>
+pub(crate) fn given_by_two(function: OfTwo, of_type: DataType, left: i64, right: i64) -> Option<i64>
     ensures { as_constant result ≡ rules.in_type_if of_type (number_of_two function left right) }
 {
     match function {

@@ -190,7 +190,10 @@ fn add_function(
 ) -> Result<(), NoMemory>
     ensures { OnOk result (Follows names.new names.old (intrinsic_named (function_row line.now) ∷ [])) }
 {
-    names.add(Listing::from_slice(alloc, line.0)?, Known::IntrinsicFunction(line.1))
+    names.add(
+        Listing::from_slice(alloc, line.0)?,
+        Known::IntrinsicFunction(line.1),
+    )
 }
 
 // Puts the names of a table behind the others.
