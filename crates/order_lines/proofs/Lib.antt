@@ -1,2 +1,3 @@
 pub mod Exact
 pub mod Forms
+pub mod Pieces
