@@ -9,6 +9,8 @@ from words import is_on_workers, options_of
 
 # The name that the calls give to a kept trace.
 KEPT = "run.trace"
+# What a run shows beside its end.
+_SHOWN = ("--trace", "--vars", "--why", "--every")
 
 
 def calls_again(caller: Caller, words: Sequence[str], code: str) -> List[str]:
@@ -16,15 +18,20 @@ def calls_again(caller: Caller, words: Sequence[str], code: str) -> List[str]:
     if not is_on_workers(words) or code in ("statements", "words"):
         return []
     say = read_sentences(caller.home).say
-    left = _without(words, ("--trace", "--vars", "--why", "-w"))
-    helps = [f"{say('Workers', 'again')}\n{_call(caller, 'explore', left)}"]
+    left = _without(words, (*_SHOWN, "-w"))
+    helps = [f"{say('Workers', 'again')}\n{explore_call(caller, words)}"]
     if "--made" in left:
         return helps
     replay = _call(caller, "replay", [*left[:-1], KEPT, left[-1]])
     if "--trace" in options_of(words):
         return [*helps, f"{say('Workers', 'kept')}\n{replay}"]
-    run = _call(caller, "run", ["--trace", *_without(words, ("--vars", "--why"))])
+    run = _call(caller, "run", ["--trace", *_without(words, _SHOWN)])
     return [*helps, f"{say('Workers', 'keep')}\n{run} >{KEPT}\n{replay}"]
+
+
+def explore_call(caller: Caller, words: Sequence[str]) -> str:
+    """Returns the call that makes a run in other orders."""
+    return _call(caller, "explore", _without(words, (*_SHOWN, "-w")))
 
 
 def _without(words: Sequence[str], options: Sequence[str]) -> List[str]:

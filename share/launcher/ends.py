@@ -13,6 +13,8 @@ WORDS = (
     "limit",
     "stuck",
     "why",
+    "this",
+    "every",
     "race",
     "not a run at step",
     "bad trace at line",

@@ -31,7 +31,17 @@ def messages(caller: Caller, asked: Asked, answered: Answered) -> str:
 
 
 def messages_of(caller: Caller, asked: Asked, answered: Answered) -> List[Message]:
-    """Returns what an answer means."""
+    """Returns what an answer means: its status, and that a run doesn't speak for every order."""
+    told = _status_messages(caller, asked, answered)
+    if any(it.startswith("this order") for it in answered.lines):
+        from told_order import told_order  # here, since most calls don't need it
+
+        told += told_order(caller, asked, answered.lines, answered.status)
+    return told
+
+
+def _status_messages(caller: Caller, asked: Asked, answered: Answered) -> List[Message]:
+    """Returns what the status of an answer means."""
     status = answered.status
     if 2 <= status <= 9 or status in (14, 15):
         return _end_messages(caller, asked, answered)

@@ -11,7 +11,7 @@ OPTION = "--message-format"
 HELP = ("-h", "--help")
 # How many words stand behind each option of a run.
 _OF_A_RUN = {"-n": 1, "-w": 1, "--order": 1, "--steps": 1, "--fail": 1, "--made": 2}
-_OF_A_RUN.update({it: 0 for it in ("--trace", "--vars", "--why")})
+_OF_A_RUN.update({it: 0 for it in ("--trace", "--vars", "--why", "--every")})
 _RUNS = ("run", "show", "picture", "explore")
 
 

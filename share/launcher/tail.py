@@ -1,4 +1,4 @@
-"""The lines that tell why a run is stuck, at the end of a program's text that comes in pieces."""
+"""The lines that tell why a run is stuck, near the end of a program's text that comes in pieces."""
 
 from typing import List
 
@@ -8,8 +8,8 @@ _MARK = b"\nwhy "
 
 
 class Tail:
-    """Parts the end of a text: what is passed on, and the lines of --why behind it, which are passed on too where the
-    call asked for them."""
+    """Parts the end of a text: what is passed on, and the lines of --why, which are passed on too where the call asked
+    for them. The line of --every may stand behind those."""
 
     def __init__(self, is_passed: bool) -> None:
         self._is_passed = is_passed
@@ -33,9 +33,12 @@ class Tail:
         return text[:end]
 
     def rest(self) -> bytes:
-        """Returns what was held back, at the end of the text."""
-        held, self._held = self._held, b""
-        return held
+        """Returns what was held back, and what stands behind the lines that are cut off, at the end of the text."""
+        lines = self._cut.splitlines(True)
+        self._cut = b"".join(it for it in lines if it.startswith(_MARK[1:]))
+        rest = self._held + b"".join(it for it in lines if not it.startswith(_MARK[1:]))
+        self._held = b""
+        return rest
 
     def lines(self) -> List[str]:
         """Returns the lines that were cut off."""

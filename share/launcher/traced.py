@@ -2,8 +2,9 @@
 apart, in memory where it is short, and in a temporary file where it is long.
 
 The text is laid out in this order: the printed lines, `IMAGE: TEXT`; with --vars the lines `var ..`; with --trace a
-line `trace 2 images N` and those of the steps, which begin with a number and a blank; the lines of the end; and with
---why the lines that tell why a run is stuck.
+line `trace 2 images N` and those of the steps, which begin with a number and a blank; the lines of the end; with --why
+the lines that tell why a run is stuck; and with --every the line that tells whether it speaks for every order, `every
+order` or `this order: ..`.
 """
 
 import re
@@ -16,10 +17,11 @@ MOST_IN_MEMORY = 1 << 20
 
 _BEGINS = re.compile(rb"^(?:v|trace |[0-9]+ )", re.MULTILINE)
 _BEHIND_VARIABLES = re.compile(rb"^[^v]", re.MULTILINE)
-_BEHIND_STEPS = re.compile(rb"^[^0-9t]", re.MULTILINE)
-# What may be the beginning of the first line of a trace, or of a step.
-_MAY_BEGIN = re.compile(rb"[0-9]+|t(?:r(?:a(?:ce?)?)?)?")
+_BEHIND_STEPS = re.compile(rb"^(?:[^0-9t]|th)", re.MULTILINE)
 _PRINTED, _VARIABLES, _STEPS, _END = range(4)
+# What may be the beginning of a line with which a block ends: of the first line of a trace, or of a step; of the line
+# of --every.
+_MAY_BEGIN = {_PRINTED: re.compile(rb"[0-9]+|t(?:r(?:a(?:ce?)?)?)?"), _STEPS: re.compile(b"t")}
 
 
 class KeptTrace:
@@ -87,7 +89,7 @@ class Cut:
             start = 0 if self._is_line_start else text.find(b"\n") + 1
             found = self._boundary(text, start) if start or self._is_line_start else None
             block = text if found is None else text[: found.start()]
-            if found is None and self._block == _PRINTED:
+            if found is None and self._block in _MAY_BEGIN:
                 block = self._decided(text)
             self._put(block, passed)
             if found is None:
@@ -112,9 +114,9 @@ class Cut:
         return forms[self._block].search(text, start)
 
     def _decided(self, text: bytes) -> bytes:
-        """Holds back the beginning of a line that may be that of a trace."""
+        """Holds back the beginning of a line with which the block may end."""
         start = text.rfind(b"\n") + 1
-        if (start or self._is_line_start) and _MAY_BEGIN.fullmatch(text, start):
+        if (start or self._is_line_start) and _MAY_BEGIN[self._block].fullmatch(text, start):
             self._held = text[start:]
             return text[:start]
         return text

@@ -17,10 +17,11 @@ OWN: Dict[str, Dict[str, int]] = {
     "explore": {"--runs": 1, "--fails": 0},
 }
 # The options of a run that each of them has no use for, since it is set by the command.
+_SHOWN = ("--trace", "--vars", "--why", "--every")
 _SET: Dict[str, Tuple[str, ...]] = {
-    "show": ("--trace", "--vars", "--why"),
-    "picture": ("--trace", "--vars", "--why"),
-    "explore": ("--trace", "--vars", "--why"),
+    "show": _SHOWN,
+    "picture": _SHOWN,
+    "explore": _SHOWN,
 }
 _WITH_VALUE = ("-n", "-w", "--order", "--steps", "--fail")
 

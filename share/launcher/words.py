@@ -61,7 +61,7 @@ _NUMBERS: Dict[str, Range] = {
     "--order": SEED,
     "--steps": Range(1, GREATEST_STEPS),
 }
-_FLAGS = ("--trace", "--vars", "--why")
+_FLAGS = ("--trace", "--vars", "--why", "--every")
 # The one option that may stand more than once, and what stands behind it: I@K.
 _FAIL = "--fail"
 _FAIL_IMAGE = Range(1, GREATEST_IMAGES)
@@ -71,7 +71,7 @@ _RIVALS = {"-w": "--order", "--order": "-w"}
 # The commands that take a TRACE before FILE, with the options of a run that each of them takes.
 OF_A_TRACE: Dict[str, Tuple[str, ...]] = {
     "judge": ("-n", "--steps", "--fail"),
-    "replay": ("-n", "--steps", "--fail", "--trace", "--vars", "--why"),
+    "replay": ("-n", "--steps", "--fail", "--trace", "--vars", "--why", "--every"),
 }
 
 

@@ -8,7 +8,7 @@ from typing import Iterator, List, NamedTuple, Tuple
 
 from checks.comparing import HOME, LAUNCHER, Checks, call, folder, read, with_status, write
 
-PAGES = ("README.md", "docs/use/REFUSALS.md", "docs/use/GUIDE.md", "docs/build/TOUR.md")
+PAGES = ("README.md", "docs/use/REFUSALS.md", "docs/use/GUIDE.md", "docs/use/EVERY-ORDER.md", "docs/build/TOUR.md")
 _CALL = re.compile(r"# \./caf (.*): status ([0-9]+)")
 
 

@@ -5,7 +5,7 @@ import sys
 
 from checks.comparing import HOME, LAUNCHER, Checks, call, folder, read, started, with_status, write
 
-HELP_WORDS = """run judge replay check make -n -w --order --steps --fail --trace --vars --why --made FILE TRACE
+HELP_WORDS = """run judge replay check make -n -w --order --steps --fail --trace --vars --why --every --made FILE TRACE
 --try --prove --which --explain --version --message-format Statuses"""
 NEIGHBOUR = ["run", "-n", "4", "--order", "0", "examples/neighbour.f90"]
 # A program whose trace is long, and which ends by a fault in its last statement.

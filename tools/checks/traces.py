@@ -19,7 +19,7 @@ _STEP = re.compile(rb"^[0-9]+ ([0-9]+) .*\n", re.MULTILINE)
 _RACE = re.compile(rb"^race on .*\n", re.MULTILINE)
 _CORE_RUN = b"core run\n"
 # Words of a run that a trace has no use for, with the number of values behind each.
-_OF_THE_RUN = {"--order": 1, "-w": 1, "--trace": 0, "--vars": 0, "--why": 0}
+_OF_THE_RUN = {"--order": 1, "-w": 1, "--trace": 0, "--vars": 0, "--why": 0, "--every": 0}
 
 
 class Kept(NamedTuple):

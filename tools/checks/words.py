@@ -10,8 +10,8 @@ from texts import bytes_of
 from words import Valid, Wrong, read_words
 
 # What drawn lists are made of.
-_PIECES = """run judge replay check make -n -n -w -w --order --order --steps --fail --trace --vars --why --made a.f90
-b.f90 1 1 4 16 64 65 256 257 0 3@1 3@0 007 _ -x 2147483647 4096 4097 1000000 100000001""".split()
+_PIECES = """run judge replay check make -n -n -w -w --order --order --steps --fail --trace --vars --why --every --made
+a.f90 b.f90 1 1 4 16 64 65 256 257 0 3@1 3@0 007 _ -x 2147483647 4096 4097 1000000 100000001""".split()
 DRAWN = 240
 # Of so many lists one is given to the launcher itself too.
 STEP = 8

@@ -164,8 +164,9 @@ abbrev pub MakingClause : List Word → ℕ → List ℕ → Type 0
 MakingClause words status text = (seed : ℕ) (size : ℕ) → IsMake words seed size → (status ≡ 0) × (text ≡ made_source seed size)
 
 -- Why: the text of a report is the one that the words ask for, which run a source or replay a trace. Where they ask why
--- and the run is stuck, the lines of the chain of waits that its trace tells stand behind the report's text; else it is
--- that alone (`IsRunText`).
+-- and the run is stuck, the lines of the chain of waits that its trace tells stand behind the report's text; where they
+-- ask whether the run speaks for every order, the last line says it: `every order` exactly where the trace is decided;
+-- else it is the report's text alone (`IsRunText`).
 abbrev pub IsTextOf : List Word → Report → List ℕ → Type 0
 IsTextOf words r text = (verb : Verb) × (o : Options) × (fails : List FailAt) × (operands : Operands) × MayShow verb × IsCommand verb words o fails operands × IsRunText o r text
 
@@ -183,8 +184,8 @@ abbrev pub IsSaidOfTrace : List Word → ℕ → Type 0
 IsSaidOfTrace words status = (goal : Goal) × (o : Options) × (fails : List FailAt) × (trace : Word) × (file : Word) × IsTraced goal words o fails trace file × IsSaidStatus goal status
 
 -- Report: one is there exactly where the status of a run or of a replay is due, which is that of its end, and the text
--- due is its text, with the final values, the trace, the summary and why the run is stuck exactly where the words ask
--- for them; without one
+-- due is its text, with the final values, the trace, the summary, why the run is stuck and whether it speaks for every
+-- order exactly where the words ask for them; without one
 -- 0 is due of a check, whose text is `ok`, of words that make a source, and of a judge; 14 and 15 are due of a judge
 -- and of a replay, and 5 of a judge.
 abbrev pub ReportClause : List Word → Option Report → ℕ → List ℕ → Type 0

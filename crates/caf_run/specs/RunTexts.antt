@@ -1,6 +1,7 @@
--- What is written of a run: the text of its report, and behind it why the run is stuck, where the words ask for that:
--- the lines of the chain of waits that its trace tells with the waits of its report.
-use Rattle.std.specs.Prelude.{ℕ, ◌≡◌, Bool, true, List, [], ◌++◌}
+-- What is written of a run: the text of its report, and behind it what the words ask for: why the run is stuck, which
+-- are the lines of the chain of waits that its trace tells with the waits of its report; and the line that says whether
+-- the run speaks for every order of the images.
+use Rattle.std.specs.Prelude.{ℕ, ◌≡◌, Bool, true, false, List, [], ◌++◌}
 use Rattle.caf_events.specs.declared.event.Entry.{Entry}
 use Rattle.caf_report.specs.declared.report.End.{End}
 use Rattle.caf_report.specs.declared.report.End.TheVariants as ends
@@ -13,6 +14,7 @@ use Rattle.wait_reason.specs.Chains.{Close}
 use Rattle.wait_chain.specs.Reports.{as_waits}
 use Rattle.wait_chain.specs.ToldChains.{IsToldChain}
 use Rattle.wait_lines.specs.ChainText.{chain_text}
+use Rattle.order_lines.specs.Lines.{IsOrderLine}
 
 -- what a run shows beside what was printed and the end: its final values, its trace and its summary where it is told to
 abbrev pub shown_of : Options → Shown
@@ -28,6 +30,13 @@ abbrev pub TellsWhy : Bool → ℕ → List Entry → End → List ℕ → Type 
 TellsWhy true n t (ends.Stuck waits) why = IsChainText n t waits why
 TellsWhy is_asked n t end why = why ≡ []
 
+-- the line behind these, where it is to be told whether the run of n images with this trace and end speaks for every
+-- order, or not: `every order` exactly where it does (`law_exact` of order_lines), else what keeps it from that
+abbrev pub TellsOrder : Bool → ℕ → List Entry → End → List ℕ → Type 0
+TellsOrder true n t end line = IsOrderLine n t end line
+TellsOrder false n t end line = line ≡ []
+
 -- what is written of a run, as the words tell it
 abbrev pub IsRunText : Options → Report → List ℕ → Type 0
-IsRunText o r text = (why : List ℕ) × TellsWhy o.why r.images r.trace.entries r.end why × (text ≡ report_text (shown_of o) r ++ why)
+IsRunText o r text =
+    (why : List ℕ) × (line : List ℕ) × TellsWhy o.why r.images r.trace.entries r.end why × TellsOrder o.every r.images r.trace.entries r.end line × (text ≡ (report_text (shown_of o) r ++ why) ++ line)

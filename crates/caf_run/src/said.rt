@@ -4,7 +4,7 @@ ghost use Rattle.std.specs.Prelude.{◌≡◌, ◌++◌, IfOk, Some, None, codes
 ghost use Rattle.std.specs.Fmt.{decimal};
 ghost use Rattle.caf_report.specs.Ends.{HasEnd, status_of};
 ghost use Rattle.caf_run.specs.RunTexts as spec;
-ghost use Rattle.caf_run.specs.RunTexts.{IsChainText, TellsWhy, IsRunText};
+ghost use Rattle.caf_run.specs.RunTexts.{IsChainText, TellsWhy, TellsOrder, IsRunText};
 ghost use Rattle.caf_run.specs.Sources.{refusal_text};
 
 use caf_base::place::Pos;
@@ -13,6 +13,7 @@ use caf_events::event::Trace;
 use caf_report::report::{End, Report, Shown, Waiting};
 use caf_text::push_number;
 use caf_words::command::Options;
+use order_lines::line::order_text;
 use std::alloc::Global;
 use trace_text::piece::push_count;
 use wait_chain::chain::why;
@@ -84,6 +85,17 @@ fn why_lines(alloc: Global, report: &Report, is_asked: bool) -> Result<Vec<u8>, 
     }
 }
 
+// The line that tells whether a run speaks for every order of the images; none where that isn't to be told.
+fn order_line(alloc: Global, report: &Report, is_asked: bool) -> Result<Vec<u8>, NoMemory>
+    ensures { IfOk result (λ text. TellsOrder is_asked report.now.images report.now.trace.entries report.now.end text.items) }
+{
+    if is_asked {
+        order_text(alloc, report)
+    } else {
+        Ok(Vec::new(alloc))
+    }
+}
+
 // The text of a run with what the options show.
 fn run_text(alloc: Global, report: &Report, options: Options) -> Result<Vec<u8>, NoMemory>
     requires { HasEnd report.now }
@@ -92,6 +104,8 @@ fn run_text(alloc: Global, report: &Report, options: Options) -> Result<Vec<u8>,
     let mut text = report.text(alloc, shown_of(options))?;
     let why = why_lines(alloc, report, options.why)?;
     text.extend_from_slice(why.as_slice())?;
+    let line = order_line(alloc, report, options.every)?;
+    text.extend_from_slice(line.as_slice())?;
     Ok(text)
 }
 

@@ -8,7 +8,7 @@ use Rattle.caf_words.specs.Usages.{Word, Begins, UsageOf}
 use Rattle.caf_words.specs.Words.{words_in, Origin, Operands, IsFileName, IsFailure, IsOption, AreSeedAndSize, IsOrigin, AreTraceAndFile, AreOperands, IsRest, told, is_summed}
 use Rattle.caf_words.specs.Words.Origin.{from_file, from_made}
 use Rattle.caf_words.specs.Words.Operands.{of_source, of_trace}
-use Rattle.caf_words.specs.Words.IsOption.{images, workers, order, steps, fail, show_trace, show_vars, show_why}
+use Rattle.caf_words.specs.Words.IsOption.{images, workers, order, steps, fail, show_trace, show_vars, show_why, show_every}
 use Rattle.caf_words.specs.Words.IsRest.{operands_last, option_next}
 use Rattle.caf_words.specs.Readings.{Rests, FileAlone, IsSize, SizeAlone, MadeAlone, OriginAlone, TraceAlone, OperandsAlone, IsInputOf, ArePlacesOf, key_word, IsNextKey, Flags, IsNoOption, BeginsNoOption, Gives, BehindKey}
 use Rattle.caf_words.specs.declared.options.Given.{Given}
@@ -43,26 +43,28 @@ told_key keys.Fail = refl
 key_once : (k l : Key) → key_word k ≡ key_word l → k ≡ l
 key_once k l e = sym (told_key k) ∙ ap key_told e ∙ told_key l
 
-key_other : (k : Key) → ((n : ℕ) → letters (key_word k) ≡ n → (n ≡ 154) ⊎ (n ≡ 161) ⊎ (n ≡ 163) ⊎ (n ≡ 164) → ⊥)
-key_other keys.Images n e odd = elim odd [ inl a ↦ omega arith | inr other ↦ elim other [ inl b ↦ omega arith | inr rest ↦ elim rest [ inl c ↦ omega arith | inr d ↦ omega arith ] ] ]
-key_other keys.Workers n e odd = elim odd [ inl a ↦ omega arith | inr other ↦ elim other [ inl b ↦ omega arith | inr rest ↦ elim rest [ inl c ↦ omega arith | inr d ↦ omega arith ] ] ]
-key_other keys.Order n e odd = elim odd [ inl a ↦ omega arith | inr other ↦ elim other [ inl b ↦ omega arith | inr rest ↦ elim rest [ inl c ↦ omega arith | inr d ↦ omega arith ] ] ]
-key_other keys.Steps n e odd = elim odd [ inl a ↦ omega arith | inr other ↦ elim other [ inl b ↦ omega arith | inr rest ↦ elim rest [ inl c ↦ omega arith | inr d ↦ omega arith ] ] ]
-key_other keys.Fail n e odd = elim odd [ inl a ↦ omega arith | inr other ↦ elim other [ inl b ↦ omega arith | inr rest ↦ elim rest [ inl c ↦ omega arith | inr d ↦ omega arith ] ] ]
+key_other : (k : Key) → ((n : ℕ) → letters (key_word k) ≡ n → (n ≡ 154) ⊎ (n ≡ 161) ⊎ (n ≡ 163) ⊎ (n ≡ 164) ⊎ (n ≡ 146) → ⊥)
+key_other keys.Images n e odd = elim odd [ inl a ↦ omega arith | inr other ↦ elim other [ inl b ↦ omega arith | inr rest ↦ elim rest [ inl c ↦ omega arith | inr last ↦ elim last [ inl d ↦ omega arith | inr f ↦ omega arith ] ] ] ]
+key_other keys.Workers n e odd = elim odd [ inl a ↦ omega arith | inr other ↦ elim other [ inl b ↦ omega arith | inr rest ↦ elim rest [ inl c ↦ omega arith | inr last ↦ elim last [ inl d ↦ omega arith | inr f ↦ omega arith ] ] ] ]
+key_other keys.Order n e odd = elim odd [ inl a ↦ omega arith | inr other ↦ elim other [ inl b ↦ omega arith | inr rest ↦ elim rest [ inl c ↦ omega arith | inr last ↦ elim last [ inl d ↦ omega arith | inr f ↦ omega arith ] ] ] ]
+key_other keys.Steps n e odd = elim odd [ inl a ↦ omega arith | inr other ↦ elim other [ inl b ↦ omega arith | inr rest ↦ elim rest [ inl c ↦ omega arith | inr last ↦ elim last [ inl d ↦ omega arith | inr f ↦ omega arith ] ] ] ]
+key_other keys.Fail n e odd = elim odd [ inl a ↦ omega arith | inr other ↦ elim other [ inl b ↦ omega arith | inr rest ↦ elim rest [ inl c ↦ omega arith | inr last ↦ elim last [ inl d ↦ omega arith | inr f ↦ omega arith ] ] ] ]
 
 -- what an option without a value is called
 abbrev IsFlag : Word → Type 0
-IsFlag word = (word ≡ codes "--trace") ⊎ (word ≡ codes "--vars") ⊎ (word ≡ codes "--why")
+IsFlag word = (word ≡ codes "--trace") ⊎ (word ≡ codes "--vars") ⊎ (word ≡ codes "--why") ⊎ (word ≡ codes "--every")
 
 flag_word : (v : Verb) (g h : Given) (word : Word) → Flags v g word h → IsFlag word
 flag_word v g h word (inl is) = inl is.0
 flag_word v g h word (inr (inl is)) = inr (inl is.0)
-flag_word v g h word (inr (inr is)) = inr (inr is.0)
+flag_word v g h word (inr (inr (inl is))) = inr (inr (inl is.0))
+flag_word v g h word (inr (inr (inr is))) = inr (inr (inr is.0))
 
 key_no_flag : (k : Key) (word : Word) → word ≡ key_word k → IsFlag word → ⊥
 key_no_flag k word e (inl is) = key_other k 161 (ap letters (sym e ∙ is)) (inr (inl refl))
 key_no_flag k word e (inr (inl is)) = key_other k 163 (ap letters (sym e ∙ is)) (inr (inr (inl refl)))
-key_no_flag k word e (inr (inr is)) = key_other k 164 (ap letters (sym e ∙ is)) (inr (inr (inr refl)))
+key_no_flag k word e (inr (inr (inl is))) = key_other k 164 (ap letters (sym e ∙ is)) (inr (inr (inr (inl refl))))
+key_no_flag k word e (inr (inr (inr is))) = key_other k 146 (ap letters (sym e ∙ is)) (inr (inr (inr (inr refl))))
 
 -- operands begin with a file's name or with `--made`
 abbrev pub BeginsOperands : Word → Type 0
@@ -83,10 +85,12 @@ no_operands v g word k is (inr made) = key_other k 154 (ap letters (sym is.0 ∙
 flag_odd : (word : Word) → IsFlag word → ¬ BeginsOperands word
 flag_odd word (inl is) (inl name) = (subst IsFileName is name) refl
 flag_odd word (inr (inl is)) (inl name) = (subst IsFileName is name) refl
-flag_odd word (inr (inr is)) (inl name) = (subst IsFileName is name) refl
+flag_odd word (inr (inr (inl is))) (inl name) = (subst IsFileName is name) refl
+flag_odd word (inr (inr (inr is))) (inl name) = (subst IsFileName is name) refl
 flag_odd word (inl is) (inr made) = let l : ◌≡◌ {A = ℕ} 161 154 = ap letters (sym is ∙ made) in omega arith
 flag_odd word (inr (inl is)) (inr made) = let l : ◌≡◌ {A = ℕ} 163 154 = ap letters (sym is ∙ made) in omega arith
-flag_odd word (inr (inr is)) (inr made) = let l : ◌≡◌ {A = ℕ} 164 154 = ap letters (sym is ∙ made) in omega arith
+flag_odd word (inr (inr (inl is))) (inr made) = let l : ◌≡◌ {A = ℕ} 164 154 = ap letters (sym is ∙ made) in omega arith
+flag_odd word (inr (inr (inr is))) (inr made) = let l : ◌≡◌ {A = ℕ} 146 154 = ap letters (sym is ∙ made) in omega arith
 
 pub no_flag_operands : (v : Verb) (g h : Given) (word : Word) → Flags v g word h → ¬ BeginsOperands word
 no_flag_operands v g h word is begins = flag_odd word (flag_word v g h word is) begins
@@ -95,13 +99,20 @@ no_flag_operands v g h word is begins = flag_odd word (flag_word v g h word is) 
 pub flag_once : (v : Verb) (g h i : Given) (word : Word) → Flags v g word h → Flags v g word i → h ≡ i
 flag_once v g h i word (inl first) (inl second) = first.3 ∙ sym second.3
 flag_once v g h i word (inl first) (inr (inl second)) = let l : ◌≡◌ {A = ℕ} 161 163 = ap letters (sym first.0 ∙ second.0) in absurd (omega arith)
-flag_once v g h i word (inl first) (inr (inr second)) = let l : ◌≡◌ {A = ℕ} 161 164 = ap letters (sym first.0 ∙ second.0) in absurd (omega arith)
+flag_once v g h i word (inl first) (inr (inr (inl second))) = let l : ◌≡◌ {A = ℕ} 161 164 = ap letters (sym first.0 ∙ second.0) in absurd (omega arith)
+flag_once v g h i word (inl first) (inr (inr (inr second))) = let l : ◌≡◌ {A = ℕ} 161 146 = ap letters (sym first.0 ∙ second.0) in absurd (omega arith)
 flag_once v g h i word (inr (inl first)) (inl second) = let l : ◌≡◌ {A = ℕ} 163 161 = ap letters (sym first.0 ∙ second.0) in absurd (omega arith)
 flag_once v g h i word (inr (inl first)) (inr (inl second)) = first.3 ∙ sym second.3
-flag_once v g h i word (inr (inl first)) (inr (inr second)) = let l : ◌≡◌ {A = ℕ} 163 164 = ap letters (sym first.0 ∙ second.0) in absurd (omega arith)
-flag_once v g h i word (inr (inr first)) (inl second) = let l : ◌≡◌ {A = ℕ} 164 161 = ap letters (sym first.0 ∙ second.0) in absurd (omega arith)
-flag_once v g h i word (inr (inr first)) (inr (inl second)) = let l : ◌≡◌ {A = ℕ} 164 163 = ap letters (sym first.0 ∙ second.0) in absurd (omega arith)
-flag_once v g h i word (inr (inr first)) (inr (inr second)) = first.3 ∙ sym second.3
+flag_once v g h i word (inr (inl first)) (inr (inr (inl second))) = let l : ◌≡◌ {A = ℕ} 163 164 = ap letters (sym first.0 ∙ second.0) in absurd (omega arith)
+flag_once v g h i word (inr (inl first)) (inr (inr (inr second))) = let l : ◌≡◌ {A = ℕ} 163 146 = ap letters (sym first.0 ∙ second.0) in absurd (omega arith)
+flag_once v g h i word (inr (inr (inl first))) (inl second) = let l : ◌≡◌ {A = ℕ} 164 161 = ap letters (sym first.0 ∙ second.0) in absurd (omega arith)
+flag_once v g h i word (inr (inr (inl first))) (inr (inl second)) = let l : ◌≡◌ {A = ℕ} 164 163 = ap letters (sym first.0 ∙ second.0) in absurd (omega arith)
+flag_once v g h i word (inr (inr (inl first))) (inr (inr (inl second))) = first.3 ∙ sym second.3
+flag_once v g h i word (inr (inr (inl first))) (inr (inr (inr second))) = let l : ◌≡◌ {A = ℕ} 164 146 = ap letters (sym first.0 ∙ second.0) in absurd (omega arith)
+flag_once v g h i word (inr (inr (inr first))) (inl second) = let l : ◌≡◌ {A = ℕ} 146 161 = ap letters (sym first.0 ∙ second.0) in absurd (omega arith)
+flag_once v g h i word (inr (inr (inr first))) (inr (inl second)) = let l : ◌≡◌ {A = ℕ} 146 163 = ap letters (sym first.0 ∙ second.0) in absurd (omega arith)
+flag_once v g h i word (inr (inr (inr first))) (inr (inr (inl second))) = let l : ◌≡◌ {A = ℕ} 146 164 = ap letters (sym first.0 ∙ second.0) in absurd (omega arith)
+flag_once v g h i word (inr (inr (inr first))) (inr (inr (inr second))) = first.3 ∙ sym second.3
 
 -- a file's name alone
 
@@ -347,7 +358,8 @@ form_of v g _ _ _ (steps n free low high) = keyed keys.Steps (codes "--steps") (
 form_of v g _ _ _ (fail word f is) = keyed keys.Fail (codes "--fail") word refl (refl, tt) (f, is, refl, refl)
 form_of v g _ _ _ (show_trace may free) = flagged (codes "--trace") refl (inl (refl, may, free, refl)) refl
 form_of v g _ _ _ (show_vars may free) = flagged (codes "--vars") refl (inr (inl (refl, may, free, refl))) refl
-form_of v g _ _ _ (show_why may free) = flagged (codes "--why") refl (inr (inr (refl, may, free, refl))) refl
+form_of v g _ _ _ (show_why may free) = flagged (codes "--why") refl (inr (inr (inl (refl, may, free, refl)))) refl
+form_of v g _ _ _ (show_every may free) = flagged (codes "--every") refl (inr (inr (inr ((refl, may, free, refl))))) refl
 
 pub keyed_option : (v : Verb) (g h : Given) (k : Key) (word value : Word) (named : List FailAt) → IsNextKey v g word k → Gives g k value h named → IsOption v g (word ∷ value ∷ []) h named
 keyed_option v g h keys.Images word value named is (n, said, low, high, given, none) = rw (is.0, said, given, none) (images n is.1 low high)
@@ -359,7 +371,8 @@ keyed_option v g h keys.Fail word value named is (f, said, given, one) = rw (is.
 pub flag_option : (v : Verb) (g h : Given) (word : Word) → Flags v g word h → IsOption v g (word ∷ []) h []
 flag_option v g h word (inl (is, may, free, given)) = rw (is, given) (show_trace may free)
 flag_option v g h word (inr (inl (is, may, free, given))) = rw (is, given) (show_vars may free)
-flag_option v g h word (inr (inr (is, may, free, given))) = rw (is, given) (show_why may free)
+flag_option v g h word (inr (inr (inl (is, may, free, given)))) = rw (is, given) (show_why may free)
+flag_option v g h word (inr (inr (inr ((is, may, free, given))))) = rw (is, given) (show_every may free)
 
 -- a value gives one thing
 pub record SameGift (h : Given) (named : List FailAt) (h' : Given) (named' : List FailAt) : Type 0 where

@@ -5,7 +5,7 @@ use Rattle.std.specs.List.{AllByRecursion}
 use Rattle.caf_words.specs.Usages.{Word}
 use Rattle.caf_words.specs.Words.{Origin, Operands, IsOption, AreSeedAndSize, IsOrigin, AreOperands, IsRest, IsCommand, IsRun, IsCheck, IsMake, IsInput, ArePlaces, Means, verb_word, nothing, told, is_summed, given_or}
 use Rattle.caf_words.specs.Words.Origin.{from_file, from_made}
-use Rattle.caf_words.specs.Words.IsOption.{images, workers, order, steps, fail, show_trace, show_vars, show_why}
+use Rattle.caf_words.specs.Words.IsOption.{images, workers, order, steps, fail, show_trace, show_vars, show_why, show_every}
 use Rattle.caf_words.specs.Words.IsRest.{operands_last, option_next}
 use Rattle.caf_words.specs.Words.Operands.{of_source, of_trace}
 use Rattle.caf_words.specs.declared.options.Given.{Given}
@@ -184,6 +184,7 @@ option_within v g _ _ _ (fail word f is) w = w
 option_within v g _ _ _ (show_trace may free) w = w
 option_within v g _ _ _ (show_vars may free) w = w
 option_within v g _ _ _ (show_why may free) w = w
+option_within v g _ _ _ (show_every may free) w = w
 
 rest_within : (v : Verb) (g : Given) (words : List Word) (o : Options) (fails : List FailAt) (x : Operands) → IsRest v g words o fails x → AreWithin g → IsWithin o.images o.steps
 rest_within v _ _ _ _ _ (operands_last g words x is) w = w
@@ -209,6 +210,7 @@ option_images v g _ _ _ more (fail word f is) all = ((is.least_image, is.most_im
 option_images v g _ _ _ more (show_trace may free) all = all
 option_images v g _ _ _ more (show_vars may free) all = all
 option_images v g _ _ _ more (show_why may free) all = all
+option_images v g _ _ _ more (show_every may free) all = all
 
 rest_images : (v : Verb) (g : Given) (words : List Word) (o : Options) (fails : List FailAt) (x : Operands) → IsRest v g words o fails x → AllByRecursion IsOfImage fails
 rest_images v _ _ _ _ _ (operands_last g words x is) = tt

@@ -75,6 +75,7 @@ Flags v g word h =
     ((word ≡ codes "--trace") × MayShow v × (g.trace ≡ false) × (h ≡ record g { trace = true }))
     ⊎ ((word ≡ codes "--vars") × MayShow v × (g.vars ≡ false) × (h ≡ record g { vars = true }))
     ⊎ ((word ≡ codes "--why") × MayShow v × (g.why ≡ false) × (h ≡ record g { why = true }))
+    ⊎ ((word ≡ codes "--every") × MayShow v × (g.every ≡ false) × (h ≡ record g { every = true }))
 
 -- a word is no option that may come next
 pub record IsNoOption (v : Verb) (g : Given) (word : Word) : Type 0 where

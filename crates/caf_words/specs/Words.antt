@@ -80,12 +80,12 @@ MayShow (verbs.Traced Replay) = ⊤
 
 -- no options yet
 abbrev pub nothing : Given
-nothing = record { images = None; workers = None; order = None; steps = None; trace = false; vars = false; why = false }
+nothing = record { images = None; workers = None; order = None; steps = None; trace = false; vars = false; why = false; every = false }
 
 -- One option that may come next behind a verb, as its words; what is given with it, and the failures that it names.
 -- Each stands once at most, but --fail, and -w and --order exclude each other. A judgement and a replay have neither of
--- these, and a judgement none of --trace, --vars and --why. Numbers are in decimal: without a sign, and without a
--- leading zero other than `0` itself.
+-- these, and a judgement none of --trace, --vars, --why and --every. Numbers are in decimal: without a sign, and without
+-- a leading zero other than `0` itself.
 pub data IsOption (v : Verb) (g : Given) : List Word → Given → List FailAt → Type 0 where
   images : (n : ℕ) → g.images ≡ None → 1 ≤ n → n ≤ 256 → IsOption v g (codes "-n" ∷ decimal n ∷ []) (record g { images = Some n }) []
   workers : (n : ℕ) → MayOrder v → g.workers ≡ None → g.order ≡ None → 1 ≤ n → n ≤ 64 → IsOption v g (codes "-w" ∷ decimal n ∷ []) (record g { workers = Some n }) []
@@ -95,6 +95,7 @@ pub data IsOption (v : Verb) (g : Given) : List Word → Given → List FailAt �
   show_trace : MayShow v → g.trace ≡ false → IsOption v g (codes "--trace" ∷ []) (record g { trace = true }) []
   show_vars : MayShow v → g.vars ≡ false → IsOption v g (codes "--vars" ∷ []) (record g { vars = true }) []
   show_why : MayShow v → g.why ≡ false → IsOption v g (codes "--why" ∷ []) (record g { why = true }) []
+  show_every : MayShow v → g.every ≡ false → IsOption v g (codes "--every" ∷ []) (record g { every = true }) []
 
 -- the number that is given, or else the default
 abbrev pub given_or : ℕ → Option ℕ → ℕ
@@ -108,7 +109,7 @@ way_of g = elim g.order [ Some seed ↦ Order seed | None ↦ Workers (given_or 
 -- what a run is told by its options: 4 images and 1000000 statements where the words don't say it; and whether it is
 -- summed up
 abbrev pub told : Given → Bool → Options
-told g summary = record { images = given_or 4 g.images; way = way_of g; steps = given_or 1000000 g.steps; trace = g.trace; vars = g.vars; why = g.why; summary = summary }
+told g summary = record { images = given_or 4 g.images; way = way_of g; steps = given_or 1000000 g.steps; trace = g.trace; vars = g.vars; why = g.why; every = g.every; summary = summary }
 
 -- the words are SEED and SIZE, in decimal: 0 to 2147483647 and 1 to 4096
 pub record AreSeedAndSize (words : List Word) (seed size : ℕ) : Type 0 where
@@ -144,8 +145,8 @@ pub data IsRest (v : Verb) : Given → List Word → Options → List FailAt →
 
 -- the words are the verb, its options and its operands. The options of a run: -n N (1 to 256; 4 where it isn't given),
 -- -w W (1 to 64; 4 where it isn't given) or --order SEED (0 to 2147483647) or neither, --steps N (1 to 100000000;
--- 1000000 where it isn't given), --fail I@K, which may stand more than once, --trace, --vars and --why; of a replay:
--- those but -w and --order; of a judgement: -n, --steps and --fail
+-- 1000000 where it isn't given), --fail I@K, which may stand more than once, --trace, --vars, --why and --every; of a
+-- replay: those but -w and --order; of a judgement: -n, --steps and --fail
 pub record IsCommand (v : Verb) (words : List Word) (o : Options) (fails : List FailAt) (x : Operands) : Type 0 where
   pub rest : List Word
   pub form : words ≡ verb_word v ∷ rest

@@ -96,6 +96,8 @@ pub struct Options {
     pub vars: bool,
     /// Whether a run that is stuck is told why.
     pub why: bool,
+    /// Whether it is told if the run speaks for every order of the images.
+    pub every: bool,
     /// Whether the line that sums the run up is shown, as of a made source.
     pub summary: bool,
 }

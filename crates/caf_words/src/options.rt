@@ -35,6 +35,7 @@ pub(crate) struct Given {
     pub trace: bool,
     pub vars: bool,
     pub why: bool,
+    pub every: bool,
 }
 
 /// An option with a value that may come next.
@@ -81,6 +82,7 @@ impl Given {
             trace: false,
             vars: false,
             why: false,
+            every: false,
         }
     }
 
@@ -95,6 +97,7 @@ impl Given {
             trace: self.trace,
             vars: self.vars,
             why: self.why,
+            every: self.every,
             summary,
         }
     }
@@ -171,6 +174,10 @@ fn flagged_with(verb: Verb, word: &str, given: Given) -> Option<Given>
             ..given
         }),
         "--why" if may_show(verb) && !given.why => Some(Given { why: true, ..given }),
+        "--every" if may_show(verb) && !given.every => Some(Given {
+            every: true,
+            ..given
+        }),
         _ => None,
     }
 }

@@ -38,8 +38,8 @@ struct Made {
 /// `replay OPTIONS TRACE FILE`, `check FILE` or `make SEED SIZE`. OPTIONS of `run` are, in any order, `-n N`, with N
 /// from 1 to 256, 4 where it isn't given, `-w W`, with W from 1 to 64, 4 where neither it nor an order is given,
 /// `--order SEED`, with SEED from 0 to 2147483647, `--steps N`, with N from 1 to 100000000, 1000000 where it isn't
-/// given, `--trace`, `--vars`, `--why`, and `--fail I@K`, with I from 1 to 256 and K from 1 to 1000000; those of
-/// `replay` are these without `-w` and `--order`, and those of `judge` are `-n`, `--steps` and `--fail`. Each stands
+/// given, `--trace`, `--vars`, `--why`, `--every`, and `--fail I@K`, with I from 1 to 256 and K from 1 to 1000000; those
+/// of `replay` are these without `-w` and `--order`, and those of `judge` are `-n`, `--steps` and `--fail`. Each stands
 /// once at most, but `--fail`; `-w` and `--order` don't stand together. The SEED of a made source is from 0 to
 /// 2147483647, its SIZE from 1 to 4096. Numbers are decimal digits without a sign and without a leading zero other than
 /// `0` itself; TRACE and FILE aren't empty and don't begin with `-`.

@@ -130,11 +130,14 @@ _ROWS = """
 0 run --vars a.f90
 0 run --why a.f90
 0 run --why --vars --trace a.f90
+0 run --every a.f90
+0 run --every --why --vars --trace --fail 1@2 a.f90
 0 run --vars --trace a.f90
 3 run --trace
 3 run --trace --trace a.f90
 3 run --vars --vars a.f90
 3 run --why --why a.f90
+3 run --every --every a.f90
 0 run --trace 1
 3 run --vars _
 4 run --trace 1 a.f90
@@ -198,6 +201,7 @@ _ROWS = """
 2 judge --trace a.trace a.f90
 2 judge --vars a.trace a.f90
 2 judge --why a.trace a.f90
+2 judge --every a.trace a.f90
 2 judge --made 1 4
 4 judge -n 2 --trace a.trace a.f90
 4 judge -n 2 --made 1 4
@@ -217,10 +221,12 @@ _ROWS = """
 0 replay --trace a.trace a.f90
 0 replay --vars a.trace a.f90
 0 replay --why --vars a.trace a.f90
+0 replay --every --why a.trace a.f90
 0 replay --vars -n 2 --fail 1@1 --trace --steps 9 a.trace a.f90
 3 replay --trace --trace a.trace a.f90
 3 replay --vars --vars a.trace a.f90
 3 replay --why --why a.trace a.f90
+3 replay --every --every a.trace a.f90
 4 replay --trace a.trace
 2 replay -w 2 a.trace a.f90
 2 replay --order 0 a.trace a.f90

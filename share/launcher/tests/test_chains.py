@@ -64,6 +64,18 @@ class TailTest(unittest.TestCase):
                     self.assertEqual(shown, text if is_passed else front)
                     self.assertEqual(tail.lines(), [] if is_passed else ["why image 1 waits for a post"])
 
+    def test_the_line_of_every_behind_it(self) -> None:
+        front, last = b"stuck image 1 line 1 lock\n", b"this order: line 1, lock\n"
+        why = b"why image 1 waits for a post\n"
+        text = front + why + last
+        for at in range(len(text) + 1):
+            for is_passed in (False, True):
+                with self.subTest(at=at, is_passed=is_passed):
+                    tail = Tail(is_passed)
+                    shown = tail.take(text[:at]) + tail.take(text[at:]) + tail.rest()
+                    self.assertEqual(shown, text if is_passed else front + last)
+                    self.assertEqual(tail.lines(), [] if is_passed else ["why image 1 waits for a post"])
+
     def test_no_such_lines(self) -> None:
         tail = Tail(False)
         self.assertEqual(tail.take(b"1: 2\n") + tail.take(b"w") + tail.rest(), b"1: 2\nw")

@@ -121,7 +121,8 @@ class TablesTest(unittest.TestCase):
         tables, sentences = read_tables(tables_path(HOME)), read_sentences(HOME)
         found = {said.words for entry in tables.entries for said in sentences.of_entry(entry)}
         missing = [case for case, said in sentences.rows.items() if not any(it.endswith(said) for it in found)]
-        self.assertEqual(missing, [("Workers", "again"), ("Workers", "keep"), ("Workers", "kept")])
+        of_no_entry = [case for case in sentences.rows if case[0] in ("ThisOrder", "Workers")]
+        self.assertEqual(missing, of_no_entry)
 
 
 class ExcerptTest(unittest.TestCase):

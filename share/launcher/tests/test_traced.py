@@ -16,11 +16,12 @@ END = b"race on x:0 of image 2\nsummary images 2\n"
 
 class CutTest(unittest.TestCase):
     def test_any_pieces(self) -> None:
-        for trace in (FORM + STEPS, STEPS):
-            text = PRINTED + VARIABLES + trace + END
+        traces, ends = (FORM + STEPS, STEPS), (END, b"every order\n", b"this order: line 3, lock\n")
+        for trace, end in ((trace, end) for trace in traces for end in ends):
+            text = PRINTED + VARIABLES + trace + end
             for has_variables in (False, True):
                 for has_steps in (False, True):
-                    wanted = PRINTED + VARIABLES * has_variables + trace * has_steps + END
+                    wanted = PRINTED + VARIABLES * has_variables + trace * has_steps + end
                     for size in range(1, len(text) + 1):
                         with self.subTest(has_variables=has_variables, has_steps=has_steps, size=size):
                             kept = KeptTrace()
