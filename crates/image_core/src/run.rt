@@ -62,6 +62,7 @@ impl<M: Walker> ImageRun<M> {
     }
 
     // Room for one event more, and in the machine for what its reply brings.
+    #[inline(always)]
     pub(crate) fn make_room(&mut self) -> Result<(), NoMemory>
         requires { IsAtAsk (M.step (M.config self.old.machine)) }
         ensures image { self.new.image ≡ self.old.image }

@@ -257,6 +257,7 @@ impl<M: Walker> Walker for Lane<M> {
 
     ghost has_room = { λ l. ByProgram l.going (M.has_room l.machine × (0 < l.held.room)) };
 
+    #[inline(always)]
     fn next(&self) -> Next {
         match self.going {
             Going::ByProgram => match self.machine.next() {
@@ -268,6 +269,7 @@ impl<M: Walker> Walker for Lane<M> {
         }
     }
 
+    #[inline(always)]
     fn ask(&self) -> Result<Ask, NoMemory> {
         match self.going {
             Going::ByProgram if self.is_due() => Ok(Ask::Fail),

@@ -1,3 +1,4 @@
 mod KindLaws
 mod PowerLaws
 mod PowersOfTwo
+mod SignLaws

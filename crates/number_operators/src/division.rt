@@ -85,7 +85,7 @@ pub fn modulo(v: i64, w: i64) -> Computed
     if is_zero(w) {
         Computed::Fault(DIVIDE_BY_ZERO)
     } else {
-        Computed::Value(with_sign_of(w, rest(v, w)))
+        Computed::Value(rest_with_sign(v, w))
     }
 }
 
@@ -100,6 +100,22 @@ fn rest(v: i64, w: i64) -> i64
     match exponent(w) {
         Some(_) if v >= 0 => v & (w - 1),
         _ => v.wrapping_rem(w),
+    }
+}
+
+/// What a division by a number other than 0 leaves, with the sign of that number. Where neither is negative it isn't
+/// either.
+#[tactic(auto, using(crate::proofs::SignLaws::sign_there))]
+#[inline(always)]
+fn rest_with_sign(v: i64, w: i64) -> i64
+    requires { int_eq w (pos 0) ≡ false }
+    ensures { result ≡ with_sign_of w (int_rem v w) }
+{
+    let left = rest(v, w);
+    if v >= 0 && w >= 0 {
+        left
+    } else {
+        with_sign_of(w, left)
     }
 }
 

@@ -40,6 +40,7 @@ pub enum Unary {
 }
 
 /// The result of an operator, the left operand first.
+#[inline(always)]
 pub fn result(op: Binary, v: i64, w: i64) -> Computed
     requires { IsExact op }
     ensures { as_found result ≡ result_of op v w }
