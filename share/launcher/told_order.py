@@ -33,6 +33,7 @@ _CASES = {
     "events remade": "events",
 }
 _ENDED = "end"
+_CLASH = 9
 
 
 def reason_of(lines: Sequence[str]) -> Optional[Tuple[int, str]]:
@@ -43,6 +44,13 @@ def reason_of(lines: Sequence[str]) -> Optional[Tuple[int, str]]:
         if found:
             return int(found[1]), found[2]
     return None
+
+
+def _case_of(reason: str, status: int) -> str:
+    """Returns the case of a reason. A FORM TEAM may be the arrival by whose clash the run ended."""
+    if reason == "form" and status == _CLASH:
+        return _ENDED
+    return _CASES.get(reason, _ENDED)
 
 
 def told_order(caller: Caller, asked: Asked, lines: Sequence[str], status: int) -> List[Message]:
@@ -57,7 +65,7 @@ def told_order(caller: Caller, asked: Asked, lines: Sequence[str], status: int) 
     helps = (f"{say('ThisOrder', 'help')}\n{explore_call(caller, asked.words)}",) if is_run else ()
     return [
         Message(
-            say("ThisOrder", _CASES.get(reason, _ENDED)),
+            say("ThisOrder", _case_of(reason, status)),
             "ThisOrder",
             asked.shown_name(),
             line,

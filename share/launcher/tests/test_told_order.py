@@ -46,7 +46,8 @@ class SaidTest(unittest.TestCase):
 
     def test_a_replay_has_no_other_orders(self) -> None:
         got = said(0, ["replay", "--every", "a.trace", "a.f90"], "this order: line 2, race")
-        self.assertEqual(got[0], "a.f90:2:3: note: another order may end otherwise: this access is in a race [ThisOrder]")
+        text = "another order may end otherwise: this access is in a race"
+        self.assertEqual(got[0], f"a.f90:2:3: note: {text} [ThisOrder]")
         self.assertEqual(got[3:], [])
 
     def test_behind_what_is_said_of_the_end(self) -> None:
@@ -55,6 +56,13 @@ class SaidTest(unittest.TestCase):
         starts = [it for it in got if re.match("a.f90:[0-9]", it)]
         self.assertEqual(len(starts), 2)
         self.assertIn("[ThisOrder]", starts[1])
+
+    def test_teams_of_other_teams_and_a_clash(self) -> None:
+        words = ["run", "--every", "a.f90"]
+        nested = said(0, words, "this order: line 1, form")
+        self.assertIn("another order may number the teams that are formed here otherwise [ThisOrder]", nested[0])
+        clash = said(9, words, "clash image 2 line 2 against image 1 line 1", "this order: line 2, form")
+        self.assertTrue(any(it.endswith("it may not come to this [ThisOrder]") for it in clash))
 
     def test_each_case_has_its_sentence(self) -> None:
         cases = {case for end, case in read_sentences(HOME).rows if end == "ThisOrder"}
