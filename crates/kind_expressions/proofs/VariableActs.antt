@@ -18,10 +18,10 @@ use Rattle.image_acts.specs.Places.{Place, place_in, place_size, extents_of, cel
 use Rattle.image_acts.specs.Taking.{Acted, given, unless, taken, put_down, taking_one, taking_array, giving, telling}
 use Rattle.image_acts.specs.Operate.Variables.{allocated, elements_there, value_at, if_room, variable_effect}
 use Rattle.image_acts.specs.Meaning.{settled, effect_of}
-use Rattle.kind_walks.specs.Kinds.{Typing, IsSo, IsOf, IsArrayOf, IsLocalOf, Are, with_number, with_array}
+use Rattle.kind_walks.specs.Kinds.{Widens, Typing, IsSo, IsOf, IsArrayOf, IsLocalOf, Are, with_number, with_array}
 use Rattle.kind_walks.specs.Suiting.{Joined, EffectSuits}
 use Rattle.kind_walks.proofs.Effects.{with_numbers, push, push_array, there, there_as, so, so_as, either_way, allocates, settles, one, top, many, takes}
-use Rattle.kind_walks.proofs.Frames.{Widens, widened, all_widened, layout_of, cell_of, cell_so, array_of, array_so}
+use Rattle.kind_walks.proofs.Frames.{widened, all_widened, layout_of, cell_of, cell_so, array_of, array_so}
 use Rattle.kind_walks.proofs.StackActs.{Acts, To}
 
 -- the value of an expression: a number, or an array

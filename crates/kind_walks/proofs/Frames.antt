@@ -7,21 +7,10 @@ use Rattle.caf_base.specs.declared.value.Kind.TheVariants as kinds
 use Rattle.image_acts.specs.Acts as a
 use Rattle.image_acts.specs.Core.{Core, Frame, Local}
 use Rattle.image_acts.specs.Frames.{last_or, with_last, frame_of, with_frame, with_cell, joined, array_in, with_array_in, cell_in}
-use Rattle.kind_walks.specs.Kinds.{IsOf, IsLocalOf, Begin, Layout, Holds, AllHold, last_layout, Typing, IsSo}
+use Rattle.kind_walks.specs.Kinds.{Widens, IsOf, IsLocalOf, Begin, Layout, Holds, AllHold, last_layout, Typing, IsSo}
 use Rattle.kind_walks.proofs.Numbers.{wider}
 
 -- ---- numbers of one kind that are of another one
--- each number of the one is one of the other
-abbrev pub Widens : Option Kind → Option Kind → Type 0
-Widens j None = Unit {0}
-Widens None (Some k) = ⊥
-Widens (Some j) (Some kinds.L4) = Unit {0}
-Widens (Some kinds.I4) (Some k) = Unit {0}
-Widens (Some kinds.I8) (Some kinds.I8) = Unit {0}
-Widens (Some kinds.I8) (Some kinds.I4) = ⊥
-Widens (Some kinds.L4) (Some kinds.I4) = ⊥
-Widens (Some kinds.L4) (Some kinds.I8) = ⊥
-
 pub widened : (j k : Option Kind) → Widens j k → (v : ℤ) → IsOf j v → IsOf k v
 widened j None w v h = tt
 widened None (Some kinds.I4) w v h = absurd w
@@ -55,9 +44,12 @@ begin_set P (k ∷ ks) (y ∷ xs) h zero x g = (g k refl, h.1)
 begin_set P (k ∷ ks) (y ∷ xs) h (suc i) x g = (h.0, begin_set P ks xs h.1 i x g)
 
 -- ---- frames
+abbrev pub layout_in : a.Scope → Layout → List Layout → Layout
+layout_in a.here y ys = y
+layout_in a.host y ys = last_layout y ys
+
 abbrev pub layout_of : a.Scope → Typing → Layout
-layout_of a.here s = s.running
-layout_of a.host s = last_layout s.running s.callers
+layout_of x s = layout_in x s.running s.callers
 
 last_holds : (y : Layout) (ys : List Layout) (f : Frame) (fs : List Frame) → Holds y f → AllHold ys fs → Holds (last_layout y ys) (last_or f fs)
 last_holds y [] f [] h g = h

@@ -21,11 +21,11 @@ use Rattle.image_acts.specs.Taking.{Acted, found_in, given, unless, taken, put_d
 use Rattle.image_acts.specs.Operate.Operators.{in_kind, divided, quotient, raised, operator_effect}
 use Rattle.image_acts.specs.Operate.Stack.{stack_effect, behind}
 use Rattle.image_acts.specs.Meaning.{settled, effect_of}
-use Rattle.kind_walks.specs.Kinds.{Typing, IsSo, IsOf, IsArrayOf, Are, with_number, with_array}
+use Rattle.kind_walks.specs.Kinds.{Widens, Typing, IsSo, IsOf, IsArrayOf, Are, with_number, with_array}
 use Rattle.kind_walks.specs.Suiting.{Joined, EffectSuits}
 use Rattle.kind_walks.proofs.Numbers.{FindsOf, kept_in, divided_finds, quotient_finds, raised_finds, rest_fits, signed_fits, lesser_fits, greater_fits, zero_of}
 use Rattle.kind_walks.proofs.Effects.{with_numbers, unknown, put_twice, push, push_array, push_many, Comes, so, so_as, settles, one, top, many, takes}
-use Rattle.kind_walks.proofs.Frames.{Widens, widened, all_widened}
+use Rattle.kind_walks.proofs.Frames.{widened, all_widened}
 
 pub each_on : (P : ℤ → Type 0) (xs ys : List ℤ) → Each P xs → Each P ys → Each P (xs ++ ys)
 each_on P [] ys h g = g

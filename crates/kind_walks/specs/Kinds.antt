@@ -3,6 +3,7 @@
 use Rattle.std.specs.Prelude.{ℕ, ◌*◌, ◌≡◌, ◌≤◌, ℤ, true, List, [], ◌∷◌, length, Option, None, Some}
 use Rattle.trace_theory.specs.Entries.{Each}
 use Rattle.caf_base.specs.declared.value.Kind.{Kind}
+use Rattle.caf_base.specs.declared.value.Kind.TheVariants as kinds
 use Rattle.caf_base.specs.Arithmetic.{fits_kind}
 use Rattle.caf_events.specs.declared.reply.FormedTeam.{FormedTeam}
 use Rattle.image_acts.specs.Core.{Core, Array, Local, Frame, Team}
@@ -11,6 +12,17 @@ use Rattle.image_acts.specs.Core.{Core, Array, Local, Frame, Team}
 abbrev pub IsOf : Option Kind → ℤ → Type 0
 IsOf None v = Unit {0}
 IsOf (Some k) v = fits_kind k v ≡ true
+
+-- each number of the one kind is one of the other
+abbrev pub Widens : Option Kind → Option Kind → Type 0
+Widens j None = Unit {0}
+Widens None (Some k) = ⊥
+Widens (Some j) (Some kinds.L4) = Unit {0}
+Widens (Some kinds.I4) (Some k) = Unit {0}
+Widens (Some kinds.I8) (Some kinds.I8) = Unit {0}
+Widens (Some kinds.I8) (Some kinds.I4) = ⊥
+Widens (Some kinds.L4) (Some kinds.I4) = ⊥
+Widens (Some kinds.L4) (Some kinds.I8) = ⊥
 
 -- an array value with elements of this kind
 abbrev pub IsArrayOf : Option Kind → Array → Type 0
