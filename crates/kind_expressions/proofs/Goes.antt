@@ -37,6 +37,10 @@ pub ◌⨾◌ : {w : Setting} {s t u : Typing} {p q : Parts Act} → Goes w s p 
 ◌⨾◌ {w} {s} {t} {u} {p} {q} h g =
     record { leads = λ j c x. leads_then w.coarrays w.images w.layouts p s t h.leads (λ i d. PartsSuit w.coarrays w.images w.layouts q (λ k e. IsSo w.images u e) i d) (λ i d y. g.leads i d y) j c x }
 
+pub by_test : {w : Setting} {s t : Typing} {p q : Parts Act} (b : Bool) → (b ≡ true → Goes w s p t) → (b ≡ false → Goes w s q t) → Goes w s (cond b p q) t
+by_test true f g = f refl
+by_test false f g = g refl
+
 module _ (w : Setting) where
   -- an act, and what follows it
   pub act_then : (s : Typing) (x : Act) (t : Typing) → Acts w.coarrays w.images s x t → {u : Typing} {q : Parts Act} → Goes w t q u → Goes w s (act x q) u

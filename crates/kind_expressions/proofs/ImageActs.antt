@@ -1,5 +1,5 @@
 -- Acts that name images and teams: what is known behind each. Counts and indices of images are of kind 4.
-use Rattle.std.proofs.Common.{◌≡◌, ◌∙◌, ℕ, zero, suc, ◌+◌, ◌*◌, ◌≤◌, Bool, true, false, ◌||◌, cond, not, List, [], ◌∷◌, ◌++◌, length, drop, map, refl, ap, sym, subst, arith}
+use Rattle.std.proofs.Common.{◌≡◌, ◌∙◌, ℕ, zero, suc, ◌+◌, ◌*◌, ◌≤◌, Bool, true, false, ◌&&◌, ◌||◌, cond, not, List, [], ◌∷◌, ◌++◌, length, drop, map, refl, ap, sym, subst, arith}
 use Rattle.std.specs.Prelude.{ℤ, pos, negsuc, ◌-◌, nat_le, nat_eq, ◌==◌, slice_get, Option, None, Some}
 use Rattle.std.specs.Ordering.{int_eq}
 use Rattle.std.proofs.lemmas.Bool.{eqb-true}
@@ -40,11 +40,11 @@ further_few (suc i) m h = omega arith
 
 index_few : (i : ℕ) (ms : List ℕ) → index_in i ms ≤ length ms
 index_few i [] = omega arith
-index_few i (m ∷ ms) = by_test (nat_eq m i)
+index_few i (m ∷ ms) = by_test (nat_eq m i) (index_few i ms)
   where
-    by_test : (b : Bool) → cond b 1 (further (index_in i ms)) ≤ suc (length ms)
-    by_test true = omega arith
-    by_test false = further_few (index_in i ms) (length ms) (index_few i ms)
+    by_test : (b : Bool) → index_in i ms ≤ length ms → cond b 1 (further (index_in i ms)) ≤ suc (length ms)
+    by_test true h = omega arith
+    by_test false h = further_few (index_in i ms) (length ms) h
 
 in_team : (n i : ℕ) (b : Bool) → nat_le i n ≡ b → cond b i 0 ≤ n
 in_team n i true e = (let z = e in grind arith)
@@ -66,19 +66,19 @@ module _ (n : ℕ) where
 
   few_in : (t : ℕ) (ks : List Team) → Each IsFew ks → length (members_of (team_in t ks)) ≤ 2 * n
   few_in t [] h = omega arith
-  few_in t (k ∷ ks) h = by_test (nat_eq k.team t)
+  few_in t (k ∷ ks) h = by_test (nat_eq k.team t) (few_in t ks h.1)
     where
-      by_test : (b : Bool) → length (members_of (cond b (Some k) (team_in t ks))) ≤ 2 * n
-      by_test true = h.0
-      by_test false = few_in t ks h.1
+      by_test : (b : Bool) → length (members_of (team_in t ks)) ≤ 2 * n → length (members_of (cond b (Some k) (team_in t ks))) ≤ 2 * n
+      by_test true g = h.0
+      by_test false g = g
 
   sibling_few : (k : Team) (v : ℤ) (ks : List Team) → Each IsFew ks → (x : Team) → sibling_in k v ks ≡ Some x → IsFew x
   sibling_few k v [] h x e = absurd (cc)
-  sibling_few k v (i ∷ ks) h x e = by_test _ e
+  sibling_few k v (i ∷ ks) h x e = by_test (nat_eq i.parent k.parent && (nat_eq i.round k.round && int_eq i.number v)) e (λ f. sibling_few k v ks h.1 x f)
     where
-      by_test : (b : Bool) → cond b (Some i) (sibling_in k v ks) ≡ Some x → IsFew x
-      by_test true e = (let f : i ≡ x = cc in subst IsFew f h.0)
-      by_test false e = sibling_few k v ks h.1 x e
+      by_test : (b : Bool) → cond b (Some i) (sibling_in k v ks) ≡ Some x → (sibling_in k v ks ≡ Some x → IsFew x) → IsFew x
+      by_test true e g = (let f : i ≡ x = cc in subst IsFew f h.0)
+      by_test false e g = g e
 
   abbrev sibling_of : Option Team → ℤ → List Team → Option Team
   sibling_of None v ks = None

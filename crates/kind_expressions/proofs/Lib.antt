@@ -4,3 +4,4 @@ pub mod ImageActs
 pub mod AskActs
 pub mod Goes
 pub mod Operators
+pub mod CallActs
