@@ -66,6 +66,10 @@ held_values k (Some d) h (v ∷ vs) e = (
     let p = and_parts (is_held (Some d) v) (list_all (is_held (Some d)) vs) e in
     and_from (is_of_kind k v) (list_all (is_of_kind k) vs) (subst (λ c. is_of_content c v ≡ true) (content_is k d.content h) p.0) (held_values k (Some d) h vs p.1))
 
+pub held_value : (k : Kind) (o : Option Declared) → memory.holds (is_of k) o ≡ true → (v : Value) → is_held o v ≡ true → is_of_kind k v ≡ true
+held_value k None h v e = absurd (cc)
+held_value k (Some d) h v e = subst (λ c. is_of_content c v ≡ true) (content_is k d.content h) e
+
 -- and values of the kind suit it
 pub suits_so : (k : Kind) (o : Option Declared) → memory.holds (is_of k) o ≡ true → (vs : List Value) → list_all (is_of_kind k) vs ≡ true → memory.holds (suits_values vs) o ≡ true
 suits_so k None h vs e = absurd (cc)

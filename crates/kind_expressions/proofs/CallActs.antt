@@ -98,3 +98,17 @@ module _ (coarrays : List Declared) (n : ℕ) where
       (λ l. unless room (has_extents l && nat_le (elements_in c.arrays + length l.elements) most_elements) (goes_to (record c { arrays = record { extents = extents_of_bounds l; elements = l.elements } ∷ c.arrays })))
       (λ l f. so n coarrays t j room (has_extents l && nat_le (elements_in c.arrays + length l.elements) most_elements) (goes_to (record c { arrays = record { extents = extents_of_bounds l; elements = l.elements } ∷ c.arrays }))
       (push_array n k s c (record { extents = extents_of_bounds l; elements = l.elements }) (array_of n s a.here x k e c l h f) h)))
+
+  any_elements : (vs : List ℤ) → Each (IsOf None) vs
+  any_elements [] = tt
+  any_elements (v ∷ vs) = (tt, any_elements vs)
+
+  -- of which nothing is known
+  pub acts_copy_out_unknown : (x : ℕ) (s : Typing) → Acts coarrays n s (call (a.copy_out x)) (with_array None s)
+  acts_copy_out_unknown x s j c h =
+      let t = with_array None s in
+      settles n coarrays t j (call (a.copy_out x)) (call_effect (a.copy_out x) c)
+      (there_as n coarrays t j (array_in a.here x c)
+      (λ l. unless room (has_extents l && nat_le (elements_in c.arrays + length l.elements) most_elements) (goes_to (record c { arrays = record { extents = extents_of_bounds l; elements = l.elements } ∷ c.arrays })))
+      (λ l f. so n coarrays t j room (has_extents l && nat_le (elements_in c.arrays + length l.elements) most_elements) (goes_to (record c { arrays = record { extents = extents_of_bounds l; elements = l.elements } ∷ c.arrays }))
+      (push_array n None s c (record { extents = extents_of_bounds l; elements = l.elements }) (any_elements l.elements) h)))

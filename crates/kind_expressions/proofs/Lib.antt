@@ -2,6 +2,11 @@ pub mod VariableActs
 pub mod PlaceActs
 pub mod ImageActs
 pub mod AskActs
+pub mod CallActs
 pub mod Goes
 pub mod Operators
-pub mod CallActs
+pub mod References
+pub mod Passing
+pub mod Calls
+pub mod Expressions
+pub mod Bodies

@@ -23,11 +23,7 @@ use Rattle.kind_walks.specs.Suiting.{Joined, EffectSuits}
 use Rattle.kind_walks.proofs.Effects.{with_numbers, push, push_array, there, there_as, so, so_as, either_way, allocates, settles, one, top, many, takes}
 use Rattle.kind_walks.proofs.Frames.{widened, all_widened, layout_of, cell_of, cell_so, array_of, array_so}
 use Rattle.kind_walks.proofs.StackActs.{Acts, To}
-
--- the value of an expression: a number, or an array
-abbrev pub result : Option Kind → ℕ → Typing → Typing
-result k zero s = with_number k s
-result k (suc rank) s = with_array k s
+pub use Rattle.kind_expressions.specs.Laws.{result}
 
 -- ---- elements
 each_get : (P : ℤ → Type 0) (vs : List ℤ) → Each P vs → (i : ℕ) (v : ℤ) → slice_get vs i ≡ Some v → P v
@@ -76,6 +72,11 @@ module _ (coarrays : List Declared) (n : ℕ) where
   acts_cell x i k s e j c h =
       settles n coarrays (with_number k s) j (variable (a.cell x i)) (variable_effect (a.cell x i) c)
       (there_as n coarrays (with_number k s) j (cell_in x i c) (λ v. giving v c) (λ v f. push n k s c v (cell_of n s x i k e c v h f) h))
+
+  -- of which nothing is known
+  pub acts_cell_unknown : (x : a.Scope) (i : ℕ) (s : Typing) → Acts coarrays n s (variable (a.cell x i)) (with_number None s)
+  acts_cell_unknown x i s j c h =
+      settles n coarrays (with_number None s) j (variable (a.cell x i)) (variable_effect (a.cell x i) c) (there n coarrays (with_number None s) j (cell_in x i c) (λ v. giving v c) (λ v. push n None s c v tt h))
 
   pub acts_store : (x : a.Scope) (i : ℕ) (l : Option Kind) (s : Typing) → ((k : Option Kind) → slice_get (layout_of x s).scalars i ≡ Some k → Widens l k) → Acts coarrays n (with_number l s) (variable (a.store x i)) s
   acts_store x i l s w j c h = one n coarrays s j l s c h (effect_of (variable (a.store x i))) (λ v d hv hd. cell_so n s x i v d hd (λ k e. widened l k (w k e) v hv))

@@ -1,10 +1,10 @@
-//! Laws of expressions of their kinds. Each is the contract of a function that does nothing.
+//! Laws of expressions. Each is the contract of a function that does nothing.
 
-ghost use Rattle.std.specs.Prelude.{Option};
-ghost use Rattle.caf_base.specs.declared.value.Kind.{Kind};
-ghost use Rattle.kind_walks.specs.Kinds.{Widens};
+ghost use Rattle.kind_expressions.specs.Laws.{ExpressionLaw};
 
-/// temporary
-pub fn law_widens()
-    ensures { (k : Option Kind) → Widens k k }
+/// Each expression of a body, whose parts are of the types and kinds that their places want, leaves a number or an array
+/// of its kind on the operands that stand there, wherever the body runs; and the variables of all frames hold values of
+/// their kinds as before.
+pub fn law_expressions_are_of_their_kinds()
+    ensures { ExpressionLaw }
 {}
