@@ -76,7 +76,7 @@ suits_so k None h vs e = absurd (cc)
 suits_so k (Some d) h vs e = subst (λ c. suits_values vs c ≡ true) (sym (content_is k d.content h)) e
 
 -- ---- values that are taken from a reply
-each_taken : (P : ℤ → Type 0) (m : ℕ) (vs : List ℤ) → Each P vs → Each P (take m vs)
+pub each_taken : (P : ℤ → Type 0) (m : ℕ) (vs : List ℤ) → Each P vs → Each P (take m vs)
 each_taken P zero vs h = tt
 each_taken P (suc m) [] h = tt
 each_taken P (suc m) (v ∷ vs) h = (h.0, each_taken P m vs h.1)

@@ -8,7 +8,6 @@ use Rattle.checked_tree.specs.declared.data.DataType.{DataType}
 use Rattle.checked_tree.specs.declared.data.Home.{Home}
 use Rattle.checked_tree.specs.declared.data.Home.TheVariants as homes
 use Rattle.checked_tree.specs.declared.data.Local.{Local}
-use Rattle.checked_tree.specs.declared.data.Object.{Object}
 use Rattle.checked_tree.specs.declared.data.Object.TheVariants as objects
 use Rattle.checked_tree.specs.declared.data.Variable.{Variable}
 use Rattle.checked_tree.specs.declared.expr.WrittenOrder.{WrittenOrder}
@@ -291,7 +290,7 @@ module _ (w : Setting) (few : 2 * w.images ≤ 2147483647) (e : Environment) (ow
 
     -- bounds as an array, of which nothing is read where it is a variable
     goes_bounds : (x : t.Expression) (s : Typing) → IsThere s → ranks.IsArray e.program.procedures x → kinded.IsInquired e.program w.coarrays own main x → Goes w s (view.bounds_of e x) (with_array None s)
-    goes_bounds (t.typed (t.designator (t.part o ss sel)) y r) s i h k = goes_part_bounds o ss sel r s i h.1 k.0 k.1
+    goes_bounds (t.typed (t.designator d) y r) s i h k = goes_part_bounds d r s i h.1 k
     goes_bounds (t.typed (t.number z) y r) s i h k = absurd (no_array h.0 h.1)
     goes_bounds (t.typed (t.logical b) y r) s i h k = absurd (no_array h.0 h.1)
     goes_bounds (t.typed (t.call n es) y r) s i h k = value_bounds (kind_of y) r s h.0 (goes_form (t.call n es) y r s i h.1 k)
@@ -307,19 +306,18 @@ module _ (w : Setting) (few : 2 * w.images ≤ 2147483647) (e : Environment) (ow
     goes_bounds (t.typed (t.relation o x z) y r) s i h k = absurd (no_array h.0 h.1.0)
     goes_bounds (t.typed (t.logic o x z) y r) s i h k = absurd (no_array h.0 h.1.0)
 
-    goes_part_bounds : (o : Object) (ss : t.Subscripts) (sel : t.Selector) (r : ℕ) (s : Typing) → IsThere s → ranks.IsPart e.program.procedures (t.part o ss sel) r → kinded.AreSubscripts e.program w.coarrays own main ss
-        → kinded.IsSelector e.program w.coarrays own main sel → Goes w s (view.bounds_of_part e (t.part o ss sel) r) (with_array None s)
-    goes_part_bounds (objects.Local v) t.no_subscripts sel r s i h k l = one_act w s (bounded (a.bounds (scope_of v.home) v.variable)) (with_array None s) (places.acts_bounds w.coarrays w.images (scope_of v.home) v.variable s)
-    goes_part_bounds (objects.Local v) (t.more_subscripts x ss) sel r s i h k l =
-        part_bounds w (scope_of v.home) v.variable x ss r h.1 s (subscripted w x ss s (goes_subscript x s i h.0.0 k.0) (λ us. goes_subscripts ss (with_numbers us s) i h.0.1 k.1))
-    goes_part_bounds (objects.Constant c) t.no_subscripts sel r s i h k l = one_act w s (bounded (a.bounds e.main (constant_place e c))) (with_array None s) (places.acts_bounds w.coarrays w.images e.main (constant_place e c) s)
-    goes_part_bounds (objects.Constant c) (t.more_subscripts x ss) sel r s i h k l =
-        part_bounds w e.main (constant_place e c) x ss r h.1 s (subscripted w x ss s (goes_subscript x s i h.0.0 k.0) (λ us. goes_subscripts ss (with_numbers us s) i h.0.1 k.1))
-    goes_part_bounds (objects.Coarray c) t.no_subscripts sel r s i h k l = one_act w s (bounded (a.co_bounds c)) (with_array None s) (places.acts_co_bounds w.coarrays w.images c s)
-    goes_part_bounds (objects.Coarray c) (t.more_subscripts x ss) t.no_selector r s i h k l =
-        own_bounds w c x ss r h.1 s (subscripted w x ss s (goes_subscript x s i h.0.0 k.0) (λ us. goes_subscripts ss (with_numbers us s) i h.0.1 k.1))
-    goes_part_bounds (objects.Coarray c) (t.more_subscripts x ss) (t.selector cs which stat) r s i h k l =
-        coindexed_bounds w c (view.optional_size stat) x ss r h.1 s (subscripted w x ss s (goes_subscript x s i h.0.0 k.0) (λ us. goes_subscripts ss (with_numbers us s) i h.0.1 k.1)) (goes_owner c r (t.selector cs which stat) s i h.2 l)
+    goes_part_bounds : (d : t.Designator) (r : ℕ) (s : Typing) → IsThere s → ranks.IsPart e.program.procedures d r → kinded.IsBounded e.program w.coarrays own main d → Goes w s (view.bounds_of_part e d r) (with_array None s)
+    goes_part_bounds (t.part (objects.Local v) t.no_subscripts sel) r s i h k = one_act w s (bounded (a.bounds (scope_of v.home) v.variable)) (with_array None s) (places.acts_bounds w.coarrays w.images (scope_of v.home) v.variable s)
+    goes_part_bounds (t.part (objects.Local v) (t.more_subscripts x ss) sel) r s i h k =
+        part_bounds w (scope_of v.home) v.variable x ss r h.1 s (subscripted w x ss s (goes_subscript x s i h.0.0 k.0.0) (λ us. goes_subscripts ss (with_numbers us s) i h.0.1 k.0.1))
+    goes_part_bounds (t.part (objects.Constant c) t.no_subscripts sel) r s i h k = one_act w s (bounded (a.bounds e.main (constant_place e c))) (with_array None s) (places.acts_bounds w.coarrays w.images e.main (constant_place e c) s)
+    goes_part_bounds (t.part (objects.Constant c) (t.more_subscripts x ss) sel) r s i h k =
+        part_bounds w e.main (constant_place e c) x ss r h.1 s (subscripted w x ss s (goes_subscript x s i h.0.0 k.0.0) (λ us. goes_subscripts ss (with_numbers us s) i h.0.1 k.0.1))
+    goes_part_bounds (t.part (objects.Coarray c) t.no_subscripts sel) r s i h k = one_act w s (bounded (a.co_bounds c)) (with_array None s) (places.acts_co_bounds w.coarrays w.images c s)
+    goes_part_bounds (t.part (objects.Coarray c) (t.more_subscripts x ss) t.no_selector) r s i h k =
+        own_bounds w c x ss r h.1 s (subscripted w x ss s (goes_subscript x s i h.0.0 k.0.0) (λ us. goes_subscripts ss (with_numbers us s) i h.0.1 k.0.1))
+    goes_part_bounds (t.part (objects.Coarray c) (t.more_subscripts x ss) (t.selector cs which stat)) r s i h k =
+        coindexed_bounds w c (view.optional_size stat) x ss r h.1 s (subscripted w x ss s (goes_subscript x s i h.0.0 k.0.0) (λ us. goes_subscripts ss (with_numbers us s) i h.0.1 k.0.1)) (goes_owner c r (t.selector cs which stat) s i h.2 k.1)
 
     -- ---- intrinsic functions
     goes_intrinsic : (f : t.Intrinsic) (y : DataType) (r : ℕ) (s : Typing) → IsThere s → ranks.HasIntrinsicRank e.program.procedures f r → kinded.IsFunction e.program w.coarrays own main f y → Goes w s (view.intrinsic e f (meaning.kind_of y)) (result (kind_of y) r s)

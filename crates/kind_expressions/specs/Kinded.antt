@@ -162,8 +162,11 @@ module _ (p : s.Program) (coarrays : List Declared) (own main : Layout) where
 
     -- an array whose bounds are asked for, of any type
     pub IsInquired : t.Expression → Type 0
-    IsInquired (t.typed (t.designator (t.part o ss sel)) y r) = AreSubscripts ss × IsSelector sel
+    IsInquired (t.typed (t.designator d) y r) = IsBounded d
     IsInquired (t.typed f y r) = IsForm f y
+
+    pub IsBounded : t.Designator → Type 0
+    IsBounded (t.part o ss sel) = AreSubscripts ss × IsSelector sel
 
     -- the intrinsic functions (16.9): most are of default kind
     pub IsFunction : t.Intrinsic → DataType → Type 0
