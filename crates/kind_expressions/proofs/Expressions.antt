@@ -37,7 +37,7 @@ use Rattle.kind_expressions.proofs.VariableActs.{result, acts_cell, acts_load}
 use Rattle.kind_expressions.proofs.PlaceActs as places
 use Rattle.kind_expressions.proofs.ImageActs as images
 use Rattle.kind_expressions.proofs.AskActs.{acts_status, acts_failed, acts_stopped}
-use Rattle.kind_expressions.proofs.Goes.{Setting, Goes, idle, ◌⨾◌, by_test, act_then, one_act, known_as, Leaves, leaves_none, leaves_one, leaves_two, goes_dropping, goes_copying}
+use Rattle.kind_expressions.proofs.Goes.{Setting, Goes, idle, ◌⨾◌, by_test, act_then, one_act, known_as, Leaves, leaves_none, leaves_one, leaves_two, leaves_more, goes_dropping, goes_copying}
 use Rattle.kind_expressions.proofs.References.{place, on_place, goes_section, goes_co_section, goes_taking_cells, goes_part, goes_store, goes_put, element_placed, subscripted, part_bounds, own_bounds, coindexed_bounds, Owned, owned_here, owned_there, goes_reference}
 use Rattle.kind_expressions.proofs.Calls.{Back, AllBack, given_on, dummy_kind, goes_calling}
 use Rattle.kind_expressions.proofs.Passing.{result_as, one_on, passed_on, passed_more, passed_dummy, value_on, scalar_on, part_on}
@@ -61,13 +61,13 @@ module _ (w : Setting) (few : 2 * w.images ≤ 2147483647) (e : Environment) (ow
   at_home homes.Own s x = x.running
   at_home homes.Host s x = x.last
 
-  scalar_there : (v : Local) (k : Option Kind) (s : Typing) → IsThere s → Kind' v k → slice_get (layout_of (scope_of v.home) s).scalars v.variable ≡ Some k
+  pub scalar_there : (v : Local) (k : Option Kind) (s : Typing) → IsThere s → Kind' v k → slice_get (layout_of (scope_of v.home) s).scalars v.variable ≡ Some k
   scalar_there v k s x h = subst (λ (y : Layout). slice_get y.scalars v.variable ≡ Some k) (sym (at_home v.home s x)) h.0
 
-  array_there : (v : Local) (k : Option Kind) (s : Typing) → IsThere s → Kind' v k → slice_get (layout_of (scope_of v.home) s).arrays v.variable ≡ Some k
+  pub array_there : (v : Local) (k : Option Kind) (s : Typing) → IsThere s → Kind' v k → slice_get (layout_of (scope_of v.home) s).arrays v.variable ≡ Some k
   array_there v k s x h = subst (λ (y : Layout). slice_get y.arrays v.variable ≡ Some k) (sym (at_home v.home s x)) h.1
 
-  fits : (l k : Option Kind) → Widens l k → (o : Option (Option Kind)) → o ≡ Some k → (j : Option Kind) → o ≡ Some j → Widens l j
+  pub fits : (l k : Option Kind) → Widens l k → (o : Option (Option Kind)) → o ≡ Some k → (j : Option Kind) → o ≡ Some j → Widens l j
   fits l k x o e j f = (let g : k ≡ j = cc in subst (Widens l) g x)
 
   -- the kind of an expression
@@ -154,7 +154,7 @@ module _ (w : Setting) (few : 2 * w.images ≤ 2147483647) (e : Environment) (ow
       subst (λ m. Goes w z p (result k m s)) g (subst (λ j. Goes w z p (result j (rank_in u.variables x) s)) (dummy_kind u.variables x k l)
       (subst (λ y. Goes w z p y) (sym (result_as (kinded.kind_in u.variables x) (rank_in u.variables x) s)) h))
 
-  calls : (n : ℕ) (es : t.Arguments) (k : Option Kind) (r : ℕ) (s : Typing) → IsThere s → ranks.GivesRank (procedure_in e n).unit.variables (procedure_in e n).answer r → kinded.GivesKind (procedure_in e n).unit.variables (procedure_in e n).answer k
+  pub calls : (n : ℕ) (es : t.Arguments) (k : Option Kind) (r : ℕ) (s : Typing) → IsThere s → ranks.GivesRank (procedure_in e n).unit.variables (procedure_in e n).answer r → kinded.GivesKind (procedure_in e n).unit.variables (procedure_in e n).answer k
       → ranks.ArePassed e.program.procedures (procedure_in e n).unit.variables (procedure_in e n).dummies es → kinded.ArePassed e.program w.coarrays own main (procedure_in e n).unit.variables (procedure_in e n).dummies es
       → Goes w (passed_on (procedure_in e n).unit.variables (view.passed (procedure_in e n).unit.variables (procedure_in e n).dummies es) s)
       (view.calling n (procedure_in e n) (view.passed (procedure_in e n).unit.variables (procedure_in e n).dummies es)) (result k r s)
@@ -169,10 +169,10 @@ module _ (w : Setting) (few : 2 * w.images ≤ 2147483647) (e : Environment) (ow
     pub goes_scalar : (x : t.Expression) (s : Typing) → IsThere s → OfRank x 0 → Kinded x → Goes w s (view.expression e x) (with_number (kind_at x) s)
     goes_scalar (t.typed f y r) s i h k = as_rank_0 w (kind_of y) s r h.0 (goes_form f y r s i h.1 k)
 
-    goes_of_kind : (x : t.Expression) (k : Option Kind) (r : ℕ) (s : Typing) → IsThere s → OfRank x r → OfKind x k → Goes w s (view.expression e x) (result k r s)
+    pub goes_of_kind : (x : t.Expression) (k : Option Kind) (r : ℕ) (s : Typing) → IsThere s → OfRank x r → OfKind x k → Goes w s (view.expression e x) (result k r s)
     goes_of_kind (t.typed f y q) k r s i h d = subst (λ m. Goes w s (view.form e f (meaning.kind_of y) q) (result k m s)) h.0 (value_of_kind w (kind_of y) k d.0 q s (goes_form f y q s i h.1 d.1))
 
-    goes_form : (f : t.Form) (y : DataType) (r : ℕ) (s : Typing) → IsThere s → ranks.HasRank e.program.procedures f r → kinded.IsForm e.program w.coarrays own main f y → Goes w s (view.form e f (meaning.kind_of y) r) (result (kind_of y) r s)
+    pub goes_form : (f : t.Form) (y : DataType) (r : ℕ) (s : Typing) → IsThere s → ranks.HasRank e.program.procedures f r → kinded.IsForm e.program w.coarrays own main f y → Goes w s (view.form e f (meaning.kind_of y) r) (result (kind_of y) r s)
     goes_form (t.number z) y r s i h k = of_rank_0 w (kind_of y) s r h (one_act w s (constant z) (with_number (kind_of y) s) (acts.acts_constant w.coarrays w.images z (kind_of y) k s))
     goes_form (t.logical b) y r s i h k =
         of_rank_0 w (kind_of y) s r h (one_act w s (constant (truth b)) (with_number (kind_of y) s) (acts.acts_constant w.coarrays w.images (truth b) (kind_of y) (of_truth w (kind_of y) k b) s))
@@ -201,7 +201,8 @@ module _ (w : Setting) (few : 2 * w.images ≤ 2147483647) (e : Environment) (ow
 
     goes_expressions : (es : t.Expressions) (s : Typing) → IsThere s → ranks.AreScalars e.program.procedures es → kinded.AreKinded e.program w.coarrays own main es → Leaves w s (view.count_of es) (view.expressions e es)
     goes_expressions t.no_expressions s i h k = leaves_none w s
-    goes_expressions (t.more_expressions x es) s i h k = leaves_two w s 1 (view.count_of es) (leaves_one w s (kind_at x) (goes_scalar x s i h.0 k.0)) (λ us l. goes_expressions es (with_numbers us s) i h.1 k.1)
+    goes_expressions (t.more_expressions x es) s i h k =
+        leaves_more w s (view.count_of es) (leaves_one w s (kind_at x) (goes_scalar x s i h.0 k.0)) (λ us l. goes_expressions es (with_numbers us s) i h.1 k.1)
 
     -- the values of a constructor
     goes_items : (es : t.Expressions) (k : Option Kind) (s : Typing) → IsThere s → ranks.AreRanked e.program.procedures es → kinded.AreOfKind e.program w.coarrays own main es k → Goes w (with_array k s) (view.items e es) (with_array k s)
@@ -229,11 +230,11 @@ module _ (w : Setting) (few : 2 * w.images ≤ 2147483647) (e : Environment) (ow
     goes_first o k f t.no_expressions s i h d = absurd h
     goes_first o k f (t.more_expressions x es) s i h d = goes_of_kind x k 0 s i h.0 d.0 ⨾ goes_folded o k f es s i h.1 d.1
 
-    goes_optional : (x : t.OptionalExpression) (s : Typing) → IsThere s → ranks.IsOptionalScalar e.program.procedures x → kinded.IsOptional e.program w.coarrays own main x → Leaves w s (one_given x) (view.optional e x)
+    pub goes_optional : (x : t.OptionalExpression) (s : Typing) → IsThere s → ranks.IsOptionalScalar e.program.procedures x → kinded.IsOptional e.program w.coarrays own main x → Leaves w s (one_given x) (view.optional e x)
     goes_optional t.missing s i h k = leaves_none w s
     goes_optional (t.given x) s i h k = leaves_one w s (kind_at x) (goes_scalar x s i h k)
 
-    goes_subscripts : (ss : t.Subscripts) (s : Typing) → IsThere s → ranks.AreSubscripts e.program.procedures ss → kinded.AreSubscripts e.program w.coarrays own main ss → Leaves w s (subscripts_size ss) (view.subscripts e ss)
+    pub goes_subscripts : (ss : t.Subscripts) (s : Typing) → IsThere s → ranks.AreSubscripts e.program.procedures ss → kinded.AreSubscripts e.program w.coarrays own main ss → Leaves w s (subscripts_size ss) (view.subscripts e ss)
     goes_subscripts t.no_subscripts s i h k = leaves_none w s
     goes_subscripts (t.more_subscripts x ss) s i h k = leaves_two w s (subscript_size x) (subscripts_size ss) (goes_subscript x s i h.0 k.0) (λ us l. goes_subscripts ss (with_numbers us s) i h.1 k.1)
 
@@ -267,7 +268,7 @@ module _ (w : Setting) (few : 2 * w.images ≤ 2147483647) (e : Environment) (ow
         owned_there w c r (view.count_of cs) (view.optional_size stat) s few (goes_expressions cs (on_place r s) i h.0 k.0) (λ us. goes_selected which (with_numbers us (on_place r s)) i h.1 k.1)
         (λ us. goes_place stat (Some kinds.I4) (with_number None (with_numbers us (on_place r s))) i h.2 k.2)
 
-    goes_stat : (sel : t.Selector) → kinded.IsSelector e.program w.coarrays own main sel → (qs : List (Option Kind)) → length qs ≡ view.optional_size (view.stat_of sel) → (s z : Typing) → z ≡ with_numbers qs s → IsThere s
+    pub goes_stat : (sel : t.Selector) → kinded.IsSelector e.program w.coarrays own main sel → (qs : List (Option Kind)) → length qs ≡ view.optional_size (view.stat_of sel) → (s z : Typing) → z ≡ with_numbers qs s → IsThere s
         → Goes w (with_number (Some kinds.I4) z) (view.storing_status 1 (view.stat_of sel)) z
     goes_stat t.no_selector k qs g s z q i = goes_status t.no_result tt qs g s z q i
     goes_stat (t.selector cs which stat) k qs g s z q i = goes_status stat k.2 qs g s z q i
@@ -284,7 +285,7 @@ module _ (w : Setting) (few : 2 * w.images ≤ 2147483647) (e : Environment) (ow
         let x = goes_owner c r sel s i h.2 d.2 in
         goes_reference w c ss r sel k h.1 d.0 s (goes_subscripts ss s i h.0 d.1) x (λ z q. goes_stat sel d.2 x.kinds x.long (with_array (Some k) s) z q i)
 
-    goes_team : (x : t.OptionalExpression) (s : Typing) → IsThere s → ranks.IsOptionalScalar e.program.procedures x → kinded.IsOptional e.program w.coarrays own main x → Goes w s (view.team_of e x) (with_number None s)
+    pub goes_team : (x : t.OptionalExpression) (s : Typing) → IsThere s → ranks.IsOptionalScalar e.program.procedures x → kinded.IsOptional e.program w.coarrays own main x → Goes w s (view.team_of e x) (with_number None s)
     goes_team t.missing s i h k = one_act w s (selector a.this_team) (with_number None s) (images.acts_this_team w.coarrays w.images few s)
     goes_team (t.given x) s i h k = goes_scalar x s i h k ⨾ one_act w (with_number (kind_at x) s) (selector a.team_value) (with_number None s) (images.acts_team_value w.coarrays w.images few (kind_at x) s)
 
@@ -388,7 +389,7 @@ module _ (w : Setting) (few : 2 * w.images ≤ 2147483647) (e : Environment) (ow
     goes_array (t.typed f y r) s i h k = as_array (kind_of y) r s h.0 (goes_form f y r s i h.1 k)
 
     -- ---- actual arguments
-    goes_arguments : (vs : List Variable) (ds : List Dummy) (es : t.Arguments) (s : Typing) → IsThere s → ranks.ArePassed e.program.procedures vs ds es → kinded.ArePassed e.program w.coarrays own main vs ds es
+    pub goes_arguments : (vs : List Variable) (ds : List Dummy) (es : t.Arguments) (s : Typing) → IsThere s → ranks.ArePassed e.program.procedures vs ds es → kinded.ArePassed e.program w.coarrays own main vs ds es
         → Goes w s (view.arguments e vs ds es) (passed_on vs (view.passed vs ds es) s)
     goes_arguments vs [] t.no_arguments s i h k = idle
     goes_arguments vs (d ∷ ds) t.no_arguments s i h k = idle

@@ -114,6 +114,9 @@ leaves_two w s l m {p} {q} f g = (
 pub leaves_as : (w : Setting) (s : Typing) (l m : ℕ) → l ≡ m → {p : Parts Act} → Leaves w s l p → Leaves w s m p
 leaves_as w s l m e {p} h = subst (λ k. Leaves w s k p) e h
 
+pub leaves_more : (w : Setting) (s : Typing) (m : ℕ) {p q : Parts Act} → Leaves w s 1 p → ((us : List (Option Kind)) → length us ≡ 1 → Leaves w (with_numbers us s) m q) → Leaves w s (suc m) (value p q)
+leaves_more w s m f g = leaves_as w s (1 + m) (suc m) (omega arith) (leaves_two w s 1 m f g)
+
 -- ---- numbers that are moved
 nothing_there : (ks : List (Option Kind)) (m : ℕ) → length ks ≡ m → m ≡ 0 → ks ≡ []
 nothing_there [] m e z = refl

@@ -57,7 +57,7 @@ module _ (w : Setting) where
   beneath : (ks : List (Option Kind)) (j k : Option Kind) → Widens j k → (s : Typing) → Goes w (with_numbers ks (with_number j s)) end_parts (with_numbers ks (with_number k s))
   beneath ks j k x s = record { leads = λ i c h. under_widened w.images ks j k x s c h }
 
-  fitting_number : (y z : DataType) → Converts y z → (depth : ℕ) (ks : List (Option Kind)) → length ks ≡ depth → (s : Typing) → (b : Bool) → narrows (meaning.kind_of y) (meaning.kind_of z) ≡ b
+  pub fitting_number : (y z : DataType) → Converts y z → (depth : ℕ) (ks : List (Option Kind)) → length ks ≡ depth → (s : Typing) → (b : Bool) → narrows (meaning.kind_of y) (meaning.kind_of z) ≡ b
       → Goes w (with_numbers ks (with_number (kind_of y) s)) (cond b (doing (operator (a.fits (meaning.kind_of z) depth) ∷ [])) nothing) (with_numbers ks (with_number (kind_of z) s))
   fitting_number y z c depth ks e s true f =
       known_as w (with_numbers ks (with_number (kind_of y) s)) (with_numbers ks (with_number (Some (meaning.kind_of z)) s)) (with_numbers ks (with_number (kind_of z) s)) (λ d h. under_widened w.images ks (Some (meaning.kind_of z)) (kind_of z) (of_type z) s d h)
