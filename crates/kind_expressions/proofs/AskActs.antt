@@ -105,9 +105,11 @@ module _ (coarrays : List Declared) (n : ℕ) where
       many n coarrays t j ks s b hb (λ b. effect_of (ask (a.read x rank)) (pushed o b)) (λ xs d l g hd.
       let p = place_in (put_down xs []) in
       settles n coarrays t j (ask (a.read x rank)) (ask_effect (a.read x rank) (pushed o (with_values d (xs ++ d.values))))
-      (takes n coarrays t j (place_size rank) xs d.values (λ q. asking (asks.Read (image o) (span_of x (place_in q.0))) (read_reply (place_in q.0) (with_values d q.1))) (l ∙ e)
-      (tt, λ r y. stated (with_array (Some k) s) r (record d { arrays = record { extents = extents_of p; elements = values_in (spare d) p r } ∷ d.arrays }) y.0
-      (push_array n (Some k) s d (record { extents = extents_of p; elements = values_in (spare d) p r }) (read_values k x held j (image o) p (spare d) r y) hd)))))
+      (takes n coarrays t j (place_size rank) xs d.values (λ q. asking (asks.Read (image o) (span_of x (place_in q.0))) (read_reply (place_in q.0) (with_values d q.1))) (l ∙ e) (
+        tt,
+        λ r y. stated (with_array (Some k) s) r (record d { arrays = record { extents = extents_of p; elements = values_in (spare d) p r } ∷ d.arrays }) y.0
+            (push_array n (Some k) s d (record { extents = extents_of p; elements = values_in (spare d) p r }) (read_values k x held j (image o) p (spare d) r y) hd),
+      ))))
 
   -- ---- a definition of a coarray, one number to each cell or an array
   pub acts_write : (i l : Option Kind) (ks : List (Option Kind)) (x rank : ℕ) (k : Kind) → memory.holds (is_of k) (slice_get coarrays x) ≡ true → Widens l (Some k) → length ks ≡ place_size rank → (s : Typing)

@@ -241,7 +241,7 @@ module _ (w : Setting) where
         let x = record s { arrays = outs ++ s.arrays } in
         let depth = (view.value_size p.rank + view.out_sizes ps) + (m + (view.passed_sizes ps + view.value_size p.rank)) in
         let long : length v + length us ≡ depth =
-            (let a1 = values_long k p.rank in let a2 = out_long vs ps in let a3 = kinds_long vs ps in let a4 = length-append out (rs ++ (all ++ v)) in let a5 = length-append rs (all ++ v) in let a6 = length-append all v in omega arith) in
+        (let a1 = values_long k p.rank in let a2 = out_long vs ps in let a3 = kinds_long vs ps in let a4 = length-append out (rs ++ (all ++ v)) in let a5 = length-append rs (all ++ v) in let a6 = length-append all v in omega arith) in
         let same : us ++ (un ++ s.numbers) ≡ out ++ (rs ++ (all_kinds vs (p ∷ ps) ++ s.numbers)) = regrouped out rs all v un s.numbers ∙ ap (λ z. out ++ (rs ++ z)) (kinds_grouped all v un s.numbers) in
         let start : v ++ (us ++ (un ++ s.numbers)) ≡ (v ++ out) ++ (rs ++ (all_kinds vs (p ∷ ps) ++ s.numbers)) = ap (λ z. v ++ z) same ∙ sym (append_assoc v out (rs ++ (all_kinds vs (p ∷ ps) ++ s.numbers))) in
         subst (λ z. Goes w (record s { numbers = (v ++ out) ++ (rs ++ (all_kinds vs (p ∷ ps) ++ s.numbers)); arrays = z }) (view.going_back p depth) (record x { numbers = out ++ (rs ++ (all_kinds vs (p ∷ ps) ++ s.numbers)) })) (sym (append_assoc va outs s.arrays))

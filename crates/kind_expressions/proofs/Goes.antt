@@ -51,11 +51,13 @@ module _ (w : Setting) where
   one_act s x t h = act_then s x t h idle
 
   pub fork : (k : Option Kind) (s t : Typing) {u : Typing} {p q r : Parts Act} → Goes w s p t → Goes w s q t → Goes w t r u → Goes w (with_number k s) (either p q r) u
-  fork k s t {u} {p} {q} {r} f g h = record { leads = λ j c x.
-      (let After : Joined → Core → Type 0 = λ i d. PartsSuit w.coarrays w.images w.layouts r (λ k e. IsSo w.images u e) i d in
-      test_suits w.coarrays w.images k s c (PartsSuit w.coarrays w.images w.layouts p After j) (PartsSuit w.coarrays w.images w.layouts q After j) x
-      (λ d y. leads_then w.coarrays w.images w.layouts p s t f.leads After (λ i e z. h.leads i e z) j d y)
-      (λ d y. leads_then w.coarrays w.images w.layouts q s t g.leads After (λ i e z. h.leads i e z) j d y)) }
+  fork k s t {u} {p} {q} {r} f g h = record {
+    leads = λ j c x.
+        (let After : Joined → Core → Type 0 = λ i d. PartsSuit w.coarrays w.images w.layouts r (λ k e. IsSo w.images u e) i d in
+        test_suits w.coarrays w.images k s c (PartsSuit w.coarrays w.images w.layouts p After j) (PartsSuit w.coarrays w.images w.layouts q After j) x
+        (λ d y. leads_then w.coarrays w.images w.layouts p s t f.leads After (λ i e z. h.leads i e z) j d y)
+        (λ d y. leads_then w.coarrays w.images w.layouts q s t g.leads After (λ i e z. h.leads i e z) j d y));
+  }
 
   pub known_as : (s t u : Typing) {p : Parts Act} → ((c : Core) → IsSo w.images t c → IsSo w.images u c) → Goes w s p t → Goes w s p u
   known_as s t u {p} f h = record { leads = λ j c x. parts_more w.coarrays w.images w.layouts p (λ i d. IsSo w.images t d) (λ i d. IsSo w.images u d) (λ i d y. f d y) j c (h.leads j c x) }

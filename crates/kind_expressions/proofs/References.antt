@@ -147,7 +147,7 @@ module _ (w : Setting) where
       let upper = None ∷ (us ++ place r) in
       let long : length upper ≡ place_size r + (k + 1) = (let y = length-append us (place r) in let z = unknown_long (place_size r) in let u = f.long in omega arith) in
       let brought = subst (λ z. Goes w (with_numbers qs (record s { numbers = None ∷ z })) (bringing m (place_size r + (k + 1))) (record s { numbers = None ∷ (us ++ (place r ++ (qs ++ s.numbers))) })) (append_assoc us (place r) s.numbers)
-          (subst (λ z. Goes w (with_numbers qs (with_numbers upper s)) (bringing m (place_size r + (k + 1))) (record s { numbers = None ∷ z })) (append_assoc us (place r) (qs ++ s.numbers)) (goes_bringing w s qs upper m (place_size r + (k + 1)) x.long long)) in
+      (subst (λ z. Goes w (with_numbers qs (with_numbers upper s)) (bringing m (place_size r + (k + 1))) (record s { numbers = None ∷ z })) (append_assoc us (place r) (qs ++ s.numbers)) (goes_bringing w s qs upper m (place_size r + (k + 1)) x.long long)) in
       let y = on_place r (with_numbers qs s) in
       record {
         kinds = qs;

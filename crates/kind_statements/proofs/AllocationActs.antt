@@ -141,9 +141,12 @@ module _ (coarrays : List Declared) (n : ℕ) where
     takes_so : (o : Option ℕ) (d : Core) → IsSo n s d
         → EffectSuits coarrays (settled (ask a.take) (given o (λ r. asking (asks.Take (team (pos (current_team d))) r) (take_reply d)))) (λ i e. IsSo n joined_on e) (Some kind)
     takes_so None d h = tt
-    takes_so (Some k) d h = (tt, λ r y. (
-        let vs = taken_in (spare d) r in
-        push n (Some kinds.I4) (with_array (Some kind) s) (record d { arrays = row vs (length vs) ∷ d.arrays }) (status_of r) y.0 (push_array n (Some kind) s d (row vs (length vs)) (taken_values (pos (current_team d)) (spare d) k r y) h)))
+    takes_so (Some k) d h = (
+      tt,
+      λ r y. (
+          let vs = taken_in (spare d) r in
+          push n (Some kinds.I4) (with_array (Some kind) s) (record d { arrays = row vs (length vs) ∷ d.arrays }) (status_of r) y.0 (push_array n (Some kind) s d (row vs (length vs)) (taken_values (pos (current_team d)) (spare d) k r y) h)),
+    )
 
     arrived : (d : Core) (r : Reply) → IsSo n s d → IsSo n s (arrival_reply d r)
     arrived d r h = record { numbers = h.numbers; arrays = h.arrays; running = h.running; callers = h.callers; images = h.images; known = h.known; formed = h.formed }

@@ -1,0 +1,6 @@
+pub mod ControlActs
+pub mod AllocationActs
+pub mod Settled
+pub mod Assigning
+pub mod Assignments
+pub mod Bodies
