@@ -1,5 +1,5 @@
 -- Asks that bring values, and asks that take some: what is known behind each, and that its values are of their kind.
-use Rattle.std.proofs.Common.{◌≡◌, ◌∙◌, ℕ, zero, suc, ◌+◌, ◌≤◌, Bool, true, false, ◌&&◌, cond, List, [], ◌∷◌, ◌++◌, length, map, replicate, slice_get, refl, ap, sym, subst}
+use Rattle.std.proofs.Common.{◌≡◌, ◌∙◌, ℕ, zero, suc, true, List, [], ◌∷◌, ◌++◌, length, map, replicate, slice_get, refl, ap, sym, subst}
 use Rattle.std.specs.Prelude.{ℤ, pos, min, take, Option, None, Some}
 use Rattle.std.specs.List.{list_all}
 use Rattle.std.proofs.lemmas.Bool.{and_from, and_parts}
@@ -9,11 +9,9 @@ use Rattle.caf_base.specs.declared.value.Kind.{Kind}
 use Rattle.caf_base.specs.declared.value.Kind.TheVariants as kinds
 use Rattle.caf_base.specs.declared.value.Value.{Value}
 use Rattle.caf_base.specs.Arithmetic.{fits_kind, number_of, value_of, natural}
-use Rattle.caf_events.specs.declared.ask.Ask.{Ask}
 use Rattle.caf_events.specs.declared.ask.Ask.TheVariants as asks
 use Rattle.caf_events.specs.declared.reply.Reply.{Reply}
 use Rattle.caf_events.specs.declared.reply.Reply.TheVariants as replies
-use Rattle.caf_events.specs.declared.round.GatherOp.{GatherOp}
 use Rattle.walk_theory.specs.Language.{asking}
 use Rattle.object_rules.specs.Folds.{is_of_kind}
 use Rattle.object_rules.specs.Kinds.{same_value_kind}
@@ -24,20 +22,20 @@ use Rattle.object_rules.specs.MemoryRules.{suits_values}
 use Rattle.image_acts.specs.Words.{word}
 use Rattle.image_acts.specs.Faults.{cobounds_fault}
 use Rattle.image_acts.specs.Acts as a
-use Rattle.image_acts.specs.Acts.{Act, ask}
-use Rattle.image_acts.specs.Core.{Core, Array, with_values, pushed, row}
+use Rattle.image_acts.specs.Acts.{ask}
+use Rattle.image_acts.specs.Core.{Core, with_values, pushed, row}
 use Rattle.image_acts.specs.Places.{Place, place_in, place_size, extents_of, cells_of}
-use Rattle.image_acts.specs.Replies.{status_of, spare, values_in, read_reply, with_status, indices_in, indices_reply}
-use Rattle.image_acts.specs.Taking.{Acted, taken, put_down, taking_one, taking_array, unless}
+use Rattle.image_acts.specs.Replies.{status_of, spare, values_in, read_reply, with_status, indices_reply}
+use Rattle.image_acts.specs.Taking.{put_down, taking_one, taking_array}
 use Rattle.image_acts.specs.Teams.{members, is_index_of}
 use Rattle.image_acts.specs.Operate.Asking.{image, team, span_of, ask_effect}
-use Rattle.image_acts.specs.Meaning.{settled, effect_of}
-use Rattle.kind_walks.specs.Kinds.{Widens, Typing, IsSo, IsOf, IsArrayOf, Are, with_number, with_array}
-use Rattle.kind_walks.specs.Suiting.{Joined, IsSmall, Suits, Tells, EffectSuits}
+use Rattle.image_acts.specs.Meaning.{effect_of}
+use Rattle.kind_walks.specs.Kinds.{Widens, Typing, IsSo, IsOf, with_number, with_array}
+use Rattle.kind_walks.specs.Suiting.{Joined, IsSmall, Tells}
 use Rattle.kind_walks.proofs.Numbers.{zero_of, small_fits, values_fit, value_repeats, numbers_fit}
 use Rattle.kind_walks.proofs.Effects.{with_numbers, push, push_array, so, settles, one, top, many, takes}
 use Rattle.kind_walks.proofs.Frames.{widened, all_widened}
-use Rattle.kind_walks.proofs.StackActs.{Acts, To}
+use Rattle.kind_walks.proofs.StackActs.{Acts}
 use Rattle.kind_expressions.specs.Kinded.{is_of}
 use Rattle.kind_expressions.proofs.VariableActs.{each_same}
 

@@ -1,5 +1,5 @@
 -- Each expression of a body leaves a value of its kind, wherever the body runs.
-use Rattle.std.proofs.Common.{◌≡◌, ◌∙◌, ℕ, zero, suc, ◌*◌, ◌≤◌, List, refl}
+use Rattle.std.proofs.Common.{ℕ, zero, suc, ◌*◌, ◌≤◌, List, refl}
 use Rattle.checked_tree.specs.Expressions as t
 use Rattle.checked_tree.specs.Statements.{Program}
 use Rattle.object_rules.specs.Cells.{Declared}
@@ -9,8 +9,8 @@ use Rattle.kind_walks.specs.Kinds.{Typing}
 use Rattle.kind_walks.specs.Suiting.{IsIn, Leads}
 use Rattle.kind_expressions.specs.Kinded.{layouts, main_layout, IsKinded}
 use Rattle.kind_expressions.specs.Laws.{environment_at, value_of}
-use Rattle.kind_expressions.proofs.Goes.{Setting, Goes}
-use Rattle.kind_expressions.proofs.Expressions.{IsThere, goes_expression}
+use Rattle.kind_expressions.proofs.Goes.{Setting}
+use Rattle.kind_expressions.proofs.Expressions.{goes_expression}
 
 abbrev pub setting : Program → List Declared → ℕ → Setting
 setting p coarrays n = record { coarrays = coarrays; images = n; layouts = layouts p }

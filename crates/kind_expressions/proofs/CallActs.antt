@@ -1,5 +1,5 @@
 -- Acts of calls: frames, and arrays that are copied into and out of their variables.
-use Rattle.std.proofs.Common.{◌≡◌, ◌∙◌, ℕ, zero, suc, ◌+◌, ◌*◌, Bool, true, false, ◌&&◌, cond, List, [], ◌∷◌, ◌++◌, length, replicate, slice_get, refl, sym, subst}
+use Rattle.std.proofs.Common.{◌≡◌, ◌∙◌, ℕ, zero, suc, ◌+◌, ◌&&◌, List, [], ◌∷◌, ◌++◌, length, replicate, slice_get}
 use Rattle.std.specs.Prelude.{ℤ, pos, ◌-◌, nat_lt, nat_le, ◌==◌, Option, None, Some}
 use Rattle.trace_theory.specs.Entries.{Each}
 use Rattle.caf_base.specs.declared.value.Kind.{Kind}
@@ -9,17 +9,16 @@ use Rattle.object_rules.specs.Cells.{Declared}
 use Rattle.image_acts.specs.Statuses.{most_cells, most_elements, most_frames}
 use Rattle.image_acts.specs.Faults.{room, depth_fault, shape_fault}
 use Rattle.image_acts.specs.Acts as a
-use Rattle.image_acts.specs.Acts.{Act, call, allocation}
-use Rattle.image_acts.specs.Core.{Core, Array, Frame, Local, with_values, elements_in}
+use Rattle.image_acts.specs.Acts.{call, allocation}
+use Rattle.image_acts.specs.Core.{Core, Frame, with_values, elements_in}
 use Rattle.image_acts.specs.Frames.{array_in, with_array_in, zeros_in, pairs_in, cells_in_frames, arrays_of_frames}
-use Rattle.image_acts.specs.Taking.{Acted, given, unless, taken, put_down}
+use Rattle.image_acts.specs.Taking.{Acted, unless, put_down}
 use Rattle.image_acts.specs.Operate.Variables.{if_room}
 use Rattle.image_acts.specs.Operate.Bounds.{same_extents}
 use Rattle.image_acts.specs.Operate.Allocating.{bounds_size, laid, allocation_effect}
 use Rattle.image_acts.specs.Operate.Calling.{extents_of_bounds, has_extents, call_effect}
-use Rattle.image_acts.specs.Meaning.{settled, effect_of}
-use Rattle.kind_walks.specs.Kinds.{Widens, IsOf, IsArrayOf, IsLocalOf, Begin, Layout, AllHold, Typing, IsSo, with_number, with_array}
-use Rattle.kind_walks.specs.Suiting.{Joined, EffectSuits}
+use Rattle.image_acts.specs.Meaning.{effect_of}
+use Rattle.kind_walks.specs.Kinds.{Widens, IsOf, IsLocalOf, Begin, Layout, AllHold, Typing, with_array}
 use Rattle.kind_walks.proofs.Numbers.{zero_of}
 use Rattle.kind_walks.proofs.Effects.{with_numbers, push_array, there_as, so, settles, top, many, takes}
 use Rattle.kind_walks.proofs.Frames.{all_widened, array_of, array_so}

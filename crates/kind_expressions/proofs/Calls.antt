@@ -1,13 +1,13 @@
 -- A call of a procedure takes its arguments and leaves its result, which is of its kind; and each variable gets back a
 -- value of its own.
-use Rattle.std.proofs.Common.{◌≡◌, ◌∙◌, ℕ, zero, suc, ◌+◌, ◌*◌, ◌≤◌, ◌⊎◌, inl, inr, Bool, true, false, cond, List, [], ◌∷◌, ◌++◌, length, map, slice_get, refl, ap, sym, subst, append_assoc, arith}
+use Rattle.std.proofs.Common.{◌≡◌, ◌∙◌, ℕ, zero, suc, ◌+◌, ◌*◌, ◌⊎◌, inl, inr, Bool, true, false, cond, List, [], ◌∷◌, ◌++◌, length, slice_get, refl, ap, sym, subst, append_assoc, arith}
 use Rattle.std.specs.Prelude.{ℤ, ◌==◌, Option, None, Some}
 use Rattle.std.proofs.lemmas.Bool.{eqb-true, eqb-false}
 use Rattle.std.proofs.lemmas.List.{length-append}
 use Rattle.caf_base.specs.declared.value.Kind.{Kind}
 use Rattle.checked_tree.specs.declared.data.Variable.{Variable}
 use Rattle.checked_tree.specs.Statements.{Procedure, Unit'}
-use Rattle.walk_theory.specs.Syntax.{Parts, end_parts, enter}
+use Rattle.walk_theory.specs.Syntax.{Parts, enter}
 use Rattle.image_acts.specs.Places.{place_size}
 use Rattle.image_acts.specs.Acts as a
 use Rattle.image_acts.specs.Acts.{Act, here, constant, variable, call, allocation}
@@ -15,18 +15,18 @@ use Rattle.tree_meaning.specs.Environment.{declared_bounds, rank_in, total_cells
 use Rattle.tree_meaning.specs.Sequences.{◌▸◌, doing, nothing, dropping, copying, bringing}
 use Rattle.tree_meaning.specs.Expressions as view
 use Rattle.tree_meaning.specs.Expressions.{Passed}
-use Rattle.kind_walks.specs.Kinds.{Widens, Layout, last_layout, Typing, IsSo, with_number, with_array}
+use Rattle.kind_walks.specs.Kinds.{Widens, Layout, last_layout, Typing, with_number, with_array}
 use Rattle.kind_walks.specs.Suiting.{IsIn}
 use Rattle.kind_walks.proofs.Effects.{with_numbers, unknown, unknown_long}
 use Rattle.kind_walks.proofs.Frames.{layout_of}
 use Rattle.kind_walks.proofs.StackActs.{acts_constant}
-use Rattle.kind_expressions.specs.Kinded.{kinds_of, kind_in, unit_layout, kind_of}
-use Rattle.kind_expressions.proofs.VariableActs.{result, acts_cell, acts_cell_unknown, acts_put, acts_put_array}
+use Rattle.kind_expressions.specs.Kinded.{kinds_of, kind_in, unit_layout}
+use Rattle.kind_expressions.proofs.VariableActs.{acts_cell, acts_cell_unknown, acts_put, acts_put_array}
 use Rattle.kind_expressions.proofs.CallActs.{called_from, acts_begin_frame, acts_end_frame, acts_lay_out, acts_copy_in, acts_copy_out, acts_copy_out_unknown}
 use Rattle.kind_expressions.proofs.Operators.{always}
 use Rattle.kind_expressions.proofs.Goes.{Setting, Goes, idle, ◌⨾◌, by_test, act_then, one_act, goes_dropping, goes_copying, goes_bringing}
 use Rattle.kind_expressions.proofs.References.{goes_store, goes_taking_cells}
-use Rattle.kind_expressions.proofs.Passing.{value_kinds, value_arrays, valued_on, result_as, values_long, one_on, one_kinds, all_kinds, all_arrays, passed_on, kinds_grouped, kinds_long, on_first}
+use Rattle.kind_expressions.proofs.Passing.{value_kinds, value_arrays, valued_on, result_as, values_long, one_on, all_kinds, passed_on, kinds_grouped, kinds_long, on_first}
 
 -- ---- the kind of a variable, where there is such a one
 pub dummy_kind : (vs : List Variable) (x : ℕ) (k : Option Kind) → slice_get (kinds_of vs) x ≡ Some k → kind_in vs x ≡ k

@@ -1,6 +1,6 @@
 -- Each expression leaves a number, or an array, of its kind.
-use Rattle.std.proofs.Common.{◌≡◌, ◌∙◌, ℕ, zero, suc, ◌+◌, ◌*◌, ◌≤◌, ◌⊎◌, inl, inr, Bool, true, false, cond, List, [], ◌∷◌, ◌++◌, length, slice_get, refl, ap, sym, subst, append_assoc, arith}
-use Rattle.std.specs.Prelude.{ℤ, pos, ◌==◌, Option, None, Some}
+use Rattle.std.proofs.Common.{◌≡◌, ◌∙◌, ℕ, zero, suc, ◌+◌, ◌*◌, ◌≤◌, ◌⊎◌, inl, inr, Bool, true, false, cond, List, [], ◌∷◌, length, slice_get, refl, ap, sym, subst, arith}
+use Rattle.std.specs.Prelude.{Option, None, Some}
 use Rattle.caf_base.specs.declared.value.Kind.{Kind}
 use Rattle.caf_base.specs.declared.value.Kind.TheVariants as kinds
 use Rattle.caf_base.specs.Arithmetic.{truth, huge_of}
@@ -10,38 +10,36 @@ use Rattle.checked_tree.specs.declared.data.Home.TheVariants as homes
 use Rattle.checked_tree.specs.declared.data.Local.{Local}
 use Rattle.checked_tree.specs.declared.data.Object.TheVariants as objects
 use Rattle.checked_tree.specs.declared.data.Variable.{Variable}
-use Rattle.checked_tree.specs.declared.expr.WrittenOrder.{WrittenOrder}
 use Rattle.checked_tree.specs.declared.program.Dummy.{Dummy}
 use Rattle.checked_tree.specs.Expressions as t
 use Rattle.checked_tree.specs.Statements.{Unit'}
 use Rattle.walk_theory.specs.Syntax.{Parts}
-use Rattle.object_rules.specs.Cells.{Declared}
 use Rattle.image_acts.specs.Places.{place_size}
 use Rattle.image_acts.specs.Acts as a
-use Rattle.image_acts.specs.Acts.{Act, Scope, constant, stack, variable, operator, bounded, selector, ask}
+use Rattle.image_acts.specs.Acts.{Act, constant, stack, variable, operator, bounded, selector, ask}
 use Rattle.tree_meaning.specs.Environment as meaning
 use Rattle.tree_meaning.specs.Environment.{Environment, scope_of, constant_place, procedure_in, rank_in, corank}
-use Rattle.tree_meaning.specs.Sequences.{◌▸◌, doing, dropping, copying}
+use Rattle.tree_meaning.specs.Sequences.{◌▸◌, doing}
 use Rattle.tree_meaning.specs.Expressions as view
 use Rattle.made_code.specs.Ranks as ranks
 use Rattle.made_code.proofs.Digits.{element_digits, subscripts_size, subscript_size, one_given}
 use Rattle.made_code.proofs.Forms.{scalar_rank}
-use Rattle.kind_walks.specs.Kinds.{Widens, IsOf, Layout, last_layout, Typing, with_number, with_array}
+use Rattle.kind_walks.specs.Kinds.{Widens, Layout, last_layout, Typing, with_number, with_array}
 use Rattle.kind_walks.proofs.Numbers.{huge_fits}
 use Rattle.kind_walks.proofs.Effects.{with_numbers}
 use Rattle.kind_walks.proofs.Frames.{layout_in, layout_of}
 use Rattle.kind_walks.proofs.StackActs as acts
 use Rattle.kind_expressions.specs.Kinded as kinded
 use Rattle.kind_expressions.specs.Kinded.{kind_of, unit_layout}
-use Rattle.kind_expressions.proofs.VariableActs.{result, acts_cell, acts_load}
+use Rattle.kind_expressions.proofs.VariableActs.{result, acts_cell}
 use Rattle.kind_expressions.proofs.PlaceActs as places
 use Rattle.kind_expressions.proofs.ImageActs as images
 use Rattle.kind_expressions.proofs.AskActs.{acts_status, acts_failed, acts_stopped}
-use Rattle.kind_expressions.proofs.Goes.{Setting, Goes, idle, ◌⨾◌, by_test, act_then, one_act, known_as, Leaves, leaves_none, leaves_one, leaves_two, leaves_more, goes_dropping, goes_copying}
-use Rattle.kind_expressions.proofs.References.{place, on_place, goes_section, goes_co_section, goes_taking_cells, goes_part, goes_store, goes_put, element_placed, subscripted, part_bounds, own_bounds, coindexed_bounds, Owned, owned_here, owned_there, goes_reference}
+use Rattle.kind_expressions.proofs.Goes.{Setting, Goes, idle, ◌⨾◌, by_test, act_then, one_act, Leaves, leaves_none, leaves_one, leaves_two, leaves_more, goes_dropping}
+use Rattle.kind_expressions.proofs.References.{on_place, goes_part, goes_store, goes_put, element_placed, subscripted, part_bounds, own_bounds, coindexed_bounds, Owned, owned_here, owned_there, goes_reference}
 use Rattle.kind_expressions.proofs.Calls.{Back, AllBack, given_on, dummy_kind, goes_calling}
 use Rattle.kind_expressions.proofs.Passing.{result_as, one_on, passed_on, passed_more, passed_dummy, value_on, scalar_on, part_on}
-use Rattle.kind_expressions.proofs.Operators.{itself, always, of_type, of_rank_0, as_rank_0, of_kind, value_of_kind, of_truth, goes_operating, goes_arithmetic, goes_relation, goes_logic, goes_written, goes_beside}
+use Rattle.kind_expressions.proofs.Operators.{always, of_type, of_rank_0, as_rank_0, of_kind, value_of_kind, of_truth, goes_operating, goes_arithmetic, goes_relation, goes_logic, goes_written, goes_beside}
 
 module _ (w : Setting) (few : 2 * w.images ≤ 2147483647) (e : Environment) (own main : Layout) (main_is : main ≡ w.layouts 0) (units : (n : ℕ) → w.layouts (suc n) ≡ unit_layout (procedure_in e n).unit) where
   -- in the unit whose body it is: the running frame has its variables, and the last one those of the main program

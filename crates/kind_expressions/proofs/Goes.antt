@@ -1,6 +1,6 @@
 -- Parts that lead from what is known of an image's values to what is known behind them, as they are put together.
-use Rattle.std.proofs.Common.{◌≡◌, ◌∙◌, ℕ, zero, suc, ◌+◌, Bool, true, false, ◌||◌, cond, List, [], ◌∷◌, ◌++◌, length, refl, ap, sym, subst, append_assoc, arith}
-use Rattle.std.specs.Prelude.{ℤ, ◌==◌, Option, None, Some}
+use Rattle.std.proofs.Common.{◌≡◌, ◌∙◌, ℕ, zero, suc, ◌+◌, Bool, true, false, ◌||◌, cond, List, [], ◌∷◌, ◌++◌, length, refl, sym, subst, append_assoc, arith}
+use Rattle.std.specs.Prelude.{ℤ, ◌==◌, Option}
 use Rattle.std.proofs.lemmas.Bool.{eqb-true}
 use Rattle.std.proofs.lemmas.List.{length-append}
 use Rattle.caf_base.specs.declared.value.Kind.{Kind}
@@ -8,14 +8,13 @@ use Rattle.walk_theory.specs.Syntax.{Parts, end_parts, value, act, either}
 use Rattle.object_rules.specs.Cells.{Declared}
 use Rattle.image_acts.specs.Acts as a
 use Rattle.image_acts.specs.Acts.{Act, stack}
-use Rattle.image_acts.specs.Core.{Core, Array, with_values}
-use Rattle.image_acts.specs.Taking.{tested}
+use Rattle.image_acts.specs.Core.{Core, Array}
 use Rattle.image_acts.specs.Meaning.{effect_of}
 use Rattle.tree_meaning.specs.Sequences.{dropping, copying, bringing}
 use Rattle.kind_walks.specs.Kinds.{Widens, IsOf, IsArrayOf, Are, Layout, Typing, IsSo, with_number, with_array}
-use Rattle.kind_walks.specs.Suiting.{Joined, EffectSuits, PartsSuit, Leads}
+use Rattle.kind_walks.specs.Suiting.{Joined, PartsSuit, Leads}
 use Rattle.kind_walks.proofs.Parts.{effect_more, parts_more, leads_then, test_suits}
-use Rattle.kind_walks.proofs.Effects.{with_numbers, unknown}
+use Rattle.kind_walks.proofs.Effects.{with_numbers}
 use Rattle.kind_walks.proofs.Frames.{widened, all_widened}
 use Rattle.kind_walks.proofs.StackActs.{Acts, acts_drop, acts_copy, acts_bring}
 use Rattle.kind_expressions.proofs.VariableActs.{result}

@@ -1,31 +1,30 @@
 -- Acts that name images and teams: what is known behind each. Counts and indices of images are of kind 4.
-use Rattle.std.proofs.Common.{◌≡◌, ◌∙◌, ℕ, zero, suc, ◌+◌, ◌*◌, ◌≤◌, Bool, true, false, ◌&&◌, ◌||◌, cond, not, List, [], ◌∷◌, ◌++◌, length, drop, map, refl, ap, sym, subst, arith}
+use Rattle.std.proofs.Common.{◌≡◌, ◌∙◌, ℕ, zero, suc, ◌+◌, ◌*◌, ◌≤◌, Bool, true, false, ◌&&◌, ◌||◌, cond, not, List, [], ◌∷◌, ◌++◌, length, refl, subst, arith}
 use Rattle.std.specs.Prelude.{ℤ, pos, negsuc, ◌-◌, nat_le, nat_eq, ◌==◌, slice_get, Option, None, Some}
 use Rattle.std.specs.Ordering.{int_eq}
-use Rattle.std.proofs.lemmas.Bool.{eqb-true}
 use Rattle.trace_theory.specs.Entries.{Each}
 use Rattle.caf_base.specs.declared.value.Kind.{Kind}
 use Rattle.caf_base.specs.declared.value.Kind.TheVariants as kinds
 use Rattle.caf_base.specs.Arithmetic.{fits_kind, truth, natural}
 use Rattle.coarray_types.specs.Coplaces.{image_order}
-use Rattle.walk_theory.specs.Language.{goes_to, faults}
+use Rattle.walk_theory.specs.Language.{faults}
 use Rattle.object_rules.specs.Cells.{Declared}
 use Rattle.image_acts.specs.Statuses.{most_access_cells}
 use Rattle.image_acts.specs.Faults.{overflow, no_team, cobounds_fault, not_established, cells_fault, shape_fault, bounds_fault}
 use Rattle.image_acts.specs.Acts as a
-use Rattle.image_acts.specs.Acts.{Act, selector}
-use Rattle.image_acts.specs.Core.{Core, Array, Own, Team, with_values, pushed}
+use Rattle.image_acts.specs.Acts.{selector}
+use Rattle.image_acts.specs.Core.{Core, Own, Team, with_values, pushed}
 use Rattle.image_acts.specs.Owning.{own_in}
 use Rattle.image_acts.specs.Places.{Place, place_in, place_size, cells_of}
 use Rattle.image_acts.specs.Teams.{is_in, index_in, team_in, current_team, members, members_of, behind_first, is_established, sibling_in, numbered_team, index_of, are_within_cobounds, cosubscripts_behind, member_at}
-use Rattle.image_acts.specs.Taking.{Acted, given, unless, taken, put_down, taking_array, seeing, giving, telling}
+use Rattle.image_acts.specs.Taking.{Acted, unless, put_down, seeing, giving}
 use Rattle.image_acts.specs.Operate.Bounds.{owned}
 use Rattle.image_acts.specs.Operate.Selecting.{teamed, selector_effect}
-use Rattle.image_acts.specs.Meaning.{settled, effect_of}
-use Rattle.kind_walks.specs.Kinds.{Typing, IsSo, IsOf, IsArrayOf, Are, with_number, with_array}
-use Rattle.kind_walks.specs.Suiting.{Joined, EffectSuits}
+use Rattle.image_acts.specs.Meaning.{effect_of}
+use Rattle.kind_walks.specs.Kinds.{Typing, IsSo, with_number, with_array}
+use Rattle.kind_walks.specs.Suiting.{Joined}
 use Rattle.kind_walks.proofs.Numbers.{small_fits}
-use Rattle.kind_walks.proofs.Effects.{with_numbers, push, there, so, so_as, either_way, owns, teams, settles, one, top, many, takes}
+use Rattle.kind_walks.proofs.Effects.{with_numbers, push, so, so_as, either_way, owns, teams, settles, one, top, many, takes}
 use Rattle.kind_walks.proofs.StackActs.{Acts, To}
 use Rattle.kind_expressions.proofs.PlaceActs.{sees}
 

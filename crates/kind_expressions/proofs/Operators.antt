@@ -1,6 +1,6 @@
 -- Operators of expressions: what is known behind each, by its operands.
-use Rattle.std.proofs.Common.{◌≡◌, ℕ, zero, suc, ◌+◌, Bool, true, false, List, [], ◌∷◌, refl, sym, subst}
-use Rattle.std.specs.Prelude.{ℤ, Option, None, Some}
+use Rattle.std.proofs.Common.{◌≡◌, ℕ, Bool, [], ◌∷◌, refl, sym, subst}
+use Rattle.std.specs.Prelude.{Option, None, Some}
 use Rattle.caf_base.specs.declared.value.Kind.{Kind}
 use Rattle.caf_base.specs.declared.value.Kind.TheVariants as kinds
 use Rattle.caf_base.specs.Arithmetic.{truth}
@@ -18,7 +18,6 @@ use Rattle.walk_theory.specs.Syntax.{Parts}
 use Rattle.image_acts.specs.Acts as a
 use Rattle.image_acts.specs.Acts.{Act, operator}
 use Rattle.tree_meaning.specs.Environment as meaning
-use Rattle.tree_meaning.specs.Sequences.{◌▸◌, bringing}
 use Rattle.tree_meaning.specs.Expressions as view
 use Rattle.kind_walks.specs.Kinds.{Widens, IsOf, Typing, with_number, with_array}
 use Rattle.kind_walks.proofs.Frames.{widened}

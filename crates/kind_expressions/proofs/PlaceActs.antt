@@ -1,5 +1,5 @@
 -- Acts on bounds, sections and shapes: what is known behind each.
-use Rattle.std.proofs.Common.{◌≡◌, ◌∙◌, ℕ, zero, suc, ◌+◌, Bool, true, false, cond, not, List, [], ◌∷◌, ◌++◌, length, drop, map, refl, sym, subst}
+use Rattle.std.proofs.Common.{◌≡◌, ◌∙◌, ℕ, zero, suc, ◌+◌, Bool, false, cond, not, List, [], ◌∷◌, ◌++◌, length, drop, refl, sym, subst}
 use Rattle.std.specs.Prelude.{ℤ, pos, nat_le, nat_eq, ◌==◌, is_some, slice_get, Option, None, Some}
 use Rattle.trace_theory.specs.Entries.{Each}
 use Rattle.caf_base.specs.declared.value.Kind.{Kind}
@@ -15,15 +15,15 @@ use Rattle.image_acts.specs.Acts.{Act, bounded}
 use Rattle.image_acts.specs.Core.{Core, Array, Own, with_values, pushed, elements_in, row}
 use Rattle.image_acts.specs.Frames.{array_in, pairs_in, pairs_numbers}
 use Rattle.image_acts.specs.Owning.{own_in}
-use Rattle.image_acts.specs.Places.{Place, place_in, place_size, extents_of, cells_of, digits, numbers_of_form, triplets, subscripts_in, place_within, no_place, place_numbers}
+use Rattle.image_acts.specs.Places.{place_in, place_size, extents_of, cells_of, digits, numbers_of_form, triplets, subscripts_in, place_within, no_place, place_numbers}
 use Rattle.image_acts.specs.Teams.{current_team, members, counted_from, are_indices_of, is_index_of}
-use Rattle.image_acts.specs.Taking.{Acted, given, found_in, unless, taken, put_down, taking_one, taking_array, seeing, seeing_array, giving, telling}
+use Rattle.image_acts.specs.Taking.{Acted, found_in, unless, taken, put_down, seeing, seeing_array, giving, telling}
 use Rattle.image_acts.specs.Operate.Variables.{allocated}
-use Rattle.image_acts.specs.Operate.Bounds.{owned, same_extents, bounds_on_top, from_one, bounds_effect}
+use Rattle.image_acts.specs.Operate.Bounds.{same_extents, bounds_on_top, from_one, bounds_effect}
 use Rattle.image_acts.specs.Meaning.{settled, effect_of}
 use Rattle.stack_laws.proofs.Places.{no_place_long, place_long}
-use Rattle.kind_walks.specs.Kinds.{Typing, IsSo, IsOf, IsArrayOf, Are, with_number, with_array}
-use Rattle.kind_walks.specs.Suiting.{Joined, EffectSuits}
+use Rattle.kind_walks.specs.Kinds.{Typing, IsSo, IsOf, with_number, with_array}
+use Rattle.kind_walks.specs.Suiting.{Joined}
 use Rattle.kind_walks.proofs.Effects.{with_numbers, unknown, push, push_array, push_down, there, find_as, so, so_as, allocates, owns, settles, one, top, many, takes}
 use Rattle.kind_walks.proofs.StackActs.{Acts, To, seen_array}
 

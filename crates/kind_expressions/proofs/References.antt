@@ -1,21 +1,20 @@
 -- References of arrays and coarrays, and result variables, over any parts: by what their operands leave.
 use Rattle.std.proofs.Common.{◌≡◌, ◌∙◌, ℕ, zero, suc, ◌+◌, ◌*◌, ◌≤◌, Bool, true, false, ◌&&◌, cond, not, List, [], ◌∷◌, ◌++◌, length, slice_get, refl, ap, sym, subst, append_assoc, arith}
-use Rattle.std.specs.Prelude.{ℤ, Option, None, Some}
+use Rattle.std.specs.Prelude.{Option, None, Some}
 use Rattle.std.proofs.lemmas.List.{length-append}
 use Rattle.caf_base.specs.declared.value.Kind.{Kind}
 use Rattle.caf_base.specs.declared.value.Kind.TheVariants as kinds
-use Rattle.walk_theory.specs.Syntax.{Parts, end_parts, value, act, either}
+use Rattle.walk_theory.specs.Syntax.{Parts, end_parts}
 use Rattle.object_rules.specs.MemoryRules as memory
 use Rattle.image_acts.specs.Places.{place_size, digits, numbers_of_form, triplets}
 use Rattle.image_acts.specs.Acts as a
 use Rattle.image_acts.specs.Acts.{Act, Scope, stack, variable, bounded, selector, ask}
 use Rattle.checked_tree.specs.Expressions as t
 use Rattle.tree_meaning.specs.Sequences.{◌▸◌, doing, dropping, copying, bringing}
-use Rattle.tree_meaning.specs.Environment.{scope_of}
 use Rattle.tree_meaning.specs.Expressions as view
 use Rattle.made_code.specs.Ranks.{IsSection}
 use Rattle.made_code.proofs.Digits.{section_numbers, section_rank, subscripts_size, subscript_size}
-use Rattle.kind_walks.specs.Kinds.{Widens, Typing, IsSo, with_number, with_array}
+use Rattle.kind_walks.specs.Kinds.{Widens, Typing, with_number, with_array}
 use Rattle.kind_walks.proofs.Effects.{with_numbers, unknown, unknown_long}
 use Rattle.kind_walks.proofs.Frames.{layout_of}
 use Rattle.kind_walks.proofs.StackActs.{acts_take_cells, acts_only, acts_accessed, acts_nothing_read}
@@ -24,7 +23,7 @@ use Rattle.kind_expressions.proofs.VariableActs.{result, acts_store, acts_load, 
 use Rattle.kind_expressions.proofs.PlaceActs.{acts_section, acts_co_section, acts_some_cells, acts_needs_own, acts_section_bounds}
 use Rattle.kind_expressions.proofs.ImageActs.{acts_own_image, acts_owner}
 use Rattle.kind_expressions.proofs.AskActs.{acts_read}
-use Rattle.kind_expressions.proofs.Goes.{Setting, Goes, idle, ◌⨾◌, act_then, one_act, fork, known_as, Leaves, grouped, ungrouped, goes_dropping, goes_copying, goes_bringing}
+use Rattle.kind_expressions.proofs.Goes.{Setting, Goes, idle, ◌⨾◌, act_then, one_act, fork, Leaves, grouped, goes_dropping, goes_copying, goes_bringing}
 
 -- the numbers of a place, of which nothing is known
 abbrev pub place : ℕ → List (Option Kind)

@@ -1,25 +1,25 @@
 -- Acts on local variables: what is known behind each.
-use Rattle.std.proofs.Common.{◌≡◌, ◌∙◌, ℕ, zero, suc, ◌+◌, Bool, true, false, cond, not, List, [], ◌∷◌, ◌++◌, length, replicate, slice_get, slice_set, refl, sym, subst}
+use Rattle.std.proofs.Common.{◌≡◌, ◌∙◌, ℕ, zero, suc, ◌+◌, Bool, true, false, cond, not, List, [], ◌∷◌, ◌++◌, length, replicate, slice_get, slice_set, refl, subst}
 use Rattle.std.specs.Prelude.{ℤ, pos, ◌-◌, ◌+ℤ◌, int_lt, nat_le, ◌==◌, min, Option, None, Some}
 use Rattle.std.specs.Ordering.{int_eq}
 use Rattle.trace_theory.specs.Entries.{Each}
 use Rattle.caf_base.specs.declared.value.Kind.{Kind}
 use Rattle.caf_base.specs.declared.value.Kind.TheVariants as kinds
 use Rattle.caf_base.specs.Arithmetic.{fits_kind, truth, iterations, natural}
-use Rattle.walk_theory.specs.Language.{goes_to, faults, stuck}
+use Rattle.walk_theory.specs.Language.{goes_to, faults}
 use Rattle.object_rules.specs.Cells.{Declared}
 use Rattle.image_acts.specs.Statuses.{most_cells, most_elements, most_iterations}
 use Rattle.image_acts.specs.Faults.{room, overflow, zero_step, shape_fault}
 use Rattle.image_acts.specs.Acts as a
-use Rattle.image_acts.specs.Acts.{Act, variable}
-use Rattle.image_acts.specs.Core.{Core, Array, Local, with_values, pushed, elements_in}
+use Rattle.image_acts.specs.Acts.{variable}
+use Rattle.image_acts.specs.Core.{Core, Local, with_values, pushed, elements_in}
 use Rattle.image_acts.specs.Frames.{cell_in, with_cell, array_in, with_array_in, cells_in_frames, arrays_of_frames}
 use Rattle.image_acts.specs.Places.{Place, place_in, place_size, extents_of, cells_of, offsets, elements_at, with_elements_at}
-use Rattle.image_acts.specs.Taking.{Acted, given, unless, taken, put_down, taking_one, taking_array, giving, telling}
+use Rattle.image_acts.specs.Taking.{Acted, given, unless, put_down, taking_one, taking_array, giving, telling}
 use Rattle.image_acts.specs.Operate.Variables.{allocated, elements_there, value_at, if_room, variable_effect}
-use Rattle.image_acts.specs.Meaning.{settled, effect_of}
-use Rattle.kind_walks.specs.Kinds.{Widens, Typing, IsSo, IsOf, IsArrayOf, IsLocalOf, Are, with_number, with_array}
-use Rattle.kind_walks.specs.Suiting.{Joined, EffectSuits}
+use Rattle.image_acts.specs.Meaning.{effect_of}
+use Rattle.kind_walks.specs.Kinds.{Widens, Typing, IsSo, IsOf, with_number, with_array}
+use Rattle.kind_walks.specs.Suiting.{Joined}
 use Rattle.kind_walks.proofs.Effects.{with_numbers, push, push_array, there, there_as, so, so_as, either_way, allocates, settles, one, top, many, takes}
 use Rattle.kind_walks.proofs.Frames.{widened, all_widened, layout_of, cell_of, cell_so, array_of, array_so}
 use Rattle.kind_walks.proofs.StackActs.{Acts, To}

@@ -1,5 +1,5 @@
 -- What is claimed of expressions (ISO/IEC 1539-1:2018, 7.4, 10.1).
-use Rattle.std.specs.Prelude.{ℕ, zero, suc, ◌*◌, ◌≡◌, ◌≤◌, List, [], ◌∷◌, Option}
+use Rattle.std.specs.Prelude.{ℕ, zero, suc, ◌*◌, ◌≤◌, List, Option}
 use Rattle.caf_base.specs.declared.value.Kind.{Kind}
 use Rattle.checked_tree.specs.Expressions as t
 use Rattle.checked_tree.specs.Statements.{Program}

@@ -1,16 +1,16 @@
 -- Acts of allocation and deallocation, and the two of a collective: what is known behind each.
-use Rattle.std.proofs.Common.{◌≡◌, ◌∙◌, ℕ, zero, suc, ◌+◌, Bool, true, false, ◌&&◌, not, List, [], ◌∷◌, ◌++◌, length, map, slice_get, refl, sym, subst}
+use Rattle.std.proofs.Common.{ℕ, ◌+◌, ◌&&◌, not, List, [], ◌∷◌, length, map, refl}
 use Rattle.std.specs.Prelude.{ℤ, pos, ◌-◌, nat_le, take, drop, is_some, Option, None, Some}
 use Rattle.trace_theory.specs.Entries.{Each}
 use Rattle.caf_base.specs.declared.value.Kind.{Kind}
 use Rattle.caf_base.specs.declared.value.Kind.TheVariants as kinds
-use Rattle.caf_base.specs.Arithmetic.{truth, number_of, value_of}
+use Rattle.caf_base.specs.Arithmetic.{truth, number_of}
 use Rattle.caf_events.specs.declared.ask.Ask.TheVariants as asks
 use Rattle.caf_events.specs.declared.reply.Reply.{Reply}
 use Rattle.caf_events.specs.declared.reply.Reply.TheVariants as replies
 use Rattle.caf_events.specs.declared.round.GatherOp.{GatherOp}
 use Rattle.coarray_types.specs.Places.{size_of}
-use Rattle.walk_theory.specs.Language.{goes_to, asking, stuck}
+use Rattle.walk_theory.specs.Language.{goes_to, asking}
 use Rattle.object_rules.specs.Cells.{Declared}
 use Rattle.image_acts.specs.Statuses.{most_cells}
 use Rattle.image_acts.specs.Faults.{room}
@@ -21,13 +21,13 @@ use Rattle.image_acts.specs.Frames.{array_in, with_array_in, zeros_in, pairs_in,
 use Rattle.image_acts.specs.Owning.{own_in, with_own}
 use Rattle.image_acts.specs.Teams.{current_team}
 use Rattle.image_acts.specs.Replies.{status_of, spare, round_in, arrival_reply, taken_in, take_reply}
-use Rattle.image_acts.specs.Taking.{Acted, given, unless, taking}
+use Rattle.image_acts.specs.Taking.{given, unless, taking}
 use Rattle.image_acts.specs.Operate.Variables.{if_room}
 use Rattle.image_acts.specs.Operate.Allocating.{bounds_size, cobounds_size, are_cobounds, planned, is_well, are_of_kind_4, own_of, laid, made, noted, freed, own_freed, allocation_effect}
 use Rattle.image_acts.specs.Operate.Asking.{team, cells_word, ask_effect}
 use Rattle.image_acts.specs.Meaning.{settled, effect_of}
 use Rattle.kind_walks.specs.Kinds.{Widens, IsOf, IsArrayOf, Are, Typing, IsSo, with_number, with_array}
-use Rattle.kind_walks.specs.Suiting.{Joined, Tells, EffectSuits, Leads}
+use Rattle.kind_walks.specs.Suiting.{Joined, Tells, EffectSuits}
 use Rattle.kind_walks.proofs.Numbers.{zero_of, values_fit, numbers_fit}
 use Rattle.kind_walks.proofs.Effects.{push, push_array, so, settles, one}
 use Rattle.kind_walks.proofs.Frames.{all_widened, array_so}

@@ -1,25 +1,24 @@
 -- Assignment, from the value and what the subscripts leave: the value is of the variable's kind, or is tested for that.
-use Rattle.std.proofs.Common.{◌≡◌, ◌∙◌, ℕ, zero, suc, ◌+◌, ◌*◌, ◌≤◌, ◌⊎◌, inl, inr, Bool, true, false, cond, List, [], ◌∷◌, ◌++◌, length, slice_get, refl, ap, sym, subst, arith}
-use Rattle.std.specs.Prelude.{ℤ, pos, ◌==◌, Option, None, Some}
-use Rattle.std.proofs.lemmas.Bool.{eqb-true}
+use Rattle.std.proofs.Common.{◌≡◌, ◌∙◌, ℕ, zero, suc, ◌+◌, inl, inr, Bool, true, false, cond, List, [], ◌∷◌, ◌++◌, length, slice_get, refl, sym, arith}
+use Rattle.std.specs.Prelude.{ℤ, pos, Option, None, Some}
 use Rattle.caf_base.specs.declared.value.Kind.{Kind}
 use Rattle.caf_base.specs.declared.value.Kind.TheVariants as kinds
 use Rattle.checked_tree.specs.declared.data.DataType.{DataType}
 use Rattle.checked_tree.specs.Expressions as t
-use Rattle.walk_theory.specs.Syntax.{Parts, end_parts}
+use Rattle.walk_theory.specs.Syntax.{end_parts}
 use Rattle.object_rules.specs.MemoryRules as memory
 use Rattle.image_acts.specs.Places.{place_size, digits, numbers_of_form}
 use Rattle.image_acts.specs.Acts as a
-use Rattle.image_acts.specs.Acts.{Act, Scope, constant, stack, variable, operator, bounded, ask}
+use Rattle.image_acts.specs.Acts.{Scope, constant, stack, variable, operator, bounded, ask}
 use Rattle.tree_meaning.specs.Environment as meaning
-use Rattle.tree_meaning.specs.Sequences.{◌▸◌, doing, nothing, dropping, copying, bringing, choosing}
+use Rattle.tree_meaning.specs.Sequences.{◌▸◌, doing, nothing, choosing}
 use Rattle.tree_meaning.specs.Expressions as view
-use Rattle.tree_meaning.specs.Assignments.{narrows, fitting, sectioning, fitting_section, agreeing, putting, written, dropping_value, writing, lifting, left_over}
+use Rattle.tree_meaning.specs.Assignments.{narrows, fitting, sectioning, fitting_section, agreeing, putting, written, dropping_value, writing}
 use Rattle.made_code.specs.Ranks.{IsSection}
 use Rattle.made_code.proofs.Digits.{section_numbers, subscripts_size}
 use Rattle.image_acts.specs.Core.{Core}
 use Rattle.kind_walks.specs.Kinds.{Widens, IsOf, Are, Typing, IsSo, with_number, with_array}
-use Rattle.kind_walks.proofs.Effects.{with_numbers, unknown, unknown_long}
+use Rattle.kind_walks.proofs.Effects.{with_numbers, unknown_long}
 use Rattle.kind_walks.proofs.Frames.{widened, layout_of}
 use Rattle.kind_walks.proofs.StackActs as acts
 use Rattle.kind_expressions.specs.Kinded.{is_of, kind_of}
@@ -27,9 +26,9 @@ use Rattle.kind_expressions.specs.Laws.{result}
 use Rattle.kind_expressions.proofs.VariableActs.{acts_put, acts_put_array}
 use Rattle.kind_expressions.proofs.PlaceActs as places
 use Rattle.kind_expressions.proofs.AskActs.{acts_write, acts_write_array}
-use Rattle.kind_expressions.proofs.Operators.{itself, of_type}
-use Rattle.kind_expressions.proofs.Goes.{Setting, Goes, idle, ◌⨾◌, by_test, act_then, one_act, fork, known_as, wide_result, Leaves, goes_dropping, goes_copying, goes_bringing}
-use Rattle.kind_expressions.proofs.References.{place, on_place, goes_section, goes_co_section, goes_store, Owned, goes_needing_own}
+use Rattle.kind_expressions.proofs.Operators.{of_type}
+use Rattle.kind_expressions.proofs.Goes.{Setting, Goes, idle, ◌⨾◌, one_act, fork, known_as, wide_result, goes_dropping}
+use Rattle.kind_expressions.proofs.References.{place, on_place, goes_section}
 use Rattle.kind_statements.specs.Kinded.{Converts}
 
 -- a value, and numbers on it

@@ -1,6 +1,6 @@
 -- An assignment leaves nothing behind, and its variable a value of its kind; what it writes is of the coarray's kind.
-use Rattle.std.proofs.Common.{◌≡◌, ◌∙◌, ℕ, zero, suc, ◌+◌, ◌*◌, ◌≤◌, Bool, true, false, cond, List, [], ◌∷◌, ◌++◌, length, slice_get, refl, ap, sym, subst, append_assoc, arith}
-use Rattle.std.specs.Prelude.{ℤ, ◌==◌, Option, None, Some}
+use Rattle.std.proofs.Common.{◌≡◌, ◌∙◌, ℕ, zero, suc, ◌+◌, ◌*◌, ◌≤◌, Bool, true, false, List, [], ◌∷◌, ◌++◌, length, slice_get, refl, sym, subst, append_assoc, arith}
+use Rattle.std.specs.Prelude.{◌==◌, Option, None, Some}
 use Rattle.std.proofs.lemmas.Bool.{eqb-true, eqb-false}
 use Rattle.std.proofs.lemmas.List.{length-append}
 use Rattle.caf_base.specs.declared.value.Kind.{Kind}
@@ -10,28 +10,28 @@ use Rattle.checked_tree.specs.declared.data.DataType.TheVariants as types
 use Rattle.checked_tree.specs.declared.data.Local.{Local}
 use Rattle.checked_tree.specs.declared.data.Object.TheVariants as objects
 use Rattle.checked_tree.specs.Expressions as t
-use Rattle.walk_theory.specs.Syntax.{Parts, end_parts}
+use Rattle.walk_theory.specs.Syntax.{Parts}
 use Rattle.image_acts.specs.Places.{place_size}
 use Rattle.image_acts.specs.Acts as a
 use Rattle.image_acts.specs.Acts.{Act, stack, variable, bounded}
 use Rattle.tree_meaning.specs.Environment as meaning
 use Rattle.tree_meaning.specs.Environment.{Environment, scope_of, procedure_in}
-use Rattle.tree_meaning.specs.Sequences.{◌▸◌, doing, nothing, dropping, copying, bringing}
+use Rattle.tree_meaning.specs.Sequences.{◌▸◌, doing, dropping, copying, bringing}
 use Rattle.tree_meaning.specs.Expressions as view
 use Rattle.tree_meaning.specs.Assignments.{assignment, assigned, fitting, agreeing, writing, lifting, left_over, narrows}
 use Rattle.made_code.specs.Ranks as ranks
 use Rattle.made_code.proofs.Forms.{size_small}
 use Rattle.object_rules.specs.MemoryRules as memory
-use Rattle.kind_walks.specs.Kinds.{Widens, Layout, Typing, with_number, with_array}
-use Rattle.kind_walks.proofs.Effects.{with_numbers, unknown, unknown_long}
+use Rattle.kind_walks.specs.Kinds.{Widens, Layout, Typing, with_number}
+use Rattle.kind_walks.proofs.Effects.{with_numbers, unknown_long}
 use Rattle.kind_walks.proofs.Frames.{layout_of}
 use Rattle.kind_walks.proofs.StackActs as acts
 use Rattle.kind_expressions.specs.Kinded as kinded
 use Rattle.kind_expressions.specs.Kinded.{kind_of, unit_layout}
 use Rattle.kind_expressions.specs.Laws.{result}
-use Rattle.kind_expressions.proofs.Operators.{always, itself, as_rank_0}
+use Rattle.kind_expressions.proofs.Operators.{always, itself}
 use Rattle.kind_expressions.proofs.Goes.{Setting, Goes, idle, ◌⨾◌, by_test, one_act, from_grouped, goes_dropping, goes_copying, goes_bringing}
-use Rattle.kind_expressions.proofs.References.{place, on_place, goes_co_section, goes_store, goes_needing_own, Owned}
+use Rattle.kind_expressions.proofs.References.{place, on_place, goes_co_section, goes_store, goes_needing_own}
 use Rattle.kind_expressions.proofs.Expressions.{IsThere, goes_form, goes_subscripts, goes_owner, goes_stat, scalar_there, array_there, fits}
 use Rattle.kind_statements.specs.Kinded.{Converts, IsAssigned}
 use Rattle.kind_statements.proofs.Assigning.{under, goes_fitting, fitting_number, goes_fitting_section, goes_agreeing, goes_putting, goes_writing}

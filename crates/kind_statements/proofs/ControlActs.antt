@@ -1,5 +1,5 @@
 -- Acts of image control, of teams, of locks, events and atoms, and of output: what is known behind each.
-use Rattle.std.proofs.Common.{◌≡◌, ◌∙◌, ℕ, zero, suc, ◌+◌, ◌*◌, ◌≤◌, ◌<◌, Bool, true, false, ◌&&◌, ◌||◌, cond, List, [], ◌∷◌, ◌++◌, length, map, slice_get, refl, ap, sym, subst, arith}
+use Rattle.std.proofs.Common.{◌≡◌, ◌∙◌, ℕ, suc, ◌+◌, ◌*◌, ◌≤◌, ◌<◌, Bool, true, false, ◌&&◌, ◌||◌, cond, List, [], ◌∷◌, ◌++◌, length, map, slice_get, refl, sym, subst, arith}
 use Rattle.std.specs.Prelude.{ℤ, pos, ◌-◌, nat_eq, nat_lt, nat_le, min, max, Option, None, Some}
 use Rattle.std.proofs.lemmas.List.{length-map}
 use Rattle.trace_theory.specs.Entries.{Each}
@@ -8,7 +8,7 @@ use Rattle.caf_base.specs.declared.value.AtomicOp.{AtomicOp}
 use Rattle.caf_base.specs.declared.value.Kind.{Kind}
 use Rattle.caf_base.specs.declared.value.Kind.TheVariants as kinds
 use Rattle.caf_base.specs.declared.value.Value.{Value}
-use Rattle.caf_base.specs.Arithmetic.{fits_kind, natural, number_of, is_true}
+use Rattle.caf_base.specs.Arithmetic.{fits_kind, natural, is_true}
 use Rattle.caf_events.specs.declared.ask.Ask.{Ask}
 use Rattle.caf_events.specs.declared.ask.Ask.TheVariants as asks
 use Rattle.caf_events.specs.declared.reply.Reply.{Reply}
@@ -16,9 +16,7 @@ use Rattle.caf_events.specs.declared.reply.Reply.TheVariants as replies
 use Rattle.caf_events.specs.declared.reply.FormedTeam.{FormedTeam}
 use Rattle.caf_events.specs.declared.round.Arriving.{Arriving}
 use Rattle.caf_events.specs.declared.round.Arriving.TheVariants as arrivals
-use Rattle.walk_theory.specs.Language as language
 use Rattle.walk_theory.specs.Language.{goes_to, asking, stuck}
-use Rattle.walk_theory.specs.Terms.{Found, found, at_fault}
 use Rattle.object_rules.specs.Cells.{Declared}
 use Rattle.object_rules.specs.MemoryRules as memory
 use Rattle.image_acts.specs.Words.{word}
@@ -26,18 +24,18 @@ use Rattle.image_acts.specs.Statuses.{most_teams, most_cells, most_portions}
 use Rattle.image_acts.specs.Faults.{room, no_team, not_allocated}
 use Rattle.image_acts.specs.Acts as a
 use Rattle.image_acts.specs.Acts.{Act, ask, print}
-use Rattle.image_acts.specs.Core.{Core, Array, Team, Printing, Portion, Item, integer, logical, with_values, pushed}
+use Rattle.image_acts.specs.Core.{Core, Team, Printing, Portion, integer, logical, with_values, pushed}
 use Rattle.image_acts.specs.Frames.{with_cell}
 use Rattle.image_acts.specs.Owning.{own_in}
 use Rattle.image_acts.specs.Teams.{is_in, team_in, current_team, behind_first, members}
-use Rattle.image_acts.specs.Replies.{status_of, with_status, atomic_reply, old_in, try_reply, acquired_in, count_in, count_reply, arrival_reply, leave_reply, fitting}
-use Rattle.image_acts.specs.Taking.{Acted, given, found_in, unless, taken, put_down, taking_one, taking_two, using}
-use Rattle.image_acts.specs.Operate.Asking.{image, team, cell_span, has_cell, first_operand, second_operand, named, allotment, ask_effect}
+use Rattle.image_acts.specs.Replies.{status_of, with_status, old_in, try_reply, acquired_in, count_in, count_reply, arrival_reply, leave_reply, fitting}
+use Rattle.image_acts.specs.Taking.{found_in, unless, taking_one}
+use Rattle.image_acts.specs.Operate.Asking.{image, team, cell_span, has_cell, first_operand, second_operand, allotment, ask_effect}
 use Rattle.image_acts.specs.Operate.Teaming.{team_effect}
 use Rattle.image_acts.specs.Operate.Printing.{open_portions, renewed, printed, with_values_behind, with_literal_behind, item_of, text_of, print_effect}
-use Rattle.image_acts.specs.Meaning.{settled, effect_of}
-use Rattle.kind_walks.specs.Kinds.{Widens, IsOf, IsArrayOf, Are, Typing, IsSo, with_number, with_array}
-use Rattle.kind_walks.specs.Suiting.{Joined, IsSmall, Suits, Tells, EffectSuits}
+use Rattle.image_acts.specs.Meaning.{effect_of}
+use Rattle.kind_walks.specs.Kinds.{IsOf, Typing, IsSo, with_number, with_array}
+use Rattle.kind_walks.specs.Suiting.{Joined, Suits, Tells}
 use Rattle.kind_walks.proofs.Numbers.{zero_of, small_fits, number_fits}
 use Rattle.kind_walks.proofs.Effects.{with_numbers, push, there, so, settles, find_as, one, top, many, takes}
 use Rattle.kind_walks.proofs.Frames.{layout_of, cell_so}

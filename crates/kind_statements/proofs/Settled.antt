@@ -1,21 +1,21 @@
 -- What stands between the operands of statements: statuses, rounds of a team, and evaluation cells.
-use Rattle.std.proofs.Common.{◌≡◌, ◌∙◌, ℕ, zero, suc, ◌+◌, ◌*◌, ◌≤◌, Bool, true, false, cond, List, [], ◌∷◌, ◌++◌, length, refl, ap, sym, subst, arith}
+use Rattle.std.proofs.Common.{◌≡◌, ℕ, suc, ◌*◌, ◌≤◌, List, [], ◌∷◌, ◌++◌, length, refl}
 use Rattle.std.specs.Prelude.{ℤ, pos, Option, None, Some}
 use Rattle.caf_base.specs.declared.value.Kind.{Kind}
 use Rattle.caf_base.specs.declared.value.Kind.TheVariants as kinds
 use Rattle.checked_tree.specs.Expressions as t
 use Rattle.checked_tree.specs.declared.expr.WrittenOrder.{WrittenOrder}
 use Rattle.checked_tree.specs.declared.expr.WrittenOrder.TheVariants as orders
-use Rattle.walk_theory.specs.Syntax.{Parts, end_parts, either}
+use Rattle.walk_theory.specs.Syntax.{Parts}
 use Rattle.image_acts.specs.Acts as a
 use Rattle.image_acts.specs.Acts.{Act, constant, stack, operator, selector, ask}
 use Rattle.image_acts.specs.Statuses.{failed_image}
 use Rattle.tree_meaning.specs.Environment.{Environment, procedure_in}
-use Rattle.tree_meaning.specs.Sequences.{◌▸◌, doing, dropping, copying, bringing, released, takes, is_one_of, requiring}
+use Rattle.tree_meaning.specs.Sequences.{◌▸◌, doing, dropping, released, takes, is_one_of, requiring}
 use Rattle.tree_meaning.specs.Settling.{settling, settling_selector}
 use Rattle.tree_meaning.specs.Expressions as view
 use Rattle.tree_meaning.specs.ImageControl.{round, put_down_as_written}
-use Rattle.kind_walks.specs.Kinds.{Widens, Layout, Typing, with_number, with_array}
+use Rattle.kind_walks.specs.Kinds.{Layout, Typing, with_number}
 use Rattle.kind_walks.proofs.Effects.{with_numbers}
 use Rattle.kind_walks.proofs.StackActs as acts
 use Rattle.kind_expressions.specs.Kinded as kinded

@@ -1,6 +1,6 @@
 -- Statements whose parts are of the types and kinds that their places want (ISO/IEC 1539-1:2018, 9.7, 10.2.1, 11.1,
 -- 11.6, 12.6, 16.5, 16.6, 16.9).
-use Rattle.std.specs.Prelude.{ℕ, zero, suc, ◌≡◌, ◌⊎◌, true, List, [], ◌∷◌, Option, None, Some, slice_get}
+use Rattle.std.specs.Prelude.{◌≡◌, ◌⊎◌, true, List, [], ◌∷◌, Option, None, Some, slice_get}
 use Rattle.caf_base.specs.declared.value.Kind.{Kind}
 use Rattle.caf_base.specs.declared.value.Kind.TheVariants as kinds
 use Rattle.checked_tree.specs.declared.data.DataType.{DataType}
@@ -13,7 +13,7 @@ use Rattle.tree_meaning.specs.Environment as meaning
 use Rattle.tree_meaning.specs.Assignments.{narrows}
 use Rattle.kind_walks.specs.Kinds.{Widens, Layout}
 use Rattle.kind_expressions.specs.Kinded as kinded
-use Rattle.kind_expressions.specs.Kinded.{kind_of, layouts, main_layout}
+use Rattle.kind_expressions.specs.Kinded.{kind_of, main_layout}
 
 -- a value of the one type goes into a variable of the other: each number of the one is one of the other, or it is tested
 -- (10.2.1.3)

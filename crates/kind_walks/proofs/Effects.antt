@@ -1,14 +1,11 @@
 -- What an act comes to, step by step, where it leads from what is known of an image's values to what is known then.
 use Rattle.std.proofs.Common.{◌≡◌, ◌∙◌, ℕ, zero, suc, ◌+◌, Bool, true, false, cond, List, [], ◌∷◌, ◌++◌, length, refl, ap, sym, subst, arith}
 use Rattle.std.specs.Prelude.{ℤ, Option, None, Some}
-use Rattle.trace_theory.specs.Entries.{Each}
 use Rattle.caf_base.specs.declared.value.Kind.{Kind}
 use Rattle.walk_theory.specs.Language as language
 use Rattle.walk_theory.specs.Language.{goes_to, faults, stuck}
 use Rattle.walk_theory.specs.Terms.{Found, found, at_fault}
 use Rattle.object_rules.specs.Cells.{Declared}
-use Rattle.image_acts.specs.Statuses.{most_cells}
-use Rattle.image_acts.specs.Faults.{room, not_allocated, no_team}
 use Rattle.image_acts.specs.Acts as a
 use Rattle.image_acts.specs.Acts.{Act, ask}
 use Rattle.image_acts.specs.Core.{Core, Array, Local, Own, Team, with_values, pushed}
@@ -16,7 +13,7 @@ use Rattle.image_acts.specs.Taking.{Acted, given, found_in, unless, taken, put_d
 use Rattle.image_acts.specs.Operate.Variables.{allocated}
 use Rattle.image_acts.specs.Operate.Bounds.{owned}
 use Rattle.image_acts.specs.Operate.Selecting.{teamed}
-use Rattle.image_acts.specs.Meaning.{missed, settled, effect_of}
+use Rattle.image_acts.specs.Meaning.{missed, settled}
 use Rattle.kind_walks.specs.Kinds.{Typing, IsSo, IsOf, IsArrayOf, Are, with_number, with_array}
 use Rattle.kind_walks.specs.Suiting.{Joined, EffectSuits}
 

@@ -1,5 +1,5 @@
 -- The variables of an image hold numbers of their kinds, also behind a change of one.
-use Rattle.std.proofs.Common.{◌≡◌, ℕ, zero, suc, List, [], ◌∷◌, slice_get, slice_set, refl, sym, subst}
+use Rattle.std.proofs.Common.{◌≡◌, ℕ, zero, suc, List, [], ◌∷◌, slice_get, slice_set, refl, subst}
 use Rattle.std.specs.Prelude.{ℤ, Option, None, Some}
 use Rattle.trace_theory.specs.Entries.{Each}
 use Rattle.caf_base.specs.declared.value.Kind.{Kind}

@@ -1,6 +1,6 @@
 -- Parts that suit, as they are put together.
-use Rattle.std.proofs.Common.{◌≡◌, ℕ, Bool, true, false, cond, List, [], ◌∷◌, refl}
-use Rattle.std.specs.Prelude.{ℤ, Option, Some}
+use Rattle.std.proofs.Common.{ℕ, Bool, true, false, cond, List, [], ◌∷◌}
+use Rattle.std.specs.Prelude.{ℤ, Option}
 use Rattle.caf_base.specs.declared.value.Kind.{Kind}
 use Rattle.caf_base.specs.Arithmetic.{is_true}
 use Rattle.walk_theory.specs.Language as language
@@ -11,8 +11,8 @@ use Rattle.image_acts.specs.Acts.{Act}
 use Rattle.image_acts.specs.Core.{Core, with_values}
 use Rattle.image_acts.specs.Taking.{Acted, tested}
 use Rattle.image_acts.specs.Meaning.{effect_of}
-use Rattle.kind_walks.specs.Kinds.{Layout, Typing, AreSo, IsSo, IsOf, Are, with_number}
-use Rattle.kind_walks.specs.Suiting.{Joined, joined_by, EffectSuits, TestSuits, PartsSuit, Leads, IsIn}
+use Rattle.kind_walks.specs.Kinds.{Layout, Typing, IsSo, IsOf, Are, with_number}
+use Rattle.kind_walks.specs.Suiting.{Joined, joined_by, EffectSuits, TestSuits, PartsSuit, Leads}
 
 abbrev pub Within : (P Q : Joined → Core → Type 0) → Type 0
 Within P Q = (j : Joined) (c : Core) → P j c → Q j c

@@ -1,6 +1,6 @@
 -- Acts that move numbers and arrays, and operators: what is known behind each.
-use Rattle.std.proofs.Common.{◌≡◌, ◌∙◌, ℕ, zero, suc, ◌+◌, Bool, true, false, ◌&&◌, ◌||◌, not, List, [], ◌∷◌, ◌++◌, length, drop, replicate, refl, ap, sym, subst}
-use Rattle.std.specs.Prelude.{ℤ, pos, ◌+ℤ◌, ◌-ℤ◌, ◌*ℤ◌, int_lt, int_le, int_rem, nat_le, Option, None, Some}
+use Rattle.std.proofs.Common.{◌≡◌, ◌∙◌, ℕ, ◌+◌, true, ◌&&◌, ◌||◌, not, List, [], ◌∷◌, ◌++◌, length, drop, refl, sym, subst}
+use Rattle.std.specs.Prelude.{ℤ, pos, ◌+ℤ◌, ◌-ℤ◌, ◌*ℤ◌, int_lt, int_le, int_rem, nat_le, Option, Some}
 use Rattle.std.specs.List.{list_all}
 use Rattle.std.specs.Ordering.{int_eq}
 use Rattle.std.proofs.lemmas.Bool.{and_parts}
@@ -21,10 +21,10 @@ use Rattle.image_acts.specs.Taking.{Acted, found_in, given, unless, taken, put_d
 use Rattle.image_acts.specs.Operate.Operators.{in_kind, divided, quotient, raised, operator_effect}
 use Rattle.image_acts.specs.Operate.Stack.{stack_effect, behind}
 use Rattle.image_acts.specs.Meaning.{settled, effect_of}
-use Rattle.kind_walks.specs.Kinds.{Widens, Typing, IsSo, IsOf, IsArrayOf, Are, with_number, with_array}
+use Rattle.kind_walks.specs.Kinds.{Widens, Typing, IsSo, IsOf, IsArrayOf, with_number, with_array}
 use Rattle.kind_walks.specs.Suiting.{Joined, EffectSuits}
-use Rattle.kind_walks.proofs.Numbers.{FindsOf, kept_in, divided_finds, quotient_finds, raised_finds, rest_fits, signed_fits, lesser_fits, greater_fits, zero_of}
-use Rattle.kind_walks.proofs.Effects.{with_numbers, unknown, put_twice, push, push_array, push_many, Comes, so, so_as, settles, one, top, many, takes}
+use Rattle.kind_walks.proofs.Numbers.{FindsOf, kept_in, divided_finds, quotient_finds, raised_finds, rest_fits, signed_fits, lesser_fits, greater_fits}
+use Rattle.kind_walks.proofs.Effects.{with_numbers, put_twice, push, push_array, push_many, so, so_as, settles, one, top, many, takes}
 use Rattle.kind_walks.proofs.Frames.{widened, all_widened}
 
 pub each_on : (P : ℤ → Type 0) (xs ys : List ℤ) → Each P xs → Each P ys → Each P (xs ++ ys)

@@ -1,8 +1,7 @@
 -- In the walk of a program whose bodies suit each ask does.
-use Rattle.std.proofs.Common.{◌≡◌, ℕ, zero, suc, ◌+◌, nat_lt, Bool, true, false, cond, List, [], ◌∷◌, refl, subst}
-use Rattle.std.specs.Prelude.{Option, None, Some}
+use Rattle.std.proofs.Common.{ℕ, zero, suc, ◌+◌, nat_lt, Bool, true, false, cond, List, [], ◌∷◌, subst}
+use Rattle.std.specs.Prelude.{None, Some}
 use Rattle.trace_theory.specs.Machines.{Move, goes, asks, over, Said, go, goes_on, Walk}
-use Rattle.caf_base.specs.declared.value.Kind.{Kind}
 use Rattle.caf_base.specs.declared.value.Kind.TheVariants as kinds
 use Rattle.caf_events.specs.declared.ask.Ask.{Ask}
 use Rattle.caf_events.specs.declared.reply.Reply.{Reply}
@@ -17,7 +16,7 @@ use Rattle.image_acts.specs.Taking.{Acted, tested}
 use Rattle.image_acts.specs.Meaning.{effect_of, frames, image_language}
 use Rattle.kind_walks.specs.Kinds.{Layout, Typing, IsSo, with_number}
 use Rattle.kind_walks.specs.Suiting.{Joined, joined_by, Suits, Tells, EffectSuits, TestSuits, IsIn, PartsSuit, Leads, FormSuits, BranchesSuit, StepsSuit, BodiesSuit, AllSuit, AllTell}
-use Rattle.kind_walks.proofs.Parts.{parts_more, leads_then, test_suits}
+use Rattle.kind_walks.proofs.Parts.{leads_then, test_suits}
 
 module _ (coarrays : List Declared) (n : ℕ) (layouts : ℕ → Layout) where
   abbrev On : Parts Act → (Joined → Core → Type 0) → Joined → Core → Type 0
