@@ -138,7 +138,7 @@ module _ (w : Setting) (few : 2 * w.images ≤ 2147483647) (e : Environment) (ow
   one_back u (t.variable (t.part (objects.Coarray c) ss sel)) d r s i h k f = absurd h
   one_back u (t.variable (t.part (objects.Constant c) ss sel)) d r s i h k f = absurd h
 
-  all_back : (u : Unit') (ds : List Dummy) (es : t.Arguments) (s : Typing) → IsThere s → ranks.ArePassed e.program.procedures u.variables ds es → kinded.ArePassed e.program w.coarrays own main u.variables ds es
+  pub all_back : (u : Unit') (ds : List Dummy) (es : t.Arguments) (s : Typing) → IsThere s → ranks.ArePassed e.program.procedures u.variables ds es → kinded.ArePassed e.program w.coarrays own main u.variables ds es
       → AllBack w u s (view.passed u.variables ds es)
   all_back u [] es s i h k = tt
   all_back u (d ∷ ds) t.no_arguments s i h k = tt
