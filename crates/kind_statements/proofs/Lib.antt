@@ -3,6 +3,8 @@ pub mod AllocationActs
 pub mod Settled
 pub mod Plain
 pub mod Constructs
+pub mod Cells
+pub mod Allocating
 pub mod Assigning
 pub mod Assignments
 pub mod Bodies
