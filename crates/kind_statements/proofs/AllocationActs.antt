@@ -41,7 +41,7 @@ module _ (coarrays : List Declared) (n : ℕ) where
   any s = with_number None s
 
   three_any : (s : Typing) (c : Core) (x y z : ℤ) → IsSo n s c → IsSo n (any (any (any s))) (with_values c (x ∷ y ∷ z ∷ c.values))
-  three_any s c x y z h = record { numbers = (tt, tt, tt, h.numbers); arrays = h.arrays; running = h.running; callers = h.callers; images = h.images; known = h.known; formed = h.formed }
+  three_any s c x y z h = record { numbers = (tt, (tt, (tt, h.numbers))); arrays = h.arrays; running = h.running; callers = h.callers; images = h.images; known = h.known; formed = h.formed }
 
   pub acts_begin_plan : (s : Typing) → Acts coarrays n s (allocation a.begin_plan) (any (any (any s)))
   acts_begin_plan s j c h = three_any s c (pos c.local_cells) (pos c.coarray_cells) (pos 1) h

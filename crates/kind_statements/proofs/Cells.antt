@@ -14,6 +14,7 @@ use Rattle.image_acts.specs.Acts as a
 use Rattle.image_acts.specs.Acts.{Act, stack, ask}
 use Rattle.tree_meaning.specs.Environment.{Environment, procedure_in}
 use Rattle.tree_meaning.specs.Sequences.{◌▸◌, doing, dropping, copying}
+use Rattle.tree_meaning.specs.Settling.{settling, settling_selector}
 use Rattle.tree_meaning.specs.Expressions as view
 use Rattle.tree_meaning.specs.ImageControl.{cell, cell_stat, cell_size, cell_coarray, cell_there, plain_lock, tried_lock, lock, on_cell, unlock, event_post}
 use Rattle.made_code.specs.Ranks as ranks
@@ -29,6 +30,13 @@ use Rattle.kind_expressions.proofs.Expressions.{IsThere, goes_subscripts, goes_o
 use Rattle.kind_statements.specs.Kinded as statements
 use Rattle.kind_statements.proofs.ControlActs as control
 use Rattle.kind_statements.proofs.Settled.{goes_settling, goes_settling_selector, goes_put_down, PutDown}
+
+-- the kinds of a cell's two numbers
+abbrev pub both : List (Option Kind)
+both = None ∷ place 0
+
+pub both_long : length both ≡ 2
+both_long = ap suc (unknown_long (place_size 0))
 
 module _ (w : Setting) (few : 2 * w.images ≤ 2147483647) (e : Environment) (own main : Layout) (main_is : main ≡ w.layouts 0) (units : (n : ℕ) → w.layouts (suc n) ≡ unit_layout (procedure_in e n).unit) where
   abbrev Here : Typing → Type 0
@@ -59,19 +67,12 @@ module _ (w : Setting) (few : 2 * w.images ≤ 2147483647) (e : Environment) (ow
       selector_stat t.no_selector y = tt
       selector_stat (t.selector cs which stat) y = y.2
 
-  goes_there : (d : t.Designator) (z : Typing) → Goes w z (cell_there e d) z
+  pub goes_there : (d : t.Designator) (z : Typing) → Goes w z (cell_there e d) z
   goes_there (t.part (objects.Local v) ss sel) z = idle
   goes_there (t.part (objects.Constant v) ss sel) z = idle
   goes_there (t.part (objects.Coarray c) ss sel) z = goes_needing_own w c (view.is_scalar ss 0) sel z
 
   -- ---- an action on the cell, whose status stands on the places
-  -- the kinds of the cell's two numbers
-  abbrev both : List (Option Kind)
-  both = None ∷ place 0
-
-  both_long : length both ≡ 2
-  both_long = ap suc (unknown_long (place_size 0))
-
   abbrev Acting : Act → Type 0
   Acting x = (z : Typing) → Acts w.coarrays w.images (with_numbers both z) x (small z)
 

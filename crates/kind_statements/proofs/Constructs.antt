@@ -47,26 +47,26 @@ module _ (w : Setting) where
   told z = with_number (Some kinds.L4) z
 
   -- ---- case values, compared with that of a hidden cell
-  goes_compared : (x : ℕ) (v : ℤ) (o : a.OperatorAct) (z : Typing) → Acts w.coarrays w.images (with_number None (with_number None z)) (operator o) (told z) → {rest : List Act} {t : Typing} → Goes w (told z) (doing rest) t → Goes w z (doing (compared x v o ++ rest)) t
-  goes_compared x v o z h g =
+  goes_compared : (x : ℕ) (v : ℤ) (o : a.OperatorAct) (z : Typing) → Acts w.coarrays w.images (with_number None (with_number None z)) (operator o) (told z) → (rest : List Act) {t : Typing} → Goes w (told z) (doing rest) t → Goes w z (doing (compared x v o ++ rest)) t
+  goes_compared x v o z h rest g =
       act_then w z (variable (a.cell here x)) (with_number None z) (acts_cell_unknown w.coarrays w.images here x z)
       (act_then w (with_number None z) (constant v) (with_number None (with_number None z)) (acts.acts_constant w.coarrays w.images v None tt (with_number None z)) (act_then w (with_number None (with_number None z)) (operator o) (told z) h g))
 
-  goes_range : (x : ℕ) (r : CaseRange) (z : Typing) {rest : List Act} {t : Typing} → Goes w (told z) (doing rest) t → Goes w z (doing (in_range x r ++ rest)) t
-  goes_range x (ranges.Value v) z g = goes_compared x v a.equal z (acts.acts_equal w.coarrays w.images None None z) g
-  goes_range x (ranges.AtLeast v) z g = goes_compared x v a.at_least z (acts.acts_at_least w.coarrays w.images None None z) g
-  goes_range x (ranges.AtMost v) z g = goes_compared x v a.at_most z (acts.acts_at_most w.coarrays w.images None None z) g
-  goes_range x (ranges.Between u v) z g =
-      goes_compared x u a.at_least z (acts.acts_at_least w.coarrays w.images None None z)
-      (goes_compared x v a.at_most (told z) (acts.acts_at_most w.coarrays w.images None None (told z)) (act_then w (told (told z)) (operator a.both) (told z) (acts.acts_both w.coarrays w.images (Some kinds.L4) (Some kinds.L4) z) g))
+  goes_range : (x : ℕ) (r : CaseRange) (z : Typing) (rest : List Act) {t : Typing} → Goes w (told z) (doing rest) t → Goes w z (doing (in_range x r ++ rest)) t
+  goes_range x (ranges.Value v) z rest g = goes_compared x v a.equal z (acts.acts_equal w.coarrays w.images None None z) rest g
+  goes_range x (ranges.AtLeast v) z rest g = goes_compared x v a.at_least z (acts.acts_at_least w.coarrays w.images None None z) rest g
+  goes_range x (ranges.AtMost v) z rest g = goes_compared x v a.at_most z (acts.acts_at_most w.coarrays w.images None None z) rest g
+  goes_range x (ranges.Between u v) z rest g =
+      goes_compared x u a.at_least z (acts.acts_at_least w.coarrays w.images None None z) (compared x v a.at_most ++ (operator a.both ∷ rest))
+      (goes_compared x v a.at_most (told z) (acts.acts_at_most w.coarrays w.images None None (told z)) (operator a.both ∷ rest) (act_then w (told (told z)) (operator a.both) (told z) (acts.acts_both w.coarrays w.images (Some kinds.L4) (Some kinds.L4) z) g))
 
   goes_more_ranges : (x : ℕ) (rs : List CaseRange) (z : Typing) → Goes w (told z) (doing (in_more_ranges x rs)) (told z)
   goes_more_ranges x [] z = idle
-  goes_more_ranges x (r ∷ rs) z = goes_range x r (told z) (act_then w (told (told z)) (operator a.any_of) (told z) (acts.acts_any w.coarrays w.images (Some kinds.L4) (Some kinds.L4) z) (goes_more_ranges x rs z))
+  goes_more_ranges x (r ∷ rs) z = goes_range x r (told z) (operator a.any_of ∷ in_more_ranges x rs) (act_then w (told (told z)) (operator a.any_of) (told z) (acts.acts_any w.coarrays w.images (Some kinds.L4) (Some kinds.L4) z) (goes_more_ranges x rs z))
 
   pub goes_ranges : (x : ℕ) (rs : List CaseRange) (z : Typing) → Goes w z (doing (in_ranges x rs)) (told z)
   goes_ranges x [] z = one_act w z (constant (pos 0)) (told z) (acts.acts_constant w.coarrays w.images (pos 0) (Some kinds.L4) refl z)
-  goes_ranges x (r ∷ rs) z = goes_range x r z (goes_more_ranges x rs z)
+  goes_ranges x (r ∷ rs) z = goes_range x r z (in_more_ranges x rs) (goes_more_ranges x rs z)
 
   module _ (few : 2 * w.images ≤ 2147483647) (e : Environment) (own main : Layout) (main_is : main ≡ w.layouts 0) (units : (n : ℕ) → w.layouts (suc n) ≡ unit_layout (procedure_in e n).unit) where
     abbrev Here : Typing → Type 0

@@ -29,7 +29,7 @@ use Rattle.image_acts.specs.Frames.{with_cell}
 use Rattle.image_acts.specs.Owning.{own_in}
 use Rattle.image_acts.specs.Teams.{is_in, team_in, current_team, behind_first, members}
 use Rattle.image_acts.specs.Replies.{status_of, with_status, old_in, try_reply, acquired_in, count_in, count_reply, arrival_reply, leave_reply, fitting}
-use Rattle.image_acts.specs.Taking.{found_in, unless, taking_one}
+use Rattle.image_acts.specs.Taking.{Acted, found_in, unless, taking_one}
 use Rattle.image_acts.specs.Operate.Asking.{image, team, cell_span, has_cell, first_operand, second_operand, allotment, ask_effect}
 use Rattle.image_acts.specs.Operate.Teaming.{team_effect}
 use Rattle.image_acts.specs.Operate.Printing.{open_portions, renewed, printed, with_values_behind, with_literal_behind, item_of, text_of, print_effect}
@@ -312,9 +312,13 @@ module _ (coarrays : List Declared) (n : ℕ) where
   pub acts_print_literal : (m : ℕ) (text : List ℕ) (s : Typing) → Acts coarrays n s (print (a.print_literal m text)) s
   acts_print_literal m text s j c h = settles n coarrays s j (print (a.print_literal m text)) (print_effect (a.print_literal m text) c) (renews s j (with_literal_behind m text) c h)
 
+  abbrev saying : List Printing → Core → Acted
+  saying [] c = stuck
+  saying (p ∷ ps) c = found_in (text_of p) (λ text. asking (asks.Print text) (λ r. record c { printing = ps }))
+
+  says : (s : Typing) (j : Joined) (ps : List Printing) (c : Core) → IsSo n s c → To coarrays n s j (saying ps c)
+  says s j [] c h = tt
+  says s j (p ∷ ps) c h = find_as n coarrays s j (text_of p) (λ text. asking (asks.Print text) (λ r. record c { printing = ps })) (λ text e. (tt, λ r y. printing_so s c ps h))
+
   pub acts_say : (s : Typing) → Acts coarrays n s (ask a.say) s
-  acts_say s j c h = settles n coarrays s j (ask a.say) (ask_effect a.say c) (by_texts c.printing)
-    where
-      by_texts : (ps : List Printing) → To coarrays n s j (elim ps [ [] ↦ stuck | p ∷ ps ↦ found_in (text_of p) (λ text. asking (asks.Print text) (λ r. record c { printing = ps })) ])
-      by_texts [] = tt
-      by_texts (p ∷ ps) = find_as n coarrays s j (text_of p) (λ text. asking (asks.Print text) (λ r. record c { printing = ps })) (λ text e. (tt, λ r y. printing_so s c ps h))
+  acts_say s j c h = settles n coarrays s j (ask a.say) (ask_effect a.say c) (says s j c.printing c h)

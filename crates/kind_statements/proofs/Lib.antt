@@ -4,7 +4,10 @@ pub mod Settled
 pub mod Plain
 pub mod Constructs
 pub mod Cells
+pub mod Ordered
 pub mod Allocating
 pub mod Assigning
 pub mod Assignments
+pub mod Statements
 pub mod Bodies
+pub mod Programs

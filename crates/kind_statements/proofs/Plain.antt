@@ -66,7 +66,7 @@ module _ (w : Setting) (few : 2 * w.images ≤ 2147483647) (e : Environment) (ow
       (λ c y. record { numbers = as_truth (kind_at x) z.numbers c.values y.numbers; arrays = y.arrays; running = y.running; callers = y.callers; images = y.images; known = y.known; formed = y.formed }) (scalar x z i h k))
 
   -- ---- output
-  goes_printed : (k : Kind) (l : Option Kind) (r : ℕ) (z : Typing) → Goes w (result l r z) (printed k r) z
+  goes_printed : (k : Kind) (l : Option Kind) (r : ℕ) (z : Typing) → Goes w (result l r z) (printed e k r) z
   goes_printed kinds.I4 l zero z = one_act w (with_number l z) (print a.print_number) z (control.acts_print_number w.coarrays w.images l z)
   goes_printed kinds.I8 l zero z = one_act w (with_number l z) (print a.print_number) z (control.acts_print_number w.coarrays w.images l z)
   goes_printed kinds.L4 l zero z = one_act w (with_number l z) (print a.print_truth) z (control.acts_print_truth w.coarrays w.images l z)

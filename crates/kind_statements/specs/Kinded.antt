@@ -1,6 +1,6 @@
 -- Statements whose parts are of the types and kinds that their places want (ISO/IEC 1539-1:2018, 9.7, 10.2.1, 11.1,
 -- 11.6, 12.6, 16.5, 16.6, 16.9).
-use Rattle.std.specs.Prelude.{◌≡◌, ◌⊎◌, true, List, [], ◌∷◌, Option, None, Some, slice_get}
+use Rattle.std.specs.Prelude.{◌≡◌, ◌⊎◌, true, List, [], ◌∷◌, Option, None, Some}
 use Rattle.caf_base.specs.declared.value.Kind.{Kind}
 use Rattle.caf_base.specs.declared.value.Kind.TheVariants as kinds
 use Rattle.checked_tree.specs.declared.data.DataType.{DataType}
@@ -99,7 +99,7 @@ module _ (p : s.Program) (coarrays : List Declared) (own main : Layout) where
 
   -- a variable of TEAM_TYPE
   abbrev pub IsTeamVariable : Local → Type 0
-  IsTeamVariable v = slice_get (kinded.layout_at p coarrays own main v.home).scalars v.variable ≡ Some None
+  IsTeamVariable v = kinded.HasKind p coarrays own main v None
 
   abbrev mutual
     pub IsStatement : s.StatementForm → Type 0
