@@ -68,17 +68,17 @@ module _ (w : Setting) (few : 2 * w.images ≤ 2147483647) (e : Environment) (ow
       form_suits (s.event_post d r) l z i h k = (goes_released w (cells.goes_event_post w few e own main main_is units d r z i h.0 h.1 k.0 k.1)).leads
       form_suits (s.event_wait d until r order) l z i h k = (goes_released w (ordered.goes_event_wait w few e own main main_is units d until r order z i h.0 h.1 h.2 k.0 k.1 k.2)).leads
       form_suits (s.if x body others none) l z i h k =
-          ((idle {w} {z}).leads, ((plain.goes_condition w few e own main main_is units x z i h.0 k.0).leads, block_suits body z i h.1 k.1, others_suit others (steps e none) z i h.2 k.2 (block_suits none z i h.3 k.3)))
+          ((idle {w = w} {s = z}).leads, ((plain.goes_condition w few e own main main_is units x z i h.0 k.0).leads, block_suits body z i h.1 k.1, others_suit others (steps e none) z i h.2 k.2 (block_suits none z i h.3 k.3)))
       form_suits (s.do_counted v j first last step n body) l z i h k = (
         (constructs.goes_do_start w few e own main main_is units hidden v j first last step n z i k.0 h.0 h.1 h.2 k.1 k.2 k.3).leads,
         (constructs.goes_do_next w few e own main main_is units hidden v j n z i k.0).leads,
         (constructs.goes_do_test w few e own main main_is units n z).leads,
         block_suits body z i h.3 k.4,
       )
-      form_suits (s.do_while x body) l z i h k = ((idle {w} {z}).leads, (idle {w} {z}).leads, (plain.goes_condition w few e own main main_is units x z i h.0 k.0).leads, block_suits body z i h.1 k.1)
+      form_suits (s.do_while x body) l z i h k = ((idle {w = w} {s = z}).leads, (idle {w = w} {s = z}).leads, (plain.goes_condition w few e own main main_is units x z i h.0 k.0).leads, block_suits body z i h.1 k.1)
       form_suits (s.do_forever body) l z i h k = (
-        (idle {w} {z}).leads,
-        (idle {w} {z}).leads,
+        (idle {w = w} {s = z}).leads,
+        (idle {w = w} {s = z}).leads,
         (one_act w z (constant (pos 1)) (with_number (Some kinds.L4) z) (acts.acts_constant w.coarrays w.images (pos 1) (Some kinds.L4) refl z)).leads,
         block_suits body z i h k,
       )
