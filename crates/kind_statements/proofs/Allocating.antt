@@ -1,6 +1,6 @@
 -- ALLOCATE and DEALLOCATE leave nothing behind.
-use Rattle.std.proofs.Common.{◌≡◌, ◌∙◌, ℕ, zero, suc, ◌+◌, ◌*◌, ◌≤◌, Bool, List, [], ◌∷◌, ◌++◌, length, refl, arith}
-use Rattle.std.specs.Prelude.{ℤ, pos, ◌-◌, Option, None, Some}
+use Rattle.std.proofs.Common.{◌≡◌, ◌∙◌, ℕ, suc, ◌+◌, ◌*◌, ◌≤◌, List, [], ◌∷◌, ◌++◌, length, refl, arith}
+use Rattle.std.specs.Prelude.{pos, Option, None, Some}
 use Rattle.std.proofs.lemmas.List.{length-append}
 use Rattle.caf_base.specs.declared.value.Kind.{Kind}
 use Rattle.caf_base.specs.declared.value.Kind.TheVariants as kinds
@@ -8,13 +8,12 @@ use Rattle.checked_tree.specs.declared.data.Object.{Object}
 use Rattle.checked_tree.specs.declared.data.Object.TheVariants as objects
 use Rattle.checked_tree.specs.Expressions as t
 use Rattle.checked_tree.specs.Statements as s
-use Rattle.walk_theory.specs.Syntax.{Parts}
 use Rattle.image_acts.specs.Statuses.{bad_argument}
 use Rattle.image_acts.specs.Acts as a
-use Rattle.image_acts.specs.Acts.{Act, constant, operator, bounded, allocation, ask}
+use Rattle.image_acts.specs.Acts.{constant, operator, bounded, allocation, ask}
 use Rattle.image_acts.specs.Operate.Allocating.{bounds_size, cobounds_size}
 use Rattle.tree_meaning.specs.Environment.{Environment, scope_of, procedure_in}
-use Rattle.tree_meaning.specs.Sequences.{◌▸◌, doing, pushing}
+use Rattle.tree_meaning.specs.Sequences.{doing, pushing}
 use Rattle.tree_meaning.specs.Expressions as view
 use Rattle.tree_meaning.specs.ImageControl.{or_number}
 use Rattle.tree_meaning.specs.Allocation as view_of

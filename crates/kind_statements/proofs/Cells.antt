@@ -1,13 +1,11 @@
 -- Statements on a lock or an event: its cell stands beneath the place of a STAT= variable.
-use Rattle.std.proofs.Common.{◌≡◌, ◌∙◌, ℕ, zero, suc, ◌+◌, ◌*◌, ◌≤◌, List, [], ◌∷◌, ◌++◌, length, refl, ap, subst, append_assoc, arith}
-use Rattle.std.specs.Prelude.{ℤ, pos, Option, None, Some}
+use Rattle.std.proofs.Common.{◌≡◌, ℕ, suc, ◌+◌, ◌*◌, ◌≤◌, List, [], ◌∷◌, ◌++◌, length, refl, ap, subst, append_assoc, arith}
+use Rattle.std.specs.Prelude.{ℤ, Option, None, Some}
 use Rattle.std.proofs.lemmas.List.{length-append}
 use Rattle.caf_base.specs.declared.value.Kind.{Kind}
 use Rattle.caf_base.specs.declared.value.Kind.TheVariants as kinds
 use Rattle.checked_tree.specs.declared.data.Object.TheVariants as objects
-use Rattle.checked_tree.specs.declared.expr.WrittenOrder.{WrittenOrder}
 use Rattle.checked_tree.specs.Expressions as t
-use Rattle.walk_theory.specs.Syntax.{Parts}
 use Rattle.image_acts.specs.Statuses.{unlocked_failed_image}
 use Rattle.image_acts.specs.Places.{place_size}
 use Rattle.image_acts.specs.Acts as a
@@ -16,20 +14,20 @@ use Rattle.tree_meaning.specs.Environment.{Environment, procedure_in}
 use Rattle.tree_meaning.specs.Sequences.{◌▸◌, doing, dropping, copying}
 use Rattle.tree_meaning.specs.Settling.{settling, settling_selector}
 use Rattle.tree_meaning.specs.Expressions as view
-use Rattle.tree_meaning.specs.ImageControl.{cell, cell_stat, cell_size, cell_coarray, cell_there, plain_lock, tried_lock, lock, on_cell, unlock, event_post}
+use Rattle.tree_meaning.specs.ImageControl.{cell, cell_stat, cell_size, cell_coarray, cell_there, plain_lock, unlock, event_post}
 use Rattle.made_code.specs.Ranks as ranks
-use Rattle.kind_walks.specs.Kinds.{Widens, Layout, Typing, with_number}
+use Rattle.kind_walks.specs.Kinds.{Layout, Typing, with_number}
 use Rattle.kind_walks.proofs.Effects.{with_numbers, unknown_long}
 use Rattle.kind_walks.proofs.StackActs as acts
 use Rattle.kind_walks.proofs.StackActs.{Acts}
 use Rattle.kind_expressions.specs.Kinded as kinded
 use Rattle.kind_expressions.specs.Kinded.{unit_layout}
-use Rattle.kind_expressions.proofs.Goes.{Setting, Goes, idle, ◌⨾◌, act_then, one_act, grouped, from_grouped, goes_dropping, goes_copying}
-use Rattle.kind_expressions.proofs.References.{place, on_place, goes_co_section, goes_needing_own}
-use Rattle.kind_expressions.proofs.Expressions.{IsThere, goes_subscripts, goes_owner, goes_place, goes_storing}
+use Rattle.kind_expressions.proofs.Goes.{Setting, Goes, idle, ◌⨾◌, act_then, one_act, from_grouped, goes_dropping, goes_copying}
+use Rattle.kind_expressions.proofs.References.{place, goes_co_section, goes_needing_own}
+use Rattle.kind_expressions.proofs.Expressions.{IsThere, goes_subscripts, goes_owner, goes_place}
 use Rattle.kind_statements.specs.Kinded as statements
 use Rattle.kind_statements.proofs.ControlActs as control
-use Rattle.kind_statements.proofs.Settled.{goes_settling, goes_settling_selector, goes_put_down, PutDown}
+use Rattle.kind_statements.proofs.Settled.{goes_settling, goes_settling_selector}
 
 -- the kinds of a cell's two numbers
 abbrev pub both : List (Option Kind)

@@ -1,5 +1,5 @@
 -- Heads of constructs, calls and END TEAM: each leaves nothing behind, a test its truth value.
-use Rattle.std.proofs.Common.{◌≡◌, ◌∙◌, ℕ, zero, suc, ◌+◌, ◌*◌, ◌≤◌, Bool, List, [], ◌∷◌, ◌++◌, length, slice_get, refl, ap, sym, subst, arith}
+use Rattle.std.proofs.Common.{◌≡◌, ◌∙◌, ℕ, zero, suc, ◌+◌, ◌*◌, ◌≤◌, List, [], ◌∷◌, ◌++◌, length, slice_get, refl, sym, subst, arith}
 use Rattle.std.specs.Prelude.{ℤ, pos, Option, None, Some}
 use Rattle.caf_base.specs.declared.value.Kind.{Kind}
 use Rattle.caf_base.specs.declared.value.Kind.TheVariants as kinds
@@ -17,7 +17,7 @@ use Rattle.tree_meaning.specs.Expressions as view
 use Rattle.tree_meaning.specs.ImageControl.{or_number, is_allocatable_in, deleting_one, deleting, end_team}
 use Rattle.tree_meaning.specs.Forms.{compared, in_range, in_more_ranges, in_ranges, called, parameter, do_start}
 use Rattle.made_code.specs.Ranks as ranks
-use Rattle.kind_walks.specs.Kinds.{Widens, Layout, Typing, with_number}
+use Rattle.kind_walks.specs.Kinds.{Layout, Typing, with_number}
 use Rattle.kind_walks.proofs.Effects.{with_numbers}
 use Rattle.kind_walks.proofs.Frames.{layout_of}
 use Rattle.kind_walks.proofs.StackActs as acts

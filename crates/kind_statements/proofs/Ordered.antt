@@ -1,5 +1,5 @@
 -- FORM TEAM, EVENT WAIT, and LOCK with ACQUIRED_LOCK=: specifiers that are evaluated as they are written.
-use Rattle.std.proofs.Common.{◌≡◌, ◌∙◌, ℕ, zero, suc, ◌+◌, ◌*◌, ◌≤◌, List, [], ◌∷◌, ◌++◌, length, slice_get, refl, ap, sym, subst, append_assoc, arith}
+use Rattle.std.proofs.Common.{◌≡◌, ◌∙◌, ℕ, suc, ◌+◌, ◌*◌, ◌≤◌, List, [], ◌∷◌, ◌++◌, length, slice_get, refl, ap, subst, append_assoc, arith}
 use Rattle.std.specs.Prelude.{ℤ, pos, Option, None, Some}
 use Rattle.std.proofs.lemmas.List.{length-append}
 use Rattle.caf_base.specs.declared.value.Kind.{Kind}
@@ -8,7 +8,6 @@ use Rattle.checked_tree.specs.declared.data.Local.{Local}
 use Rattle.checked_tree.specs.declared.data.Object.TheVariants as objects
 use Rattle.checked_tree.specs.declared.expr.WrittenOrder.{WrittenOrder}
 use Rattle.checked_tree.specs.Expressions as t
-use Rattle.walk_theory.specs.Syntax.{Parts}
 use Rattle.image_acts.specs.Statuses.{unlocked_failed_image}
 use Rattle.image_acts.specs.Acts as a
 use Rattle.image_acts.specs.Acts.{Act, stack, ask}
@@ -16,22 +15,21 @@ use Rattle.tree_meaning.specs.Environment.{Environment, scope_of, procedure_in}
 use Rattle.tree_meaning.specs.Sequences.{◌▸◌, doing, pushing, dropping, copying}
 use Rattle.tree_meaning.specs.Settling.{settling, settling_selector}
 use Rattle.tree_meaning.specs.Expressions as view
-use Rattle.tree_meaning.specs.ImageControl.{or_number, round, form_team, cell, cell_stat, cell_size, cell_coarray, cell_there, tried_lock, event_wait}
+use Rattle.tree_meaning.specs.ImageControl.{or_number, round, form_team, cell, cell_stat, cell_size, cell_coarray, tried_lock, event_wait}
 use Rattle.made_code.specs.Ranks as ranks
 use Rattle.kind_walks.specs.Kinds.{Widens, Layout, Typing, with_number}
-use Rattle.kind_walks.proofs.Effects.{with_numbers, unknown_long}
+use Rattle.kind_walks.proofs.Effects.{with_numbers}
 use Rattle.kind_walks.proofs.Frames.{layout_of}
 use Rattle.kind_walks.proofs.StackActs as acts
 use Rattle.kind_expressions.specs.Kinded as kinded
 use Rattle.kind_expressions.specs.Kinded.{unit_layout}
-use Rattle.kind_expressions.proofs.Goes.{Setting, Goes, ◌⨾◌, act_then, one_act, Leaves, leaves_one, from_grouped, goes_dropping, goes_copying}
-use Rattle.kind_expressions.proofs.References.{place}
+use Rattle.kind_expressions.proofs.Goes.{Setting, Goes, ◌⨾◌, act_then, one_act, Leaves, leaves_one, goes_dropping, goes_copying}
 use Rattle.kind_expressions.proofs.Expressions.{IsThere, goes_scalar, goes_place, goes_storing, scalar_there, fits}
 use Rattle.kind_statements.specs.Kinded as statements
 use Rattle.kind_statements.proofs.ControlActs as control
-use Rattle.kind_statements.proofs.Settled.{goes_settling, goes_settling_selector, goes_settled_on, goes_round, goes_pushing, goes_put_down, PutDown}
+use Rattle.kind_statements.proofs.Settled.{goes_settling, goes_settling_selector, goes_settled_on, goes_round, goes_pushing, goes_put_down}
 use Rattle.kind_statements.proofs.Plain.{kind_at}
-use Rattle.kind_statements.proofs.Cells.{Celled, goes_cell, goes_there, both, both_long}
+use Rattle.kind_statements.proofs.Cells.{goes_cell, goes_there, both, both_long}
 
 team_alone : (k : Option Kind) → Widens None k → k ≡ None
 team_alone None x = refl

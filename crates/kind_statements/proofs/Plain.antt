@@ -1,6 +1,6 @@
 -- Conditions, output, termination, lists of images and image control without a cell: each leaves nothing behind, a
 -- condition its truth value.
-use Rattle.std.proofs.Common.{◌≡◌, ◌∙◌, ℕ, zero, suc, ◌+◌, ◌*◌, ◌≤◌, List, [], ◌∷◌, ◌++◌, length, slice_get, refl, arith}
+use Rattle.std.proofs.Common.{◌≡◌, ℕ, zero, suc, ◌+◌, ◌*◌, ◌≤◌, List, [], ◌∷◌, ◌++◌, length, slice_get, refl, arith}
 use Rattle.std.specs.Prelude.{ℤ, pos, Option, None, Some}
 use Rattle.std.proofs.lemmas.List.{length-append}
 use Rattle.caf_base.specs.declared.value.Kind.{Kind}
@@ -10,18 +10,16 @@ use Rattle.checked_tree.specs.declared.statement.ListedImages.{ListedImages}
 use Rattle.checked_tree.specs.declared.statement.ListedImages.TheVariants as lists
 use Rattle.checked_tree.specs.Expressions as t
 use Rattle.checked_tree.specs.Statements as s
-use Rattle.walk_theory.specs.Syntax.{Parts}
 use Rattle.image_acts.specs.Statuses.{bad_argument, failed_image}
 use Rattle.image_acts.specs.Acts as a
 use Rattle.image_acts.specs.Acts.{Act, constant, stack, variable, bounded, selector, print, ask}
-use Rattle.image_acts.specs.Core.{Core}
 use Rattle.tree_meaning.specs.Environment.{Environment, scope_of, literal_text, procedure_in}
-use Rattle.tree_meaning.specs.Sequences.{◌▸◌, doing, pushing, dropping, copying, released}
+use Rattle.tree_meaning.specs.Sequences.{◌▸◌, doing, pushing, released}
 use Rattle.tree_meaning.specs.Expressions as view
-use Rattle.tree_meaning.specs.Assignments.{images_assignment, listing, listed_team, printed, item, items, beginning, output, kind_in, rank_in}
+use Rattle.tree_meaning.specs.Assignments.{images_assignment, listing, listed_team, printed, item, items, beginning, output, kind_in}
 use Rattle.tree_meaning.specs.ImageControl.{or_number, sync_all, sync_memory, sync_images, image_set, sync_team, critical, end_critical, change_team}
 use Rattle.made_code.specs.Ranks as ranks
-use Rattle.kind_walks.specs.Kinds.{Widens, Are, IsOf, Layout, Typing, IsSo, with_number, with_array}
+use Rattle.kind_walks.specs.Kinds.{Widens, Are, IsOf, Layout, Typing, with_number, with_array}
 use Rattle.kind_walks.proofs.Effects.{with_numbers}
 use Rattle.kind_walks.proofs.Frames.{layout_of}
 use Rattle.kind_walks.proofs.StackActs as acts
@@ -32,11 +30,11 @@ use Rattle.kind_expressions.proofs.VariableActs.{acts_put_images}
 use Rattle.kind_expressions.proofs.PlaceActs as places
 use Rattle.kind_expressions.proofs.ImageActs as images
 use Rattle.kind_expressions.proofs.AskActs.{acts_failed, acts_stopped}
-use Rattle.kind_expressions.proofs.Goes.{Setting, Goes, idle, ◌⨾◌, act_then, one_act, fork, known_as, goes_dropping, goes_copying}
+use Rattle.kind_expressions.proofs.Goes.{Setting, Goes, idle, ◌⨾◌, act_then, one_act, fork, known_as, goes_copying}
 use Rattle.kind_expressions.proofs.Expressions.{IsThere, goes_scalar, goes_expression, goes_place, array_there, fits}
 use Rattle.kind_statements.specs.Kinded as statements
 use Rattle.kind_statements.proofs.ControlActs as control
-use Rattle.kind_statements.proofs.Settled.{goes_released, goes_settled, goes_settled_on, goes_settling, goes_round, goes_pushing}
+use Rattle.kind_statements.proofs.Settled.{goes_released, goes_settled, goes_settled_on, goes_round, goes_pushing}
 
 -- the kind of an expression
 abbrev pub kind_at : t.Expression → Option Kind

@@ -1,8 +1,6 @@
 -- Each body of a program suits, wherever it runs, where calls of intrinsic subroutines do.
-use Rattle.std.proofs.Common.{◌≡◌, ◌∙◌, ℕ, zero, suc, ◌*◌, ◌≤◌, List, [], ◌∷◌, length, map, refl, arith}
-use Rattle.std.specs.Prelude.{Option}
+use Rattle.std.proofs.Common.{◌≡◌, ℕ, zero, suc, ◌*◌, ◌≤◌, List, [], ◌∷◌, length, map, refl, arith}
 use Rattle.std.proofs.lemmas.List.{length-map}
-use Rattle.caf_base.specs.declared.value.Kind.{Kind}
 use Rattle.checked_tree.specs.declared.action.WrittenArguments.{WrittenArguments}
 use Rattle.checked_tree.specs.declared.data.Variable.{Variable}
 use Rattle.checked_tree.specs.Statements as s
@@ -15,7 +13,7 @@ use Rattle.tree_meaning.specs.Pieces.{written_dummies}
 use Rattle.tree_meaning.specs.Subroutines.{intrinsic_call}
 use Rattle.made_code.specs.Ranks as ranks
 use Rattle.kind_walks.specs.Kinds.{last_layout, Typing}
-use Rattle.kind_walks.specs.Suiting.{IsIn, Leads, StepsSuit, BodiesSuit}
+use Rattle.kind_walks.specs.Suiting.{Leads, StepsSuit, BodiesSuit}
 use Rattle.kind_expressions.specs.Kinded.{kind_of, kinds_of, layouts, main_layout, unit_layout, procedure_at}
 use Rattle.kind_expressions.proofs.Bodies.{setting}
 use Rattle.kind_statements.specs.Kinded as kinded

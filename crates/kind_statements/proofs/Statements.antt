@@ -1,5 +1,5 @@
 -- Each statement suits, wherever its body runs, where calls of intrinsic subroutines do.
-use Rattle.std.proofs.Common.{◌≡◌, ℕ, suc, ◌*◌, ◌≤◌, List, length, refl}
+use Rattle.std.proofs.Common.{◌≡◌, ℕ, suc, ◌*◌, ◌≤◌, length, refl}
 use Rattle.std.specs.Prelude.{pos, Some}
 use Rattle.caf_base.specs.declared.value.Kind.TheVariants as kinds
 use Rattle.checked_tree.specs.declared.action.WrittenArguments.{WrittenArguments}
