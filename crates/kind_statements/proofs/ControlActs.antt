@@ -27,7 +27,7 @@ use Rattle.image_acts.specs.Acts.{Act, ask, print}
 use Rattle.image_acts.specs.Core.{Core, Team, Printing, Portion, integer, logical, with_values, pushed}
 use Rattle.image_acts.specs.Frames.{with_cell}
 use Rattle.image_acts.specs.Owning.{own_in}
-use Rattle.image_acts.specs.Teams.{is_in, team_in, current_team, behind_first, members}
+use Rattle.image_acts.specs.Teams.{is_in, team_in, current_team, behind_first}
 use Rattle.image_acts.specs.Replies.{status_of, with_status, old_in, try_reply, acquired_in, count_in, count_reply, arrival_reply, leave_reply, fitting}
 use Rattle.image_acts.specs.Taking.{Acted, found_in, unless, taking_one}
 use Rattle.image_acts.specs.Operate.Asking.{image, team, cell_span, has_cell, first_operand, second_operand, allotment, ask_effect}

@@ -1,5 +1,5 @@
 -- Each body of a program suits, wherever it runs, where calls of intrinsic subroutines do.
-use Rattle.std.proofs.Common.{◌≡◌, ℕ, zero, suc, ◌*◌, ◌≤◌, List, [], ◌∷◌, length, map, refl, arith}
+use Rattle.std.proofs.Common.{◌≡◌, ℕ, zero, suc, ◌*◌, ◌≤◌, List, [], ◌∷◌, length, refl, arith}
 use Rattle.std.proofs.lemmas.List.{length-map}
 use Rattle.checked_tree.specs.declared.action.WrittenArguments.{WrittenArguments}
 use Rattle.checked_tree.specs.declared.data.Variable.{Variable}
