@@ -1,0 +1,12 @@
+pub mod VariableActs
+pub mod PlaceActs
+pub mod ImageActs
+pub mod AskActs
+pub mod CallActs
+pub mod Goes
+pub mod Operators
+pub mod References
+pub mod Passing
+pub mod Calls
+pub mod Expressions
+pub mod Bodies

@@ -1,0 +1,13 @@
+pub mod ControlActs
+pub mod AllocationActs
+pub mod Settled
+pub mod Plain
+pub mod Constructs
+pub mod Cells
+pub mod Ordered
+pub mod Allocating
+pub mod Assigning
+pub mod Assignments
+pub mod Statements
+pub mod Bodies
+pub mod Programs
