@@ -26,7 +26,8 @@ use Rattle.direct_meaning.specs.Told.{told, Says, ComesBy}
 use Rattle.direct_meaning.specs.Values.{Value}
 use Rattle.direct_meaning.specs.Expressions.{Passed}
 use Rattle.direct_meaning.specs.Statements as meaning
-use Rattle.direct_meaning.specs.Statements.{Control, onward, exits, cycles, returns, Executes, ending, num, or_number, in_some, assignment, output, do_parameters, counted_loop, while_loop, form, block, else_ifs, cases, followed}
+use Rattle.direct_meaning.specs.Synchronizing.{ending}
+use Rattle.direct_meaning.specs.Statements.{Control, onward, exits, cycles, returns, Executes, num, or_number, in_some, assignment, output, do_parameters, counted_loop, while_loop, form, block, else_ifs, cases, followed}
 use Rattle.direct_meaning.proofs.Walks.{says}
 use Rattle.direct_laws.specs.Laws.{IsCovered}
 use Rattle.direct_output.specs.Laws.{literals_in}

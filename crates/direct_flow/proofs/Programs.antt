@@ -13,7 +13,8 @@ use Rattle.tree_meaning.specs.Start.{cell_of, first_core, start_of}
 use Rattle.direct_meaning.specs.States.{State}
 use Rattle.direct_meaning.specs.Outcomes.{Outcome, done, and_then, Does}
 use Rattle.direct_meaning.specs.Told.{ComesBy}
-use Rattle.direct_meaning.specs.Statements.{Control, onward, exits, cycles, returns, Executes, ending, at_line, counting, block, whole}
+use Rattle.direct_meaning.specs.Synchronizing.{ending}
+use Rattle.direct_meaning.specs.Statements.{Control, onward, exits, cycles, returns, Executes, at_line, counting, block, whole}
 use Rattle.direct_hidden.specs.Laws.{AreBlind}
 use Rattle.direct_walks.specs.Walking.{Beside, core_of, behind, Walks}
 use Rattle.direct_walks.specs.Ready.{IsReady, GoesOn}
