@@ -4,4 +4,7 @@ pub mod Rounds
 pub mod Control
 pub mod Quiet
 pub mod Blind
+pub mod Freed
 pub mod Walking
+pub mod Pairs
+pub mod Performing

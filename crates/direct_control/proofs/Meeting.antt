@@ -1,11 +1,10 @@
 -- Acts that meet what a statement does, one step after another.
-use Rattle.std.proofs.Common.{◌≡◌, refl, ap, sym, subst, ◌∙◌}
-use Rattle.caf_events.specs.declared.reply.Reply.{Reply}
+use Rattle.std.proofs.Common.{◌≡◌, ap, sym, subst, ◌∙◌}
 use Rattle.image_acts.specs.Core.{Core}
-use Rattle.direct_meaning.specs.States.{State, with_state}
+use Rattle.direct_meaning.specs.States.{State}
 use Rattle.direct_meaning.specs.Outcomes.{Outcome, done, faults, asks, over, unsaid, and_then}
 use Rattle.direct_agreement.proofs.Agreement.{Comes, and_then_assoc}
-use Rattle.direct_control.specs.Meeting.{Meets, Lies}
+use Rattle.direct_control.specs.Meeting.{Meets}
 
 pub meets_then : {X Y : Type 0} (holds : X → State → Core → Type 0) (later : Y → State → Core → Type 0) (m : Outcome (X × State))
     (o : Outcome Core) (f : X × State → Outcome (Y × State)) (k : Core → Outcome Core) → Meets holds m o
@@ -36,6 +35,16 @@ comes_meets lay P holds (faults j l z) o h more = h
 comes_meets lay P holds (asks a l z g) o (w, e, h) more = (w, e, λ r. comes_meets lay P holds (g r) (w r) (h r) more)
 comes_meets lay P holds (over z) o h more = h
 comes_meets lay P holds unsaid o h more = tt
+
+-- the same, where the acts are at their end
+pub comes_through : {X Y : Type 0} (lay : X → State → Core) (P : X → State → Type 0) (later : Y → State → Core → Type 0)
+    (m : Outcome (X × State)) (o : Outcome Core) (f : X × State → Outcome (Y × State)) → Comes lay P m o
+    → ((x : X) (z : State) → P x z → Meets later (f (x, z)) (done (lay x z))) → Meets later (and_then m f) o
+comes_through lay P later (done p) o f h more = subst (λ u. Meets later (f p) u) (sym h.0) (more p.0 p.1 h.1)
+comes_through lay P later (faults j l z) o f h more = h
+comes_through lay P later (asks a l z g) o f (w, e, h) more = (w, e, λ r. comes_through lay P later (g r) (w r) f (h r) more)
+comes_through lay P later (over z) o f h more = h
+comes_through lay P later unsaid o f h more = tt
 
 -- acts at the end that leave the value as it is
 pub comes_end : {X : Type 0} (lay lay' : X → State → Core) (P : X → State → Type 0) (m : Outcome (X × State)) (o : Outcome Core)

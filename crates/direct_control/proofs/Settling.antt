@@ -1,5 +1,5 @@
 -- What becomes of a statement's status (ISO/IEC 1539-1:2018, 11.6.11).
-use Rattle.std.proofs.Common.{◌≡◌, refl, ap, sym, subst, ◌∙◌, ℕ, suc, ◌+◌, ℤ, pos, Bool, true, false, ◌||◌, cond, List, [], ◌∷◌, length, drop, Option, None, Some, arith}
+use Rattle.std.proofs.Common.{◌≡◌, refl, ap, sym, subst, ◌∙◌, ℕ, suc, ◌+◌, ℤ, pos, Bool, true, false, ◌||◌, cond, List, [], ◌∷◌, length, drop, arith}
 use Rattle.std.specs.Ordering.{int_eq}
 use Rattle.caf_base.specs.Arithmetic.{truth, is_true}
 use Rattle.caf_events.specs.declared.ask.Ask.TheVariants as asked
@@ -11,20 +11,20 @@ use Rattle.image_acts.specs.Acts.{Act, Scope, stack, variable, ask}
 use Rattle.image_acts.specs.Core.{Core, pushed, with_values}
 use Rattle.image_acts.specs.Places.{Place}
 use Rattle.image_acts.specs.Taking.{put_down as put_numbers}
-use Rattle.image_acts.specs.Meaning.{operate, settled, effect_of}
+use Rattle.image_acts.specs.Meaning.{settled}
 use Rattle.tree_meaning.specs.Environment.{scope_of}
 use Rattle.tree_meaning.specs.Sequences.{◌▸◌, doing, dropping, copying, choosing, is_one_of, requiring}
 use Rattle.tree_meaning.specs.Expressions.{optional_size, storing}
 use Rattle.tree_meaning.specs.Settling.{is_among, is_accepted, settling}
 use Rattle.direct_meaning.specs.States.{State, state_of, with_state}
-use Rattle.direct_meaning.specs.Outcomes.{Outcome, done, asks, over, and_then, Does, giving}
+use Rattle.direct_meaning.specs.Outcomes.{Outcome, done, asks, over, and_then, giving}
 use Rattle.direct_meaning.specs.Told.{of_effect, of_test, told}
 use Rattle.direct_meaning.specs.Values.{set_elements}
 use Rattle.direct_meaning.specs.Expressions.{Target, set_target}
 use Rattle.direct_meaning.specs.Synchronizing.{ending, settle}
 use Rattle.direct_agreement.proofs.Agreement.{Kept, Comes}
 use Rattle.direct_agreement.proofs.Scalars.{Keeps}
-use Rattle.direct_access.proofs.Owners.{TargetOf, none, whole, part, target_numbers, with_target}
+use Rattle.direct_access.proofs.Owners.{TargetOf, none, whole, part, with_target}
 use Rattle.direct_statements.specs.Laws.{put_nothing}
 use Rattle.direct_statements.proofs.Defining.{scalar_stored, put_acts, elements_put}
 use Rattle.direct_walks.proofs.Cases.{true_back}
@@ -53,16 +53,19 @@ abbrev required : Bool → ℤ → ℕ → Core → Outcome Core
 required b s l d = cond b (done d) (asks (asked.ErrorStop s) l (state_of d) (λ r. over (state_of d)))
 
 chosen_told : (b : Bool) (s : ℤ) (l : ℕ) (d : Core)
-    → and_then (of_test (cond b (holds (pushed s d)) (fails (pushed s d))) (told (dropping 1) l) (told (doing (ask a.error_stop ∷ [])) l)) (told end_parts l) ≡ required b s l d
+    → and_then (of_test (cond b (holds (pushed s d)) (fails (pushed s d))) (told (dropping 1) l) (told (doing (ask a.error_stop ∷ [])) l))
+    (told end_parts l) ≡ required b s l d
 chosen_told true s l d = refl
 chosen_told false s l d = refl
 
-required_told : (accepted : List ℤ) (s : ℤ) (l : ℕ) (d : Core) → told (requiring accepted) l (pushed s d) ≡ required (is_accepted accepted s) s l d
+required_told : (accepted : List ℤ) (s : ℤ) (l : ℕ) (d : Core) → told (requiring accepted) l (pushed s d) ≡ required
+    (is_accepted accepted s) s l d
 required_told accepted s l d =
     let K : Core → Outcome Core = told (choosing (dropping 1) (doing (ask a.error_stop ∷ []))) l in
     let q : Bool = is_accepted accepted s in
     ap (λ o. and_then o K) (among_told accepted s (int_eq s (pos 0)) l d)
-    ∙ ap (λ b. and_then (of_test (cond b (holds (pushed s d)) (fails (pushed s d))) (told (dropping 1) l) (told (doing (ask a.error_stop ∷ [])) l)) (told end_parts l)) (true_back q)
+    ∙ ap (λ b. and_then (of_test (cond b (holds (pushed s d)) (fails (pushed s d))) (told (dropping 1) l)
+    (told (doing (ask a.error_stop ∷ [])) l)) (told end_parts l)) (true_back q)
     ∙ chosen_told q s l d
 
 -- numbers that were put down over others
@@ -81,14 +84,16 @@ point i = record { start = i; dims = [] }
 
 -- the place of an element is beneath so many numbers
 copied : (xs us : List ℤ) (i v : ℤ) (l : ℕ) (d : Core)
-    → told (copying (suc (length xs)) 1) l (with_values d (v ∷ put_numbers xs (i ∷ us))) ≡ done (with_values d (i ∷ v ∷ put_numbers xs (i ∷ us)))
+    → told (copying (suc (length xs)) 1) l (with_values d (v ∷ put_numbers xs (i ∷ us))) ≡ done (with_values d (i ∷ v ∷ put_numbers xs
+    (i ∷ us)))
 copied xs us i v l d = rw (dropped_back xs (i ∷ us)) refl
 
 -- a result variable gets the number on top
 abbrev over_target : Core → List ℤ → Target → Core
 over_target c xs g = with_values c (put_numbers xs (with_target c g).values)
 
-pub stored_comes : (r : t.ResultVariable) (g : Target) → TargetOf (t.result r) g → (xs : List ℤ) (v : ℤ) (l : ℕ) (z : State) (c : Core) (n : ℕ)
+pub stored_comes : (r : t.ResultVariable) (g : Target) → TargetOf (t.result r) g → (xs : List ℤ) (v : ℤ) (l : ℕ) (z : State) (c : Core)
+    (n : ℕ)
     → Kept n z
     → Comes (put_nothing (over_target c xs g)) (Keeps n) (set_target g v l z)
     (told (storing (suc (length xs)) r) l (pushed v (with_state z (over_target c xs g))))
@@ -112,10 +117,12 @@ settled_by : (b : Bool) (p : Parts Act) (s : ℤ) (l : ℕ) (z : State) (C B : C
 settled_by true p s l z C B n o k e h = (ap (λ u. and_then u (told p l)) h ∙ e, k)
 settled_by false p s l z C B n o k e h = ((λ r. over z), ap (λ u. and_then u (told p l)) h, λ r. refl)
 
-pub settle_comes : (stat : t.OptionalResult) (g : Target) → TargetOf stat g → (accepted : List ℤ) (p : Parts Act) (s : ℤ) (l : ℕ) (z : State)
+pub settle_comes : (stat : t.OptionalResult) (g : Target) → TargetOf stat g → (accepted : List ℤ) (p : Parts Act) (s : ℤ) (l : ℕ)
+    (z : State)
     (C B : Core) (n : ℕ) → Kept n z
     → ((y : State) → told p l (with_state y (with_target C g)) ≡ done (with_state y B))
-    → Comes (put_nothing B) (Keeps n) (settle stat g accepted s l z) (told (settling stat 1 accepted ▸ p) l (pushed s (with_state z (with_target C g))))
+    → Comes (put_nothing B) (Keeps n) (settle stat g accepted s l z) (told (settling stat 1 accepted ▸ p) l
+    (pushed s (with_state z (with_target C g))))
 settle_comes stat g none accepted p s l z C B n k e =
     settled_by (is_accepted accepted s) p s l z C B n (told (requiring accepted) l (pushed s (with_state z C))) k (e z)
     (required_told accepted s l (with_state z C))
@@ -151,7 +158,8 @@ target_dropped_with_two stat g (part u x es j i) l v w z C = refl
 
 -- a number beneath the place of the variable once more, and beneath a status too
 pub beneath_copied : (stat : t.OptionalResult) (g : Target) → TargetOf stat g → (l : ℕ) (w : ℤ) (z : State) (C : Core)
-    → told (copying (optional_size stat) 1) l (with_state z (with_target (pushed w C) g)) ≡ done (pushed w (with_state z (with_target (pushed w C) g)))
+    → told (copying (optional_size stat) 1) l (with_state z (with_target (pushed w C) g)) ≡ done
+    (pushed w (with_state z (with_target (pushed w C) g)))
 beneath_copied stat g none l w z C = refl
 beneath_copied stat g (whole u j) l w z C = refl
 beneath_copied stat g (part u x es j i) l w z C = refl
