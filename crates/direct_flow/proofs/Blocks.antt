@@ -28,7 +28,7 @@ use Rattle.direct_meaning.specs.Values.{Value}
 use Rattle.direct_meaning.specs.Expressions.{Passed}
 use Rattle.direct_meaning.specs.Statements as meaning
 use Rattle.direct_meaning.specs.Synchronizing.{ending}
-use Rattle.direct_meaning.specs.Statements.{Control, onward, exits, cycles, returns, Executes, sync_all, sync_memory, sync_images, sync_team, locked, unlocked, posted, waited, enter_critical, num, or_number, in_some, assignment, output, do_parameters, counted_loop, while_loop, form, block, else_ifs, cases, followed}
+use Rattle.direct_meaning.specs.Statements.{Control, onward, exits, cycles, returns, Executes, sync_all, sync_memory, sync_images, sync_team, locked, unlocked, posted, waited, enter_critical, change_team, end_team, simply, num, or_number, in_some, assignment, output, do_parameters, counted_loop, while_loop, form, block, else_ifs, cases, followed}
 use Rattle.direct_meaning.proofs.Walks.{says}
 use Rattle.direct_laws.specs.Laws.{IsCovered}
 use Rattle.direct_output.specs.Laws.{literals_in}
@@ -45,6 +45,7 @@ use Rattle.direct_control.proofs.Walking.{simply_walks}
 use Rattle.direct_control.proofs.Blind.{b_sync_all, b_sync_memory, b_sync_images, b_sync_team, b_critical}
 use Rattle.direct_control.proofs.Performing.{sync_all_performs, sync_memory_performs, sync_images_performs, sync_team_performs, critical_performs}
 use Rattle.direct_locks.proofs.Locking.{b_locked, b_unlocked, b_posted, b_waited, lock_performs, unlock_performs, post_performs, wait_performs}
+use Rattle.direct_teams.proofs.Teams.{b_change_team, b_end_team, change_performs, end_performs}
 use Rattle.direct_flow.proofs.Around.{around_walks, exit_walks}
 use Rattle.direct_flow.specs.Laws.{IsStatement, IsBlock, AreElseIfs, AreCases, BlockLaw}
 use Rattle.direct_flow.proofs.Heads.{Onward, Tells, condition_walks, simple_walks, assign_only, print_only}
@@ -302,7 +303,13 @@ module _ (procedures : ℕ → Steps Act) (limit : ℕ) (e : Environment) (calls
         (b_critical limit e calls blind k stat) (critical_performs limit e calls l k stat i.0) r
         (λ f y ry. block_walks body h l n (tally m ∷ eval m (control.end_critical e k) ∷ ts) c f y i.1 ry)
         (λ f y j ry. exit_walks procedures limit e calls most lines h k m ts c f y j ry)
-    statement_walks (s.change_team x stat body end_stat m) h l n ts c b z i r = elim i [ ]
+    statement_walks (s.change_team x stat body end_stat m) h l n ts c b z i r =
+        let Q : Parts Act = released (control.end_team e end_stat) in
+        around_walks procedures limit e calls most lines h l n m ts c b z (change_team limit e calls x stat) (control.change_team e x stat) Q body
+        (simply (end_team limit e calls end_stat)) (b_change_team limit e calls blind x stat) (change_performs limit e calls x stat l i.0 i.1) r
+        (λ f y ry. block_walks body h l n (tally m ∷ eval m Q ∷ ts) c f y i.2 ry)
+        (λ f y j ry. simply_walks procedures limit e most lines (end_team limit e calls end_stat) (control.end_team e end_stat) m j h ts c f y
+        (b_end_team limit e calls blind end_stat) (end_performs limit e calls end_stat m i.3) ry)
 
     block_walks : (ss : s.Statements) (h l n : ℕ) (ts : List (Task Act)) (c : Core) (b : Beside) (z : State) → IsBlock most lines h ss
         → Ready c b z → Does' h ts c b n (block limit e calls ss n l z) (to (run (steps e ss) ∷ ts) (core_of c b z) n)

@@ -51,6 +51,7 @@ module _ (most lines : ℕ) where
     IsStatement h (s.event_post d stat) = IsLocking (s.event_post d stat)
     IsStatement h (s.event_wait d until stat order) = IsLocking (s.event_wait d until stat order)
     IsStatement h (s.critical k stat body m) = ResultWithin 64 stat × IsBlock h body
+    IsStatement h (s.change_team x stat body end_stat m) = IsCovered x × ResultWithin 64 stat × IsBlock h body × ResultWithin 64 end_stat
     IsStatement h f = ⊥
 
     pub IsBlock : (h : ℕ) → s.Statements → Type 0

@@ -41,7 +41,7 @@ use Rattle.direct_laws.proofs.Subscripts.{Shaped, put_target, Targeted, all_come
 use Rattle.direct_laws.proofs.Values.{subscripts_come, scalars_come, selected_team_comes, target_comes}
 use Rattle.direct_statements.specs.Laws.{put_nothing}
 use Rattle.direct_walks.proofs.Cases.{true_back}
-use Rattle.direct_control.proofs.Settling.{settle_comes, stored_comes, over_target}
+use Rattle.direct_control.proofs.Settling.{settle_comes, stored_comes}
 
 -- a place of rank 0
 abbrev pub point : ℤ → Place
@@ -85,6 +85,10 @@ status_told p s l Y =
     (true_back (int_eq s failed_image))
     ∙ ap (λ o. and_then o (told p l)) (chosen_status (int_eq s failed_image) s l Y)
 
+-- so many numbers over the place of a variable
+abbrev over_target : Core → List ℤ → Target → Core
+over_target c xs g = with_values c (put_numbers xs (with_target c g).values)
+
 -- the variable of the selector gets it, beneath so many numbers, of which the status is the top one
 selector_set : (stat : t.OptionalResult) (g : Target) → TargetOf stat g → (xs : List ℤ) (s : ℤ) (l : ℕ) (w : State) (c Y : Core) (n : ℕ)
     → Kept n w
@@ -109,7 +113,7 @@ selector_set stat g (part u x es j i) xs s l w c Y n k e =
 abbrev pub over_owner : Core → Target → ℤ → ℤ → Target → State → Core
 over_owner c g o s h w = with_state w (with_target (pushed o (pushed s (with_target c g))) h)
 
-owner_copied : (stat : t.OptionalResult) (h : Target) → TargetOf stat h → (l : ℕ) (c : Core) (g : Target) (o s : ℤ) (w : State)
+pub owner_copied : (stat : t.OptionalResult) (h : Target) → TargetOf stat h → (l : ℕ) (c : Core) (g : Target) (o s : ℤ) (w : State)
     → told (copying (optional_size stat) 2) l (over_owner c g o s h w) ≡ done (pushed o (pushed s (over_owner c g o s h w)))
 owner_copied stat h none l c g o s w = refl
 owner_copied stat h (whole u j) l c g o s w = refl
@@ -130,52 +134,51 @@ all_dropped stat h (part u x es j i) ss g (whole v k) l c o s w = refl
 all_dropped stat h (part u x es j i) ss g (part v y fs k m) l c o s w = refl
 
 -- behind the ask: its status, for both variables
-module _ (stat : t.OptionalResult) (h : Target) (selected_stat : t.OptionalResult) (g : Target) (gt : TargetOf selected_stat g)
-    (accepted : List ℤ) (o s : ℤ) (l : ℕ) (c : Core) (n : ℕ) where
-  abbrev T : Parts Act
-  T = dropping (optional_size stat + (optional_size selected_stat + 2))
+module _ (selected_stat : t.OptionalResult) (g : Target) (gt : TargetOf selected_stat g) (accepted : List ℤ) (o s : ℤ) (l : ℕ) (c : Core)
+    (n : ℕ) where
+  abbrev T : t.OptionalResult → Parts Act
+  T stat = dropping (optional_size stat + (optional_size selected_stat + 2))
 
-  abbrev Behind : Parts Act
-  Behind = settling_selector selected_stat (optional_size stat + 4) ▸ settling stat 1 accepted ▸ T
+  abbrev Behind : t.OptionalResult → Parts Act
+  Behind stat = settling_selector selected_stat (optional_size stat + 4) ▸ settling stat 1 accepted ▸ T stat
 
-  abbrev sets : ℤ → Does (Unit {0})
-  sets v = set_selector g v ▹ (λ u. settle stat h accepted v)
+  abbrev sets : t.OptionalResult → Target → ℤ → Does (Unit {0})
+  sets stat h v = set_selector g v ▹ (λ u. settle stat h accepted v)
 
   abbrev C : Core
   C = pushed o (pushed s (with_target c g))
 
   -- both, where the numbers between are these
-  by_numbers : TargetOf stat h → (xs : List ℤ) (v : ℤ) (w : State) → Kept n w → with_state w (over_target c xs g) ≡ pushed v
-      (over_owner c g o s h w)
+  by_numbers : (stat : t.OptionalResult) (h : Target) → TargetOf stat h → (xs : List ℤ) (v : ℤ) (w : State) → Kept n w
+      → with_state w (over_target c xs g) ≡ pushed v (over_owner c g o s h w)
       → ((y : State) → with_state y (over_target c xs g) ≡ pushed v (over_owner c g o s h y))
       → suc (length xs) ≡ optional_size stat + 4
-      → Comes (put_nothing c) (Keeps n) (sets v l w) (told Behind l (pushed v (over_owner c g o s h w)))
-  by_numbers ht xs v w k e same size =
-      subst (λ m. Comes (put_nothing c) (Keeps n) (sets v l w) (told (settling_selector selected_stat m ▸ settling stat 1 accepted ▸ T) l
-      (pushed v (over_owner c g o s h w)))) size
+      → Comes (put_nothing c) (Keeps n) (sets stat h v l w) (told (Behind stat) l (pushed v (over_owner c g o s h w)))
+  by_numbers stat h ht xs v w k e same size =
+      subst (λ m. Comes (put_nothing c) (Keeps n) (sets stat h v l w)
+      (told (settling_selector selected_stat m ▸ settling stat 1 accepted ▸ T stat) l (pushed v (over_owner c g o s h w)))) size
       (comes_then (put_nothing (over_target c xs g)) (Keeps n) (put_nothing c) (Keeps n) (set_selector g v l w)
-      (told (settling_selector selected_stat (suc (length xs))) l (pushed v (over_owner c g o s h w)))
-      (λ p. settle stat h accepted v l p.1)
-      (told (settling stat 1 accepted ▸ T) l) (selector_set selected_stat g gt xs v l w c (over_owner c g o s h w) n k e)
-      (λ u y j. subst (λ d. Comes (put_nothing c) (Keeps n) (settle stat h accepted v l y) (told (settling stat 1 accepted ▸ T) l d))
+      (told (settling_selector selected_stat (suc (length xs))) l (pushed v (over_owner c g o s h w))) (λ p. settle stat h accepted v l p.1)
+      (told (settling stat 1 accepted ▸ T stat) l) (selector_set selected_stat g gt xs v l w c (over_owner c g o s h w) n k e)
+      (λ u y j. subst (λ d. Comes (put_nothing c) (Keeps n) (settle stat h accepted v l y) (told (settling stat 1 accepted ▸ T stat) l d))
       (sym (same y))
-      (settle_comes stat h ht accepted T v l y C c n j (λ x. all_dropped stat h ht selected_stat g gt l c o s x))))
+      (settle_comes stat h ht accepted (T stat) v l y C c n j (λ x. all_dropped stat h ht selected_stat g gt l c o s x))))
 
-  pub both_set : TargetOf stat h → (v : ℤ) (w : State) → Kept n w
-      → Comes (put_nothing c) (Keeps n) (sets v l w) (told Behind l (pushed v (over_owner c g o s h w)))
-  both_set none v w k = by_numbers none (s ∷ o ∷ v ∷ []) v w k refl (λ y. refl) refl
-  both_set (whole u j) v w k = by_numbers (whole u j) (s ∷ o ∷ v ∷ []) v w k refl (λ y. refl) refl
-  both_set (part u x es j i) v w k = by_numbers (part u x es j i) (s ∷ o ∷ i ∷ v ∷ []) v w k refl (λ y. refl) refl
+  both_set : (stat : t.OptionalResult) (h : Target) → TargetOf stat h → (v : ℤ) (w : State) → Kept n w
+      → Comes (put_nothing c) (Keeps n) (sets stat h v l w) (told (Behind stat) l (pushed v (over_owner c g o s h w)))
+  both_set stat h none v w k = by_numbers stat h none (s ∷ o ∷ v ∷ []) v w k refl (λ y. refl) refl
+  both_set stat h (whole u j) v w k = by_numbers stat h (whole u j) (s ∷ o ∷ v ∷ []) v w k refl (λ y. refl) refl
+  both_set stat h (part u x es j i) v w k = by_numbers stat h (part u x es j i) (s ∷ o ∷ i ∷ v ∷ []) v w k refl (λ y. refl) refl
 
   -- what the reply gives
-  pub replied : TargetOf stat h → (q : Reply) (w : State) → Kept n w
-      → Comes (put_nothing c) (Keeps n) ((cell_status q ▹ sets) l w)
-      (and_then (told (doing (stack a.accessed ∷ [])) l (with_status q (over_owner c g o s h w))) (told Behind l))
-  replied ht (replies.Number (pos v)) w k = both_set ht (pos v) w k
-  replied ht (replies.Number (negsuc v)) w k = tt
-  replied ht replies.Dead w k = both_set ht failed_image w k
-  replied ht replies.Absent w k = refl
-  replied ht q w k = tt
+  pub replied : (stat : t.OptionalResult) (h : Target) → TargetOf stat h → (q : Reply) (w : State) → Kept n w
+      → Comes (put_nothing c) (Keeps n) ((cell_status q ▹ sets stat h) l w)
+      (and_then (told (doing (stack a.accessed ∷ [])) l (with_status q (over_owner c g o s h w))) (told (Behind stat) l))
+  replied stat h ht (replies.Number (pos v)) w k = both_set stat h ht (pos v) w k
+  replied stat h ht (replies.Number (negsuc v)) w k = tt
+  replied stat h ht replies.Dead w k = both_set stat h ht failed_image w k
+  replied stat h ht replies.Absent w k = refl
+  replied stat h ht q w k = tt
 
 module _ (limit : ℕ) (e : Environment) (calls : ℕ → List Passed → Does Value) where
   -- what comes behind the place and the image of a part of rank 0
@@ -228,7 +231,7 @@ module _ (limit : ℕ) (e : Environment) (calls : ℕ → List Passed → Does V
       (λ p y q k. selector_comes e calls (put_nothing c) (Keeps c.used) 64 i 0 cs which stat p (F p) R l y c room k q
       (λ f room'. scalars_come e calls 64 cs l f room' v.0) (λ f room'. selected_team_comes e calls 64 which l f room' v.1)
       (λ f room'. target_comes e calls 64 stat l f room' v.2)
-      (λ m g u gt j. at_point c (t.selector cs which stat) F R l more p m g u q gt (kept_more c.used y u k j)))
+      (λ m g u gt j. at_point c (t.selector cs which stat) F R l more p m g u q gt j))
 
   -- a statement with one ask of a cell
   module _ (X : ℕ → Act) (x : ℕ → Place → ℕ → Ask)
@@ -260,7 +263,7 @@ module _ (limit : ℕ) (e : Environment) (calls : ℕ → List Passed → Does V
         (apart (put_nothing c) (Keeps n) (M l w) (of_effect l Y (settled (X i) (operate (X i) Y))) V B
         (subst (λ o. Comes (put_nothing c) (Keeps n) (M l w) (and_then (of_effect l Y (settled (X i) o)) (λ d. and_then (V d) B)))
         (sym (acts i m s D))
-        ((λ r. and_then (V (with_status r D)) B), refl, λ r. replied stat h (stat_of sel) g gt accepted (pos m) s l c n ht r w k))))
+        ((λ r. and_then (V (with_status r D)) B), refl, λ r. replied (stat_of sel) g gt accepted (pos m) s l c n stat h ht r w k))))
 
     pub stated : (c : Core) (i : ℕ) (ss : t.Subscripts) (sel : t.Selector) (stat : t.OptionalResult) (accepted : List ℤ) (l : ℕ)
         → HasRoom 64 c

@@ -37,7 +37,7 @@ use Rattle.direct_meaning.specs.States.{array_in}
 use Rattle.direct_meaning.specs.Outcomes.{Outcome, done, faults, over, unsaid, Does, giving, fault, nothing_said, ◌▹◌, asking, unless, of_found, changing}
 use Rattle.direct_meaning.specs.Outcomes as o
 use Rattle.direct_meaning.specs.Values.{Value, number, array, as_number, using, scalar, set_scalar, part_of, set_elements, coarray_part, need_own}
-use Rattle.direct_meaning.specs.Images.{current_team, members, the, this_image, image, team}
+use Rattle.direct_meaning.specs.Images.{current_team, members, the, this_image, image}
 use Rattle.direct_meaning.specs.Expressions.{Passed, Target, nowhere, set_target, is_scalar, value, all_of, scalars, as_written, selected_team, selected, optional_target}
 use Rattle.direct_meaning.specs.Synchronizing.{ending, settle, round, number_in, child_team, near_team, enter_team, leave_team, form_round, note_teams, delete_all, cell_status, tried_status, set_selector, wait_for}
 

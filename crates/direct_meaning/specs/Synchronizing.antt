@@ -28,7 +28,7 @@ use Rattle.tree_meaning.specs.Settling.{is_accepted}
 use Rattle.direct_meaning.specs.States.{State, own_in}
 use Rattle.direct_meaning.specs.Outcomes.{over, Does, giving, fault, nothing_said, ◌▹◌, asking, unless, of_some, changing}
 use Rattle.direct_meaning.specs.Values.{set_scalar}
-use Rattle.direct_meaning.specs.Images.{current_team, the, team, image}
+use Rattle.direct_meaning.specs.Images.{current_team, the, team}
 use Rattle.direct_meaning.specs.Expressions.{Target, set_target}
 
 -- the last ask of an image
@@ -140,9 +140,11 @@ cell_status replies.Dead = giving failed_image
 cell_status replies.Absent = fault not_allocated
 cell_status reply = nothing_said
 
--- with ACQUIRED_LOCK= (11.6.10): whether the lock was acquired, as it is too where its last holder failed; the status
+-- with ACQUIRED_LOCK= (11.6.10): whether the lock was acquired, as it is too where its last holder failed; and the
+-- status, which is 0 where another image holds it
 abbrev pub tried_status : Reply → Does (ℤ × ℤ)
 tried_status (replies.Number (pos n)) = giving (truth (int_eq (pos n) (pos 0) || int_eq (pos n) unlocked_failed_image), pos n)
+tried_status replies.Busy = giving (pos 0, pos 0)
 tried_status replies.Dead = giving (pos 0, failed_image)
 tried_status replies.Absent = fault not_allocated
 tried_status reply = nothing_said
