@@ -28,7 +28,7 @@ use Rattle.direct_meaning.specs.Values.{Value}
 use Rattle.direct_meaning.specs.Expressions.{Passed}
 use Rattle.direct_meaning.specs.Statements as meaning
 use Rattle.direct_meaning.specs.Synchronizing.{ending}
-use Rattle.direct_meaning.specs.Statements.{Control, onward, exits, cycles, returns, Executes, sync_all, sync_memory, sync_images, sync_team, locked, unlocked, posted, waited, enter_critical, change_team, end_team, simply, num, or_number, in_some, assignment, output, do_parameters, counted_loop, while_loop, form, block, else_ifs, cases, followed}
+use Rattle.direct_meaning.specs.Statements.{Control, onward, exits, cycles, returns, Executes, sync_all, sync_memory, sync_images, sync_team, locked, unlocked, posted, waited, enter_critical, form_team, change_team, end_team, simply, num, or_number, in_some, assignment, output, do_parameters, counted_loop, while_loop, form, block, else_ifs, cases, followed}
 use Rattle.direct_meaning.proofs.Walks.{says}
 use Rattle.direct_laws.specs.Laws.{IsCovered}
 use Rattle.direct_output.specs.Laws.{literals_in}
@@ -46,6 +46,7 @@ use Rattle.direct_control.proofs.Blind.{b_sync_all, b_sync_memory, b_sync_images
 use Rattle.direct_control.proofs.Performing.{sync_all_performs, sync_memory_performs, sync_images_performs, sync_team_performs, critical_performs}
 use Rattle.direct_locks.proofs.Locking.{b_locked, b_unlocked, b_posted, b_waited, lock_performs, unlock_performs, post_performs, wait_performs}
 use Rattle.direct_teams.proofs.Teams.{b_change_team, b_end_team, change_performs, end_performs}
+use Rattle.direct_forming.proofs.Forming.{b_form_team, form_performs}
 use Rattle.direct_flow.proofs.Around.{around_walks, exit_walks}
 use Rattle.direct_flow.specs.Laws.{IsStatement, IsBlock, AreElseIfs, AreCases, BlockLaw}
 use Rattle.direct_flow.proofs.Heads.{Onward, Tells, condition_walks, simple_walks, assign_only, print_only}
@@ -281,7 +282,9 @@ module _ (procedures : ℕ → Steps Act) (limit : ℕ) (e : Environment) (calls
     statement_walks (s.sync_team x stat) h l n ts c b z i r =
         simply_walks procedures limit e most lines (sync_team limit e calls x stat) (control.sync_team e x stat) l n h ts c b z
         (b_sync_team limit e calls blind x stat) (sync_team_performs limit e calls l x stat i.0 i.1) r
-    statement_walks (s.form_team x v index stat order) h l n ts c b z i r = elim i [ ]
+    statement_walks (s.form_team x v index stat order) h l n ts c b z i r =
+        simply_walks procedures limit e most lines (form_team limit e calls x v index stat order) (control.form_team e x v index stat order) l n h ts
+        c b z (b_form_team limit e calls blind x v index stat order) (form_performs limit e calls x v index stat order l i.0 i.1 i.2) r
     statement_walks (s.lock d (t.result x) stat order) h l n ts c b z i r = elim i [ ]
     statement_walks (s.lock d t.no_result stat order) h l n ts c b z i r =
         simply_walks procedures limit e most lines (locked limit e calls d t.no_result stat order)

@@ -46,6 +46,7 @@ module _ (most lines : ℕ) where
     IsStatement h (s.sync_memory stat) = IsControl (s.sync_memory stat)
     IsStatement h (s.sync_images is stat) = IsControl (s.sync_images is stat)
     IsStatement h (s.sync_team x stat) = IsControl (s.sync_team x stat)
+    IsStatement h (s.form_team x v index stat order) = IsCovered x × OptionWithin 64 index × ResultWithin 64 stat
     IsStatement h (s.lock d acquired stat order) = IsLocking (s.lock d acquired stat order)
     IsStatement h (s.unlock d stat) = IsLocking (s.unlock d stat)
     IsStatement h (s.event_post d stat) = IsLocking (s.event_post d stat)
