@@ -37,13 +37,27 @@ with_team s x (Some k) c = with_cell s x (pos k.team) c
 abbrev pub knowing : List Team → Core → Core
 knowing ks c = record c { known = ks ++ c.known; formed = [] }
 
+-- the act, where teams were formed
+abbrev formed_here : Core → ℕ → List FormedTeam → Core
+formed_here D j fs = record D { round = Some j; formed = fs }
+
+abbrev known_here : Core → ℕ → List FormedTeam → Core
+known_here D j fs = knowing (map (formed_in (current_team D) j) fs) (formed_here D j fs)
+
+noted_by : (s : Scope) (x l : ℕ) (D : Core) (j : ℕ) (own : List FormedTeam → Option Team) → own [] ≡ None
+    → ((f : FormedTeam) (fs : List FormedTeam)
+    → own (f ∷ fs) ≡ cond (is_in D.me (formed_in (current_team D) j f).members) (Some (formed_in (current_team D) j f)) (own fs))
+    → ((fs : List FormedTeam)
+    → told (doing (Act.team (a.note_teams s x) ∷ [])) l (formed_here D j fs) ≡ done (with_team s x (own fs) (known_here D j fs)))
+    → (fs : List FormedTeam) → told (doing (Act.team (a.note_teams s x) ∷ [])) l (formed_here D j fs)
+    ≡ done (with_team s x (team_of_image D.me (map (formed_in (current_team D) j) fs)) (known_here D j fs))
+noted_by s x l D j own none more acts fs =
+    acts fs ∙ ap (λ o. done (with_team s x o (known_here D j fs))) (own_is D.me (current_team D) j own none more fs)
+
 pub noted_told : (s : Scope) (x l : ℕ) (D : Core) (j : ℕ) (fs : List FormedTeam)
-    → told (doing (Act.team (a.note_teams s x) ∷ [])) l (record D { round = Some j; formed = fs })
-    ≡ done (with_team s x (team_of_image D.me (map (formed_in (current_team D) j) fs))
-    (knowing (map (formed_in (current_team D) j) fs) (record D { round = Some j; formed = fs })))
-noted_told s x l D j fs =
-    ap (λ o. done (with_team s x o (knowing (map (formed_in (current_team D) j) fs) (record D { round = Some j; formed = fs }))))
-    (own_is D.me (current_team D) j _ refl (λ f gs. refl) fs)
+    → told (doing (Act.team (a.note_teams s x) ∷ [])) l (formed_here D j fs)
+    ≡ done (with_team s x (team_of_image D.me (map (formed_in (current_team D) j) fs)) (known_here D j fs))
+noted_told s x l D j = noted_by s x l D j _ refl (λ f fs. refl) (λ fs. refl)
 
 -- and then the status
 module _ (stat : t.OptionalResult) (g : Target) (i : TargetOf stat g) (p : Parts Act) (l : ℕ) (s : Scope) (x : ℕ) (c C : Core)
