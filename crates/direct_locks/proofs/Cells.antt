@@ -1,7 +1,6 @@
 -- The cell of a lock or an event: its place and its image, and the ask of it with its status.
-use Rattle.std.proofs.Common.{arith, ◌≡◌, refl, ap, sym, subst, ◌∙◌, ℕ, suc, ◌+◌, ◌||◌, ℤ, pos, negsuc, not, Bool, true, false, cond, List, [], ◌∷◌, length}
+use Rattle.std.proofs.Common.{arith, ◌≡◌, refl, ap, sym, subst, ◌∙◌, ℕ, suc, ◌+◌, ◌||◌, ℤ, pos, negsuc, Bool, true, false, cond, List, [], ◌∷◌, length}
 use Rattle.std.specs.Ordering.{int_eq}
-use Rattle.caf_base.specs.Arithmetic.{truth}
 use Rattle.caf_events.specs.declared.ask.Ask.{Ask}
 use Rattle.caf_events.specs.declared.reply.Reply.{Reply}
 use Rattle.caf_events.specs.declared.reply.Reply.TheVariants as replies
@@ -24,18 +23,17 @@ use Rattle.tree_meaning.specs.Expressions.{form_of, is_scalar, has_selector, sta
 use Rattle.tree_meaning.specs.Settling.{settling, settling_selector}
 use Rattle.tree_meaning.specs.ImageControl as control
 use Rattle.direct_meaning.specs.States.{State, state_of, with_state}
-use Rattle.direct_meaning.specs.Outcomes.{Outcome, done, and_then, Does, giving, ◌▹◌, asking}
+use Rattle.direct_meaning.specs.Outcomes.{Outcome, done, and_then, Does, ◌▹◌, asking}
 use Rattle.direct_meaning.specs.Told.{of_effect, of_test, told}
 use Rattle.direct_meaning.specs.Values.{Value, coarray_part, need_own}
-use Rattle.direct_meaning.specs.Images.{this_image}
-use Rattle.direct_meaning.specs.Expressions.{Passed, Target, nowhere, set_target, all_of, scalars, selected, selected_team, optional_target}
+use Rattle.direct_meaning.specs.Expressions.{Passed, Target, nowhere, all_of, optional_target}
 use Rattle.direct_meaning.specs.Synchronizing.{settle, cell_status, set_selector}
 use Rattle.direct_meaning.specs.Statements.{image_of, on_cell, at_cell}
 use Rattle.direct_agreement.specs.Agreeing.{HasRoom}
-use Rattle.direct_agreement.proofs.Agreement.{Kept, Comes, comes_then, apart, act_first, kept_more, room_beside}
+use Rattle.direct_agreement.proofs.Agreement.{Kept, Comes, comes_then, apart, kept_more, room_beside}
 use Rattle.direct_agreement.proofs.Arrays.{put_subscripts, put_place}
 use Rattle.direct_agreement.proofs.Scalars.{Keeps}
-use Rattle.direct_access.proofs.Owners.{TargetOf, none, whole, part, target_numbers, with_target, put_owner, co_part_comes, own_image_comes, needing_comes}
+use Rattle.direct_access.proofs.Owners.{TargetOf, none, whole, part, with_target, put_owner, co_part_comes, own_image_comes, needing_comes}
 use Rattle.direct_laws.specs.Laws.{HasDimensions, SubscriptsWithin, SelectorWithin, ResultWithin}
 use Rattle.direct_laws.proofs.Subscripts.{Shaped, put_target, Targeted, all_comes, selector_comes}
 use Rattle.direct_laws.proofs.Values.{subscripts_come, scalars_come, selected_team_comes, target_comes}

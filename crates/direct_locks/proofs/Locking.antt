@@ -26,21 +26,19 @@ use Rattle.tree_meaning.specs.Expressions as parts
 use Rattle.tree_meaning.specs.Expressions.{expression, form_of, is_scalar, has_selector, stat_of, optional_size, optional_place, needing_own}
 use Rattle.tree_meaning.specs.Settling.{settling, settling_selector}
 use Rattle.tree_meaning.specs.ImageControl as control
-use Rattle.tree_meaning.specs.Forms as walk
 use Rattle.direct_meaning.specs.States.{state_of, own_in}
-use Rattle.direct_meaning.specs.Outcomes.{Does, giving, ◌▹◌, asking, unless}
+use Rattle.direct_meaning.specs.Outcomes.{Does, giving, ◌▹◌, asking}
 use Rattle.direct_meaning.specs.Told.{told}
 use Rattle.direct_meaning.specs.Values.{Value, as_number, coarray_part, need_own}
 use Rattle.direct_meaning.specs.Images.{this_image, image, the}
-use Rattle.direct_meaning.specs.Expressions.{Passed, Target, nowhere, set_target, value, all_of, scalars, as_written, selected, selected_team, optional_target}
+use Rattle.direct_meaning.specs.Expressions.{Passed, Target, nowhere, value, all_of, as_written, optional_target}
 use Rattle.direct_meaning.specs.Synchronizing.{settle, number_in, cell_status, set_selector, own_cell, wait_for, threshold, this}
-use Rattle.direct_meaning.specs.Statements.{form, num, or_number, image_of, on_cell, at_cell, unlocked, posted, locked, waited}
+use Rattle.direct_meaning.specs.Statements.{or_number, image_of, on_cell, at_cell, unlocked, posted, locked, waited}
 use Rattle.direct_agreement.specs.Agreeing.{HasSpare}
 use Rattle.direct_agreement.proofs.Agreement.{Comes}
 use Rattle.direct_agreement.proofs.Scalars.{Keeps}
-use Rattle.direct_laws.specs.Laws.{HasDimensions, SubscriptsWithin, SelectorWithin, ResultWithin, OptionWithin}
+use Rattle.direct_laws.specs.Laws.{SubscriptsWithin, SelectorWithin, ResultWithin, OptionWithin}
 use Rattle.direct_statements.specs.Laws.{put_nothing}
-use Rattle.direct_released.specs.Laws.{IsFree, parts_in}
 use Rattle.direct_released.proofs.Quiet.{IsQuiet, q_then, q_unless, q_asking, q_number, neither}
 use Rattle.direct_released.proofs.QuietSteps.{q_the, q_coarray_part, q_need_own, q_this_image, q_set_target, q_written}
 use Rattle.direct_released.proofs.QuietTrees.{all_quiet, selected_quiet, selector_of, quiet_value, quiet_subscripts, quiet_scalars, quiet_selected, quiet_target}
@@ -50,12 +48,12 @@ use Rattle.direct_hidden.proofs.Blind.{b_then, b_giving, b_unless, b_asking, b_t
 use Rattle.direct_hidden.proofs.BlindSteps.{b_coarray_part, b_need_own, b_this_image, b_set_target, b_written}
 use Rattle.direct_hidden.proofs.BlindTrees.{blind_all, blind_scalars, blind_selected, blind_target, selected_blind}
 use Rattle.direct_hidden.proofs.BlindStatements.{b_or_number}
-use Rattle.direct_control.specs.Meeting.{Meets, Lies}
+use Rattle.direct_control.specs.Meeting.{Lies}
 use Rattle.direct_control.proofs.Meeting.{comes_meets}
 use Rattle.direct_control.proofs.Quiet.{q_settle, q_number_in}
 use Rattle.direct_control.proofs.Blind.{b_settle, b_number_in}
 use Rattle.direct_control.proofs.Freed.{Performs, simply_meets}
-use Rattle.direct_locks.specs.Laws.{IsCell, IsOwnCell, IsLocking, LockLaw}
+use Rattle.direct_locks.specs.Laws.{IsCell, IsOwnCell, LockLaw}
 use Rattle.direct_locks.proofs.Cells.{stated}
 use Rattle.direct_locks.proofs.Waiting.{wait_comes}
 

@@ -1,10 +1,10 @@
 -- EVENT WAIT (ISO/IEC 1539-1:2018, 11.6.8): its acts come to what it does.
-use Rattle.std.proofs.Common.{◌≡◌, refl, ap, sym, subst, ℕ, ◌+◌, ℤ, pos, max, List, [], ◌∷◌, le_refl}
+use Rattle.std.proofs.Common.{◌≡◌, refl, sym, subst, ℕ, ◌+◌, ℤ, pos, max, List, [], ◌∷◌, le_refl}
 use Rattle.caf_base.specs.Arithmetic.{natural}
 use Rattle.caf_events.specs.declared.ask.Ask.TheVariants as asked
 use Rattle.caf_events.specs.declared.reply.Reply.{Reply}
 use Rattle.caf_events.specs.declared.reply.Reply.TheVariants as replies
-use Rattle.walk_theory.specs.Syntax.{Parts, end_parts}
+use Rattle.walk_theory.specs.Syntax.{Parts}
 use Rattle.walk_theory.specs.Language.{asking as asking_act}
 use Rattle.checked_tree.specs.declared.data.Object.TheVariants as objects
 use Rattle.checked_tree.specs.declared.expr.WrittenOrder.{WrittenOrder}
@@ -39,7 +39,7 @@ use Rattle.direct_laws.proofs.Subscripts.{put_target, Targeted}
 use Rattle.direct_laws.proofs.Values.{value_comes, target_comes}
 use Rattle.direct_statements.specs.Laws.{put_nothing}
 use Rattle.direct_control.proofs.Settling.{settle_comes, target_dropped_with_two}
-use Rattle.direct_locks.proofs.Cells.{point, over_owner, owner_copied, cell_comes}
+use Rattle.direct_locks.proofs.Cells.{point, owner_copied, cell_comes}
 
 -- the number comes beneath the place of the variable
 brought : (stat : t.OptionalResult) (h : Target) → TargetOf stat h → (l : ℕ) (v s : ℤ) (c : Core) (w : State)

@@ -1,6 +1,5 @@
 -- END TEAM deallocates the coarrays that were allocated in the team (ISO/IEC 1539-1:2018, 11.1.5.2).
-use Rattle.std.proofs.Common.{◌≡◌, refl, ap, sym, subst, ℕ, suc, Bool, true, false, cond, List, [], ◌∷◌, Option, None, Some}
-use Rattle.caf_events.specs.declared.ask.Ask.TheVariants as asked
+use Rattle.std.proofs.Common.{refl, sym, subst, ℕ, suc, Bool, true, false, cond, List, [], ◌∷◌, Option, None, Some}
 use Rattle.walk_theory.specs.Syntax.{Parts, end_parts}
 use Rattle.walk_theory.specs.Language.{holds, fails}
 use Rattle.image_acts.specs.Acts as a
@@ -13,10 +12,10 @@ use Rattle.tree_meaning.specs.Sequences.{doing, nothing}
 use Rattle.tree_meaning.specs.ImageControl as control
 use Rattle.tree_meaning.specs.ImageControl.{is_allocatable_in}
 use Rattle.direct_meaning.specs.States.{State, with_state, own_in}
-use Rattle.direct_meaning.specs.Outcomes.{Outcome, done, and_then, Does, giving, ◌▹◌, of_some, changing}
+use Rattle.direct_meaning.specs.Outcomes.{and_then, giving, ◌▹◌, of_some, changing}
 use Rattle.direct_meaning.specs.Told.{of_effect, of_test, told}
 use Rattle.direct_meaning.specs.Images.{current_team}
-use Rattle.direct_meaning.specs.Synchronizing.{is_of_team, without_own, forget_own, delete_own, delete_made, delete_all}
+use Rattle.direct_meaning.specs.Synchronizing.{is_of_team, without_own, delete_own, delete_made, delete_all}
 use Rattle.direct_agreement.proofs.Agreement.{Kept, Comes, comes_then}
 use Rattle.direct_agreement.proofs.Scalars.{Keeps}
 use Rattle.direct_statements.specs.Laws.{put_nothing}

@@ -1,5 +1,5 @@
 -- CHANGE TEAM and END TEAM (ISO/IEC 1539-1:2018, 11.1.5): their acts meet what they do.
-use Rattle.std.proofs.Common.{◌≡◌, refl, ap, sym, subst, ℕ, ◌+◌, ◌*◌, ◌||◌, nat_lt, ℤ, pos, Bool, false, cond, List, [], ◌∷◌, length, Some}
+use Rattle.std.proofs.Common.{◌≡◌, refl, ap, sym, subst, ℕ, ◌+◌, ◌*◌, nat_lt, ℤ, pos, Bool, false, cond, List, [], ◌∷◌, length, Some}
 use Rattle.caf_events.specs.declared.reply.FormedTeam.{FormedTeam}
 use Rattle.caf_events.specs.declared.round.Arriving.TheVariants as arrivals
 use Rattle.walk_theory.specs.Syntax.{Parts, end_parts}
@@ -19,7 +19,7 @@ use Rattle.tree_meaning.specs.Expressions.{expression, optional_size, optional_p
 use Rattle.tree_meaning.specs.Settling.{settling}
 use Rattle.tree_meaning.specs.ImageControl as control
 use Rattle.direct_meaning.specs.States.{State, state_of, with_state}
-use Rattle.direct_meaning.specs.Outcomes.{Outcome, done, and_then, Does, giving, fault, ◌▹◌}
+use Rattle.direct_meaning.specs.Outcomes.{Outcome, and_then, Does, ◌▹◌}
 use Rattle.direct_meaning.specs.Told.{of_effect, told}
 use Rattle.direct_meaning.specs.Values.{Value, as_number}
 use Rattle.direct_meaning.specs.Images.{the, current_team}
