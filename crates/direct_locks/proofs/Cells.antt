@@ -53,7 +53,7 @@ pub point_of : (p : Place) → length p.dims ≡ 0 → p ≡ point p.start
 point_of p h = no_dims p p.dims refl h
 
 -- the coarray has to be there on this image where no selector names one
-needing : (c d : Core) (n i : ℕ) (is_whole : Bool) (sel : t.Selector) (m : Does (Unit {0})) (q : Core → Outcome Core) (l : ℕ)
+pub needing : (c d : Core) (n i : ℕ) (is_whole : Bool) (sel : t.Selector) (m : Does (Unit {0})) (q : Core → Outcome Core) (l : ℕ)
     → Comes (put_nothing c) (Keeps n) (m l (state_of d)) (q d)
     → Comes (put_nothing c) (Keeps n) ((need_own (is_whole || has_selector sel) i ▹ (λ u. m)) l (state_of d))
     (and_then (told (needing_own i is_whole sel) l d) q)
@@ -84,11 +84,11 @@ status_told p s l Y =
     ∙ ap (λ o. and_then o (told p l)) (chosen_status (int_eq s failed_image) s l Y)
 
 -- so many numbers over the place of a variable
-abbrev over_target : Core → List ℤ → Target → Core
+abbrev pub over_target : Core → List ℤ → Target → Core
 over_target c xs g = with_values c (put_numbers xs (with_target c g).values)
 
 -- the variable of the selector gets it, beneath so many numbers, of which the status is the top one
-selector_set : (stat : t.OptionalResult) (g : Target) → TargetOf stat g → (xs : List ℤ) (s : ℤ) (l : ℕ) (w : State) (c Y : Core) (n : ℕ)
+pub selector_set : (stat : t.OptionalResult) (g : Target) → TargetOf stat g → (xs : List ℤ) (s : ℤ) (l : ℕ) (w : State) (c Y : Core) (n : ℕ)
     → Kept n w
     → with_state w (over_target c xs g) ≡ pushed s Y
     → Comes (put_nothing (over_target c xs g)) (Keeps n) (set_selector g s l w) (told (settling_selector stat (suc (length xs))) l

@@ -31,9 +31,9 @@ use Rattle.direct_meaning.specs.Outcomes.{Does, giving, ◌▹◌, asking}
 use Rattle.direct_meaning.specs.Told.{told}
 use Rattle.direct_meaning.specs.Values.{Value, as_number, coarray_part, need_own}
 use Rattle.direct_meaning.specs.Images.{this_image, image, the}
-use Rattle.direct_meaning.specs.Expressions.{Passed, Target, nowhere, value, all_of, as_written, optional_target}
-use Rattle.direct_meaning.specs.Synchronizing.{settle, number_in, cell_status, set_selector, own_cell, wait_for, threshold, this}
-use Rattle.direct_meaning.specs.Statements.{or_number, image_of, on_cell, at_cell, unlocked, posted, locked, waited}
+use Rattle.direct_meaning.specs.Expressions.{Passed, Target, nowhere, set_target, value, all_of, as_written, optional_target}
+use Rattle.direct_meaning.specs.Synchronizing.{settle, number_in, cell_status, tried_status, set_selector, own_cell, wait_for, threshold, this}
+use Rattle.direct_meaning.specs.Statements.{or_number, image_of, on_cell, at_cell, try_cell, unlocked, posted, locked, waited}
 use Rattle.direct_agreement.specs.Agreeing.{HasSpare}
 use Rattle.direct_agreement.proofs.Agreement.{Comes}
 use Rattle.direct_agreement.proofs.Scalars.{Keeps}
@@ -55,6 +55,7 @@ use Rattle.direct_control.proofs.Blind.{b_settle, b_number_in}
 use Rattle.direct_control.proofs.Freed.{Performs, simply_meets}
 use Rattle.direct_locks.specs.Laws.{IsCell, IsOwnCell, LockLaw}
 use Rattle.direct_locks.proofs.Cells.{stated}
+use Rattle.direct_locks.proofs.Trying.{rest, try_comes}
 use Rattle.direct_locks.proofs.Waiting.{wait_comes}
 
 -- steps
@@ -77,6 +78,22 @@ q_set_selector g v = q_set_target g (cond (int_eq v failed_image) failed_image (
 
 b_set_selector : (g : Target) (v : ℤ) → IsBlind (set_selector g v)
 b_set_selector g v = b_set_target g (cond (int_eq v failed_image) failed_image (pos 0))
+
+q_tried_status : (r : Reply) → IsQuiet (tried_status r)
+q_tried_status (replies.Number (pos n)) = λ l z. (refl, refl)
+q_tried_status (replies.Number (negsuc n)) = λ l z. tt
+q_tried_status replies.Busy = λ l z. (refl, refl)
+q_tried_status replies.Dead = λ l z. (refl, refl)
+q_tried_status replies.Absent = λ l z. tt
+q_tried_status r = λ l z. tt
+
+b_tried_status : (r : Reply) → IsBlind (tried_status r)
+b_tried_status (replies.Number (pos n)) = λ hs l z. (refl, (refl, refl))
+b_tried_status (replies.Number (negsuc n)) = λ hs l z. tt
+b_tried_status replies.Busy = λ hs l z. (refl, (refl, refl))
+b_tried_status replies.Dead = λ hs l z. (refl, (refl, refl))
+b_tried_status replies.Absent = λ hs l z. refl
+b_tried_status r = λ hs l z. tt
 
 q_wait_for : (i : ℕ) (p : Place) (v : ℤ) → IsQuiet (wait_for i p v)
 q_wait_for i p v =
@@ -123,6 +140,34 @@ module _ (limit : ℕ) (e : Environment) (calls : ℕ → List Passed → Does V
       (λ u. b_then (asking (x c p m)) (λ r. cell_status r ▹ F) (b_asking (x c p m))
       (λ r. b_then (cell_status r) F (b_cell_status r)
       (λ v. b_then (set_selector g v) (λ u. settle stat h accepted v) (b_set_selector g v) (λ u. b_settle stat h accepted v))))
+
+  q_try_cell : (c : ℕ) (b : Bool) (p : Place) (m : ℕ) (g : Target) (r : t.ResultVariable) (f : Target) (stat : t.OptionalResult)
+      (h : Target)
+      → IsQuiet (try_cell limit e calls c b p m g r f stat h)
+  q_try_cell c b p m g r f stat h =
+      let A : List ℤ = unlocked_failed_image ∷ [] in
+      let X : Ask = asked.TryLock (image m) (span_of c p) in
+      let G : ℤ × ℤ → Does (Unit {0}) = λ z. set_target f z.0 ▹ (λ u. settle stat h A z.1) in
+      let F : ℤ × ℤ → Does (Unit {0}) = λ z. set_selector g z.1 ▹ (λ u. G z) in
+      q_then (need_own b c) (λ u. asking X ▹ (λ q. tried_status q ▹ F)) (q_need_own b c)
+      (λ u. q_then (asking X) (λ q. tried_status q ▹ F) (q_asking X)
+      (λ q. q_then (tried_status q) F (q_tried_status q)
+      (λ z. q_then (set_selector g z.1) (λ u. G z) (q_set_selector g z.1)
+      (λ u. q_then (set_target f z.0) (λ u. settle stat h A z.1) (q_set_target f z.0) (λ u. q_settle stat h A z.1)))))
+
+  b_try_cell : (c : ℕ) (b : Bool) (p : Place) (m : ℕ) (g : Target) (r : t.ResultVariable) (f : Target) (stat : t.OptionalResult)
+      (h : Target)
+      → IsBlind (try_cell limit e calls c b p m g r f stat h)
+  b_try_cell c b p m g r f stat h =
+      let A : List ℤ = unlocked_failed_image ∷ [] in
+      let X : Ask = asked.TryLock (image m) (span_of c p) in
+      let G : ℤ × ℤ → Does (Unit {0}) = λ z. set_target f z.0 ▹ (λ u. settle stat h A z.1) in
+      let F : ℤ × ℤ → Does (Unit {0}) = λ z. set_selector g z.1 ▹ (λ u. G z) in
+      b_then (need_own b c) (λ u. asking X ▹ (λ q. tried_status q ▹ F)) (b_need_own b c)
+      (λ u. b_then (asking X) (λ q. tried_status q ▹ F) (b_asking X)
+      (λ q. b_then (tried_status q) F (b_tried_status q)
+      (λ z. b_then (set_selector g z.1) (λ u. G z) (b_set_selector g z.1)
+      (λ u. b_then (set_target f z.0) (λ u. settle stat h A z.1) (b_set_target f z.0) (λ u. b_settle stat h A z.1)))))
 
   -- what comes behind a cell
   q_image_of : (i : ℕ) (p : Place) (sel : t.Selector) (F : ℕ → Target → Does (Unit {0})) → SelectorWithin 64 sel
@@ -213,6 +258,37 @@ module _ (limit : ℕ) (e : Environment) (calls : ℕ → List Passed → Does V
   lock_performs (t.part (objects.Local v) ss sel) stat order l h w = elim h [ ]
   lock_performs (t.part (objects.Constant v) ss sel) stat order l h w = elim h [ ]
 
+  -- LOCK with ACQUIRED_LOCK=
+  q_tried : (i : ℕ) (ss : t.Subscripts) (sel : t.Selector) (r : t.ResultVariable) (stat : t.OptionalResult) (order : WrittenOrder)
+      → SubscriptsWithin 64 ss → SelectorWithin 64 sel → ResultWithin 64 (t.result r) → ResultWithin 64 stat
+      → takes (control.lock e (t.part (objects.Coarray i) ss sel) (t.result r) stat order) ≡ false
+      → IsQuiet (locked limit e calls (t.part (objects.Coarray i) ss sel) (t.result r) stat order)
+  q_tried i ss sel r stat order w v bw hw q =
+      let b : Bool = is_scalar ss 0 || has_selector sel in
+      let P : Parts Act = optional_place e (t.result r) in
+      let O : Parts Act = optional_place e stat in
+      let W : Parts Act = control.put_down_as_written order P (optional_size (t.result r)) O (optional_size stat) in
+      let R : Parts Act = rest limit e calls i (is_scalar ss 0) sel r stat in
+      let j = neither (takes (control.cell e (t.part (objects.Coarray i) ss sel))) (takes (W ▸ R)) q in
+      let k = down_takes order P O (optional_size (t.result r)) (optional_size stat) (neither (takes W) (takes R) j.1).0 in
+      q_cell i ss sel
+      (λ p m g. as_written order (optional_target e calls (t.result r)) (optional_target e calls stat)
+      (λ f h. try_cell limit e calls i b p m g r f stat h))
+      w v j.0
+      (λ p m g. q_written order (optional_target e calls (t.result r)) (optional_target e calls stat)
+      (λ f h. try_cell limit e calls i b p m g r f stat h)
+      (quiet_target e calls 64 (t.result r) bw k.0) (quiet_target e calls 64 stat hw k.1) (λ f h. q_try_cell i b p m g r f stat h))
+
+  pub try_performs : (d : t.Designator) (r : t.ResultVariable) (stat : t.OptionalResult) (order : WrittenOrder) (l : ℕ) → IsCell d
+      → ResultWithin 64 (t.result r) → ResultWithin 64 stat
+      → Performs (locked limit e calls d (t.result r) stat order) (control.lock e d (t.result r) stat order) l
+  try_performs (t.part (objects.Coarray i) ss sel) r stat order l h w v =
+      performs (locked limit e calls (t.part (objects.Coarray i) ss sel) (t.result r) stat order)
+      (control.lock e (t.part (objects.Coarray i) ss sel) (t.result r) stat order) l (q_tried i ss sel r stat order h.1 h.2 w v)
+      (λ c room. try_comes limit e calls i ss sel r stat order l c room h.0 h.1 h.2 w v)
+  try_performs (t.part (objects.Local u) ss sel) r stat order l h w v = elim h [ ]
+  try_performs (t.part (objects.Constant u) ss sel) r stat order l h w v = elim h [ ]
+
   -- EVENT WAIT
   q_or_number : (x : t.OptionalExpression) (u : ℤ) → OptionWithin 64 x → takes (control.or_number e x (pushing u)) ≡ false
       → IsQuiet (or_number limit e calls x u)
@@ -291,6 +367,19 @@ module _ (limit : ℕ) (e : Environment) (calls : ℕ → List Passed → Does V
         (locked limit e calls d t.no_result stat order)
     b_locked d stat order h = b_with_ask (λ k p m. asked.Lock (image m) (span_of k p)) d stat (unlocked_failed_image ∷ []) h
 
+    pub b_tried : (d : t.Designator) (r : t.ResultVariable) (stat : t.OptionalResult) (order : WrittenOrder) → IsCell d
+        → IsBlind (locked limit e calls d (t.result r) stat order)
+    b_tried (t.part (objects.Coarray i) ss sel) r stat order h =
+        let b : Bool = is_scalar ss 0 || has_selector sel in
+        b_cell i ss sel
+        (λ p m g. as_written order (optional_target e calls (t.result r)) (optional_target e calls stat)
+        (λ f h. try_cell limit e calls i b p m g r f stat h))
+        (λ p m g. b_written order (optional_target e calls (t.result r)) (optional_target e calls stat)
+        (λ f h. try_cell limit e calls i b p m g r f stat h)
+        (blind_target e calls blind (t.result r)) (blind_target e calls blind stat) (λ f h. b_try_cell i b p m g r f stat h))
+    b_tried (t.part (objects.Local u) ss sel) r stat order h = elim h [ ]
+    b_tried (t.part (objects.Constant u) ss sel) r stat order h = elim h [ ]
+
     pub b_waited : (d : t.Designator) (until : t.OptionalExpression) (stat : t.OptionalResult) (order : WrittenOrder) → IsOwnCell d
         → IsBlind (waited limit e calls d until stat order)
     b_waited (t.part (objects.Coarray i) ss t.no_selector) until stat order h =
@@ -309,7 +398,9 @@ pub lock_law : LockLaw
 lock_law limit e calls (s.lock d t.no_result stat order) l n c r b h =
     simply_meets (locked limit e calls d t.no_result stat order) (control.lock e d t.no_result stat order) l n
     (lock_performs limit e calls d stat order l h.0 h.1) c r b
-lock_law limit e calls (s.lock d (t.result x) stat order) l n c r b h = elim h [ ]
+lock_law limit e calls (s.lock d (t.result x) stat order) l n c r b h =
+    simply_meets (locked limit e calls d (t.result x) stat order) (control.lock e d (t.result x) stat order) l n
+    (try_performs limit e calls d x stat order l h.0 h.1 h.2) c r b
 lock_law limit e calls (s.unlock d stat) l n c r b h =
     simply_meets (unlocked limit e calls d stat) (control.unlock e d stat) l n (unlock_performs limit e calls d stat l h.0 h.1) c r b
 lock_law limit e calls (s.event_post d stat) l n c r b h =

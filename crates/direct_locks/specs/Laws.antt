@@ -30,6 +30,7 @@ IsOwnCell d = ⊥
 -- the statements for which the law is proved
 abbrev pub IsLocking : s.StatementForm → Type 0
 IsLocking (s.lock d t.no_result stat order) = IsCell d × ResultWithin 64 stat
+IsLocking (s.lock d (t.result acquired) stat order) = IsCell d × ResultWithin 64 (t.result acquired) × ResultWithin 64 stat
 IsLocking (s.unlock d stat) = IsCell d × ResultWithin 64 stat
 IsLocking (s.event_post d stat) = IsCell d × ResultWithin 64 stat
 IsLocking (s.event_wait d until stat order) = IsOwnCell d × OptionWithin 64 until × ResultWithin 64 stat
