@@ -1,5 +1,5 @@
 -- Constructs with a step at each end (ISO/IEC 1539-1:2018, 11.1.5, 11.1.6).
-use Rattle.std.proofs.Common.{◌≡◌, refl, ap, sym, subst, ◌∙◌, ℕ, ◌+◌, ◌≤◌, ℤ, List, [], ◌∷◌, slice_get, arith, le_refl}
+use Rattle.std.proofs.Common.{◌≡◌, refl, ap, sym, subst, ◌∙◌, ℕ, ◌+◌, List, ◌∷◌, slice_get, arith, le_refl}
 use Rattle.caf_events.specs.declared.ask.Ask.TheVariants as asking
 use Rattle.walk_theory.specs.Syntax.{Parts, end_parts, Steps}
 use Rattle.walk_theory.specs.Walks.{Task, Config, run, eval, tally, to}
@@ -17,7 +17,7 @@ use Rattle.direct_meaning.specs.Expressions.{Passed}
 use Rattle.direct_meaning.specs.Statements as meaning
 use Rattle.direct_meaning.specs.Statements.{Control, onward, exits, cycles, returns, Executes, followed, at_line, counting, block}
 use Rattle.direct_hidden.specs.Hiding.{IsBlind}
-use Rattle.direct_walks.specs.Walking.{Beside, core_of, behind, Walks}
+use Rattle.direct_walks.specs.Walking.{Beside, core_of, Walks}
 use Rattle.direct_walks.specs.Ready.{Keeps, IsReady, GoesOn}
 use Rattle.direct_walks.proofs.Walking.{by_step, walks_before, walks_then, walks_as, counted_walks}
 use Rattle.direct_walks.proofs.Cells.{keeps_all}

@@ -3,7 +3,6 @@ use Rattle.std.proofs.Common.{◌≡◌, refl, ap, sym, subst, ◌∙◌, ℕ, s
 use Rattle.caf_base.specs.Arithmetic.{is_true, truth}
 use Rattle.caf_events.specs.declared.ask.Ask.{Ask}
 use Rattle.caf_events.specs.declared.ask.Ask.TheVariants as asking
-use Rattle.caf_events.specs.declared.reply.Reply.{Reply}
 use Rattle.walk_theory.specs.Language.{by_test, holds, fails}
 use Rattle.walk_theory.specs.Syntax.{Parts, end_parts, Branches, Steps, stop, branch}
 use Rattle.walk_theory.specs.Walks.{Task, Loop, Config, run, eval, tally, decide, pick, again, iterate, to, form_tasks}
@@ -21,9 +20,9 @@ use Rattle.tree_meaning.specs.Expressions.{expression}
 use Rattle.tree_meaning.specs.ImageControl as control
 use Rattle.tree_meaning.specs.Forms as walk
 use Rattle.tree_meaning.specs.Forms.{steps, in_ranges, do_start}
-use Rattle.direct_meaning.specs.States.{State, state_of}
+use Rattle.direct_meaning.specs.States.{State}
 use Rattle.direct_meaning.specs.Outcomes.{Outcome, done, faults as faulty, asks as asked, over, unsaid, and_then, Does, giving, ◌▹◌, asking as asking_for}
-use Rattle.direct_meaning.specs.Told.{told, Says, ComesBy}
+use Rattle.direct_meaning.specs.Told.{Says, ComesBy}
 use Rattle.direct_meaning.specs.Values.{Value}
 use Rattle.direct_meaning.specs.Expressions.{Passed}
 use Rattle.direct_meaning.specs.Statements as meaning
@@ -44,7 +43,7 @@ use Rattle.direct_walks.proofs.Loops.{goes_later, goes_here, followed_walks, the
 use Rattle.direct_control.proofs.Walking.{simply_walks}
 use Rattle.direct_control.proofs.Blind.{b_sync_all, b_sync_memory, b_sync_images, b_sync_team, b_critical}
 use Rattle.direct_control.proofs.Performing.{sync_all_performs, sync_memory_performs, sync_images_performs, sync_team_performs, critical_performs}
-use Rattle.direct_locks.proofs.Locking.{b_locked, b_unlocked, b_posted, b_waited, lock_performs, unlock_performs, post_performs, wait_performs}
+use Rattle.direct_locks.proofs.Locking.{b_locked, b_tried, b_unlocked, b_posted, b_waited, lock_performs, try_performs, unlock_performs, post_performs, wait_performs}
 use Rattle.direct_teams.proofs.Teams.{b_change_team, b_end_team, change_performs, end_performs}
 use Rattle.direct_forming.proofs.Forming.{b_form_team, form_performs}
 use Rattle.direct_flow.proofs.Around.{around_walks, exit_walks}
@@ -285,7 +284,9 @@ module _ (procedures : ℕ → Steps Act) (limit : ℕ) (e : Environment) (calls
     statement_walks (s.form_team x v index stat order) h l n ts c b z i r =
         simply_walks procedures limit e most lines (form_team limit e calls x v index stat order) (control.form_team e x v index stat order) l n h ts
         c b z (b_form_team limit e calls blind x v index stat order) (form_performs limit e calls x v index stat order l i.0 i.1 i.2) r
-    statement_walks (s.lock d (t.result x) stat order) h l n ts c b z i r = elim i [ ]
+    statement_walks (s.lock d (t.result x) stat order) h l n ts c b z i r =
+        simply_walks procedures limit e most lines (locked limit e calls d (t.result x) stat order) (control.lock e d (t.result x) stat order) l n h
+        ts c b z (b_tried limit e calls blind d x stat order i.0) (try_performs limit e calls d x stat order l i.0 i.1 i.2) r
     statement_walks (s.lock d t.no_result stat order) h l n ts c b z i r =
         simply_walks procedures limit e most lines (locked limit e calls d t.no_result stat order)
         (control.lock e d t.no_result stat order) l n h ts
