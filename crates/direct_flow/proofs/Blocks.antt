@@ -3,10 +3,9 @@ use Rattle.std.proofs.Common.{◌≡◌, refl, ap, sym, subst, ◌∙◌, ℕ, s
 use Rattle.caf_base.specs.Arithmetic.{is_true, truth}
 use Rattle.caf_events.specs.declared.ask.Ask.{Ask}
 use Rattle.caf_events.specs.declared.ask.Ask.TheVariants as asking
-use Rattle.caf_events.specs.declared.reply.Reply.{Reply}
 use Rattle.walk_theory.specs.Language.{by_test, holds, fails}
 use Rattle.walk_theory.specs.Syntax.{Parts, end_parts, Branches, Steps, stop, branch}
-use Rattle.walk_theory.specs.Walks.{Task, Loop, Config, run, eval, decide, pick, again, iterate, to, form_tasks}
+use Rattle.walk_theory.specs.Walks.{Task, Loop, Config, run, eval, tally, decide, pick, again, iterate, to, form_tasks}
 use Rattle.checked_tree.specs.declared.statement.CaseRange.{CaseRange}
 use Rattle.checked_tree.specs.Expressions as t
 use Rattle.checked_tree.specs.Statements as s
@@ -18,15 +17,17 @@ use Rattle.image_acts.specs.Operate.Printing.{open_portions}
 use Rattle.tree_meaning.specs.Environment.{Environment, scope_of, hidden_cell}
 use Rattle.tree_meaning.specs.Sequences.{◌▸◌, doing, pushing, released}
 use Rattle.tree_meaning.specs.Expressions.{expression}
+use Rattle.tree_meaning.specs.ImageControl as control
 use Rattle.tree_meaning.specs.Forms as walk
 use Rattle.tree_meaning.specs.Forms.{steps, in_ranges, do_start}
-use Rattle.direct_meaning.specs.States.{State, state_of}
-use Rattle.direct_meaning.specs.Outcomes.{Outcome, done, faults as faulty, asks as asked, over, unsaid, and_then, Does, giving}
-use Rattle.direct_meaning.specs.Told.{told, Says, ComesBy}
+use Rattle.direct_meaning.specs.States.{State}
+use Rattle.direct_meaning.specs.Outcomes.{Outcome, done, faults as faulty, asks as asked, over, unsaid, and_then, Does, giving, ◌▹◌, asking as asking_for}
+use Rattle.direct_meaning.specs.Told.{Says, ComesBy}
 use Rattle.direct_meaning.specs.Values.{Value}
 use Rattle.direct_meaning.specs.Expressions.{Passed}
 use Rattle.direct_meaning.specs.Statements as meaning
-use Rattle.direct_meaning.specs.Statements.{Control, onward, exits, cycles, returns, Executes, ending, num, or_number, in_some, assignment, output, do_parameters, counted_loop, while_loop, form, block, else_ifs, cases, followed}
+use Rattle.direct_meaning.specs.Synchronizing.{ending}
+use Rattle.direct_meaning.specs.Statements.{Control, onward, exits, cycles, returns, Executes, sync_all, sync_memory, sync_images, sync_team, locked, unlocked, posted, waited, enter_critical, form_team, change_team, end_team, simply, num, or_number, in_some, assignment, output, do_parameters, counted_loop, while_loop, form, block, else_ifs, cases, followed}
 use Rattle.direct_meaning.proofs.Walks.{says}
 use Rattle.direct_laws.specs.Laws.{IsCovered}
 use Rattle.direct_output.specs.Laws.{literals_in}
@@ -39,19 +40,28 @@ use Rattle.direct_walks.proofs.Walking.{Only, by_step, by_more, walks_before, wa
 use Rattle.direct_walks.proofs.Cells.{with_kept, hidden_get, hidden_set, set_same, set_other, keeps_all, ready_beside}
 use Rattle.direct_walks.proofs.Cases.{true_back, ranges_told}
 use Rattle.direct_walks.proofs.Loops.{goes_later, goes_here, followed_walks, the_loop, while_walks}
+use Rattle.direct_control.proofs.Walking.{simply_walks}
+use Rattle.direct_control.proofs.Blind.{b_sync_all, b_sync_memory, b_sync_images, b_sync_team, b_critical}
+use Rattle.direct_control.proofs.Performing.{sync_all_performs, sync_memory_performs, sync_images_performs, sync_team_performs, critical_performs}
+use Rattle.direct_locks.proofs.Locking.{b_locked, b_tried, b_unlocked, b_posted, b_waited, lock_performs, try_performs, unlock_performs, post_performs, wait_performs}
+use Rattle.direct_teams.proofs.Teams.{b_change_team, b_end_team, change_performs, end_performs}
+use Rattle.direct_forming.proofs.Forming.{b_form_team, form_performs}
+use Rattle.direct_flow.proofs.Around.{around_walks, exit_walks}
 use Rattle.direct_flow.specs.Laws.{IsStatement, IsBlock, AreElseIfs, AreCases, BlockLaw}
 use Rattle.direct_flow.proofs.Heads.{Onward, Tells, condition_walks, simple_walks, assign_only, print_only}
 use Rattle.direct_flow.proofs.Counting.{next_value, do_loop, Started, start_walks, iterations_walk}
 
 -- the last ask is never done
-ended_only : (P : Control × ℕ → State → Type 0) (l : ℕ) (g : ℤ → Ask) (m : Outcome (ℤ × State)) → Only P (and_then m (λ p. ending (g p.0) l p.1))
+ended_only : (P : Control × ℕ → State → Type 0) (l : ℕ) (g : ℤ → Ask) (m : Outcome (ℤ × State))
+    → Only P (and_then m (λ p. ending (g p.0) l p.1))
 ended_only P l g (done p) = λ r. tt
 ended_only P l g (faulty k j z) = tt
 ended_only P l g (asked q j z f) = λ r. ended_only P l g (f r)
 ended_only P l g (over z) = tt
 ended_only P l g unsaid = tt
 
-module _ (procedures : ℕ → Steps Act) (limit : ℕ) (e : Environment) (calls : ℕ → List Passed → Does Value) (blind : AreBlind calls) (most lines : ℕ) where
+module _ (procedures : ℕ → Steps Act) (limit : ℕ) (e : Environment) (calls : ℕ → List Passed → Does Value) (blind : AreBlind calls)
+    (most lines : ℕ) where
   abbrev On : ℕ → List (Task Act) → Core → Beside → ℕ → Control × ℕ → State → Config Act Core → Type 0
   On h ts c b n q z d = GoesOn e most lines h ts c b n q z d
 
@@ -87,7 +97,8 @@ module _ (procedures : ℕ → Steps Act) (limit : ℕ) (e : Environment) (calls
       (others : Branches Act) (so other : Does (Control × ℕ)) → cell_in here m (core_of c b z) ≡ Some v
       → Does' h ts c b n (so l z) (to (run body ∷ ts) (core_of c b z) n)
       → Does' h ts c b n (other l z) (to (decide others ∷ ts) (core_of c b z) n)
-      → Does' h ts c b n (cond (in_some v rs) so other l z) (to (decide (branch j (doing (in_ranges m rs)) body others) ∷ ts) (core_of c b z) n)
+      → Does' h ts c b n (cond (in_some v rs) so other l z) (to (decide (branch j (doing (in_ranges m rs)) body others) ∷ ts)
+      (core_of c b z) n)
   range_walks h l j n m ts c b z v rs body others so other there then' else' =
       let D : Core = core_of c b z in
       let P : Parts Act = doing (in_ranges m rs) in
@@ -99,8 +110,10 @@ module _ (procedures : ℕ → Steps Act) (limit : ℕ) (e : Environment) (calls
       subst (λ o. Says procedures limit o us n B) (ranges_told m v j rs D there) (says procedures limit P j us n D) in
       walks_before procedures limit (On h ts c b n) (cond (in_some v rs) so other l z) A E
       (by_more procedures limit A B E (by_step procedures limit A B refl) tells)
-      (chosen_walks procedures limit (On h ts c b n) (in_some v rs) so other l z E D (λ w. to (run body ∷ ts) w n) (λ w. to (decide others ∷ ts) w n)
-      (ap (λ q. by_test (cond q (holds D) (fails D)) (λ w. to (run body ∷ ts) w n) (λ w. to (decide others ∷ ts) w n)) (true_back (in_some v rs)))
+      (chosen_walks procedures limit (On h ts c b n) (in_some v rs) so other l z E D (λ w. to (run body ∷ ts) w n)
+      (λ w. to (decide others ∷ ts) w n)
+      (ap (λ q. by_test (cond q (holds D) (fails D)) (λ w. to (run body ∷ ts) w n) (λ w. to (decide others ∷ ts) w n))
+      (true_back (in_some v rs)))
       then' else')
 
   -- two steps before
@@ -170,7 +183,8 @@ module _ (procedures : ℕ → Steps Act) (limit : ℕ) (e : Environment) (calls
         simple_walks limit e calls procedures blind most lines (s.error_stop code) l n h ts c b z i r
         (b_then (or_number limit e calls code (pos 0)) (λ v. ending (asking.ErrorStop v)) (b_or_number limit e calls blind code (pos 0))
         (λ v. b_ending (asking.ErrorStop v)))
-        (ended_only (Onward limit e calls procedures blind most lines n) l (λ v. asking.ErrorStop v) (or_number limit e calls code (pos 0) l z))
+        (ended_only (Onward limit e calls procedures blind most lines n) l (λ v. asking.ErrorStop v) (or_number limit e calls code
+        (pos 0) l z))
     statement_walks s.fail_image h l n ts c b z i r =
         simple_walks limit e calls procedures blind most lines s.fail_image l n h ts c b z i r (b_ending asking.Fail) (λ q. tt)
     statement_walks (s.exit k) h l n ts c b z i r = goes_here procedures limit e most lines h h ts c b b n n (le_refl h) (keeps_all h b)
@@ -217,8 +231,10 @@ module _ (procedures : ℕ → Steps Act) (limit : ℕ) (e : Environment) (calls
         let us : List (Task Act) = eval l P ∷ iterate L ∷ ts in
         let D : Core = core_of c b z in
         let enough : limit ≤ n + (limit - n) = omega arith in
-        earlier h n ts c b (while_loop limit e calls (limit - n) T (block limit e calls body) n l z) (to (eval l end_parts ∷ run stop ∷ us) D n)
-        (to (run stop ∷ us) D n) (to us D n) (by_step procedures limit (to (eval l end_parts ∷ run stop ∷ us) D n) (to (run stop ∷ us) D n) refl)
+        earlier h n ts c b (while_loop limit e calls (limit - n) T (block limit e calls body) n l z)
+        (to (eval l end_parts ∷ run stop ∷ us) D n)
+        (to (run stop ∷ us) D n) (to us D n) (by_step procedures limit (to (eval l end_parts ∷ run stop ∷ us) D n)
+        (to (run stop ∷ us) D n) refl)
         (by_step procedures limit (to (run stop ∷ us) D n) (to us D n) refl)
         (while_walks procedures limit e most lines calls h l T P body ts c
         (λ f y m ry. condition_walks limit e calls procedures blind most lines x l m (iterate L ∷ ts) c f y i.0 ry)
@@ -230,8 +246,10 @@ module _ (procedures : ℕ → Steps Act) (limit : ℕ) (e : Environment) (calls
         let us : List (Task Act) = eval l P ∷ iterate L ∷ ts in
         let D : Core = core_of c b z in
         let enough : limit ≤ n + (limit - n) = omega arith in
-        earlier h n ts c b (while_loop limit e calls (limit - n) T (block limit e calls body) n l z) (to (eval l end_parts ∷ run stop ∷ us) D n)
-        (to (run stop ∷ us) D n) (to us D n) (by_step procedures limit (to (eval l end_parts ∷ run stop ∷ us) D n) (to (run stop ∷ us) D n) refl)
+        earlier h n ts c b (while_loop limit e calls (limit - n) T (block limit e calls body) n l z)
+        (to (eval l end_parts ∷ run stop ∷ us) D n)
+        (to (run stop ∷ us) D n) (to us D n) (by_step procedures limit (to (eval l end_parts ∷ run stop ∷ us) D n)
+        (to (run stop ∷ us) D n) refl)
         (by_step procedures limit (to (run stop ∷ us) D n) (to us D n) refl)
         (while_walks procedures limit e most lines calls h l T P body ts c
         (λ f y m ry.
@@ -251,17 +269,51 @@ module _ (procedures : ℕ → Steps Act) (limit : ℕ) (e : Environment) (calls
     statement_walks (s.call_intrinsic k w) h l n ts c b z i r = elim i [ ]
     statement_walks (s.allocate xs stat) h l n ts c b z i r = elim i [ ]
     statement_walks (s.deallocate xs stat) h l n ts c b z i r = elim i [ ]
-    statement_walks (s.sync_all stat) h l n ts c b z i r = elim i [ ]
-    statement_walks (s.sync_memory stat) h l n ts c b z i r = elim i [ ]
-    statement_walks (s.sync_images is stat) h l n ts c b z i r = elim i [ ]
-    statement_walks (s.sync_team x stat) h l n ts c b z i r = elim i [ ]
-    statement_walks (s.form_team x v index stat order) h l n ts c b z i r = elim i [ ]
-    statement_walks (s.lock d acquired stat order) h l n ts c b z i r = elim i [ ]
-    statement_walks (s.unlock d stat) h l n ts c b z i r = elim i [ ]
-    statement_walks (s.event_post d stat) h l n ts c b z i r = elim i [ ]
-    statement_walks (s.event_wait d until stat order) h l n ts c b z i r = elim i [ ]
-    statement_walks (s.critical k stat body m) h l n ts c b z i r = elim i [ ]
-    statement_walks (s.change_team x stat body end_stat m) h l n ts c b z i r = elim i [ ]
+    statement_walks (s.sync_all stat) h l n ts c b z i r =
+        simply_walks procedures limit e most lines (sync_all limit e calls stat) (control.sync_all e stat) l n h ts c b z
+        (b_sync_all limit e calls blind stat) (sync_all_performs limit e calls l stat i) r
+    statement_walks (s.sync_memory stat) h l n ts c b z i r =
+        simply_walks procedures limit e most lines (sync_memory limit e calls stat) (control.sync_memory e stat) l n h ts c b z
+        (b_sync_memory limit e calls blind stat) (sync_memory_performs limit e calls l stat i) r
+    statement_walks (s.sync_images is stat) h l n ts c b z i r =
+        simply_walks procedures limit e most lines (sync_images limit e calls is stat) (control.sync_images e is stat) l n h ts c b z
+        (b_sync_images limit e calls blind is stat) (sync_images_performs limit e calls l is stat i.0 i.1) r
+    statement_walks (s.sync_team x stat) h l n ts c b z i r =
+        simply_walks procedures limit e most lines (sync_team limit e calls x stat) (control.sync_team e x stat) l n h ts c b z
+        (b_sync_team limit e calls blind x stat) (sync_team_performs limit e calls l x stat i.0 i.1) r
+    statement_walks (s.form_team x v index stat order) h l n ts c b z i r =
+        simply_walks procedures limit e most lines (form_team limit e calls x v index stat order) (control.form_team e x v index stat order) l n h ts
+        c b z (b_form_team limit e calls blind x v index stat order) (form_performs limit e calls x v index stat order l i.0 i.1 i.2) r
+    statement_walks (s.lock d (t.result x) stat order) h l n ts c b z i r =
+        simply_walks procedures limit e most lines (locked limit e calls d (t.result x) stat order) (control.lock e d (t.result x) stat order) l n h
+        ts c b z (b_tried limit e calls blind d x stat order i.0) (try_performs limit e calls d x stat order l i.0 i.1 i.2) r
+    statement_walks (s.lock d t.no_result stat order) h l n ts c b z i r =
+        simply_walks procedures limit e most lines (locked limit e calls d t.no_result stat order)
+        (control.lock e d t.no_result stat order) l n h ts
+        c b z (b_locked limit e calls blind d stat order i.0) (lock_performs limit e calls d stat order l i.0 i.1) r
+    statement_walks (s.unlock d stat) h l n ts c b z i r =
+        simply_walks procedures limit e most lines (unlocked limit e calls d stat) (control.unlock e d stat) l n h ts c b z
+        (b_unlocked limit e calls blind d stat i.0) (unlock_performs limit e calls d stat l i.0 i.1) r
+    statement_walks (s.event_post d stat) h l n ts c b z i r =
+        simply_walks procedures limit e most lines (posted limit e calls d stat) (control.event_post e d stat) l n h ts c b z
+        (b_posted limit e calls blind d stat i.0) (post_performs limit e calls d stat l i.0 i.1) r
+    statement_walks (s.event_wait d until stat order) h l n ts c b z i r =
+        simply_walks procedures limit e most lines (waited limit e calls d until stat order)
+        (control.event_wait e d until stat order) l n h ts c b z
+        (b_waited limit e calls blind d until stat order i.0) (wait_performs limit e calls d until stat order l i.0 i.1 i.2) r
+    statement_walks (s.critical k stat body m) h l n ts c b z i r =
+        around_walks procedures limit e calls most lines h l n m ts c b z (enter_critical limit e calls k stat) (control.critical e k stat)
+        (control.end_critical e k) body (λ j. asking_for (asking.Exit k) ▹ (λ q. giving (onward, j)))
+        (b_critical limit e calls blind k stat) (critical_performs limit e calls l k stat i.0) r
+        (λ f y ry. block_walks body h l n (tally m ∷ eval m (control.end_critical e k) ∷ ts) c f y i.1 ry)
+        (λ f y j ry. exit_walks procedures limit e calls most lines h k m ts c f y j ry)
+    statement_walks (s.change_team x stat body end_stat m) h l n ts c b z i r =
+        let Q : Parts Act = released (control.end_team e end_stat) in
+        around_walks procedures limit e calls most lines h l n m ts c b z (change_team limit e calls x stat) (control.change_team e x stat) Q body
+        (simply (end_team limit e calls end_stat)) (b_change_team limit e calls blind x stat) (change_performs limit e calls x stat l i.0 i.1) r
+        (λ f y ry. block_walks body h l n (tally m ∷ eval m Q ∷ ts) c f y i.2 ry)
+        (λ f y j ry. simply_walks procedures limit e most lines (end_team limit e calls end_stat) (control.end_team e end_stat) m j h ts c f y
+        (b_end_team limit e calls blind end_stat) (end_performs limit e calls end_stat m i.3) ry)
 
     block_walks : (ss : s.Statements) (h l n : ℕ) (ts : List (Task Act)) (c : Core) (b : Beside) (z : State) → IsBlock most lines h ss
         → Ready c b z → Does' h ts c b n (block limit e calls ss n l z) (to (run (steps e ss) ∷ ts) (core_of c b z) n)
@@ -295,7 +347,8 @@ module _ (procedures : ℕ → Steps Act) (limit : ℕ) (e : Environment) (calls
         (else_ifs limit e calls others none n) i.0 r (λ y ry. block_walks body h l n ts c b y i.1 ry)
         (λ y ry. else_walks others h l n ts c b y none ns i.2 ry otherwise')
 
-    cases_walks : (xs : s.Cases) (h l n m : ℕ) (ts : List (Task Act)) (c : Core) (b : Beside) (z : State) (v : ℤ) (none : Executes) (ns : Steps Act)
+    cases_walks : (xs : s.Cases) (h l n m : ℕ) (ts : List (Task Act)) (c : Core) (b : Beside) (z : State) (v : ℤ) (none : Executes)
+        (ns : Steps Act)
         → AreCases most lines h xs → Ready c b z → cell_in here m (core_of c b z) ≡ Some v
         → Does' h ts c b n (none n l z) (to (run ns ∷ ts) (core_of c b z) n)
         → Does' h ts c b n (cases limit e calls v xs none n l z) (to (decide (walk.cases e m xs ns) ∷ ts) (core_of c b z) n)
@@ -309,4 +362,5 @@ module _ (procedures : ℕ → Steps Act) (limit : ℕ) (e : Environment) (calls
         (cases_walks others h l n m ts c b z v none ns i.1 r there otherwise')
 
 pub block_law : BlockLaw
-block_law procedures limit e calls blind most lines h ss i l n ts c b z r = block_walks procedures limit e calls blind most lines ss h l n ts c b z i r
+block_law procedures limit e calls blind most lines h ss i l n ts c b z r = block_walks procedures limit e calls blind most lines ss h l n
+    ts c b z i r

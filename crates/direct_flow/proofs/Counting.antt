@@ -1,13 +1,11 @@
 -- DO with a variable (ISO/IEC 1539-1:2018, 11.1.7.4): what it keeps in two hidden cells, the walk reads there.
-use Rattle.std.proofs.Common.{◌≡◌, refl, ap, sym, subst, ◌∙◌, ℕ, zero, suc, ◌+◌, ◌*◌, ◌-◌, ◌≤◌, ◌<◌, ◌&&◌, ℤ, pos, ◌+ℤ◌, int_lt, min, not, Bool, true, false, cond, List, [], ◌∷◌, length, length-set, slice_get, slice_set, Option, None, Some, arith, le_refl}
+use Rattle.std.proofs.Common.{◌≡◌, refl, ap, sym, subst, ◌∙◌, ℕ, zero, suc, ◌+◌, ◌*◌, ◌-◌, ◌≤◌, ◌<◌, ◌&&◌, ℤ, pos, ◌+ℤ◌, int_lt, min, not, Bool, true, false, cond, List, [], ◌∷◌, length, length-set, slice_get, Option, None, Some, arith, le_refl}
 use Rattle.std.specs.Ordering.{int_eq}
 use Rattle.std.proofs.lemmas.Bool.{lt-ltb}
-use Rattle.trace_theory.specs.Machines.{goes}
 use Rattle.caf_base.specs.declared.value.Kind.{Kind}
 use Rattle.caf_base.specs.Arithmetic.{fits_kind, truth, iterations, natural}
-use Rattle.caf_events.specs.declared.reply.Reply.{Reply}
 use Rattle.walk_theory.specs.Language.{goes_to, faults as faulting}
-use Rattle.walk_theory.specs.Syntax.{Parts, end_parts, Steps, stop}
+use Rattle.walk_theory.specs.Syntax.{Parts, end_parts, Steps}
 use Rattle.walk_theory.specs.Walks.{Task, Loop, Config, run, eval, tally, again, iterate, to}
 use Rattle.checked_tree.specs.declared.data.Local.{Local}
 use Rattle.checked_tree.specs.Expressions as t
@@ -17,7 +15,6 @@ use Rattle.image_acts.specs.Faults.{overflow, zero_step}
 use Rattle.image_acts.specs.Acts as a
 use Rattle.image_acts.specs.Acts.{Act, Scope, here, host, variable, operator}
 use Rattle.image_acts.specs.Core.{Core, pushed}
-use Rattle.image_acts.specs.Frames as frames
 use Rattle.image_acts.specs.Frames.{cell_in, with_cell}
 use Rattle.image_acts.specs.Taking.{given, telling, unless as unless_act}
 use Rattle.image_acts.specs.Meaning.{settled}
@@ -44,7 +41,7 @@ use Rattle.direct_released.specs.Laws.{IsFree}
 use Rattle.direct_released.proofs.Quiet.{IsQuiet, q_then, q_giving, q_unless, q_number, scalar_same, neither}
 use Rattle.direct_released.proofs.QuietSteps.{q_set_scalar}
 use Rattle.direct_released.proofs.QuietTrees.{quiet_value}
-use Rattle.direct_hidden.specs.Hiding.{with_hidden, IsBlind}
+use Rattle.direct_hidden.specs.Hiding.{IsBlind}
 use Rattle.direct_hidden.specs.Laws.{AreBlind}
 use Rattle.direct_hidden.proofs.Blind.{b_scalar_of, b_unless, b_set_scalar}
 use Rattle.direct_hidden.proofs.BlindStatements.{b_released, b_do_parameters}

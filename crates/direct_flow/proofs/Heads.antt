@@ -1,6 +1,5 @@
 -- Simple statements, and the heads of constructs: a condition with its evaluation cells, which are free again behind it.
 use Rattle.std.proofs.Common.{◌≡◌, refl, ap, sym, subst, ◌∙◌, ℕ, ℤ, Bool, true, false, cond, List, [], ◌∷◌, le_refl}
-use Rattle.caf_events.specs.declared.reply.Reply.{Reply}
 use Rattle.walk_theory.specs.Syntax.{Parts, Steps}
 use Rattle.walk_theory.specs.Walks.{Task, Config, eval, to}
 use Rattle.checked_tree.specs.declared.data.DataType.{DataType}

@@ -1,4 +1,5 @@
 pub mod Heads
 pub mod Counting
+pub mod Around
 pub mod Blocks
 pub mod Programs

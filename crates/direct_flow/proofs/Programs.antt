@@ -1,8 +1,8 @@
 -- Programs without calls, from their start on.
-use Rattle.std.proofs.Common.{◌≡◌, refl, ap, sym, subst, ◌∙◌, ℕ, ◌+◌, ◌*◌, ◌≤◌, pos, cond, nat_lt, List, [], ◌∷◌, map, length, replicate, None, arith}
+use Rattle.std.proofs.Common.{◌≡◌, refl, ap, sym, subst, ◌∙◌, ℕ, ◌+◌, ◌*◌, ◌≤◌, pos, List, [], ◌∷◌, replicate, None, arith}
 use Rattle.std.proofs.lemmas.List.{length-map, length-replicate}
 use Rattle.caf_events.specs.declared.ask.Ask.TheVariants as asking
-use Rattle.walk_theory.specs.Syntax.{end_parts, act, enter, Steps, body_of}
+use Rattle.walk_theory.specs.Syntax.{end_parts, act, Steps, body_of}
 use Rattle.walk_theory.specs.Walks.{Task, Config, run, eval, tally, back, to}
 use Rattle.checked_tree.specs.Statements as s
 use Rattle.image_acts.specs.Acts.{Act, here, ask, end_program}
@@ -11,9 +11,9 @@ use Rattle.tree_meaning.specs.Environment.{Environment}
 use Rattle.tree_meaning.specs.Forms.{steps, environment_of, bodies}
 use Rattle.tree_meaning.specs.Start.{cell_of, first_core, start_of}
 use Rattle.direct_meaning.specs.States.{State}
-use Rattle.direct_meaning.specs.Outcomes.{Outcome, done, and_then, Does}
-use Rattle.direct_meaning.specs.Told.{ComesBy}
-use Rattle.direct_meaning.specs.Statements.{Control, onward, exits, cycles, returns, Executes, ending, at_line, counting, block, whole}
+use Rattle.direct_meaning.specs.Outcomes.{Outcome, done, and_then}
+use Rattle.direct_meaning.specs.Synchronizing.{ending}
+use Rattle.direct_meaning.specs.Statements.{Control, onward, exits, cycles, returns, counting, block, whole}
 use Rattle.direct_hidden.specs.Laws.{AreBlind}
 use Rattle.direct_walks.specs.Walking.{Beside, core_of, behind, Walks}
 use Rattle.direct_walks.specs.Ready.{IsReady, GoesOn}

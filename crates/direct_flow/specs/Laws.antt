@@ -13,10 +13,12 @@ use Rattle.direct_meaning.specs.Outcomes.{Does, nothing_said}
 use Rattle.direct_meaning.specs.Values.{Value}
 use Rattle.direct_meaning.specs.Expressions.{Passed}
 use Rattle.direct_meaning.specs.Statements.{block, whole}
-use Rattle.direct_laws.specs.Laws.{IsCovered, OptionWithin}
+use Rattle.direct_laws.specs.Laws.{IsCovered, OptionWithin, ResultWithin}
 use Rattle.direct_statements.specs.Laws.{IsAssigned}
 use Rattle.direct_output.specs.Laws.{AreItems, literals_in}
 use Rattle.direct_hidden.specs.Laws.{AreBlind}
+use Rattle.direct_control.specs.Laws.{IsControl}
+use Rattle.direct_locks.specs.Laws.{IsLocking}
 use Rattle.direct_walks.specs.Walking.{Beside, core_of, Walks}
 use Rattle.direct_walks.specs.Ready.{IsReady, GoesOn}
 
@@ -40,6 +42,17 @@ module _ (most lines : ℕ) where
     IsStatement h (s.do_while x body) = IsCovered x × IsBlock h body
     IsStatement h (s.do_forever body) = IsBlock h body
     IsStatement h (s.select x n cs none) = IsCovered x × (h ≤ n) × (n < most) × AreCases (suc n) cs × IsBlock (suc n) none
+    IsStatement h (s.sync_all stat) = IsControl (s.sync_all stat)
+    IsStatement h (s.sync_memory stat) = IsControl (s.sync_memory stat)
+    IsStatement h (s.sync_images is stat) = IsControl (s.sync_images is stat)
+    IsStatement h (s.sync_team x stat) = IsControl (s.sync_team x stat)
+    IsStatement h (s.form_team x v index stat order) = IsCovered x × OptionWithin 64 index × ResultWithin 64 stat
+    IsStatement h (s.lock d acquired stat order) = IsLocking (s.lock d acquired stat order)
+    IsStatement h (s.unlock d stat) = IsLocking (s.unlock d stat)
+    IsStatement h (s.event_post d stat) = IsLocking (s.event_post d stat)
+    IsStatement h (s.event_wait d until stat order) = IsLocking (s.event_wait d until stat order)
+    IsStatement h (s.critical k stat body m) = ResultWithin 64 stat × IsBlock h body
+    IsStatement h (s.change_team x stat body end_stat m) = IsCovered x × ResultWithin 64 stat × IsBlock h body × ResultWithin 64 end_stat
     IsStatement h f = ⊥
 
     pub IsBlock : (h : ℕ) → s.Statements → Type 0

@@ -31,7 +31,8 @@ use Rattle.direct_meaning.specs.Outcomes.{over, Does, giving, ◌▹◌, asking,
 use Rattle.direct_meaning.specs.Values.{Value, number, array, as_number, ◌▹ℤ◌, using, set_scalar, set_elements, part_of, coarray_part, need_own}
 use Rattle.direct_meaning.specs.Images.{this_image, image}
 use Rattle.direct_meaning.specs.Expressions.{Passed, Target, nowhere, set_target, is_scalar, value, all_of, scalars, selected_team, selected, optional_target}
-use Rattle.direct_meaning.specs.Statements.{ending, of_rank, elements_of, converted, spread, place_of_array, place_there, defined, written, write_part, item_of, items_of, released, num, or_number, image_of, assigned, ranked, assignment, items, text_of, output, parameter, do_parameters}
+use Rattle.direct_meaning.specs.Synchronizing.{ending}
+use Rattle.direct_meaning.specs.Statements.{of_rank, elements_of, converted, spread, place_of_array, place_there, defined, written, write_part, item_of, items_of, released, num, or_number, image_of, assigned, ranked, assignment, items, text_of, output, parameter, do_parameters}
 use Rattle.direct_hidden.specs.Hiding.{Alike, IsBlind, with_hidden}
 use Rattle.direct_hidden.specs.Laws.{AreBlind, HiddenLaw}
 use Rattle.direct_hidden.proofs.Blind.{b_then, b_giving, b_cond, b_unless, b_found, b_asking, b_number, b_scalar_then, b_set_scalar, b_changing, same_array}

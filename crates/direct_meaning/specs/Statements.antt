@@ -1,7 +1,6 @@
 -- What a statement does, and where execution goes on (ISO/IEC 1539-1:2018, 10.2, 11.1, 11.2, 11.4 to 11.6, 12.6).
--- Procedure calls, allocation, teams that are formed or changed, locks, events, atomic subroutines and collectives
--- aren't said here.
-use Rattle.std.specs.Prelude.{ℕ, zero, suc, ◌+◌, ◌-◌, ◌==◌, nat_lt, cond, ℤ, pos, ◌+ℤ◌, Bool, false, not, ◌||◌, ◌&&◌, int_le, List, [], ◌∷◌, ◌++◌, map, length, replicate, min, Option, None, Some}
+-- Procedure calls, allocation, atomic subroutines and collectives aren't said here.
+use Rattle.std.specs.Prelude.{ℕ, zero, suc, ◌+◌, ◌-◌, ◌==◌, nat_le, nat_lt, cond, ℤ, pos, ◌+ℤ◌, Bool, false, not, ◌||◌, ◌&&◌, int_le, List, [], ◌∷◌, ◌++◌, map, length, replicate, min, Option, None, Some}
 use Rattle.std.specs.List.{list_all}
 use Rattle.std.specs.Ordering.{int_eq}
 use Rattle.caf_base.specs.declared.value.Kind.{Kind}
@@ -10,7 +9,6 @@ use Rattle.caf_events.specs.declared.ask.Ask.{Ask}
 use Rattle.caf_events.specs.declared.ask.Ask.TheVariants as asks
 use Rattle.caf_events.specs.declared.reply.Reply.{Reply}
 use Rattle.caf_events.specs.declared.reply.Reply.TheVariants as replies
-use Rattle.caf_events.specs.declared.round.Arriving.{Arriving}
 use Rattle.caf_events.specs.declared.round.Arriving.TheVariants as arrivals
 use Rattle.trace_theory.specs.Machines as machine
 use Rattle.checked_tree.specs.declared.data.Object.TheVariants as objects
@@ -18,10 +16,11 @@ use Rattle.checked_tree.specs.declared.data.DataType.{DataType}
 use Rattle.checked_tree.specs.declared.data.Local.{Local}
 use Rattle.checked_tree.specs.declared.statement.CaseRange.{CaseRange}
 use Rattle.checked_tree.specs.declared.statement.CaseRange.TheVariants as ranges
+use Rattle.checked_tree.specs.declared.expr.WrittenOrder.{WrittenOrder}
 use Rattle.checked_tree.specs.Expressions as t
 use Rattle.checked_tree.specs.Statements as s
 use Rattle.caf_base.specs.Arithmetic.{fits_kind, is_true, iterations, value_of}
-use Rattle.image_acts.specs.Statuses.{failed_image, bad_argument, most_iterations}
+use Rattle.image_acts.specs.Statuses.{failed_image, unlocked_failed_image, bad_argument, most_iterations}
 use Rattle.image_acts.specs.Faults.{fault_of, overflow, zero_step, shape_fault, not_allocated}
 use Rattle.image_acts.specs.Core.{Array, Item, integer, logical, literal}
 use Rattle.image_acts.specs.Formats.{listed, formatted}
@@ -34,40 +33,13 @@ use Rattle.image_acts.specs.Operate.Bounds.{same_extents}
 use Rattle.tree_meaning.specs.Environment.{Environment, scope_of, kind_of, literal_text}
 use Rattle.tree_meaning.specs.Expressions.{has_selector}
 use Rattle.tree_meaning.specs.Assignments.{kind_in, rank_in, narrows}
-use Rattle.tree_meaning.specs.Settling.{is_accepted}
 use Rattle.direct_meaning.specs.States.{array_in}
 use Rattle.direct_meaning.specs.Outcomes.{Outcome, done, faults, over, unsaid, Does, giving, fault, nothing_said, ◌▹◌, asking, unless, of_found, changing}
 use Rattle.direct_meaning.specs.Outcomes as o
 use Rattle.direct_meaning.specs.Values.{Value, number, array, as_number, using, scalar, set_scalar, part_of, set_elements, coarray_part, need_own}
-use Rattle.direct_meaning.specs.Images.{current_team, members, the, this_image, image, team}
-use Rattle.direct_meaning.specs.Expressions.{Passed, Target, nowhere, set_target, is_scalar, value, all_of, scalars, selected_team, selected, optional_target}
-
--- the last ask of an image
-abbrev pub ending : {X : Type 0} → Ask → Does X
-ending a = asking a ▹ (λ r l s. over s)
-
--- STAT= gets the status; without it a status but 0 and the accepted ones starts error termination (11.6.11)
-abbrev pub settle : t.OptionalResult → Target → List ℤ → ℤ → Does (Unit {0})
-settle t.no_result g accepted status = cond (is_accepted accepted status) (giving tt) (ending (asks.ErrorStop status))
-settle (t.result r) g accepted status = set_target g status
-
--- an arrival at a team; one that clashes ends the image
-abbrev pub round_of : Reply → Does ℕ
-round_of (replies.Round n) = giving n
-round_of (replies.Clash i l) = λ m z. over z
-round_of reply = nothing_said
-
-abbrev pub left : Reply → Does ℤ
-left (replies.Left status teams) = giving status
-left reply = nothing_said
-
--- a round of a team (11.6.3): the arrival and the departure; its status
-abbrev pub round : ℕ → Arriving → Does ℤ
-round n kind = asking (asks.Arrive (team n) kind) ▹ (λ r. round_of r ▹ (λ k. asking (asks.Leave (team n) k) ▹ left))
-
-abbrev pub number_in : Reply → Does ℤ
-number_in (replies.Number status) = giving status
-number_in reply = nothing_said
+use Rattle.direct_meaning.specs.Images.{current_team, members, the, this_image, image}
+use Rattle.direct_meaning.specs.Expressions.{Passed, Target, nowhere, set_target, is_scalar, value, all_of, scalars, as_written, selected_team, selected, optional_target}
+use Rattle.direct_meaning.specs.Synchronizing.{ending, settle, round, number_in, child_team, near_team, enter_team, leave_team, form_round, note_teams, delete_all, cell_status, tried_status, set_selector, wait_for}
 
 -- a value of its expression's rank (nothing is said of another, which no program has)
 abbrev pub of_rank : ℕ → Value → Does Value
@@ -230,13 +202,85 @@ module _ (limit : ℕ) (e : Environment) (calls : ℕ → List Passed → Does V
   abbrev pub output : s.Format → List s.Item → Does (Unit {0})
   output f xs = items xs ▹ (λ is. text_of f is ▹ (λ text. asking (asks.Print text) ▹ (λ r. giving tt)))
 
-  -- the indices of SYNC IMAGES (11.6.4)
-  abbrev pub image_set : s.ImageSet → Does (List ℤ)
-  image_set s.all_images = the (λ z. counted_from 1 (length (members (current_team z) z)))
-  image_set (s.images x) = value e calls x ▹ (λ v. giving (elements_of v))
+  -- the indices of SYNC IMAGES (11.6.4); nothing is said of more than 256 images, which no run has
+  abbrev pub every_image : ℕ → Does (List ℤ)
+  every_image n = cond (nat_le n 256) (giving (counted_from 1 n)) nothing_said
 
+  abbrev pub image_set : s.ImageSet → Does (List ℤ)
+  image_set s.all_images = the (λ z. length (members (current_team z) z)) ▹ every_image
+  image_set (s.images x) = ranked x ▹ (λ v. giving (elements_of v))
+
+  -- an index that is no image of the team, or stands twice, is a bad argument, and no step is made
   abbrev pub paired : List ℤ → Does ℤ
   paired is = the (λ z. members (current_team z) z) ▹ (λ ms. cond (are_indices_of (length ms) is) (asking (asks.Pair (named ms is)) ▹ (λ r. asking asks.Unpair ▹ number_in)) (giving bad_argument))
+
+  abbrev pub sync_all : t.OptionalResult → Does (Unit {0})
+  sync_all stat = optional_target e calls stat ▹ (λ g. the current_team ▹ (λ i. round i arrivals.Sync ▹ settle stat g []))
+
+  abbrev pub sync_memory : t.OptionalResult → Does (Unit {0})
+  sync_memory stat = optional_target e calls stat ▹ (λ g. asking asks.Memory ▹ (λ r. settle stat g [] (pos 0)))
+
+  abbrev pub sync_images : s.ImageSet → t.OptionalResult → Does (Unit {0})
+  sync_images is stat = image_set is ▹ (λ xs. optional_target e calls stat ▹ (λ g. paired xs ▹ settle stat g []))
+
+  -- the team is one that may be named there where the arrival is made, too
+  abbrev pub sync_team : t.Expression → t.OptionalResult → Does (Unit {0})
+  sync_team x stat = num x ▹ (λ v. near_team v ▹ (λ n. optional_target e calls stat ▹ (λ g. near_team (pos n) ▹ (λ m. round m arrivals.Sync ▹ settle stat g []))))
+
+  -- a missing new index is 0
+  abbrev pub form_team : t.Expression → Local → t.OptionalExpression → t.OptionalResult → WrittenOrder → Does (Unit {0})
+  form_team x v index stat order =
+      num x ▹ (λ k. as_written order (or_number index (pos 0)) (optional_target e calls stat) (λ i g. the current_team ▹ (λ n.
+      form_round n k i ▹ (λ f. note_teams (scope_of v.home) v.variable f.1 f.2 ▹ (λ u. settle stat g [] f.0)))))
+
+  -- the team becomes current whatever the status
+  abbrev pub change_team : t.Expression → t.OptionalResult → Does (Unit {0})
+  change_team x stat =
+      num x ▹ (λ v. child_team v ▹ (λ n. optional_target e calls stat ▹ (λ g. child_team (pos n) ▹ (λ m.
+      round m arrivals.Change ▹ (λ status. enter_team m ▹ (λ u. settle stat g [] status))))))
+
+  abbrev pub end_team : t.OptionalResult → Does (Unit {0})
+  end_team stat =
+      optional_target e calls stat ▹ (λ g. the current_team ▹ (λ i. round i arrivals.End ▹ (λ status.
+      delete_all e e.program.coarrays 0 ▹ (λ u. leave_team ▹ (λ u. settle stat g [] status)))))
+
+  -- the image that failed inside keeps nobody out
+  abbrev pub enter_critical : ℕ → t.OptionalResult → Does (Unit {0})
+  enter_critical c stat = optional_target e calls stat ▹ (λ g. asking (asks.Enter c) ▹ (λ r. number_in r ▹ settle stat g (failed_image ∷ [])))
+
+  -- a lock, an event or an atom: its coarray, whether that needn't be there on this image, its place and its image
+  abbrev pub on_cell : {X : Type 0} → t.Designator → (ℕ → Bool → Place → ℕ → Target → Does X) → Does X
+  on_cell (t.part (objects.Coarray c) ss sel) f = all_of e calls ss 0 ▹ (λ xs. coarray_part c 0 xs ▹ (λ p. image_of c p sel (λ i g. f c (is_scalar ss 0 || has_selector sel) p i g)))
+  on_cell d f = nothing_said
+
+  -- an ask of it, and its status
+  abbrev pub at_cell : (ℕ → Place → ℕ → Ask) → ℕ → Bool → Place → ℕ → Target → t.OptionalResult → Target → List ℤ → Does (Unit {0})
+  at_cell a c there p i g stat h accepted = need_own there c ▹ (λ u. asking (a c p i) ▹ (λ r. cell_status r ▹ (λ z. set_selector g z ▹ (λ u. settle stat h accepted z))))
+
+  abbrev pub unlocked : t.Designator → t.OptionalResult → Does (Unit {0})
+  unlocked d stat = on_cell d (λ c there p i g. optional_target e calls stat ▹ (λ h. at_cell (λ k q m. asks.Unlock (image m) (span_of k q)) c there p i g stat h []))
+
+  abbrev pub posted : t.Designator → t.OptionalResult → Does (Unit {0})
+  posted d stat = on_cell d (λ c there p i g. optional_target e calls stat ▹ (λ h. at_cell (λ k q m. asks.Post (image m) (span_of k q)) c there p i g stat h []))
+
+  -- LOCK: a lock whose last holder failed is acquired
+  abbrev pub try_cell : ℕ → Bool → Place → ℕ → Target → t.ResultVariable → Target → t.OptionalResult → Target → Does (Unit {0})
+  try_cell c there p i g acquired a stat h =
+      need_own there c ▹ (λ u. asking (asks.TryLock (image i) (span_of c p)) ▹ (λ r. tried_status r ▹ (λ z.
+      set_selector g z.1 ▹ (λ u. set_target a z.0 ▹ (λ u. settle stat h (unlocked_failed_image ∷ []) z.1)))))
+
+  abbrev pub locked : t.Designator → t.OptionalResult → t.OptionalResult → WrittenOrder → Does (Unit {0})
+  locked d t.no_result stat order =
+      on_cell d (λ c there p i g. optional_target e calls stat ▹ (λ h. at_cell (λ k q m. asks.Lock (image m) (span_of k q)) c there p i g stat h (unlocked_failed_image ∷ [])))
+  locked d (t.result acquired) stat order =
+      on_cell d (λ c there p i g. as_written order (optional_target e calls (t.result acquired)) (optional_target e calls stat) (λ a h. try_cell c there p i g acquired a stat h))
+
+  -- EVENT WAIT: an event of this image, with the threshold 1 where none is given
+  abbrev pub waited : t.Designator → t.OptionalExpression → t.OptionalResult → WrittenOrder → Does (Unit {0})
+  waited (t.part (objects.Coarray c) ss t.no_selector) until stat order =
+      all_of e calls ss 0 ▹ (λ xs. coarray_part c 0 xs ▹ (λ p. this_image p ▹ (λ i.
+      as_written order (or_number until (pos 1)) (optional_target e calls stat) (λ n h. wait_for c p n ▹ settle stat h []))))
+  waited d until stat order = nothing_said
 
   abbrev pub parameter : Kind → Does ℤ → Does ℤ
   parameter k m = m ▹ (λ v. unless overflow (fits_kind k v) (giving v))
@@ -257,9 +301,15 @@ module _ (limit : ℕ) (e : Environment) (calls : ℕ → List Passed → Does V
     form l (s.stop code) n = or_number code (pos 0) ▹ (λ v. ending (asks.Stop v))  -- 11.4
     form l (s.error_stop code) n = or_number code (pos 0) ▹ (λ v. ending (asks.ErrorStop v))
     form l s.fail_image n = ending asks.Fail  -- 11.5
-    form l (s.sync_all stat) n = simply (optional_target e calls stat ▹ (λ g. the current_team ▹ (λ i. round i arrivals.Sync ▹ settle stat g []))) n  -- 11.6.3
-    form l (s.sync_memory stat) n = simply (optional_target e calls stat ▹ (λ g. asking asks.Memory ▹ (λ r. settle stat g [] (pos 0)))) n  -- 11.6.5
-    form l (s.sync_images is stat) n = simply (image_set is ▹ (λ xs. optional_target e calls stat ▹ (λ g. paired xs ▹ settle stat g []))) n  -- 11.6.4
+    form l (s.sync_all stat) n = simply (sync_all stat) n  -- 11.6.3
+    form l (s.sync_memory stat) n = simply (sync_memory stat) n  -- 11.6.5
+    form l (s.sync_images is stat) n = simply (sync_images is stat) n  -- 11.6.4
+    form l (s.sync_team x stat) n = simply (sync_team x stat) n  -- 11.6.6
+    form l (s.form_team x v index stat order) n = simply (form_team x v index stat order) n  -- 11.6.9
+    form l (s.lock d acquired stat order) n = simply (locked d acquired stat order) n  -- 11.6.10
+    form l (s.unlock d stat) n = simply (unlocked d stat) n  -- 11.6.10
+    form l (s.event_post d stat) n = simply (posted d stat) n  -- 11.6.7
+    form l (s.event_wait d until stat order) n = simply (waited d until stat order) n  -- 11.6.8
     form l (s.if x body others none) n = released (num x) ▹ (λ v. cond (is_true v) (block body n) (else_ifs others (block none) n))  -- 11.1.8
     form l (s.do_counted v k first last step h body) n =  -- 11.1.7.4.1
         released (do_parameters v k first last step)
@@ -268,8 +318,9 @@ module _ (limit : ℕ) (e : Environment) (calls : ℕ → List Passed → Does V
     form l (s.do_forever body) n = while_loop (limit - n) (giving (pos 1)) (block body) n
     form l (s.select x h cs none) n = released (num x) ▹ (λ v. cases v cs (block none) n)  -- 11.1.9
     form l (s.critical c stat body m) n =  -- 11.1.6
-        released (optional_target e calls stat ▹ (λ g. asking (asks.Enter c) ▹ (λ r. number_in r ▹ settle stat g (failed_image ∷ []))))
-        ▹ (λ u. block body n ▹ followed (at_line m (counting (λ k. asking (asks.Exit c) ▹ (λ r. giving (onward, k))))))
+        released (enter_critical c stat) ▹ (λ u. block body n ▹ followed (at_line m (counting (λ k. asking (asks.Exit c) ▹ (λ r. giving (onward, k))))))
+    form l (s.change_team x stat body end_stat m) n =  -- 11.1.5
+        released (change_team x stat) ▹ (λ u. block body n ▹ followed (at_line m (counting (simply (end_team end_stat)))))
     form l f n = nothing_said
 
     -- a block: each statement is counted at its line

@@ -13,7 +13,7 @@ use Rattle.image_acts.specs.Taking.{Acted, tested}
 use Rattle.image_acts.specs.Meaning.{effect_of, image_language}
 use Rattle.tree_meaning.specs.Environment.{Environment}
 use Rattle.tree_meaning.specs.Expressions.{expression}
-use Rattle.direct_meaning.specs.States.{State, state_of}
+use Rattle.direct_meaning.specs.States.{state_of}
 use Rattle.direct_meaning.specs.Outcomes.{Outcome, done, faults as faulty, asks as asked, over, unsaid, and_then}
 
 -- what an act comes to

@@ -34,7 +34,8 @@ use Rattle.direct_meaning.specs.Told.{told}
 use Rattle.direct_meaning.specs.Values.{Value, number, array, as_number, set_scalar, set_elements, part_of, coarray_part, need_own}
 use Rattle.direct_meaning.specs.Images.{this_image, image}
 use Rattle.direct_meaning.specs.Expressions.{Passed, Target, nowhere, set_target, value, all_of, subscripts, scalars, selected, selected_team, optional_target}
-use Rattle.direct_meaning.specs.Statements.{of_rank, ranked, converted, elements_of, spread, place_of_array, place_there, defined, written, write_part, item_of, items_of, items, text_of, output, assigned, assignment, Control, onward, form, ending, or_number}
+use Rattle.direct_meaning.specs.Synchronizing.{ending}
+use Rattle.direct_meaning.specs.Statements.{of_rank, ranked, converted, elements_of, spread, place_of_array, place_there, defined, written, write_part, item_of, items_of, items, text_of, output, assigned, assignment, Control, onward, form, or_number}
 use Rattle.direct_agreement.specs.Agreeing.{Agrees, HasSpare, HasRoom}
 use Rattle.direct_agreement.proofs.Agreement.{Comes, comes_agrees, comes_number, said_apart}
 use Rattle.direct_laws.proofs.Values.{value_comes}

@@ -15,7 +15,8 @@ use Rattle.direct_meaning.specs.States.{State}
 use Rattle.direct_meaning.specs.Outcomes.{Outcome, and_then, Does, giving, nothing_said, ◌▹◌}
 use Rattle.direct_meaning.specs.Values.{Value}
 use Rattle.direct_meaning.specs.Expressions.{Passed}
-use Rattle.direct_meaning.specs.Statements.{Control, onward, exits, cycles, returns, Executes, ending, followed, iterated, counting, while_loop, block}
+use Rattle.direct_meaning.specs.Synchronizing.{ending}
+use Rattle.direct_meaning.specs.Statements.{Control, onward, exits, cycles, returns, Executes, followed, iterated, counting, while_loop, block}
 use Rattle.direct_walks.specs.Walking.{Beside, core_of, behind, Walks}
 use Rattle.direct_walks.specs.Ready.{Keeps, IsReady, GoesOn}
 use Rattle.direct_walks.proofs.Walking.{W, by_step, by_more, walks_before, walks_then, walks_as, counted_by, counted_walks, chosen_walks}

@@ -15,7 +15,7 @@ use Rattle.image_acts.specs.Meaning.{image_language}
 use Rattle.direct_meaning.specs.States.{State, state_of}
 use Rattle.direct_meaning.specs.Outcomes.{Outcome, done, faults as faulty, asks as asked, over, unsaid, and_then, Does}
 use Rattle.direct_meaning.specs.Told.{told, ComesBy, Says}
-use Rattle.direct_meaning.specs.Statements.{ending}
+use Rattle.direct_meaning.specs.Synchronizing.{ending}
 use Rattle.direct_meaning.proofs.Walks.{says}
 use Rattle.direct_agreement.specs.Agreeing.{Agrees}
 use Rattle.direct_hidden.specs.Hiding.{with_hidden, SameFrame, Alike, IsBlind}

@@ -1,0 +1,10 @@
+pub mod Meeting
+pub mod Settling
+pub mod Rounds
+pub mod Control
+pub mod Quiet
+pub mod Blind
+pub mod Freed
+pub mod Walking
+pub mod Pairs
+pub mod Performing

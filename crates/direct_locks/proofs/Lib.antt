@@ -1,0 +1,4 @@
+pub mod Cells
+pub mod Waiting
+pub mod Trying
+pub mod Locking
