@@ -19,7 +19,7 @@ use Rattle.stuck_reports.specs.Fitting.{AskWhatIsKnown}
 use Rattle.stuck_reports.proofs.Stuck.{stuck_report, known_fit}
 
 pub accepted_chain : (x : u.Program) (p : s.Program) → Accepts x p → (limit n : ℕ) (fails_at : ℕ → ℕ) (words : ℕ) (order : Option ℕ) (r : Report) (waits : List Waiting) → n * (2 * words + 4) < most_team
-    → IsProgramReport p limit (coarrays_of p) n fails_at words order r → r.end ≡ ends.Stuck waits → AskWhatIsKnown waits
+    → IsProgramReport p limit (coarrays_of p) n fails_at words order r → r.end ≡ ends.Stuck waits → AskWhatIsKnown (coarrays_of p) waits
     → (links : List ℕ) (close : Close) → IsToldChain n r.trace.entries (as_waits waits) links close → IsChain n r.trace.entries (as_waits waits) links close
 accepted_chain x p accepts limit n fails_at words order r waits few report is known links close told =
     let sound = own_sound x p accepts in

@@ -17,10 +17,10 @@ ghost use Rattle.stuck_reports.specs.Fitting.{AskWhatIsKnown};
 
 /// The report of a stuck run of an accepted program over its own coarrays, with the command's numbers of images and
 /// words, shows why it is stuck: the chain that its trace tells is the chain of its images' waits, where none waits
-/// with a read, a write or an arrival at a collective, of which nothing is said.
+/// with a write, an arrival at a collective, or a read of a lock or an event, of which nothing is said.
 pub fn law_accepted_stuck_reports()
     ensures { (x : units.Program) (p : checked.Program) → Accepts x p
         → (limit n : ℕ) (fails_at : ℕ → ℕ) (words : ℕ) (order : Option ℕ) (r : Report) (waits : List Waiting) → n * (2 * words + 4) < most_team
-        → IsProgramReport p limit (coarrays_of p) n fails_at words order r → r.end ≡ ends.Stuck waits → AskWhatIsKnown waits
+        → IsProgramReport p limit (coarrays_of p) n fails_at words order r → r.end ≡ ends.Stuck waits → AskWhatIsKnown (coarrays_of p) waits
         → (links : List ℕ) (close : Close) → IsToldChain n r.trace.entries (as_waits waits) links close → IsChain n r.trace.entries (as_waits waits) links close }
 {}

@@ -39,7 +39,7 @@ own_sound x p accepts =
 pub next_ask : (x : u.Program) (p : s.Program) → Accepts x p
     → (limit n : ℕ) (fails_at : ℕ → ℕ) (words : ℕ) (t : List Entry) → n * (2 * words + 4) < most_team
     → IsCoreRun (program_rules p limit) (program_begins p (coarrays_of p) n fails_at words) t
-    → (i : ℕ) (a : Ask) → StandsAt p limit (coarrays_of p) n fails_at words t i a → is_known a ≡ true
+    → (i : ℕ) (a : Ask) → StandsAt p limit (coarrays_of p) n fails_at words t i a → is_known (coarrays_of p) a ≡ true
     → is_fit_after (coarrays_of p) n t i a ≡ true
 next_ask x p accepts limit n fails_at words t few core i a h e =
     next_fits p limit (coarrays_of p) n fails_at words t (own_sound x p accepts) core

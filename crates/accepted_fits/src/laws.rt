@@ -42,12 +42,12 @@ pub fn law_run_has_few_teams()
 {}
 
 /// So in a core run of an accepted program over its own coarrays, with such numbers, the next ask of each image fits,
-/// but for a read, a write and an arrival at a collective, of which nothing is said.
+/// but for a write, an arrival at a collective, and a read of a lock or an event, of which nothing is said.
 pub fn law_accepted_next_ask_fits()
     ensures { (x : units.Program) (p : checked.Program) → Accepts x p
         → (limit n : ℕ) (fails_at : ℕ → ℕ) (words : ℕ) (t : List Entry) → n * (2 * words + 4) < most_team
         → IsCoreRun (program_rules p limit) (program_begins p (coarrays_of p) n fails_at words) t
-        → (i : ℕ) (a : Ask) → StandsAt p limit (coarrays_of p) n fails_at words t i a → is_known a ≡ true
+        → (i : ℕ) (a : Ask) → StandsAt p limit (coarrays_of p) n fails_at words t i a → is_known (coarrays_of p) a ≡ true
         → is_fit_after (coarrays_of p) n t i a ≡ true }
 {}
 
@@ -58,5 +58,5 @@ pub fn law_accepted_next_wait_fits()
         → IsCoreRun (program_rules p limit) (program_begins p (coarrays_of p) n fails_at words) t
         → (i line : ℕ) (a : Ask)
         → IsWaiting (program_rules p limit) (program_begins p (coarrays_of p) n fails_at words) t i line a
-        → is_known a ≡ true → is_fit_after (coarrays_of p) n t i a ≡ true }
+        → is_known (coarrays_of p) a ≡ true → is_fit_after (coarrays_of p) n t i a ≡ true }
 {}

@@ -1,3 +1,4 @@
+pub mod AllReads
 pub mod Quiet
 pub mod QuietStatements
 pub mod Points
@@ -6,4 +7,5 @@ pub mod Locks
 pub mod Arguments
 pub mod Queries
 pub mod Atomics
+pub mod Collectives
 pub mod Blocks

@@ -1,11 +1,9 @@
 -- What the place and the owner of one cell come to: the cell is one that a coarray can have, and the owner is an image
 -- of the run.
-use Rattle.std.proofs.Common.{◌≡◌, ◌∙◌, ℕ, zero, suc, ◌+◌, ◌≤◌, ◌<◌, Bool, true, false, cond, List, [], ◌∷◌, ◌++◌, length, refl, ap, ap₂, sym, subst, arith}
-use Rattle.std.specs.Prelude.{map, ℤ, pos, ◌==◌, ◌||◌, not, min, drop, nat_eq, nat_lt, nat_le, slice_get, slice_index_or, Option, None, Some}
-use Rattle.std.proofs.lemmas.Bool.{leb-true, ltb-true, lt-ltb, and_from}
-use Rattle.trace_theory.specs.Entries.{Each}
+use Rattle.std.proofs.Common.{◌≡◌, ℕ, zero, suc, ◌+◌, ◌≤◌, ◌<◌, Bool, true, false, List, [], ◌∷◌, ◌++◌, length, refl, ap, ap₂, sym, subst, arith}
+use Rattle.std.specs.Prelude.{map, ℤ, pos, ◌==◌, ◌||◌, not, drop, nat_lt, nat_le, slice_get, Option, None, Some}
+use Rattle.std.proofs.lemmas.Bool.{ltb-true, lt-ltb, and_from}
 use Rattle.coarray_types.specs.Places.{size_of}
-use Rattle.coarray_types.specs.Coplaces.{image_order}
 use Rattle.caf_base.specs.Arithmetic.{natural}
 use Rattle.caf_events.specs.declared.ask.Ask.{Ask}
 use Rattle.caf_events.specs.declared.reply.Reply.{Reply}
@@ -20,39 +18,25 @@ use Rattle.image_acts.specs.Faults.{cobounds_fault, not_allocated, not_establish
 use Rattle.image_acts.specs.Words.{word}
 use Rattle.image_acts.specs.Acts as a
 use Rattle.image_acts.specs.Acts.{Act, stack, bounded, selector, ask}
-use Rattle.image_acts.specs.Core.{Core, Own, Team, with_values}
+use Rattle.image_acts.specs.Core.{Core, Own, with_values}
 use Rattle.image_acts.specs.Owning.{own_in}
 use Rattle.image_acts.specs.Frames.{joined}
 use Rattle.image_acts.specs.Places.{Place, place_in, place_size, cells_of, digits, numbers_of_form, triplets, subscripts_in, place_within, no_place, place_numbers, dims_numbers}
-use Rattle.image_acts.specs.Teams.{team_in, members_of, members, index_of, is_established, member_at, are_within_cobounds}
+use Rattle.image_acts.specs.Teams.{members, index_of, is_established, member_at}
 use Rattle.image_acts.specs.Taking.{Acted, giving, given, found_in, unless, taken, put_down, seeing}
 use Rattle.image_acts.specs.Operate.Asking.{cell_span, has_cell}
 use Rattle.image_acts.specs.Meaning.{settled, effect_of}
 use Rattle.stack_laws.proofs.Standing.{taken_of}
 use Rattle.told_walks.specs.Asked.{own_cells}
 use Rattle.stack_laws.proofs.Places.{element_inside}
-use Rattle.cell_walks.specs.Fitting.{Sizes, IsSmall, IsSound, HasCell, EffectFits}
+use Rattle.cell_walks.specs.Fitting.{Sizes, IsSound, HasCell, EffectFits}
+use Rattle.cell_walks.proofs.Images.{word_below, small_in, team_images, member_image, index_in_team}
 
 -- ---- the asks
-capped : (k : ℕ) → min k 4294967295 ≤ k
-capped k = omega arith
-
-word_below : (s m : ℕ) → s < m → word (pos s) < m
-word_below s m h = (let l = capped s in omega arith)
-
-pub word_image : (n j : ℕ) → IsOneOf n j → IsOneOf n (word (pos j))
-word_image n j h = (let a' = h.0 in let b = h.1 in (omega arith, omega arith))
-
 pub cell_fits : (coarrays : List Declared) (i : ℕ) (test : Content → Bool) (k s : ℕ) → s < most_cells → holds test (slice_get coarrays k) ≡ true → is_cell_of (made_memory coarrays i) test (cell_span k (pos s)) ≡ true
 cell_fits coarrays i test k s h t = and_from (nat_lt (word (pos s)) 65536) (holds test (slice_get coarrays k)) (lt-ltb (word (pos s)) 65536 (word_below s most_cells h)) t
 
 -- ---- coarrays that are allocated here
-small_in : (os : List (Option Own)) (k : ℕ) (o : Own) → Each IsSmall os → joined (slice_get os k) ≡ Some o → size_of o.bounds ≤ most_cells
-small_in [] k o h e = absurd (cc)
-small_in (None ∷ os) zero o h e = absurd (cc)
-small_in (Some p ∷ os) zero o h e = (let q : p ≡ o = cc in subst (λ (z : Own). size_of z.bounds ≤ most_cells) q h.0)
-small_in (p ∷ os) (suc k) o h e = small_in os k o h.1 e
-
 size_in : (os : List (Option Own)) (k : ℕ) (o : Own) → joined (slice_get os k) ≡ Some o → joined (slice_get (map own_cells os) k) ≡ Some (size_of o.bounds)
 size_in [] k o e = absurd (cc)
 size_in (x ∷ os) zero o e = ap own_cells e
@@ -62,51 +46,22 @@ size_in (x ∷ os) (suc k) o e = size_in os k o e
 pub told_size : (n me : ℕ) (z : Sizes) (c : Core) (k : ℕ) (o : Own) → IsSound n me z c → own_in c k ≡ Some o → joined (slice_get z k) ≡ Some (size_of o.bounds)
 told_size n me z c k o i e = subst (λ y. joined (slice_get y k) ≡ Some (size_of o.bounds)) i.sizes (size_in c.coarrays k o e)
 
--- ---- members
-team_images : (n t : ℕ) (ks : List Team) → Each (λ (x : Team). Each (IsOneOf n) x.members) ks → Each (IsOneOf n) (members_of (team_in t ks))
-team_images n t [] h = tt
-team_images n t (k ∷ ks) h = by_number (nat_eq k.team t) (team_images n t ks h.1)
-  where
-    by_number : (b : Bool) → Each (IsOneOf n) (members_of (team_in t ks)) → Each (IsOneOf n) (members_of (cond b (Some k) (team_in t ks)))
-    by_number true g = h.0
-    by_number false g = g
-
-nth_image : (n : ℕ) (ms : List ℕ) (i : ℕ) → Each (IsOneOf n) ms → i < length ms → IsOneOf n (slice_index_or ms i 0)
-nth_image n [] i h l = absurd (let z : i < 0 = l in omega arith)
-nth_image n (m ∷ ms) zero h l = h.0
-nth_image n (m ∷ ms) (suc i) h l = nth_image n ms i h.1 (let z : suc i < suc (length ms) = l in omega arith)
-
-member_image : (n : ℕ) (ms : List ℕ) (i : ℕ) → Each (IsOneOf n) ms → (i == 0) ≡ false → i ≤ length ms → IsOneOf n (member_at ms i)
-member_image n ms zero h z l = absurd (cc)
-member_image n ms (suc i) h z l = nth_image n ms i h (omega arith)
-
-index_within : (b : Bool) (i m : ℕ) → cond b (cond (nat_le i m) i 0) 0 ≤ m
-index_within true i m = by_size (nat_le i m) refl
-  where
-    by_size : (t : Bool) → nat_le i m ≡ t → cond t i 0 ≤ m
-    by_size true e = leb-true i m e
-    by_size false e = omega arith
-index_within false i m = omega arith
-
-index_in_team : (o : Own) (ss : List ℤ) (m : ℕ) → index_of o ss m ≤ m
-index_in_team o ss m = index_within (are_within_cobounds o.lowers o.extents ss) (image_order o.lowers o.extents ss + 1) m
-
-module _ (n me : ℕ) (coarrays : List Declared) where
+module _ (n me : ℕ) (coarrays : List Declared) (readable : ℕ → Bool) where
   -- an ask that is made where the cell is there
-  pub asked_there : (x : a.AskAct) (k s : ℕ) (q : Ask) (f : Reply → Core) (After : Sizes → Core → Type 0) (y : Sizes) (c : Core) → IsSound n me y c → (HasCell y (cell_span k (pos s)) → EffectFits n me coarrays (language.asking q f) After y)
-      → EffectFits n me coarrays (settled (ask x) (unless not_allocated (has_cell (own_in c k) (word (pos s))) (language.asking q f))) After y
+  pub asked_there : (x : a.AskAct) (k s : ℕ) (q : Ask) (f : Reply → Core) (After : Sizes → Core → Type 0) (y : Sizes) (c : Core) → IsSound n me y c → (HasCell y (cell_span k (pos s)) → EffectFits n me coarrays readable (language.asking q f) After y)
+      → EffectFits n me coarrays readable (settled (ask x) (unless not_allocated (has_cell (own_in c k) (word (pos s))) (language.asking q f))) After y
   asked_there x k s q f After y c i more = by_own (own_in c k) refl
     where
-      by_size : (w : Own) → own_in c k ≡ Some w → (b : Bool) → nat_lt (word (pos s)) (size_of w.bounds) ≡ b → EffectFits n me coarrays (settled (ask x) (unless not_allocated b (language.asking q f))) After y
+      by_size : (w : Own) → own_in c k ≡ Some w → (b : Bool) → nat_lt (word (pos s)) (size_of w.bounds) ≡ b → EffectFits n me coarrays readable (settled (ask x) (unless not_allocated b (language.asking q f))) After y
       by_size w e true t = more (size_of w.bounds, told_size n me y c k w i e, ltb-true (word (pos s)) (size_of w.bounds) t)
       by_size w e false t = tt
 
-      by_own : (o : Option Own) → own_in c k ≡ o → EffectFits n me coarrays (settled (ask x) (unless not_allocated (has_cell o (word (pos s))) (language.asking q f))) After y
+      by_own : (o : Option Own) → own_in c k ≡ o → EffectFits n me coarrays readable (settled (ask x) (unless not_allocated (has_cell o (word (pos s))) (language.asking q f))) After y
       by_own None e = tt
       by_own (Some w) e = by_size w e (nat_lt (word (pos s)) (size_of w.bounds)) refl
 
   abbrev Comes : Sizes → Acted → (Sizes → Core → Type 0) → Type 0
-  Comes z e After = EffectFits n me coarrays e After z
+  Comes z e After = EffectFits n me coarrays readable e After z
 
   -- ---- the place of one cell
   abbrev co_placing : Option Own → List ℕ → List ℤ → Core → Acted
@@ -190,17 +145,3 @@ module _ (n me : ℕ) (coarrays : List Declared) where
   two_copied o z c qs v w us h After g =
       let e : drop o (qs ++ (v ∷ w ∷ us)) ≡ v ∷ w ∷ us = subst (λ k. drop k (qs ++ (v ∷ w ∷ us)) ≡ v ∷ w ∷ us) h (drop_front qs (v ∷ w ∷ us)) in
       subst (λ y. Comes z (settled (stack (a.copy o 2)) (given (taken 2 y []) (λ p. language.goes_to (with_values c (put_down p.0 (qs ++ (v ∷ w ∷ us))))))) After) (sym e) g
-
-  put_back : (bs ys zs : List ℤ) → put_down (put_down bs ys) zs ≡ put_down ys (bs ++ zs)
-  put_back [] ys zs = refl
-  put_back (b ∷ bs) ys zs = put_back bs (b ∷ ys) zs
-
-  -- those beneath some others come to the top
-  pub brought_up : (o m : ℕ) (z : Sizes) (c : Core) (ps bs us : List ℤ) → length ps ≡ o → length bs ≡ m → (After : Sizes → Core → Type 0) → After z (with_values c (bs ++ (ps ++ us)))
-      → Comes z (effect_of (stack (a.bring o m)) (with_values c (ps ++ (bs ++ us)))) After
-  brought_up o m z c ps bs us h g After more =
-      let x = stack (a.bring o m) in
-      let last : put_down (put_down bs []) (put_down (put_down ps []) us) ≡ bs ++ (ps ++ us) = put_back bs [] (put_down (put_down ps []) us) ∙ ap (λ y. bs ++ y) (put_back ps [] us) in
-      subst (λ y. Comes z (settled x (given y (λ p. given (taken m p.1 []) (λ q. language.goes_to (with_values c (put_down q.0 (put_down p.0 q.1))))))) After) (sym (taken_of o ps (bs ++ us) h))
-      (subst (λ y. Comes z (settled x (given y (λ q. language.goes_to (with_values c (put_down q.0 (put_down (put_down ps []) q.1)))))) After) (sym (taken_of m bs us g))
-      (subst (λ y. After z (with_values c y)) (sym last) more))

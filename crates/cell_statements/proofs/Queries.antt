@@ -1,5 +1,5 @@
 -- A call of EVENT_QUERY, whose cell is found again among its arguments.
-use Rattle.std.proofs.Common.{◌≡◌, ◌∙◌, ℕ, zero, suc, ◌+◌, ◌<◌, ◌≤◌, true, List, [], ◌∷◌, ◌++◌, length, refl, sym, subst, append_assoc, arith}
+use Rattle.std.proofs.Common.{◌≡◌, ◌∙◌, ℕ, zero, suc, ◌+◌, ◌<◌, ◌≤◌, true, List, [], ◌∷◌, ◌++◌, length, refl, sym, subst, append_assoc, arith, Bool}
 use Rattle.std.specs.Prelude.{ℤ, pos, slice_get}
 use Rattle.caf_events.specs.declared.ask.Ask.TheVariants as asks
 use Rattle.walk_theory.specs.Syntax.{Parts}
@@ -35,13 +35,15 @@ use Rattle.cell_walks.specs.Fitting.{Sizes, IsSound, EffectFits, PartsFit, Leave
 use Rattle.cell_walks.proofs.Quieting.{Safe, no_parts, one, both}
 use Rattle.cell_statements.specs.Typed.{IsTypedCall}
 use Rattle.cell_statements.proofs.Points.{asked_there, cell_fits, two_copied}
-use Rattle.cell_statements.proofs.Quiet.{quiet_subscripts, quiet_owner, quiet_place, quiet_result, quiet_dropping, quiet_storing}
-use Rattle.cell_statements.proofs.QuietStatements.{quiet_settling}
+use Rattle.cell_statements.specs.Reading.{PlaceReads, ResultReads, StatReads, SubroutineReads}
+use Rattle.cell_statements.proofs.Quiet.{quiet_subscripts, quiet_owner, quiet_result, quiet_dropping, quiet_storing}
+use Rattle.cell_statements.proofs.QuietStatements.{quiet_settling, quiet_stat}
 use Rattle.cell_statements.proofs.Cells.{Done, ending}
 use Rattle.cell_statements.proofs.Arguments.{within, stat_placed, stat_below, IsFound, found}
 
-module _ (n me : ℕ) (coarrays : List Declared) (there : IsOneOf n me) (e : Environment) (k : ℕ) (ss : t.Subscripts) (sel : t.Selector) (count : t.ResultVariable) (stat : t.OptionalResult)
-    (h : ranks.IsPart e.program.procedures (t.part (objects.Coarray k) ss sel) 0) (hc : ranks.IsResult e.program.procedures count) (typed : holds is_event (slice_get coarrays k) ≡ true) where
+module _ (n me : ℕ) (coarrays : List Declared) (readable : ℕ → Bool) (there : IsOneOf n me) (e : Environment) (k : ℕ) (ss : t.Subscripts) (sel : t.Selector) (count : t.ResultVariable) (stat : t.OptionalResult)
+    (h : ranks.IsPart e.program.procedures (t.part (objects.Coarray k) ss sel) 0) (hc : ranks.IsResult e.program.procedures count) (typed : holds is_event (slice_get coarrays k) ≡ true)
+    (reads : PlaceReads readable (t.part (objects.Coarray k) ss sel)) (reads_count : ResultReads readable count) where
   abbrev atom : t.Designator
   atom = t.part (objects.Coarray k) ss sel
 
@@ -49,7 +51,7 @@ module _ (n me : ℕ) (coarrays : List Declared) (there : IsOneOf n me) (e : Env
   pieces = sub.pieces_of e (s.event_query atom count stat)
 
   abbrev On : Parts Act → (Sizes → Core → Type 0) → Sizes → Core → Type 0
-  On p After y c = PartsFit n me coarrays p After y c
+  On p After y c = PartsFit n me coarrays readable p After y c
 
   -- ---- the pieces
   pieces_turn : (hs : Turns (numbers 0 (view.optional_size stat)) (view.optional_place e stat)) (d : ℕ) → Turns (numbers 0 (piece_of pieces d).size) (piece_of pieces d).parts
@@ -58,11 +60,11 @@ module _ (n me : ℕ) (coarrays : List Declared) (there : IsOneOf n me) (e : Env
   pieces_turn hs (suc (suc zero)) = hs
   pieces_turn hs (suc (suc (suc d))) = idle
 
-  pieces_quiet : (d : ℕ) → Safe (piece_of pieces d).parts
-  pieces_quiet zero = both (quiet_subscripts e ss) (both (one tt) (quiet_owner e k 0 sel))
-  pieces_quiet (suc zero) = quiet_result e count
-  pieces_quiet (suc (suc zero)) = quiet_place e stat
-  pieces_quiet (suc (suc (suc d))) = no_parts
+  pieces_quiet : Safe readable (view.optional_place e stat) → (d : ℕ) → Safe readable (piece_of pieces d).parts
+  pieces_quiet q zero = both (quiet_subscripts readable e ss h.0 reads.0) (both (one tt) (quiet_owner readable e k 0 sel h.2 reads.1))
+  pieces_quiet q (suc zero) = quiet_result readable e count hc reads_count
+  pieces_quiet q (suc (suc zero)) = q
+  pieces_quiet q (suc (suc (suc d))) = no_parts
 
   -- ---- the ask, and what is behind it
   module _ (ds : List ℕ) (at : depth pieces ds 1 + view.result_size count ≤ sizes pieces ds) (below : depth pieces ds 2 + view.optional_size stat ≤ sizes pieces ds) (vs : List ℤ) where
@@ -74,38 +76,38 @@ module _ (n me : ℕ) (coarrays : List Declared) (there : IsOneOf n me) (e : Env
         closes (part (stored (depth pieces ds 1 + 1) (depth pieces ds 1 + view.result_size count) count (omega arith) (omega arith)) ⨾ part (number_pushed (pos 0))
         ⨾ part (status_settled stat (depth pieces ds 2 + 1) (depth pieces ds 2 + view.optional_size stat) [] (omega arith) (omega arith)) ⨾ part (dropped (sizes pieces ds))) (omega arith)
 
-    rest_quiet : Safe rest
+    rest_quiet : Safe readable rest
     rest_quiet = both (quiet_storing (depth pieces ds 1 + 1) count) (both (one tt) (both (quiet_settling stat (depth pieces ds 2 + 1) []) (quiet_dropping (sizes pieces ds))))
 
     asked_here : (y : Sizes) (c : Core) (j : ℕ) (xs : List ℤ) → IsSound n me y c → j < most_cells → length xs ≡ sizes pieces ds
-        → EffectFits n me coarrays (effect_of (ask (a.query k)) (with_values c (pos j ∷ (xs ++ vs)))) (On rest (Done n me coarrays vs)) y
+        → EffectFits n me coarrays readable (effect_of (ask (a.query k)) (with_values c (pos j ∷ (xs ++ vs)))) (On rest (Done n me coarrays readable vs)) y
     asked_here y c j xs i small l =
-        asked_there n me coarrays (a.query k) k j (asks.Query (record { 0 = c.me }) (cell_span k (pos j))) (count_reply (with_values c (xs ++ vs))) (On rest (Done n me coarrays vs)) y c i
+        asked_there n me coarrays readable (a.query k) k j (asks.Query (record { 0 = c.me }) (cell_span k (pos j))) (count_reply (with_values c (xs ++ vs))) (On rest (Done n me coarrays readable vs)) y c i
         (λ there'. (
           (i.own, cell_fits coarrays c.me is_event k j small typed, there'),
           λ r x.
-              ending n me coarrays rest_turns rest_quiet vs y (count_reply (with_values c (xs ++ vs)) r) i (stand_of (1 + sizes pieces ds) (count_in r ∷ xs) vs (let m : length (count_in r ∷ xs) ≡ suc (length xs) = refl in omega arith)),
+              ending n me coarrays readable rest_turns rest_quiet vs y (count_reply (with_values c (xs ++ vs)) r) i (stand_of (1 + sizes pieces ds) (count_in r ∷ xs) vs (let m : length (count_in r ∷ xs) ≡ suc (length xs) = refl in omega arith)),
         ))
 
-    fetched : (y : Sizes) (c : Core) → IsSound n me y c → (f : IsFound n pieces 0 ds vs c) → On (fetching pieces ds 0 0 2 ▸ dropping 1 ▸ doing (ask (a.query k) ∷ []) ▸ rest) (Done n me coarrays vs) y c
+    fetched : (y : Sizes) (c : Core) → IsSound n me y c → (f : IsFound n pieces 0 ds vs c) → On (fetching pieces ds 0 0 2 ▸ dropping 1 ▸ doing (ask (a.query k) ∷ []) ▸ rest) (Done n me coarrays readable vs) y c
     fetched y c i f =
         let xs = f.above ++ (pos f.owner ∷ pos f.start ∷ f.behind) in
         let beneath = f.behind ++ vs in
         let m = depth pieces ds 0 + 0 in
         let v : c.values ≡ f.above ++ (pos f.owner ∷ pos f.start ∷ beneath) = f.values ∙ append_assoc f.above (pos f.owner ∷ pos f.start ∷ f.behind) vs in
-        subst (λ z. EffectFits n me coarrays (effect_of (stack (a.copy m 2)) (with_values c z)) (On (dropping 1 ▸ doing (ask (a.query k) ∷ []) ▸ rest) (Done n me coarrays vs)) y) (sym v)
-        (two_copied n me coarrays m y c f.above (pos f.owner) (pos f.start) beneath (f.deep ∙ omega arith) (On (dropping 1 ▸ doing (ask (a.query k) ∷ []) ▸ rest) (Done n me coarrays vs))
-        (subst (λ z. EffectFits n me coarrays (effect_of (ask (a.query k)) (with_values c (pos f.start ∷ z))) (On rest (Done n me coarrays vs)) y) (append_assoc f.above (pos f.owner ∷ pos f.start ∷ f.behind) vs)
+        subst (λ z. EffectFits n me coarrays readable (effect_of (stack (a.copy m 2)) (with_values c z)) (On (dropping 1 ▸ doing (ask (a.query k) ∷ []) ▸ rest) (Done n me coarrays readable vs)) y) (sym v)
+        (two_copied n me coarrays readable m y c f.above (pos f.owner) (pos f.start) beneath (f.deep ∙ omega arith) (On (dropping 1 ▸ doing (ask (a.query k) ∷ []) ▸ rest) (Done n me coarrays readable vs))
+        (subst (λ z. EffectFits n me coarrays readable (effect_of (ask (a.query k)) (with_values c (pos f.start ∷ z))) (On rest (Done n me coarrays readable vs)) y) (append_assoc f.above (pos f.owner ∷ pos f.start ∷ f.behind) vs)
         (asked_here y c f.start xs i f.small f.many)))
 
-  pub call_fits : (ds : List ℕ) → times 0 ds ≡ 1 → times 1 ds ≡ 1 → ranks.IsStat e.program.procedures ds stat 2 → Leave n me coarrays 0 (sub.query e pieces ds atom count stat)
-  call_fits ds zeroth first g vs y c i v =
+  pub call_fits : (ds : List ℕ) → times 0 ds ≡ 1 → times 1 ds ≡ 1 → ranks.IsStat e.program.procedures ds stat 2 → StatReads readable stat → Leave n me coarrays readable 0 (sub.query e pieces ds atom count stat)
+  call_fits ds zeroth first g w vs y c i v =
       let hs = stat_placed e ds stat 2 g in
-      found n me coarrays there e k ss sel h pieces 0 refl (pieces_turn hs) pieces_quiet ds zeroth vs _ y c i v
+      found n me coarrays readable there e k ss sel h reads pieces 0 refl (pieces_turn hs) (pieces_quiet (quiet_stat readable e stat ds 2 g w)) ds zeroth vs _ y c i v
       (λ u d j f. fetched ds (within pieces ds 1 first) (stat_below e ds stat 2 pieces refl g) vs u d j f)
 
-module _ (n me : ℕ) (coarrays : List Declared) (there : IsOneOf n me) (e : Environment) where
-  pub query_fits : (d : t.Designator) (count : t.ResultVariable) (stat : t.OptionalResult) (ds : List ℕ) → ranks.IsSubroutine e.program.procedures (s.event_query d count stat) ds → IsTypedCall coarrays (s.event_query d count stat) → Leave n me coarrays 0 (sub.subroutine e (s.event_query d count stat) (sub.pieces_of e (s.event_query d count stat)) ds)
-  query_fits (t.part (objects.Coarray k) ss sel) count stat ds h y = call_fits n me coarrays there e k ss sel count stat h.0 h.2 y ds h.1 h.3 h.4
-  query_fits (t.part (objects.Local v) ss sel) count stat ds h y = absurd y
-  query_fits (t.part (objects.Constant k) ss sel) count stat ds h y = absurd y
+module _ (n me : ℕ) (coarrays : List Declared) (readable : ℕ → Bool) (there : IsOneOf n me) (e : Environment) where
+  pub query_fits : (d : t.Designator) (count : t.ResultVariable) (stat : t.OptionalResult) (ds : List ℕ) → ranks.IsSubroutine e.program.procedures (s.event_query d count stat) ds → IsTypedCall coarrays (s.event_query d count stat) → SubroutineReads readable (s.event_query d count stat) → Leave n me coarrays readable 0 (sub.subroutine e (s.event_query d count stat) (sub.pieces_of e (s.event_query d count stat)) ds)
+  query_fits (t.part (objects.Coarray k) ss sel) count stat ds h y w = call_fits n me coarrays readable there e k ss sel count stat h.0 h.2 y w.0 w.1 ds h.1 h.3 h.4 w.2
+  query_fits (t.part (objects.Local v) ss sel) count stat ds h y w = absurd y
+  query_fits (t.part (objects.Constant k) ss sel) count stat ds h y w = absurd y

@@ -1,4 +1,4 @@
--- Each act but one that asks for a lock, an event or an atom fits, and keeps the invariant.
+-- Each act but one that reads a coarray or asks for a lock, an event or an atom fits, and keeps the invariant.
 use Rattle.std.proofs.Common.{◌≡◌, ℕ, zero, suc, ◌*◌, Bool, true, false, cond, List, [], ◌∷◌, ◌++◌, map, length, refl, sym, subst}
 use Rattle.std.specs.Prelude.{ℤ, pos, ◌-◌, nat_lt, slice_set, Option, None, Some}
 use Rattle.trace_theory.specs.Entries.{Each}
@@ -27,8 +27,9 @@ use Rattle.stack_laws.proofs.Acts.{exact_act}
 use Rattle.told_walks.specs.Asked.{sizes_by}
 use Rattle.cell_walks.specs.Fitting.{Sizes, TellsImages, IsSound, Sounds, FitsCell, EffectFits}
 
--- an act that asks for no lock, no event and no atom, and neither allocates nor deallocates a coarray
+-- an act that reads no coarray, asks for no lock, no event and no atom, and neither allocates nor deallocates a coarray
 abbrev pub IsFree : Act → Type 0
+IsFree (ask (a.read j rank)) = ⊥
 IsFree (ask (a.create j depth rank)) = ⊥
 IsFree (ask (a.delete j)) = ⊥
 IsFree (ask (a.lock j)) = ⊥
@@ -64,9 +65,10 @@ each_set P [] k x h g = tt
 each_set P (y ∷ ys) zero x h g = (g, h.1)
 each_set P (y ∷ ys) (suc k) x h g = (h.0, each_set P ys k x h.1 g)
 
-module _ (n me : ℕ) (coarrays : List Declared) where
+module _ (n me : ℕ) (coarrays : List Declared) (readable : ℕ → Bool) where
   -- ---- asks
-  fits_plain : (z : Sizes) (q : Ask) → is_plain q ≡ true → FitsCell n me coarrays z q × (sizes_by z q ≡ z)
+  fits_plain : (z : Sizes) (q : Ask) → is_plain q ≡ true → FitsCell n me coarrays readable z q × (sizes_by z q ≡ z)
+  fits_plain z (asking.Read owner span) h = absurd (cc)
   fits_plain z (asking.Create owner coarray cells) h = absurd (cc)
   fits_plain z (asking.Delete owner coarray) h = absurd (cc)
   fits_plain z (asking.Lock owner span) h = absurd (cc)
@@ -78,7 +80,8 @@ module _ (n me : ℕ) (coarrays : List Declared) where
   fits_plain z (asking.Atomic owner op span x y) h = absurd (cc)
   fits_plain z q h = (tt, refl)
 
-  asks_fit : (x : Act) → IsFree x → (z : Sizes) (q : Ask) → AsksBy x q → FitsCell n me coarrays z q × (sizes_by z q ≡ z)
+  asks_fit : (x : Act) → IsFree x → (z : Sizes) (q : Ask) → AsksBy x q → FitsCell n me coarrays readable z q × (sizes_by z q ≡ z)
+  asks_fit (ask (a.read j rank)) f z q h = absurd f
   asks_fit (ask (a.create j depth rank)) f z q h = absurd f
   asks_fit (ask (a.delete j)) f z q h = absurd f
   asks_fit (ask (a.lock j)) f z q h = absurd f
@@ -116,12 +119,13 @@ module _ (n me : ℕ) (coarrays : List Declared) where
   left_formed : (z : Sizes) (c : Core) (r : Reply) → TellsImages n r → IsSound n me z c → IsSound n me z (leave_reply c r)
   left_formed z c (replies.Left s xs) t h = record {
     own = h.own;
+    image = h.image;
     known = h.known;
     formed = each_fitting (λ (x : FormedTeam). Each (λ i. IsOneOf n i.0) x.members) (2 * c.images) xs t;
     coarrays = h.coarrays;
     sizes = h.sizes;
   }
-  left_formed z c r t h = record { own = h.own; known = h.known; formed = h.formed; coarrays = h.coarrays; sizes = h.sizes }
+  left_formed z c r t h = record { own = h.own; image = h.image; known = h.known; formed = h.formed; coarrays = h.coarrays; sizes = h.sizes }
 
   leave_keeps : (z : Sizes) (c : Core) → Holds z c → Keeps z (effect_of (ask a.leave) c)
   leave_keeps z c h = by_values c.values
@@ -166,7 +170,7 @@ module _ (n me : ℕ) (coarrays : List Declared) where
       by_round (Some r) =
           let ks = map (known_as (current_team c) r) c.formed in
           let d = record c { known = ks ++ c.known; formed = [] } in
-          let g : IsSound n me z d = record { own = h.own; known = each_on (λ (t : Team). Each (IsOneOf n) t.members) ks c.known (known_images (current_team c) r c.formed h.formed) h.known; formed = tt; coarrays = h.coarrays; sizes = h.sizes } in
+          let g : IsSound n me z d = record { own = h.own; image = h.image; known = each_on (λ (t : Team). Each (IsOneOf n) t.members) ks c.known (known_images (current_team c) r c.formed h.formed) h.known; formed = tt; coarrays = h.coarrays; sizes = h.sizes } in
           holds_by z d (teams_noted s x ks c) (own_noted s x (team_of c.me ks) d) g
 
   -- ---- every act
@@ -185,7 +189,7 @@ module _ (n me : ℕ) (coarrays : List Declared) where
   act_keeps x f z c xs vs e h = kept_act x z c xs vs h (exact_act x c xs vs e)
 
   joined_so : (z : Sizes) (Q : Ask → Type 0) (K : Core → Type 0) (m : ℕ) (vs : List ℤ) (e : Acted) → Exactly Q K m vs e → Keeps z e
-      → ((q : Ask) → Q q → FitsCell n me coarrays z q × (sizes_by z q ≡ z)) → EffectFits n me coarrays e (λ y d. Holds y d × Stand m vs d.values) z
+      → ((q : Ask) → Q q → FitsCell n me coarrays readable z q × (sizes_by z q ≡ z)) → EffectFits n me coarrays readable e (λ y d. Holds y d × Stand m vs d.values) z
   joined_so z Q K m vs (language.goes_to d) x k f = (k, x.0)
   joined_so z Q K m vs (language.faults j) x k f = tt
   joined_so z Q K m vs (language.asking q g) x k f = ((f q x.0).0, λ r t. (subst (λ y. Holds y (g r)) (sym (f q x.0).1) (k r t), (x.1 r).0))
@@ -193,6 +197,6 @@ module _ (n me : ℕ) (coarrays : List Declared) where
   joined_so z Q K m vs language.stuck x k f = tt
 
   pub act_fits : (x : Act) → IsFree x → (z : Sizes) (c : Core) (xs vs : List ℤ) → length xs ≡ taken_of of_numbers x → Holds z c
-      → EffectFits n me coarrays (effect_of x (with_values c (xs ++ vs))) (λ y d. Holds y d × Stand (left_of of_numbers x) vs d.values) z
+      → EffectFits n me coarrays readable (effect_of x (with_values c (xs ++ vs))) (λ y d. Holds y d × Stand (left_of of_numbers x) vs d.values) z
   act_fits x f z c xs vs e h =
       joined_so z (AsksBy x) (KeptBy x c) (left_of of_numbers x) vs (effect_of x (with_values c (xs ++ vs))) (exact_act x c xs vs e) (act_keeps x f z c xs vs e h) (asks_fit x f z)

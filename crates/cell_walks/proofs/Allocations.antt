@@ -65,14 +65,15 @@ map_set (x ∷ os) (suc k) o = ap (λ z. own_cells x ∷ z) (map_set os k o)
 few : (k : ℕ) → k ≤ most_cells → cells_word k ≡ k
 few k h = omega arith
 
-module _ (n me : ℕ) (coarrays : List Declared) where
+module _ (n me : ℕ) (coarrays : List Declared) (readable : ℕ → Bool) where
   abbrev Comes : Sizes → Acted → (Sizes → Core → Type 0) → Type 0
-  Comes z e After = EffectFits n me coarrays e After z
+  Comes z e After = EffectFits n me coarrays readable e After z
 
   -- ---- an allocation
   made_sound : (z : Sizes) (c : Core) (k m : ℕ) (o : Own) → size_of o.bounds ≤ most_cells → IsSound n me z c → IsSound n me (slice_set z k (Some (cells_word (size_of o.bounds)))) (with_own k (Some o) m c)
   made_sound z c k m o small h = record {
     own = h.own;
+    image = h.image;
     known = h.known;
     formed = h.formed;
     coarrays = each_set IsSmall c.coarrays k (Some o) h.coarrays small;
@@ -98,7 +99,7 @@ module _ (n me : ℕ) (coarrays : List Declared) where
 
   abbrev Made : ℕ → ℕ → ℕ → ℕ → (Sizes → Core → Type 0) → Sizes → Core → Type 0
   Made k depth rank corank After z c =
-      EffectFits n me coarrays (effect_of (ask (a.create k (depth + cobounds_size corank) rank)) c) (λ y d. EffectFits n me coarrays (effect_of (allocation (a.note_made k depth rank corank)) d) After y) z
+      EffectFits n me coarrays readable (effect_of (ask (a.create k (depth + cobounds_size corank) rank)) c) (λ y d. EffectFits n me coarrays readable (effect_of (allocation (a.note_made k depth rank corank)) d) After y) z
 
   made_on : (k depth rank corank : ℕ) (z : Sizes) (c : Core) (as' ks bs us : List ℤ) → length as' ≡ depth → length ks ≡ cobounds_size corank → length bs ≡ bounds_size rank → IsSound n me z c → (After : Sizes → Core → Type 0)
       → ((y : Sizes) (d : Core) → IsSound n me y d → d.values ≡ as' ++ (ks ++ (bs ++ us)) → After y d) → Made k depth rank corank After z (with_values c (as' ++ (ks ++ (bs ++ us))))
@@ -119,9 +120,9 @@ module _ (n me : ℕ) (coarrays : List Declared) where
       (subst (λ q. Comes w (settled x (noted k rank corank (pairs_in q) (drop (bounds_size rank) (put_down (ks ++ bs) [])) e)) After) (sym front)
       (noted_fits x k rank corank (pairs_in (put_down bs [])) (drop (bounds_size rank) (put_down (ks ++ bs) [])) z e h After (λ d i v. more w d i v)))) in
       subst (λ q. Comes z (settled (ask (a.create k (depth + cobounds_size corank) rank)) (given (taken (bounds_size rank) q []) (λ p. language.asking (asking.Create (record { 0 = c.me }) k (cells_word (size_of (pairs_in p.0)))) (λ r. e))))
-      (λ y d. EffectFits n me coarrays (effect_of x d) After y)) (sym there)
+      (λ y d. EffectFits n me coarrays readable (effect_of x d) After y)) (sym there)
       (subst (λ q. Comes z (settled (ask (a.create k (depth + cobounds_size corank) rank)) (given q (λ p. language.asking (asking.Create (record { 0 = c.me }) k (cells_word (size_of (pairs_in p.0)))) (λ r. e))))
-      (λ y d. EffectFits n me coarrays (effect_of x d) After y)) (sym (taken_of (bounds_size rank) bs us lb)) (tt, λ r t. note))
+      (λ y d. EffectFits n me coarrays readable (effect_of x d) After y)) (sym (taken_of (bounds_size rank) bs us lb)) (tt, λ r t. note))
 
   pub made_fits : (k depth rank corank : ℕ) (vs : List ℤ) (h : ℕ) → depth + (cobounds_size corank + bounds_size rank) ≤ h → (z : Sizes) (c : Core) → IsSound n me z c → Stand h vs c.values → (After : Sizes → Core → Type 0)
       → ((y : Sizes) (d : Core) → IsSound n me y d → Stand h vs d.values → After y d) → Made k depth rank corank After z c
@@ -150,6 +151,7 @@ module _ (n me : ℕ) (coarrays : List Declared) where
   gone_sound : (z : Sizes) (c : Core) (k m : ℕ) → IsSound n me z c → IsSound n me (slice_set z k None) (with_own k None m c)
   gone_sound z c k m h = record {
     own = h.own;
+    image = h.image;
     known = h.known;
     formed = h.formed;
     coarrays = each_set IsSmall c.coarrays k None h.coarrays tt;
@@ -157,7 +159,7 @@ module _ (n me : ℕ) (coarrays : List Declared) where
   }
 
   pub freed_fits : (k : ℕ) (vs : List ℤ) (h : ℕ) (z : Sizes) (c : Core) → IsSound n me z c → Stand h vs c.values → (After : Sizes → Core → Type 0) → ((y : Sizes) (d : Core) → IsSound n me y d → Stand h vs d.values → After y d)
-      → EffectFits n me coarrays (effect_of (ask (a.delete k)) c) (λ y d. EffectFits n me coarrays (effect_of (allocation (a.note_freed k)) d) After y) z
+      → EffectFits n me coarrays readable (effect_of (ask (a.delete k)) c) (λ y d. EffectFits n me coarrays readable (effect_of (allocation (a.note_freed k)) d) After y) z
   freed_fits k vs h z c i s After more = (tt, λ r t. by_own (own_in c k))
     where
       by_own : (o : Option Own) → Comes (slice_set z k None) (settled (allocation (a.note_freed k)) (own_freed k o c)) After

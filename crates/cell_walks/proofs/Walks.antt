@@ -19,19 +19,19 @@ use Rattle.told_walks.specs.Asked.{sizes_by}
 use Rattle.cell_walks.specs.Fitting.{Sizes, TellsImages, IsSound, FitsCell, EffectFits, TestFits, PartsFit, Leave, FormFits, BranchesFit, StepsFit, AllFit}
 use Rattle.cell_walks.proofs.Parts.{test_fits, leave_then}
 
-module _ (n me : ℕ) (coarrays : List Declared) where
+module _ (n me : ℕ) (coarrays : List Declared) (readable : ℕ → Bool) where
   abbrev Sound : Sizes → Core → Type 0
   Sound z c = IsSound n me z c
 
   abbrev Fit : Parts Act → (Sizes → Core → Type 0) → Sizes → Core → Type 0
-  Fit p After z c = PartsFit n me coarrays p After z c
+  Fit p After z c = PartsFit n me coarrays readable p After z c
 
   abbrev Left : ℕ → Parts Act → Type 0
-  Left m p = Leave n me coarrays m p
+  Left m p = Leave n me coarrays readable m p
 
   -- ---- what is left to do
   abbrev LoopFits : Loop Act → Type 0
-  LoopFits m = Left 0 m.next × Left 1 m.test × StepsFit n me coarrays m.body
+  LoopFits m = Left 0 m.next × Left 1 m.test × StepsFit n me coarrays readable m.body
 
   -- the numbers of the body that is run, with those of its callers
   abbrev base : List (List ℤ) → List ℤ
@@ -48,12 +48,12 @@ module _ (n me : ℕ) (coarrays : List Declared) where
   TasksFit bs [] z c = Unit {0}
   TasksFit bs (run stop ∷ ts) z c = TasksFit bs ts z c
   TasksFit bs (run (also l f rest) ∷ ts) z c =
-      Sound z c × (c.values ≡ base bs) × FormFits n me coarrays f × StepsFit n me coarrays rest × ((y : Sizes) (d : Core) → Sound y d → d.values ≡ base bs → TasksFit bs ts y d)
+      Sound z c × (c.values ≡ base bs) × FormFits n me coarrays readable f × StepsFit n me coarrays readable rest × ((y : Sizes) (d : Core) → Sound y d → d.values ≡ base bs → TasksFit bs ts y d)
   TasksFit bs (eval l p ∷ ts) z c = Fit p (TasksFit bs ts) z c
   TasksFit bs (tally l ∷ ts) z c = TasksFit bs ts z c
-  TasksFit bs (decide b ∷ ts) z c = Sound z c × (c.values ≡ base bs) × BranchesFit n me coarrays b × ((y : Sizes) (d : Core) → Sound y d → d.values ≡ base bs → TasksFit bs ts y d)
+  TasksFit bs (decide b ∷ ts) z c = Sound z c × (c.values ≡ base bs) × BranchesFit n me coarrays readable b × ((y : Sizes) (d : Core) → Sound y d → d.values ≡ base bs → TasksFit bs ts y d)
   TasksFit bs (pick l a b ∷ ts) z c =
-      Sound z c × Stand 1 (base bs) c.values × StepsFit n me coarrays a × BranchesFit n me coarrays b × ((y : Sizes) (d : Core) → Sound y d → d.values ≡ base bs → TasksFit bs ts y d)
+      Sound z c × Stand 1 (base bs) c.values × StepsFit n me coarrays readable a × BranchesFit n me coarrays readable b × ((y : Sizes) (d : Core) → Sound y d → d.values ≡ base bs → TasksFit bs ts y d)
   TasksFit bs (again m ∷ ts) z c = Sound z c × (c.values ≡ base bs) × LoopFits m × ((y : Sizes) (d : Core) → Sound y d → d.values ≡ base bs → TasksFit bs ts y d)
   TasksFit bs (iterate m ∷ ts) z c = Sound z c × Stand 1 (base bs) c.values × LoopFits m × ((y : Sizes) (d : Core) → Sound y d → d.values ≡ base bs → TasksFit bs ts y d)
   TasksFit bs (back ∷ ts) z c = TasksFit (callers bs) ts z c
@@ -112,20 +112,20 @@ module _ (n me : ℕ) (coarrays : List Declared) where
   return_clear bs (iterate m ∷ ts) h = return_clear bs ts h
   return_clear bs (back ∷ ts) h = (h.0, h)
 
-  run_clear : (ss : Steps Act) (bs : List (List ℤ)) (ts : List (Task Act)) → StepsFit n me coarrays ss → Always bs ts → Always bs (run ss ∷ ts)
+  run_clear : (ss : Steps Act) (bs : List (List ℤ)) (ts : List (Task Act)) → StepsFit n me coarrays readable ss → Always bs ts → Always bs (run ss ∷ ts)
   run_clear stop bs ts h more y d i e = more y d i e
   run_clear (also l f rest) bs ts h more y d i e = (i, e, h.0, h.1, more)
 
   left_then : (m : ℕ) (p : Parts Act) → Left m p → (bs : List (List ℤ)) (ts : List (Task Act)) → ((y : Sizes) (d : Core) → Sound y d → Stand m (base bs) d.values → TasksFit bs ts y d)
       → (z : Sizes) (c : Core) → Sound z c → c.values ≡ base bs → Fit p (TasksFit bs ts) z c
-  left_then m p h bs ts more z c i e = leave_then n me coarrays m p h (base bs) (TasksFit bs ts) more z c i e
+  left_then m p h bs ts more z c i e = leave_then n me coarrays readable m p h (base bs) (TasksFit bs ts) more z c i e
 
-  form_clear : (l : ℕ) (f : Form Act) (bs : List (List ℤ)) (ts : List (Task Act)) → FormFits n me coarrays f → Clear bs ts → Clear bs (form_tasks l f ts)
+  form_clear : (l : ℕ) (f : Form Act) (bs : List (List ℤ)) (ts : List (Task Act)) → FormFits n me coarrays readable f → Clear bs ts → Clear bs (form_tasks l f ts)
   form_clear l (simple p) bs ts h more = (left_then 0 p h bs ts more.0, more.1)
   form_clear l (choose p b) bs ts h more = (left_then 0 p h.0 bs (decide b ∷ ts) (λ y d i e. (i, e, h.1, more.0)), more.1)
   form_clear l (loop s k t b) bs ts h more =
       let m : Loop Act = record { line = l; next = k; test = t; body = b } in (
-        leave_then n me coarrays 0 s h.0 (base bs) (Fit t (TasksFit bs (iterate m ∷ ts))) (left_then 1 t h.2 bs (iterate m ∷ ts) (λ y d i e. (i, e, (h.1, h.2, h.3), more.0))),
+        leave_then n me coarrays readable 0 s h.0 (base bs) (Fit t (TasksFit bs (iterate m ∷ ts))) (left_then 1 t h.2 bs (iterate m ∷ ts) (λ y d i e. (i, e, (h.1, h.2, h.3), more.0))),
         more.1,
       )
   form_clear l (around p b m q) bs ts h more =
@@ -140,7 +140,7 @@ module _ (n me : ℕ) (coarrays : List Declared) where
 
   abbrev Follows : Sizes → Move (Config Act Core) Ask Reply → Type 0
   Follows z (goes c) = Good z c
-  Follows z (asks a l f) = FitsCell n me coarrays z a × ((r : Reply) → TellsImages n r → Good (sizes_by z a) (f r))
+  Follows z (asks a l f) = FitsCell n me coarrays readable z a × ((r : Reply) → TellsImages n r → Good (sizes_by z a) (f r))
   Follows z over = Unit {0}
 
   counted_follows : (limit l k : ℕ) (z : Sizes) (onward : Config Act Core) (c : Core) → Good z onward → Follows z (counted image_language limit l k onward (to [] c k))
@@ -150,7 +150,7 @@ module _ (n me : ℕ) (coarrays : List Declared) where
       by_count true = h
       by_count false = (tt, λ r x. ([], tt, tt))
 
-  act_follows : (l k : ℕ) (z : Sizes) (bs : List (List ℤ)) (ts : List (Task Act)) (q : Parts Act) (c : Core) (e : Acted) → EffectFits n me coarrays e (Fit q (TasksFit bs ts)) z → AreLeft bs ts
+  act_follows : (l k : ℕ) (z : Sizes) (bs : List (List ℤ)) (ts : List (Task Act)) (q : Parts Act) (c : Core) (e : Acted) → EffectFits n me coarrays readable e (Fit q (TasksFit bs ts)) z → AreLeft bs ts
       → Follows z (acted image_language l (λ x. to (eval l q ∷ ts) x k) (λ x. to [] x k) c e)
   act_follows l k z bs ts q c (language.goes_to x) h left = (bs, h, left)
   act_follows l k z bs ts q c (language.faults m) h left = (tt, λ r x. ([], tt, tt))
@@ -158,7 +158,7 @@ module _ (n me : ℕ) (coarrays : List Declared) where
   act_follows l k z bs ts q c (language.ends_with a) h left = (h, λ r x. ([], tt, tt))
   act_follows l k z bs ts q c language.stuck h left = tt
 
-  test_follows : (t : Tested Core) (k : ℕ) (z : Sizes) (bs : List (List ℤ)) (ts us : List (Task Act)) → TestFits n me coarrays t (TasksFit bs ts z) (TasksFit bs us z) → AreLeft bs ts → AreLeft bs us
+  test_follows : (t : Tested Core) (k : ℕ) (z : Sizes) (bs : List (List ℤ)) (ts us : List (Task Act)) → TestFits n me coarrays readable t (TasksFit bs ts z) (TasksFit bs us z) → AreLeft bs ts → AreLeft bs us
       → Follows z (by_test t (λ c. to ts c k) (λ c. to us c k))
   test_follows no_value k z bs ts us h lt lu = tt
   test_follows (holds c) k z bs ts us h lt lu = (bs, h, lt)
@@ -168,7 +168,7 @@ module _ (n me : ℕ) (coarrays : List Declared) where
   entered true z c h = tt
   entered false z c h = h
 
-  module _ (procedures : ℕ → Steps Act) (limit : ℕ) (bodies : (k : ℕ) → StepsFit n me coarrays (procedures k)) where
+  module _ (procedures : ℕ → Steps Act) (limit : ℕ) (bodies : (k : ℕ) → StepsFit n me coarrays readable (procedures k)) where
     task_follows : (t : Task Act) (ts : List (Task Act)) (z : Sizes) (c : Core) (k : ℕ) (bs : List (List ℤ)) → TasksFit bs (t ∷ ts) z c → AreLeft bs (t ∷ ts) → Follows z (step_task image_language procedures limit t ts c k)
     task_follows (run stop) ts z c k bs h left = (bs, h, left)
     task_follows (run (also l f rest)) ts z c k bs (i, e, hf, hr, h) left =
@@ -185,12 +185,12 @@ module _ (n me : ℕ) (coarrays : List Declared) where
     task_follows (decide (branch l p a rest)) ts z c k bs (i, e, hb, h) left = (bs, left_then 1 p hb.0 bs (pick l a rest ∷ ts) (λ y d j s. (j, s, hb.1, hb.2, h)) z c i e, left)
     task_follows (pick l a rest) ts z c k bs (i, s, ha, hb, h) left =
         test_follows (tested c) k z bs (run a ∷ ts) (decide rest ∷ ts)
-        (test_fits n me coarrays 0 (base bs) c (TasksFit bs (run a ∷ ts) z) (TasksFit bs (decide rest ∷ ts) z) s (λ ws e. run_clear a bs ts ha h z (with_values c ws) i e) (λ ws e. (i, e, hb, h))) left left
+        (test_fits n me coarrays readable 0 (base bs) c (TasksFit bs (run a ∷ ts) z) (TasksFit bs (decide rest ∷ ts) z) s (λ ws e. run_clear a bs ts ha h z (with_values c ws) i e) (λ ws e. (i, e, hb, h))) left left
     task_follows (again m) ts z c k bs (i, e, hm, h) left =
-        (bs, leave_then n me coarrays 0 m.next hm.0 (base bs) (Fit m.test (TasksFit bs (iterate m ∷ ts))) (left_then 1 m.test hm.1 bs (iterate m ∷ ts) (λ y d j s. (j, s, hm, h))) z c i e, left.2)
+        (bs, leave_then n me coarrays readable 0 m.next hm.0 (base bs) (Fit m.test (TasksFit bs (iterate m ∷ ts))) (left_then 1 m.test hm.1 bs (iterate m ∷ ts) (λ y d j s. (j, s, hm, h))) z c i e, left.2)
     task_follows (iterate m) ts z c k bs (i, s, hm, h) left =
         test_follows (tested c) k z bs (tally m.line ∷ run m.body ∷ again m ∷ ts) ts
-        (test_fits n me coarrays 0 (base bs) c (TasksFit bs (tally m.line ∷ run m.body ∷ again m ∷ ts) z) (TasksFit bs ts z) s
+        (test_fits n me coarrays readable 0 (base bs) c (TasksFit bs (tally m.line ∷ run m.body ∷ again m ∷ ts) z) (TasksFit bs ts z) s
         (λ ws e. run_clear m.body bs (again m ∷ ts) hm.2 (λ y d j x. (j, x, hm, h)) z (with_values c ws) i e) (λ ws e. h z (with_values c ws) i e)) (hm, h, left) left
     task_follows back ts z c k bs h left = (callers bs, h, left.1)
 
@@ -214,7 +214,7 @@ module _ (n me : ℕ) (coarrays : List Declared) where
     come zero z c g = g
     come (suc k) z c g = come_on k z (Ls c) (step_follows z c g) (come k z)
 
-    all_fit : (es : List (Said Ask Reply)) (z : Sizes) (c e : Config Act Core) → Good z c → Each (λ (x : Said Ask Reply). TellsImages n x.reply) es → Walk Ls c es e → AllFit n me coarrays z es
+    all_fit : (es : List (Said Ask Reply)) (z : Sizes) (c e : Config Act Core) → Good z c → Each (λ (x : Said Ask Reply). TellsImages n x.reply) es → Walk Ls c es e → AllFit n me coarrays readable z es
     all_fit [] z c e g tells w = tt
     all_fit (x ∷ es) z c e g (b, tells) (f, (k, h), w) =
         let s = subst (Follows z) h (come k z c g) in
@@ -222,5 +222,5 @@ module _ (n me : ℕ) (coarrays : List Declared) where
 
     -- from the start of a program on
     pub walks_fit : (line : ℕ) (z : Sizes) (first : Core) → Sound z first → first.values ≡ [] → (es : List (Said Ask Reply)) (c : Config Act Core) → Each (λ (x : Said Ask Reply). TellsImages n x.reply) es
-        → Walk Ls (start (ask end_program) line first) es c → AllFit n me coarrays z es
+        → Walk Ls (start (ask end_program) line first) es c → AllFit n me coarrays readable z es
     walks_fit line z first i e es c tells w = all_fit es z (start (ask end_program) line first) c ([] ∷ [], (i, λ y d j s. tt), tt) tells w

@@ -1,6 +1,6 @@
--- Which asks for one cell of a memory fit (ISO/IEC 1539-1:2018, 9.6, 11.6.7, 11.6.8, 11.6.10, 16.10.2), along the walk
--- of a program.
-use Rattle.std.specs.Prelude.{ℕ, ◌≡◌, ◌≤◌, ◌<◌, ℤ, true, map, slice_get, List, [], ◌∷◌, Option, Some, None}
+-- Which reads of coarrays, and which asks for one cell of a memory, fit (ISO/IEC 1539-1:2018, 9.6, 11.6.7, 11.6.8,
+-- 11.6.10, 16.10.2), along the walk of a program.
+use Rattle.std.specs.Prelude.{ℕ, ◌≡◌, ◌≤◌, ◌<◌, ℤ, Bool, true, map, slice_get, List, [], ◌∷◌, Option, Some, None}
 use Rattle.trace_theory.specs.Entries.{Each}
 use Rattle.trace_theory.specs.Machines.{Said}
 use Rattle.coarray_types.specs.Places.{size_of}
@@ -15,6 +15,7 @@ use Rattle.walk_theory.specs.Language.{Tested, no_value, holds, fails}
 use Rattle.walk_theory.specs.Syntax.{Parts, end_parts, value, act, enter, either, Form, simple, choose, loop, around, exit, cycle, return, Branches, otherwise, branch, Steps, stop, also}
 use Rattle.object_rules.specs.Cells.{Declared}
 use Rattle.object_rules.specs.MemoryRules.{is_lock, is_event, suits_atomic, is_cell_of}
+use Rattle.object_rules.specs.SpanTests.{is_span}
 use Rattle.core_runs.specs.Beginnings.{IsOneOf}
 use Rattle.core_runs.specs.Lawful.{made_memory}
 use Rattle.image_acts.specs.Acts.{Act}
@@ -40,10 +41,11 @@ IsSmall (Some o) = size_of o.bounds ≤ most_cells
 abbrev pub Sizes : Type 0
 Sizes = List (Option ℕ)
 
--- The invariant of a walk of image `me` of n: each team that it knows has members of the run alone, and its own
--- coarrays have these sizes, none more cells than an image has.
+-- The invariant of a walk of image `me` of n, one of the run: each team that it knows has members of the run alone, and
+-- its own coarrays have these sizes, none more cells than an image has.
 pub record Sounds (n me : ℕ) (z : Sizes) (m : ℕ) (ts : List Team) (fs : List FormedTeam) (os : List (Option Own)) : Type 0 where
   pub own : m ≡ me
+  pub image : IsOneOf n me
   pub known : Each (λ (x : Team). Each (IsOneOf n) x.members) ts
   pub formed : Each (λ (x : FormedTeam). Each (λ i. IsOneOf n i.0) x.members) fs
   pub coarrays : Each IsSmall os
@@ -56,26 +58,27 @@ IsSound n me z c = Sounds n me z c.me c.known c.formed c.coarrays
 abbrev pub HasCell : Sizes → Span → Type 0
 HasCell z span = (m : ℕ) × (joined (slice_get z span.coarray) ≡ Some m) × (span.start < m)
 
--- The ask of image `me`, whose own coarrays have these sizes, fits, as far as it is one for a lock, an event or an atom.
--- EVENT WAIT and EVENT_QUERY name a cell that is there.
-abbrev pub FitsCell : (n me : ℕ) → List Declared → Sizes → Ask → Type 0
-FitsCell n me coarrays z (asking.Lock owner span) = IsOneOf n owner.0 × (is_cell_of (made_memory coarrays owner.0) is_lock span ≡ true)
-FitsCell n me coarrays z (asking.TryLock owner span) = IsOneOf n owner.0 × (is_cell_of (made_memory coarrays owner.0) is_lock span ≡ true)
-FitsCell n me coarrays z (asking.Unlock owner span) = IsOneOf n owner.0 × (is_cell_of (made_memory coarrays owner.0) is_lock span ≡ true)
-FitsCell n me coarrays z (asking.Post owner span) = IsOneOf n owner.0 × (is_cell_of (made_memory coarrays owner.0) is_event span ≡ true)
-FitsCell n me coarrays z (asking.Wait owner span threshold) =
+-- The ask of image `me`, whose own coarrays have these sizes, fits, as far as it is a read of a coarray that may be read,
+-- or an ask for a lock, an event or an atom. EVENT WAIT and EVENT_QUERY name a cell that is there.
+abbrev pub FitsCell : (n me : ℕ) → List Declared → (ℕ → Bool) → Sizes → Ask → Type 0
+FitsCell n me coarrays readable z (asking.Read owner span) = IsOneOf n owner.0 × (is_span span ≡ true) × (readable span.coarray ≡ true)
+FitsCell n me coarrays readable z (asking.Lock owner span) = IsOneOf n owner.0 × (is_cell_of (made_memory coarrays owner.0) is_lock span ≡ true)
+FitsCell n me coarrays readable z (asking.TryLock owner span) = IsOneOf n owner.0 × (is_cell_of (made_memory coarrays owner.0) is_lock span ≡ true)
+FitsCell n me coarrays readable z (asking.Unlock owner span) = IsOneOf n owner.0 × (is_cell_of (made_memory coarrays owner.0) is_lock span ≡ true)
+FitsCell n me coarrays readable z (asking.Post owner span) = IsOneOf n owner.0 × (is_cell_of (made_memory coarrays owner.0) is_event span ≡ true)
+FitsCell n me coarrays readable z (asking.Wait owner span threshold) =
     (owner.0 ≡ me) × (is_cell_of (made_memory coarrays owner.0) is_event span ≡ true) × (1 ≤ threshold) × HasCell z span
-FitsCell n me coarrays z (asking.Query owner span) = (owner.0 ≡ me) × (is_cell_of (made_memory coarrays owner.0) is_event span ≡ true) × HasCell z span
-FitsCell n me coarrays z (asking.Atomic owner op span x y) = IsOneOf n owner.0 × (is_cell_of (made_memory coarrays owner.0) (suits_atomic op x y) span ≡ true)
-FitsCell n me coarrays z ask = Unit {0}
+FitsCell n me coarrays readable z (asking.Query owner span) = (owner.0 ≡ me) × (is_cell_of (made_memory coarrays owner.0) is_event span ≡ true) × HasCell z span
+FitsCell n me coarrays readable z (asking.Atomic owner op span x y) = IsOneOf n owner.0 × (is_cell_of (made_memory coarrays owner.0) (suits_atomic op x y) span ≡ true)
+FitsCell n me coarrays readable z ask = Unit {0}
 
-module _ (n me : ℕ) (coarrays : List Declared) where
+module _ (n me : ℕ) (coarrays : List Declared) (readable : ℕ → Bool) where
   -- what an act comes to asks for no cell that doesn't fit, and `After` holds behind it, whatever the reply is
   abbrev pub EffectFits : Acted → (Sizes → Core → Type 0) → Sizes → Type 0
   EffectFits (language.goes_to d) After z = After z d
   EffectFits (language.faults k) After z = Unit {0}
-  EffectFits (language.asking a f) After z = FitsCell n me coarrays z a × ((r : Reply) → TellsImages n r → After (sizes_by z a) (f r))
-  EffectFits (language.ends_with a) After z = FitsCell n me coarrays z a
+  EffectFits (language.asking a f) After z = FitsCell n me coarrays readable z a × ((r : Reply) → TellsImages n r → After (sizes_by z a) (f r))
+  EffectFits (language.ends_with a) After z = FitsCell n me coarrays readable z a
   EffectFits language.stuck After z = Unit {0}
 
   abbrev pub TestFits : Tested Core → (so other : Core → Type 0) → Type 0
@@ -117,4 +120,4 @@ module _ (n me : ℕ) (coarrays : List Declared) where
   -- each ask of a walk fits, where the image's own coarrays had these sizes before all
   abbrev pub AllFit : Sizes → List (Said Ask Reply) → Type 0
   AllFit z [] = Unit {0}
-  AllFit z (e ∷ es) = FitsCell n me coarrays z e.ask × AllFit (sizes_by z e.ask) es
+  AllFit z (e ∷ es) = FitsCell n me coarrays readable z e.ask × AllFit (sizes_by z e.ask) es

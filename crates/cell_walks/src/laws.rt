@@ -14,9 +14,9 @@ ghost use Rattle.image_acts.specs.Meaning.{image_language};
 ghost use Rattle.cell_walks.specs.Fitting.{Sizes, IsSound, TellsImages, StepsFit, AllFit};
 
 /// Where the blocks of a program fit, each ask of its walks fits, whatever the replies are that tell of images of the
-/// run alone.
+/// run alone. Of coarrays those alone are read that may be read.
 pub fn law_walks_fit()
-    ensures { (n me : ℕ) (coarrays : List Declared) (procedures : ℕ → Steps Act) (limit : ℕ) → ((k : ℕ) → StepsFit n me coarrays (procedures k))
+    ensures { (n me : ℕ) (coarrays : List Declared) (readable : ℕ → Bool) (procedures : ℕ → Steps Act) (limit : ℕ) → ((k : ℕ) → StepsFit n me coarrays readable (procedures k))
         → (line : ℕ) (sizes : Sizes) (first : Core) → IsSound n me sizes first → first.values ≡ [] → (es : List (Said Ask Reply)) (c : Config Act Core)
-        → Each (λ (x : Said Ask Reply). TellsImages n x.reply) es → Walk (step image_language procedures limit) (start (ask end_program) line first) es c → AllFit n me coarrays sizes es }
+        → Each (λ (x : Said Ask Reply). TellsImages n x.reply) es → Walk (step image_language procedures limit) (start (ask end_program) line first) es c → AllFit n me coarrays readable sizes es }
 {}

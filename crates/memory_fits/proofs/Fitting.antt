@@ -1,5 +1,5 @@
--- The next ask of an image for a lock, an event or an atom fits.
-use Rattle.std.proofs.Common.{◌≡◌, ℕ, zero, suc, ◌<◌, Bool, true, false, ◌&&◌, List, [], ◌∷◌, length, map, slice_get, refl, sym, ap, ◌∙◌, subst, nat_eq, nat_le, nat_lt, arith}
+-- The next ask of an image for a lock, an event or an atom fits, and so does its next read.
+use Rattle.std.proofs.Common.{◌≡◌, ℕ, zero, suc, ◌<◌, Bool, true, ◌&&◌, List, [], ◌∷◌, length, map, slice_get, refl, sym, ap, ◌∙◌, subst, nat_eq, nat_le, nat_lt, arith}
 use Rattle.std.specs.Prelude.{ℤ, pos, Option, Some}
 use Rattle.std.specs.List.{list_all}
 use Rattle.std.proofs.lemmas.Bool.{and_from, and_parts, eq-eqb, eqb-true, le-leb, lt-ltb}
@@ -17,7 +17,8 @@ use Rattle.made_code.specs.Ranks.{IsRankedProgram}
 use Rattle.image_acts.specs.Frames.{joined}
 use Rattle.object_rules.specs.Cells.{Content, Declared, MadeMemory, size_after, is_offset, is_within}
 use Rattle.object_rules.specs.BoardRules.{is_image}
-use Rattle.object_rules.specs.MemoryRules.{has_first_values, holds, is_lock, is_event, suits_atomic, is_cell_of, is_one_cell, is_own}
+use Rattle.object_rules.specs.MemoryRules.{has_first_values, holds, is_values, is_lock, is_event, suits_atomic, is_cell_of, is_one_cell, is_own}
+use Rattle.object_rules.specs.SpanTests.{is_span}
 use Rattle.core_runs.specs.Beginnings.{IsOneOf}
 use Rattle.core_runs.specs.CoreRuns.{IsCoreRun, said_by, of_memory}
 use Rattle.core_runs.specs.Lawful.{made_memory}
@@ -31,8 +32,14 @@ use Rattle.walk_laws.proofs.OwnSizes.{size_there}
 use Rattle.walk_laws.proofs.Runs.{image_there}
 use Rattle.cell_walks.specs.Fitting.{IsSmall, FitsCell, HasCell}
 use Rattle.cell_statements.specs.Typed.{IsTypedProgram}
+use Rattle.cell_statements.specs.Reading.{ProgramReads}
+use Rattle.cell_statements.proofs.AllReads.{program_reads}
 use Rattle.memory_fits.specs.CellAsks.{is_of_cell, is_of_own_event}
 use Rattle.memory_fits.proofs.Runs.{lawful, stands_fit}
+
+-- each coarray may be read
+abbrev all_readable : ℕ → Bool
+all_readable k = true
 
 -- ---- one cell that is there
 no_dims : (ds : List (ℕ × ℤ)) → nat_eq (length ds) 0 ≡ true → ds ≡ []
@@ -62,7 +69,7 @@ module _ (p : s.Program) (limit : ℕ) (coarrays : List Declared) (n : ℕ) (fai
   there owner h b e = and_from (is_image n owner.0) (nat_eq owner.0 owner.0 && b) (image_there n owner.0 h) (and_from (nat_eq owner.0 owner.0) b (eq-eqb owner.0 owner.0 refl) e)
 
   -- ---- LOCK, UNLOCK, EVENT POST, atomic subroutines
-  cell_fits : (i : ℕ) (a : Ask) (z : List (Option ℕ)) → FitsCell n i coarrays z a → is_of_cell a ≡ true → Fits i a
+  cell_fits : (i : ℕ) (a : Ask) (z : List (Option ℕ)) → FitsCell n i coarrays all_readable z a → is_of_cell a ≡ true → Fits i a
   cell_fits i (asking.Lock owner span) z f e = there owner f.0 (is_cell_of (made_memory coarrays owner.0) is_lock span) f.1
   cell_fits i (asking.TryLock owner span) z f e = there owner f.0 (is_cell_of (made_memory coarrays owner.0) is_lock span) f.1
   cell_fits i (asking.Unlock owner span) z f e = there owner f.0 (is_cell_of (made_memory coarrays owner.0) is_lock span) f.1
@@ -72,7 +79,28 @@ module _ (p : s.Program) (limit : ℕ) (coarrays : List Declared) (n : ℕ) (fai
 
   pub named_fits : (i : ℕ) (a : Ask) → Stands i a → is_of_cell a ≡ true → Fits i a
   named_fits i a h e =
-      cell_fits i a (told_by (told_first p i n) (said_by i t)).sizes (stands_fit p limit coarrays n fails_at words t declared core ranked typed small i a h) e
+      cell_fits i a (told_by (told_first p i n) (said_by i t)).sizes (stands_fit p limit coarrays n fails_at words t declared core all_readable ranked typed (program_reads all_readable (λ k. refl) p) small i a h) e
+
+  -- ---- reads
+  abbrev held : ℕ → Bool
+  held k = holds is_values (slice_get coarrays k)
+
+  -- a read of a coarray that holds values
+  pub read_fits : (i : ℕ) (owner : ImageNo) (span : Span) → Stands i (asking.Read owner span) → held span.coarray ≡ true → Fits i (asking.Read owner span)
+  read_fits i owner span h e =
+      let f : FitsCell n i coarrays all_readable (told_by (told_first p i n) (said_by i t)).sizes (asking.Read owner span) =
+      stands_fit p limit coarrays n fails_at words t declared core all_readable ranked typed (program_reads all_readable (λ k. refl) p) small i (asking.Read owner span) h in
+      by (is_image n owner.0) (nat_eq owner.0 owner.0) (is_span span) (held span.coarray) (image_there n owner.0 f.0) (eq-eqb owner.0 owner.0 refl) f.1 e
+    where
+      by : (u v w x : Bool) → u ≡ true → v ≡ true → w ≡ true → x ≡ true → (u && (v && w && x)) ≡ true
+      by u v w x d g q k = rw (d, g, q, k) refl
+
+  -- where the program reads such alone, each read is one
+  pub read_holds : ProgramReads held p → (i : ℕ) (owner : ImageNo) (span : Span) → Stands i (asking.Read owner span) → held span.coarray ≡ true
+  read_holds reads i owner span h =
+      let f : FitsCell n i coarrays held (told_by (told_first p i n) (said_by i t)).sizes (asking.Read owner span) =
+      stands_fit p limit coarrays n fails_at words t declared core held ranked typed reads small i (asking.Read owner span) h in
+      f.2
 
   -- ---- EVENT WAIT, EVENT_QUERY
   module _ (own : AreDeclaredBy p coarrays) where
@@ -86,7 +114,7 @@ module _ (p : s.Program) (limit : ℕ) (coarrays : List Declared) (n : ℕ) (fai
         let q = and_parts (is_one_cell span) (holds is_event (slice_get coarrays span.coarray)) c in
         within_one (made_memory coarrays i) (of_memory i t) span h.0 q.0 (sym (size_so i span.coarray (low_place coarrays is_event span.coarray q.1)) ∙ h.1) h.2
 
-    event_fits : (i : ℕ) → IsOneOf n i → (a : Ask) → FitsCell n i coarrays (told_by (told_first p i n) (said_by i t)).sizes a → is_of_own_event a ≡ true → Fits i a
+    event_fits : (i : ℕ) → IsOneOf n i → (a : Ask) → FitsCell n i coarrays all_readable (told_by (told_first p i n) (said_by i t)).sizes a → is_of_own_event a ≡ true → Fits i a
     event_fits i one (asking.Wait owner span threshold) f e =
         subst (λ j. (is_image n j && (is_own (made_memory coarrays j) i (record { 0 = j }) && is_cell_of (made_memory coarrays j) is_event span && is_within (made_memory coarrays j) (of_memory j t) span && nat_le 1 threshold)) ≡ true) (sym f.0)
         (by (is_image n i) (nat_eq i i) (is_cell_of (made_memory coarrays i) is_event span) (is_within (made_memory coarrays i) (of_memory i t) span) (nat_le 1 threshold) (image_there n i one) (eq-eqb i i refl)
@@ -110,4 +138,4 @@ module _ (p : s.Program) (limit : ℕ) (coarrays : List Declared) (n : ℕ) (fai
     event_fits i one a f e = absurd (cc)
 
     pub own_fits : (i : ℕ) (a : Ask) → Stands i a → is_of_own_event a ≡ true → Fits i a
-    own_fits i a h e = event_fits i h.image a (stands_fit p limit coarrays n fails_at words t declared core ranked typed small i a h) e
+    own_fits i a h e = event_fits i h.image a (stands_fit p limit coarrays n fails_at words t declared core all_readable ranked typed (program_reads all_readable (λ k. refl) p) small i a h) e

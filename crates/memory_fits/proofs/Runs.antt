@@ -1,4 +1,5 @@
--- In a core run of a program each next ask of an image for a lock or an event is one of a declared cell.
+-- In a core run of a program each next ask of an image for a lock or an event is one of a declared cell, and each next
+-- read is of a coarray that may be read.
 use Rattle.std.proofs.Common.{◌≡◌, ℕ, zero, suc, ◌+◌, ◌<◌, ◌≤◌, Bool, true, false, List, [], ◌∷◌, ◌++◌, inl, inr, refl, sym, ◌∙◌, subst, arith}
 use Rattle.std.specs.Prelude.{map, nat_eq, ◌||◌}
 use Rattle.std.specs.List.{list_all, list_any}
@@ -45,6 +46,7 @@ use Rattle.walk_laws.proofs.Members.{told_by}
 use Rattle.cell_walks.specs.Fitting.{IsSmall, IsSound, TellsImages, FitsCell}
 use Rattle.cell_walks.proofs.Walks.{walks_fit}
 use Rattle.cell_statements.specs.Typed.{IsTypedProgram}
+use Rattle.cell_statements.specs.Reading.{ProgramReads}
 use Rattle.cell_statements.proofs.Blocks.{bodies_fit}
 use Rattle.memory_fits.proofs.Lanes.{WalksFit, lane_fits, fit_last}
 
@@ -89,13 +91,13 @@ module _ (p : s.Program) (limit : ℕ) (coarrays : List Declared) (n : ℕ) (fai
       let b = program_begins p coarrays n fails_at words in
       core_run_lawful r.step r.hears coarrays n b.first t declared (program_fit p limit coarrays n fails_at words) core
 
-  module _ (ranked : IsRankedProgram p) (typed : IsTypedProgram coarrays p) (small : Each IsSmall (own_coarrays p)) where
-    sound_first : (i : ℕ) → IsSound n i (map own_cells (own_coarrays p)) (first_core p i n)
-    sound_first i = record { own = refl; known = (first_images n 1 n (omega arith) (omega arith), tt); formed = tt; coarrays = small; sizes = refl }
+  module _ (readable : ℕ → Bool) (ranked : IsRankedProgram p) (typed : IsTypedProgram coarrays p) (reads : ProgramReads readable p) (small : Each IsSmall (own_coarrays p)) where
+    sound_first : (i : ℕ) → IsOneOf n i → IsSound n i (map own_cells (own_coarrays p)) (first_core p i n)
+    sound_first i there = record { own = refl; image = there; known = (first_images n 1 n (omega arith) (omega arith), tt); formed = tt; coarrays = small; sizes = refl }
 
-    program_fits : (i : ℕ) → IsOneOf n i → WalksFit n i coarrays (map own_cells (own_coarrays p)) (walk_step p limit) (start_of p i n)
+    program_fits : (i : ℕ) → IsOneOf n i → WalksFit n i coarrays readable (map own_cells (own_coarrays p)) (walk_step p limit) (start_of p i n)
     program_fits i there es c tells w =
-        walks_fit n i coarrays (body_of (bodies p)) limit (bodies_fit n i coarrays there p ranked typed) p.end_line (map own_cells (own_coarrays p)) (first_core p i n) (sound_first i) refl es w.0 tells w.1
+        walks_fit n i coarrays readable (body_of (bodies p)) limit (bodies_fit n i coarrays readable there p ranked typed reads) p.end_line (map own_cells (own_coarrays p)) (first_core p i n) (sound_first i there) refl es w.0 tells w.1
 
     abbrev Lane : Type 0
     Lane = OnLane (Config Act Core)
@@ -104,14 +106,14 @@ module _ (p : s.Program) (limit : ℕ) (coarrays : List Declared) (n : ℕ) (fai
     steps = lane_step (walk_step p limit)
 
     abbrev Fits : ℕ → Ask → Type 0
-    Fits i a = FitsCell n i coarrays (told_by (told_first p i n) (said_by i t)).sizes a
+    Fits i a = FitsCell n i coarrays readable (told_by (told_first p i n) (said_by i t)).sizes a
 
     next_fits : (i : ℕ) → IsOneOf n i → (c : Lane) → WalkTo steps (lane_start i (fails_at i) words (start_of p i n)) (said_by i t) c → (a : Ask) (line : ℕ) (k : Reply → Lane) → steps c ≡ asks a line k → Fits i a
     next_fits i there c w a line k at =
         let e : Said Ask Reply = record { ask = a; reply = replies.Done; line = line } in
         let more = walk_to_more Lane Ask Reply steps (lane_start i (fails_at i) words (start_of p i n)) c (k replies.Done) (said_by i t) e k w at 0 refl in
-        fit_last n i coarrays (said_by i t) (told_first p i n) e
-        (lane_fits n i coarrays (map own_cells (own_coarrays p)) (walk_step p limit) (start_of p i n) (program_fits i there) i (fails_at i) words (said_by i t ++ e ∷ []) (k replies.Done)
+        fit_last n i coarrays readable (said_by i t) (told_first p i n) e
+        (lane_fits n i coarrays readable (map own_cells (own_coarrays p)) (walk_step p limit) (start_of p i n) (program_fits i there) i (fails_at i) words (said_by i t ++ e ∷ []) (k replies.Done)
         (one_more n (said_by i t) e (all_images n (at_board t) (said_by i t) (heard_teams coarrays n t lawful i)) tt) more)
 
     fits_next : (i : ℕ) → IsOneOf n i → (c : Lane) → WalkTo steps (lane_start i (fails_at i) words (start_of p i n)) (said_by i t) c → (a : Ask) (m : Move Lane Ask Reply) → steps c ≡ m → AsksNext m a → Fits i a

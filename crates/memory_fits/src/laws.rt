@@ -1,15 +1,18 @@
-//! Laws of the next ask for a lock, an event or an atom in a run. Each is the contract of a function that does nothing.
+//! Laws of the next read in a run, and of the next ask for a lock, an event or an atom. Each is the contract of a function that does nothing.
 
-ghost use Rattle.std.specs.Prelude.{◌≡◌, ℕ, true, List};
+ghost use Rattle.std.specs.Prelude.{◌≡◌, ℕ, true, List, slice_get};
 ghost use Rattle.std.specs.List.{list_all};
 ghost use Rattle.trace_theory.specs.Entries.{Each};
+ghost use Rattle.caf_base.specs.declared.place.ImageNo.{ImageNo};
+ghost use Rattle.caf_base.specs.declared.span.Span.{Span};
 ghost use Rattle.caf_events.specs.declared.ask.Ask.{Ask};
+ghost use Rattle.caf_events.specs.declared.ask.Ask.TheVariants as asks;
 ghost use Rattle.caf_events.specs.declared.event.Entry.{Entry};
 ghost use Rattle.checked_tree.specs.Statements as checked;
 ghost use Rattle.tree_meaning.specs.Start.{own_coarrays};
 ghost use Rattle.made_code.specs.Ranks.{IsRankedProgram};
 ghost use Rattle.object_rules.specs.Cells.{Declared};
-ghost use Rattle.object_rules.specs.MemoryRules.{has_first_values};
+ghost use Rattle.object_rules.specs.MemoryRules.{has_first_values, holds, is_values};
 ghost use Rattle.core_runs.specs.CoreRuns.{IsCoreRun};
 ghost use Rattle.core_runs.specs.Waits.{IsWaiting};
 ghost use Rattle.program_walks.specs.Runs.{program_rules, program_begins};
@@ -17,6 +20,7 @@ ghost use Rattle.wait_reason.specs.WaitsFor.{is_fit_after};
 ghost use Rattle.walk_laws.specs.Fits.{StandsAt, AreDeclaredBy};
 ghost use Rattle.cell_walks.specs.Fitting.{IsSmall};
 ghost use Rattle.cell_statements.specs.Typed.{IsTypedProgram};
+ghost use Rattle.cell_statements.specs.Reading.{ProgramReads};
 ghost use Rattle.memory_fits.specs.CellAsks.{is_of_cell, is_of_own_event};
 
 /// In a core run of a checked program whose ranks are right, and whose statements on locks, events and atoms name ones
@@ -41,4 +45,22 @@ pub fn law_cell_waits_fit()
         → IsCoreRun (program_rules p limit) (program_begins p coarrays n fails_at words) t → IsRankedProgram p → IsTypedProgram coarrays p → Each IsSmall (own_coarrays p)
         → AreDeclaredBy p coarrays → (i line : ℕ) (a : Ask) → IsWaiting (program_rules p limit) (program_begins p coarrays n fails_at words) t i line a
         → is_of_own_event a ≡ true → is_fit_after coarrays n t i a ≡ true }
+{}
+
+/// Each next read of an image fits (9.6), where its coarray is declared and holds values: it is of a section of no more
+/// cells than an access may have, at an image of the run; and so does the read with which an image waits. Where each
+/// coarray that the program reads is such, the next read's is.
+pub fn law_reads_fit()
+    ensures asks { (p : checked.Program) (limit : ℕ) (coarrays : List Declared) (n : ℕ) (fails_at : ℕ → ℕ) (words : ℕ) (t : List Entry) → list_all has_first_values coarrays ≡ true
+        → IsCoreRun (program_rules p limit) (program_begins p coarrays n fails_at words) t → IsRankedProgram p → IsTypedProgram coarrays p → Each IsSmall (own_coarrays p)
+        → (i : ℕ) (owner : ImageNo) (span : Span) → StandsAt p limit coarrays n fails_at words t i (asks.Read owner span) → holds is_values (slice_get coarrays span.coarray) ≡ true
+        → is_fit_after coarrays n t i (asks.Read owner span) ≡ true }
+    ensures waits { (p : checked.Program) (limit : ℕ) (coarrays : List Declared) (n : ℕ) (fails_at : ℕ → ℕ) (words : ℕ) (t : List Entry) → list_all has_first_values coarrays ≡ true
+        → IsCoreRun (program_rules p limit) (program_begins p coarrays n fails_at words) t → IsRankedProgram p → IsTypedProgram coarrays p → Each IsSmall (own_coarrays p)
+        → (i line : ℕ) (owner : ImageNo) (span : Span) → IsWaiting (program_rules p limit) (program_begins p coarrays n fails_at words) t i line (asks.Read owner span)
+        → holds is_values (slice_get coarrays span.coarray) ≡ true → is_fit_after coarrays n t i (asks.Read owner span) ≡ true }
+    ensures values { (p : checked.Program) (limit : ℕ) (coarrays : List Declared) (n : ℕ) (fails_at : ℕ → ℕ) (words : ℕ) (t : List Entry) → list_all has_first_values coarrays ≡ true
+        → IsCoreRun (program_rules p limit) (program_begins p coarrays n fails_at words) t → IsRankedProgram p → IsTypedProgram coarrays p → Each IsSmall (own_coarrays p)
+        → ProgramReads (λ k. holds is_values (slice_get coarrays k)) p
+        → (i : ℕ) (owner : ImageNo) (span : Span) → StandsAt p limit coarrays n fails_at words t i (asks.Read owner span) → holds is_values (slice_get coarrays span.coarray) ≡ true }
 {}

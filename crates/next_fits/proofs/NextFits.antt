@@ -1,4 +1,5 @@
--- The next ask of an image fits: by what it was told, or as its statement's cell is found.
+-- The next ask of an image fits: by what it was told, as its statement's cell is found, or as the section that it reads
+-- is placed.
 use Rattle.std.proofs.Common.{◌≡◌, ◌≤◌, ℕ, true, List, length}
 use Rattle.caf_events.specs.declared.ask.Ask.{Ask}
 use Rattle.caf_events.specs.declared.ask.Ask.TheVariants as asks
@@ -12,7 +13,7 @@ use Rattle.program_walks.specs.Runs.{program_rules, program_begins}
 use Rattle.told_walks.specs.Asked.{most_team}
 use Rattle.walk_laws.specs.Fits.{StandsAt}
 use Rattle.fit_laws.proofs.Fitting.{told_fits, allocation_fits}
-use Rattle.memory_fits.proofs.Fitting.{named_fits, own_fits}
+use Rattle.memory_fits.proofs.Fitting.{named_fits, own_fits, read_fits}
 use Rattle.next_fits.specs.Known.{IsSound, is_known}
 
 module _ (p : s.Program) (limit : ℕ) (coarrays : List Declared) (n : ℕ) (fails_at : ℕ → ℕ) (words : ℕ) (t : List Entry) (sound : IsSound coarrays p)
@@ -23,7 +24,7 @@ module _ (p : s.Program) (limit : ℕ) (coarrays : List Declared) (n : ℕ) (fai
   abbrev Fits : ℕ → Ask → Type 0
   Fits i a = is_fit_after coarrays n t i a ≡ true
 
-  pub next_fits : (i : ℕ) (a : Ask) → Stands i a → is_known a ≡ true → Fits i a
+  pub next_fits : (i : ℕ) (a : Ask) → Stands i a → is_known coarrays a ≡ true → Fits i a
   next_fits i (asks.Create owner c cells) h e = allocation_fits p limit coarrays n fails_at words t sound.values core few sound.declared sound.allocates i (asks.Create owner c cells) h e
   next_fits i (asks.Delete owner c) h e = allocation_fits p limit coarrays n fails_at words t sound.values core few sound.declared sound.allocates i (asks.Delete owner c) h e
   next_fits i (asks.Lock owner span) h e = named_fits p limit coarrays n fails_at words t sound.values core sound.ranked sound.typed sound.small i (asks.Lock owner span) h e
@@ -34,7 +35,7 @@ module _ (p : s.Program) (limit : ℕ) (coarrays : List Declared) (n : ℕ) (fai
       own_fits p limit coarrays n fails_at words t sound.values core sound.ranked sound.typed sound.small sound.declared i (asks.Wait owner span k) h e
   next_fits i (asks.Query owner span) h e =
       own_fits p limit coarrays n fails_at words t sound.values core sound.ranked sound.typed sound.small sound.declared i (asks.Query owner span) h e
-  next_fits i (asks.Read owner span) h e = absurd (cc)
+  next_fits i (asks.Read owner span) h e = read_fits p limit coarrays n fails_at words t sound.values core sound.ranked sound.typed sound.small i owner span h e
   next_fits i (asks.Write owner span vs) h e = absurd (cc)
   next_fits i (asks.Atomic owner op span x y) h e = named_fits p limit coarrays n fails_at words t sound.values core sound.ranked sound.typed sound.small i (asks.Atomic owner op span x y) h e
   next_fits i (asks.Gather team op root kind vs) h e = absurd (cc)

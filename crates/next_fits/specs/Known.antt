@@ -1,5 +1,5 @@
 -- Of which programs, and of which of their asks, it is known that the next ask of an image fits.
-use Rattle.std.specs.Prelude.{◌≡◌, Bool, true, false, List}
+use Rattle.std.specs.Prelude.{◌≡◌, Bool, true, false, List, slice_get}
 use Rattle.std.specs.List.{list_all}
 use Rattle.trace_theory.specs.Entries.{Each}
 use Rattle.caf_events.specs.declared.ask.Ask.{Ask}
@@ -8,7 +8,7 @@ use Rattle.checked_tree.specs.Statements as checked
 use Rattle.tree_meaning.specs.Start.{own_coarrays}
 use Rattle.made_code.specs.Ranks.{IsRankedProgram}
 use Rattle.object_rules.specs.Cells.{Declared}
-use Rattle.object_rules.specs.MemoryRules.{has_first_values}
+use Rattle.object_rules.specs.MemoryRules.{has_first_values, holds, is_values}
 use Rattle.walk_laws.specs.Fits.{AreDeclaredBy}
 use Rattle.fit_laws.specs.Asks.{AllocatesAllocatable}
 use Rattle.cell_walks.specs.Fitting.{IsSmall}
@@ -25,9 +25,9 @@ pub record IsSound (coarrays : List Declared) (p : checked.Program) : Type 0 whe
   pub typed : IsTypedProgram coarrays p
   pub allocates : AllocatesAllocatable coarrays p
 
--- all asks but these three
-abbrev pub is_known : Ask → Bool
-is_known (asks.Read owner span) = false
-is_known (asks.Write owner span values) = false
-is_known (asks.Gather team op root kind values) = false
-is_known ask = true
+-- all asks but a write, an arrival at a collective, and a read of what holds no values: of a lock or an event
+abbrev pub is_known : List Declared → Ask → Bool
+is_known coarrays (asks.Read owner span) = holds is_values (slice_get coarrays span.coarray)
+is_known coarrays (asks.Write owner span values) = false
+is_known coarrays (asks.Gather team op root kind values) = false
+is_known coarrays ask = true

@@ -44,8 +44,8 @@ read : (j rank : ℕ) (c : Core) (xs vs : List ℤ) → length xs ≡ place_size
 read j rank c [] vs h = absurd (let f : 0 ≡ place_size rank + 1 = h in omega arith)
 read j rank c (o ∷ xs) vs h =
     let f : suc (length xs) ≡ place_size rank + 1 = h in
-    takes Plain (kept_of c) 1 vs (place_size rank) c xs vs (λ ns e. asking (asks.Read (image o) (span_of j (place_in ns))) (read_reply (place_in ns) e)) (omega arith)
-    (λ ns e. said (kept_of c) 1 vs _ (read_reply (place_in ns) (with_values c vs)) refl (λ r. refl) (λ r. refl))
+    takes Any (kept_of c) 1 vs (place_size rank) c xs vs (λ ns e. asking (asks.Read (image o) (span_of j (place_in ns))) (read_reply (place_in ns) e)) (omega arith)
+    (λ ns e. said_any (kept_of c) 1 vs _ (read_reply (place_in ns) (with_values c vs)) (λ r. refl) (λ r. refl))
 
 abbrev writing : ℕ → Kind → ℤ → List ℤ → Core → Acted
 writing j kind o ns d = taking_one d (λ v e. asking (asks.Write (image o) (span_of j (place_in ns)) (replicate (cells_of (place_in ns)) (value_of kind v))) (λ r. with_status r e))

@@ -32,8 +32,9 @@ KeptBy (allocation (a.note_made k depth rank corank)) c d = Unit {0}
 KeptBy (allocation (a.note_freed k)) c d = Unit {0}
 KeptBy x c d = kept_of d ≡ kept_of c
 
--- an ask for no lock, no event and no atom, that allocates nothing and deallocates nothing
+-- an ask that reads nothing and is for no lock, no event and no atom, that allocates nothing and deallocates nothing
 abbrev pub is_plain : Ask → Bool
+is_plain (asks.Read owner span) = false
 is_plain (asks.Create owner coarray cells) = false
 is_plain (asks.Delete owner coarray) = false
 is_plain (asks.Lock owner span) = false
@@ -57,6 +58,7 @@ Any = λ q. Unit {0}
 
 -- an act of another family asks nothing, and few acts make an ask that isn't plain
 abbrev pub AsksBy : Act → Ask → Type 0
+AsksBy (ask (a.read j rank)) = Any
 AsksBy (ask (a.create j depth rank)) = Any
 AsksBy (ask (a.delete j)) = Any
 AsksBy (ask (a.lock j)) = Any

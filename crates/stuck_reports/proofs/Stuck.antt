@@ -152,15 +152,15 @@ stuck_report p limit coarrays n fails_at words order r waits declared report is 
 
 -- where the program is sound, what they ask fits as far as that is known
 module _ (p : Program) (limit : ℕ) (coarrays : List Declared) (n : ℕ) (fails_at : ℕ → ℕ) (words : ℕ) (t : Trace) (sound : IsSound coarrays p) (core : IsCoreRun (program_rules p limit) (program_begins p coarrays n fails_at words) t.entries) (few : length (teams_after n (at_board t.entries)) ≤ most_team) where
-  one_fits : (i line : ℕ) (a : Ask) → IsWaiting (program_rules p limit) (program_begins p coarrays n fails_at words) t.entries i line a → is_known a ≡ true → is_fit_after coarrays n t.entries i a ≡ true
+  one_fits : (i line : ℕ) (a : Ask) → IsWaiting (program_rules p limit) (program_begins p coarrays n fails_at words) t.entries i line a → is_known coarrays a ≡ true → is_fit_after coarrays n t.entries i a ≡ true
   one_fits i line a w known = next_fits p limit coarrays n fails_at words t.entries sound core few i a (record { image = w.image; config = w.config; walks = w.walks; asks = w.asks }) known
 
-  pub all_fit : (ws : List Waiting) → Each (λ x. IsWaiting (program_rules p limit) (program_begins p coarrays n fails_at words) t.entries x.image.0 x.line x.ask) ws → AskWhatIsKnown ws → AskWhatFits coarrays n t.entries ws
+  pub all_fit : (ws : List Waiting) → Each (λ x. IsWaiting (program_rules p limit) (program_begins p coarrays n fails_at words) t.entries x.image.0 x.line x.ask) ws → AskWhatIsKnown coarrays ws → AskWhatFits coarrays n t.entries ws
   all_fit [] each known = tt
   all_fit (x ∷ ws) each known = (one_fits x.image.0 x.line x.ask each.0 known.0, all_fit ws each.1 known.1)
 
 pub known_fit : (p : Program) (limit : ℕ) (coarrays : List Declared) (n : ℕ) (fails_at : ℕ → ℕ) (words : ℕ) (order : Option ℕ) (r : Report) (waits : List Waiting) → IsSound coarrays p
-    → IsProgramReport p limit coarrays n fails_at words order r → r.end ≡ ends.Stuck waits → length (teams_after n (at_board r.trace.entries)) ≤ most_team → AskWhatIsKnown waits → AskWhatFits coarrays n r.trace.entries waits
+    → IsProgramReport p limit coarrays n fails_at words order r → r.end ≡ ends.Stuck waits → length (teams_after n (at_board r.trace.entries)) ≤ most_team → AskWhatIsKnown coarrays waits → AskWhatFits coarrays n r.trace.entries waits
 known_fit p limit coarrays n fails_at words order r waits sound report is few known =
     let rules = program_rules p limit in
     let begins = program_begins p coarrays n fails_at words in

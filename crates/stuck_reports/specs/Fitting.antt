@@ -11,6 +11,6 @@ use Rattle.next_fits.specs.Known.{is_known}
 abbrev pub AskWhatFits : List Declared → ℕ → List Entry → List Waiting → Type 0
 AskWhatFits coarrays n t waits = Each (λ w. is_fit_after coarrays n t w.image.0 w.ask ≡ true) waits
 
--- none of them waits with an ask of which it isn't known that it fits
-abbrev pub AskWhatIsKnown : List Waiting → Type 0
-AskWhatIsKnown waits = Each (λ w. is_known w.ask ≡ true) waits
+-- none of them waits with an ask of which it isn't known that it fits, over these coarrays
+abbrev pub AskWhatIsKnown : List Declared → List Waiting → Type 0
+AskWhatIsKnown coarrays waits = Each (λ w. is_known coarrays w.ask ≡ true) waits

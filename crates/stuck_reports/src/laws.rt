@@ -33,10 +33,10 @@ pub fn law_stuck_reports()
 {}
 
 /// So it is where the program is sound, in a run of fewer than 2 to the 32nd teams: the ask of each image fits, but for
-/// a read, a write and an arrival at a collective, of which nothing is said.
+/// a write, an arrival at a collective, and a read of a lock or an event, of which nothing is said.
 pub fn law_known_stuck_reports()
     ensures { (p : Program) (limit : ℕ) (coarrays : List Declared) (n : ℕ) (fails_at : ℕ → ℕ) (words : ℕ) (order : Option ℕ) (r : Report) (waits : List Waiting)
         → IsSound coarrays p → IsProgramReport p limit coarrays n fails_at words order r → r.end ≡ ends.Stuck waits
-        → length (teams_after n (at_board r.trace.entries)) ≤ most_team → AskWhatIsKnown waits
+        → length (teams_after n (at_board r.trace.entries)) ≤ most_team → AskWhatIsKnown coarrays waits
         → (links : List ℕ) (close : Close) → IsToldChain n r.trace.entries (as_waits waits) links close → IsChain n r.trace.entries (as_waits waits) links close }
 {}

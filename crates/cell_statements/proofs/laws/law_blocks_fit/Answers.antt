@@ -2,4 +2,4 @@ use Rattle.cell_statements.proofs.Blocks.{bodies_fit}
 use Rattle.cell_statements.proofs.laws.law_blocks_fit.Goals as goal
 
 pub returns : goal.returns
-returns c p coarrays n me ranked typed there k = bodies_fit n me coarrays there p ranked typed k
+returns c p coarrays readable n me ranked typed reads there k = bodies_fit n me coarrays readable there p ranked typed reads k
