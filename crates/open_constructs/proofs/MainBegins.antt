@@ -1,6 +1,6 @@
 -- Where whole statements leave nothing open but the main program, if that has begun, it begins at the first token behind
 -- the modules.
-use Rattle.std.proofs.Common.{◌≡◌, ℕ, Bool, true, false, ◌⊎◌, List, [], ◌∷◌, ◌++◌, length, drop, Option, Some, None, inl, inr, refl, ap, sym, ◌∙◌, subst, arith, append_assoc}
+use Rattle.std.proofs.Common.{◌≡◌, ℕ, ◌≤◌, Bool, true, false, ◌⊎◌, List, [], ◌∷◌, ◌++◌, length, drop, Option, Some, None, inl, inr, refl, ap, sym, ◌∙◌, subst, arith, append_assoc}
 use Rattle.std.proofs.lemmas.Bool.{cases_Bool, false≢true, true≢false}
 use Rattle.std.proofs.lemmas.List.{length-append, drop_all, drop-append-le}
 use Rattle.caf_base.specs.declared.place.Pos.{Pos}
@@ -87,12 +87,12 @@ module _ (ts : List Token) (at : Option Pos) (whole : whole_statements ts ≡ tr
 
   -- the text with what it goes on with
   text : ts ++ g.more ≡ bare files_modules ++ bare files_main
-  text = g.split ∙ (ap (λ z. z ++ g.main) g.are_modules.1.1.1 ∙ ap (λ z. bare files_modules ++ z) g.is_main.1.1.1)
+  text = g.split ∙ (ap (λ z. z ++ g.main) g.are_modules.3 ∙ ap (λ z. bare files_modules ++ z) g.is_main.3)
 
   begun : Begun 64 start_of_units u.parts (file_parts x) g.more
   begun =
-      same_parts 64 u.parts (file_parts x) start_of_units u.word (files_modules ++ files_main) g.more u.is_word u.shallow conditions (flat_file 64 x (files_modules ++ files_main) (files_modules, files_main, g.are_modules.1.0, g.is_main.1.0, refl))
-      (shallow_append files_modules files_main g.are_modules.1.1.0 g.is_main.1.1.0) (bare_append files_modules files_main ∙ (sym text ∙ ap (λ z. z ++ g.more) u.same))
+      same_parts 64 u.parts (file_parts x) start_of_units u.word (files_modules ++ files_main) g.more u.is_word u.shallow conditions (flat_file 64 x (files_modules ++ files_main) (files_modules, files_main, g.are_modules.1, g.is_main.1, refl))
+      (shallow_append files_modules files_main g.are_modules.2 g.is_main.2) (bare_append files_modules files_main ∙ (sym text ∙ ap (λ z. z ++ g.more) u.same))
 
   all_parts : u.parts ++ begun.left ≡ modules ++ main
   all_parts = sym begun.parts ∙ modules_front x.modules main
@@ -100,7 +100,7 @@ module _ (ts : List Token) (at : Option Pos) (whole : whole_statements ts ≡ tr
   -- In the main program.
   main_alone : in_one_unit main ≡ true
   main_alone =
-      let o = flat_main 64 x.main files_main g.is_main.1.0 in
+      let o = flat_main 64 x.main files_main g.is_main.1 in
       one_unit 64 main (place at_main []) (files_main ++ []) (rest_parts ts 64 (place at_main []) main (files_main ++ []) o) refl
 
   same_modules : in_program reached.scope ≡ true → u.parted.modules ≡ modules
@@ -116,16 +116,16 @@ module _ (ts : List Token) (at : Option Pos) (whole : whole_statements ts ≡ tr
   main_rest : in_program reached.scope ≡ true → bare u.parted.rest ≡ drop (length g.modules) ts
   main_rest t =
       let own : Parts_from 64 start_of_units modules u.parted.before = subst (λ l. Parts_from 64 start_of_units l u.parted.before) (same_modules t) u.parted.are_modules in
-      let its = modules_word 64 x.modules files_modules g.are_modules.1.0 in
+      let its = modules_word 64 x.modules files_modules g.are_modules.1 in
       let flat = shallow_front u.parted.before u.parted.rest (subst Shallow u.parted.words u.shallow) in
       let both : bare u.parted.before ++ (bare u.parted.rest ++ g.more) ≡ bare files_modules ++ bare files_main = sym (append_assoc (bare u.parted.before) (bare u.parted.rest) g.more) ∙ (ap (λ z. z ++ g.more) (sym words) ∙ text) in
-      let rest = same_rest 64 modules start_of_units u.parted.before files_modules (bare u.parted.rest ++ g.more) (bare files_main) own its flat g.are_modules.1.1.0 (behind_modules modules (modules_end x.modules)).1 both in
+      let rest = same_rest 64 modules start_of_units u.parted.before files_modules (bare u.parted.rest ++ g.more) (bare files_main) own its flat g.are_modules.2 (behind_modules modules (modules_end x.modules)).1 both in
       let size : length g.modules ≡ length (bare u.parted.before) =
       (let a = ap length both in
       let b = length-append (bare u.parted.before) (bare u.parted.rest ++ g.more) in
       let c = length-append (bare files_modules) (bare files_main) in
       let d = ap length rest in
-      let e = ap length g.are_modules.1.1.1 in
+      let e = ap length g.are_modules.3 in
       omega arith) in
       sym (ap (λ n. drop n ts) size ∙ (ap (λ z. drop (length (bare u.parted.before)) z) words ∙ drop_front (bare u.parted.before) (bare u.parted.rest)))
 
@@ -135,21 +135,21 @@ module _ (ts : List Token) (at : Option Pos) (whole : whole_statements ts ≡ tr
   -- Before the main program.
   sooner : Sooner u.parts begun.left modules main → length ts ≤ length g.modules
   sooner (ds, is, more) =
-      let word = modules_word 64 x.modules files_modules g.are_modules.1.0 in
+      let word = modules_word 64 x.modules files_modules g.are_modules.1 in
       let (i, j, h, k, cut) = parts_cut 64 u.parts ds start_of_units files_modules (subst (λ l. Parts_from 64 start_of_units l files_modules) is word) in
       let both : bare u.word ++ g.more ≡ bare i ++ (bare j ++ bare files_main) = ap (λ z. z ++ g.more) (sym u.same) ∙ (text ∙ (ap (λ z. bare z ++ bare files_main) cut ∙ sym (regroup i j (bare files_main)))) in
-      let rest = same_rest 64 u.parts start_of_units u.word i g.more (bare j ++ bare files_main) u.is_word h u.shallow (shallow_front i j (subst Shallow cut g.are_modules.1.1.0)) conditions both in
+      let rest = same_rest 64 u.parts start_of_units u.word i g.more (bare j ++ bare files_main) u.is_word h u.shallow (shallow_front i j (subst Shallow cut g.are_modules.2)) conditions both in
       let a = ap length text in
       let b = length-append ts g.more in
       let c = length-append (bare files_modules) (bare files_main) in
       let d = ap length rest in
       let e = length-append (bare j) (bare files_main) in
-      let n = ap length g.are_modules.1.1.1 in
+      let n = ap length g.are_modules.3 in
       omega arith
 
   main_part : (c : Part) (cs : List Part) → main ≡ c ∷ cs → permitted (scope_forms at_main) c ≡ true
   main_part c cs is =
-      let o = flat_main 64 x.main files_main g.is_main.1.0 in
+      let o = flat_main 64 x.main files_main g.is_main.1 in
       let y = first_part 64 (place at_main []) c cs (files_main ++ []) (subst (λ l. Rest_of_file 64 (place at_main []) l (files_main ++ [])) is o) in
       permits y.form (scope_forms at_main) c y.may (form_of_word y.form 0 64 0 c y.front y.is_word)
 

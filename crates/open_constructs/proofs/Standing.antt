@@ -21,7 +21,7 @@ FirstOf (opens at) w = FirstAt at w
 FirstOf (closes at) w = FirstAt at w
 FirstOf neither w = Unit {0}
 
-first_more : (at : Pos) (w u v : List (Mark Token)) → FirstAt at u → w ≡ u ++ v → FirstAt at w
+pub first_more : (at : Pos) (w u v : List (Mark Token)) → FirstAt at u → w ≡ u ++ v → FirstAt at w
 first_more at w [] v h e = absurd h
 first_more at w (m ∷ u) v h e = subst (FirstAt at) (sym e) h
 
