@@ -28,11 +28,11 @@ use Rattle.open_constructs.proofs.Closing.{goes_on}
 -- the place as the definition of a program's has it
 innermost_some : (ts : List Token) (es : List Extent) (p : Pos) → innermost_in ts es (Some p) ≡ Some (innermost ts es p)
 innermost_some ts [] p = refl
-innermost_some ts (e ∷ es) p = by_test (is_open ts e)
+innermost_some ts (e ∷ es) p = by_test (is_open ts e) (λ o. innermost_some ts es o)
   where
-    by_test : (b : Bool) → innermost_in ts es (cond b (Some e.from) (Some p)) ≡ Some (innermost ts es (cond b e.from p))
-    by_test true = innermost_some ts es e.from
-    by_test false = innermost_some ts es p
+    by_test : (b : Bool) → ((o : Pos) → innermost_in ts es (Some o) ≡ Some (innermost ts es o)) → innermost_in ts es (cond b (Some e.from) (Some p)) ≡ Some (innermost ts es (cond b e.from p))
+    by_test true h = h e.from
+    by_test false h = h p
 
 -- something stands there in a text that isn't empty
 first_some : (ts : List Token) → 0 < length ts → maybe_first ts ≡ Some (first_place ts)
