@@ -1,5 +1,5 @@
 -- In a program, be it a file by itself or that of a file that may have modules, there is no module.
-use Rattle.std.proofs.Common.{◌≡◌, ℕ, zero, suc, Bool, true, false, cond, List, [], ◌∷◌, ◌++◌, length, Option, inl, inr, refl, ap, sym, ◌∙◌, subst}
+use Rattle.std.proofs.Common.{◌≡◌, ℕ, zero, suc, Bool, true, false, cond, List, [], ◌∷◌, length, Option, inl, inr, refl, ap, sym, ◌∙◌, subst}
 use Rattle.std.proofs.lemmas.Bool.{false≢true, true≢false}
 use Rattle.caf_base.specs.declared.place.Pos.{Pos}
 use Rattle.reader_theory.specs.Words.{Mark}
@@ -9,7 +9,7 @@ use Rattle.fortran_grammar.specs.Tokens.{Token}
 use Rattle.statement_reader.specs.Parts as f
 use Rattle.statement_reader.specs.Parts.{Part, Form, is_of}
 use Rattle.program_reader.specs.Sequence as q
-use Rattle.program_reader.specs.Sequence.{Stage, ProgramUnit, Scope, Open, State, action_forms, block_forms, scope_forms, allowed, allowed_behind, staged, unit_of, next}
+use Rattle.program_reader.specs.Sequence.{Stage, ProgramUnit, Scope, Open, State, allowed, allowed_behind, staged, unit_of, next}
 use Rattle.program_reader.specs.Unfinished.{Parts_from, behind, in_one_unit}
 use Rattle.program_reader.proofs.Steps.{In, which}
 use Rattle.open_constructs.proofs.States.{outermost, has_form}

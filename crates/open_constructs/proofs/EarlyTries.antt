@@ -6,7 +6,7 @@ use Rattle.fortran_tree.specs.declared.unit.Recursion.TheVariants as recursions
 use Rattle.fortran_tree.specs.Statements.{absent}
 use Rattle.fortran_tree.specs.Units as u
 use Rattle.statement_reader.specs.Parts.{Part, module_part, implicit_part, contains_part, heading_part, end_subroutine_part, end_module_part, program_part, critical_part}
-use Rattle.program_reader.specs.Sequence.{State, start_of_units}
+use Rattle.program_reader.specs.Sequence.{start_of_units}
 use Rattle.program_reader.specs.Unfinished.{behind, innermost}
 
 abbrev p : ℕ → ℕ → Pos

@@ -1,6 +1,6 @@
 -- Where whole statements leave nothing open but the main program, if that has begun, it begins at the first token behind
 -- the modules.
-use Rattle.std.proofs.Common.{◌≡◌, ℕ, ◌≤◌, Bool, true, false, ◌⊎◌, List, [], ◌∷◌, ◌++◌, length, drop, Option, Some, None, inl, inr, refl, ap, sym, ◌∙◌, subst, arith, append_assoc}
+use Rattle.std.proofs.Common.{◌≡◌, ℕ, ◌≤◌, true, false, ◌⊎◌, List, [], ◌∷◌, ◌++◌, length, drop, Option, inl, inr, refl, ap, sym, ◌∙◌, subst, arith, append_assoc}
 use Rattle.std.proofs.lemmas.Bool.{cases_Bool, false≢true, true≢false}
 use Rattle.std.proofs.lemmas.List.{length-append, drop_all, drop-append-le}
 use Rattle.caf_base.specs.declared.place.Pos.{Pos}
@@ -11,9 +11,9 @@ use Rattle.fortran_grammar.specs.Tokens.{Token}
 use Rattle.statement_reader.specs.Parts as f
 use Rattle.statement_reader.specs.Parts.{Part}
 use Rattle.program_reader.specs.Sequence as q
-use Rattle.program_reader.specs.Sequence.{ProgramUnit, Scope, Open, scope_forms, next, start_of_units, Rest_of_file}
+use Rattle.program_reader.specs.Sequence.{Scope, Open, scope_forms, next, start_of_units, Rest_of_file}
 use Rattle.program_reader.specs.Nesting.{modules_parts, main_parts, file_parts}
-use Rattle.program_reader.specs.Unfinished.{Parts_from, Unfinished, behind, ends_module, in_one_unit, maybe_first}
+use Rattle.program_reader.specs.Unfinished.{Parts_from, Unfinished, behind, in_one_unit, maybe_first}
 use Rattle.program_reader.proofs.Steps.{place}
 use Rattle.program_reader.proofs.Nested.{permitted, permits, form_of_word, first_part}
 use Rattle.program_reader.proofs.FlatUnits.{flat_main, flat_file}

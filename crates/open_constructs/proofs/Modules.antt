@@ -1,5 +1,5 @@
 -- The words of modules are those of their parts, one behind the other.
-use Rattle.std.proofs.Common.{◌≡◌, ℕ, ◌+◌, ◌≤◌, Bool, true, false, ◌||◌, codes, List, [], ◌∷◌, ◌++◌, length, None, inl, inr, refl, ap, sym, ◌∙◌, subst, arith, append_assoc}
+use Rattle.std.proofs.Common.{◌≡◌, ℕ, ◌+◌, ◌≤◌, Bool, true, false, ◌||◌, codes, List, [], ◌∷◌, ◌++◌, length, None, inl, refl, ap, sym, ◌∙◌, subst, arith, append_assoc}
 use Rattle.std.proofs.lemmas.Bool.{false≢true, true≢false}
 use Rattle.std.proofs.lemmas.List.{length-append}
 use Rattle.caf_base.specs.declared.place.Pos.{Pos}

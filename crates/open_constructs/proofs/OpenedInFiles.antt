@@ -1,8 +1,8 @@
 -- Of whole statements of a file that may have modules, which need more, the place that their parts tell is that of the
 -- innermost construct that is open, in each file to which they go on.
-use Rattle.std.proofs.Common.{◌≡◌, ◌<◌, true, false, List, [], ◌∷◌, ◌++◌, length, drop, Option, Some, None, inl, refl, ap, sym, ◌∙◌, subst, arith}
+use Rattle.std.proofs.Common.{◌≡◌, ◌<◌, true, false, List, [], ◌∷◌, ◌++◌, length, drop, Option, inl, refl, ap, sym, ◌∙◌, subst, arith}
 use Rattle.caf_base.specs.declared.place.Pos.{Pos}
-use Rattle.reader_theory.specs.Words.{Mark, bare, Shallow}
+use Rattle.reader_theory.specs.Words.{bare, Shallow}
 use Rattle.reader_theory.proofs.Marks.{bare_append, shallow_append, shallow_front, shallow_back}
 use Rattle.unit_tree.specs.Files.{UnitFile}
 use Rattle.fortran_grammar.specs.Tokens.{Token}

@@ -11,7 +11,7 @@ use Rattle.unit_tree.specs.Files as files
 use Rattle.unit_tree.specs.Files.{Module, MainProgram, UnitFile}
 use Rattle.statement_reader.specs.Parts as f
 use Rattle.statement_reader.specs.Parts.{Part}
-use Rattle.program_reader.specs.Nesting.{action_parts, statement_parts, statements_parts, else_if_parts, else_parts, case_parts, use_parts, declaration_parts, implicit_parts, body_parts, end_of, procedure_parts, contained_parts, name_parts, program_parts, unit_use_parts, module_parts, modules_parts, main_parts, file_parts}
+use Rattle.program_reader.specs.Nesting.{action_parts, statement_parts, statements_parts, else_if_parts, else_parts, case_parts, use_parts, declaration_parts, implicit_parts, body_parts, end_of, procedure_parts, contained_parts, name_parts, program_parts, unit_use_parts, modules_parts, main_parts, file_parts}
 use Rattle.open_constructs.specs.Open.{Extent, statement_extents, statements_extents, else_if_extents, else_extents, case_extents, procedure_extents, contained_extents, extents}
 use Rattle.open_constructs.specs.InFiles.{module_extents, file_extents}
 use Rattle.open_constructs.proofs.Spans.{Turn, closes, turn, closing, end_behind, spanning, spans}

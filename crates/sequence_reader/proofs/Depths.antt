@@ -10,7 +10,7 @@ use Rattle.fortran_grammar.specs.ActionGrammar as a
 use Rattle.fortran_grammar.specs.StatementGrammar as c
 use Rattle.caf_base.specs.declared.place.Pos.{Pos}
 use Rattle.statement_reader.specs.Parts as f
-use Rattle.statement_reader.specs.Parts.{Part, Form, is_of, whole, formed}
+use Rattle.statement_reader.specs.Parts.{Part, Form, whole, formed}
 use Rattle.statement_reader.specs.Forms.{part_reader}
 use Rattle.statement_reader.proofs.Beyond.{AllDeep, deep_words}
 use Rattle.statement_reader.proofs.Forms.{within_out}

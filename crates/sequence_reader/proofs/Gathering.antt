@@ -103,10 +103,11 @@ gathered_more limit n s ts v (i ∷ is) js = gathered_more limit n s ts (better 
 -- where a file may end no form is allowed
 none_allowed : (n : ℕ) (k : Scope) (os : List Open) → is_over n os k ≡ true → allowed_behind n k os ≡ []
 none_allowed zero q.over [] e = refl
-none_allowed zero (q.main_program t) [] e = absurd (false≢true e)
-none_allowed zero q.between [] e = absurd (false≢true e)
-none_allowed zero (q.in_subroutine at t) [] e = absurd (false≢true e)
-none_allowed zero (q.in_function at t) [] e = absurd (false≢true e)
+none_allowed zero q.no_unit [] e = absurd (false≢true e)
+none_allowed zero (q.in_program_unit y t) [] e = absurd (false≢true e)
+none_allowed zero (q.between y) [] e = absurd (false≢true e)
+none_allowed zero (q.in_subroutine y at t) [] e = absurd (false≢true e)
+none_allowed zero (q.in_function y at t) [] e = absurd (false≢true e)
 none_allowed zero k (o ∷ os) e = absurd (false≢true e)
 none_allowed (suc n) k os e = absurd (false≢true e)
 

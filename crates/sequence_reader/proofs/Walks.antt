@@ -1,5 +1,5 @@
 -- The parts read so far are the words of the text up to their place.
-use Rattle.std.proofs.Common.{◌≡◌, ℕ, ◌+◌, ◌-◌, ◌<◌, Bool, true, false, cond, drop, List, [], ◌∷◌, ◌++◌, length, Option, Some, Result, Ok, Err, MatchResult, inl, inr, refl, ap, sym, ◌∙◌, subst, arith, append_assoc, append-nil}
+use Rattle.std.proofs.Common.{◌≡◌, ℕ, ◌+◌, ◌-◌, ◌<◌, ◌≤◌, Bool, true, false, cond, drop, List, [], ◌∷◌, ◌++◌, length, Option, Some, Result, Ok, Err, MatchResult, inl, inr, refl, ap, sym, ◌∙◌, subst, arith, append_assoc, append-nil}
 use Rattle.caf_base.specs.declared.place.Pos.{Pos}
 use Rattle.reader_theory.specs.Words.{Mark, bare, found}
 use Rattle.reader_theory.specs.Texts.{AnyOf}
@@ -69,11 +69,11 @@ behind_more (a ∷ bs) s b = behind_more bs (next s a) b
 -- a part more of the last unit, and one that ends a module
 one_unit_more : (bs : List Part) (b : Part) → in_one_unit bs ≡ true → is_of end_module_form b ≡ false → in_one_unit (bs ++ b ∷ []) ≡ true
 one_unit_more [] b h e = ap (λ z. cond z false true) e
-one_unit_more (c ∷ bs) b h e = by_test (is_of end_module_form c) h
+one_unit_more (c ∷ bs) b h e = by_test (is_of end_module_form c) h (λ k. one_unit_more bs b k e)
   where
-    by_test : (z : Bool) → cond z false (in_one_unit bs) ≡ true → cond z false (in_one_unit (bs ++ b ∷ [])) ≡ true
-    by_test true h = absurd (false≢true h)
-    by_test false h = one_unit_more bs b h e
+    by_test : (z : Bool) → cond z false (in_one_unit bs) ≡ true → (in_one_unit bs ≡ true → in_one_unit (bs ++ b ∷ []) ≡ true) → cond z false (in_one_unit (bs ++ b ∷ [])) ≡ true
+    by_test true h more = absurd (false≢true h)
+    by_test false h more = more h
 
 whole_more : (bs : List Part) (b : Part) → is_of end_module_form b ≡ true → ends_module (bs ++ b ∷ []) ≡ true
 whole_more [] b e = e

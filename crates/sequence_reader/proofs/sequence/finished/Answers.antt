@@ -1,4 +1,4 @@
-use Rattle.std.proofs.Common.{rules, ◌≡◌, ◌-◌, length, drop, map, ap, sym, ◌∙◌}
+use Rattle.std.proofs.Common.{◌≡◌, ◌-◌, length, drop, map, ap, sym, ◌∙◌}
 use Rattle.expr_reader.specs.Words.{tokens_of}
 use Rattle.part_reader.specs.Views as held
 use Rattle.program_reader.specs.Unfinished.{innermost, maybe_first}
