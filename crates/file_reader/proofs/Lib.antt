@@ -1,3 +1,4 @@
 pub mod Refusing
 pub mod Ends
 pub mod Telling
+mod Alike

@@ -1,21 +1,21 @@
 -- The fault of the reader of files is the refusal of the words.
-use Rattle.std.proofs.Common.{◌≡◌, suc, ◌+◌, ◌-◌, ◌<◌, ◌≤◌, true, List, [], ◌∷◌, ◌++◌, length, drop, refl, ap, sym, ◌∙◌, subst, arith}
+use Rattle.std.proofs.Common.{◌≡◌, suc, ◌+◌, ◌-◌, ◌<◌, ◌≤◌, List, [], ◌∷◌, ◌++◌, length, drop, get_or, Option, Some, refl, ap, sym, ◌∙◌, subst, arith}
 use Rattle.caf_base.specs.declared.place.Pos.{Pos}
-use Rattle.reader_theory.specs.Refusals.{Refused}
+use Rattle.reader_theory.specs.Words.{fault}
+use Rattle.reader_theory.specs.Refusals.{Refused, Answers}
 use Rattle.reader_theory.specs.Limits.{RefusedFor, no_word}
 use Rattle.reader_theory.proofs.Limits.{refused_at_end}
 use Rattle.fortran_grammar.specs.Tokens.{Token}
-use Rattle.fortran_grammar.specs.ProgramGrammar.{Sources}
 use Rattle.expr_reader.specs.Results.{cause_of, Stands}
 use Rattle.expr_reader.specs.Words.{tokens_of}
 use Rattle.expr_reader.specs.declared.error.Stop.{Stop}
 use Rattle.expr_reader.specs.declared.word.Word.{Word}
 use Rattle.program_reader.specs.Unfinished.{Unfinished, first_place}
-use Rattle.program_reader.proofs.Programs.{fault_refused}
+use Rattle.program_reader.specs.Sequence.{State, Parts_of}
+use Rattle.program_reader.proofs.Files.{file_answered}
 use Rattle.sequence_reader.specs.Halts.{file_answer}
-use Rattle.sequence_reader.specs.Statements.{whole_statements}
-use Rattle.open_constructs.proofs.Opened.{open_told}
-use Rattle.file_reader.specs.Refusals.{IsExpectedAt, IsOpenAt}
+use Rattle.file_reader.specs.Refusals.{IsExpectedAt, last_place}
+use Rattle.file_reader.specs.Beginnings.{EndsEarly}
 
 pub tokens_length : (ws : List Word) → length (tokens_of ws) ≡ length ws
 tokens_length [] = refl
@@ -30,9 +30,9 @@ dropped ws [] v h = h
 dropped [] (x ∷ u) v h = absurd (cc)
 dropped (y ∷ ws) (x ∷ u) v h = dropped ws u v (let same = h in cc)
 
-module _ (ws : List Word) (st : Stop) (h : Stands st (file_answer (tokens_of ws))) where
-  pub refused : Refused Sources (tokens_of ws) (cause_of st.cause) h.0
-  refused = fault_refused 64 (tokens_of ws) (cause_of st.cause) h.0 h.1
+module _ (begin : State) (ws : List Word) (st : Stop) (h : Stands st (file_answer begin (tokens_of ws))) where
+  pub refused : Refused (Parts_of begin) (tokens_of ws) (cause_of st.cause) h.0
+  refused = subst (Answers (Parts_of begin) (tokens_of ws)) h.1 (file_answered 64 (length (tokens_of ws)) begin (tokens_of ws) (omega arith))
 
   sizes : length ws ≡ length refused.front + st.left
   sizes = sym (tokens_length ws) ∙ (ap length refused.split ∙ (both_lengths refused.front h.0 ∙ ap (λ n. length refused.front + n) h.2))
@@ -53,11 +53,11 @@ module _ (ws : List Word) (st : Stop) (h : Stands st (file_answer (tokens_of ws)
     first : (x : Token) × (rest : List Token) × (h.0 ≡ x ∷ rest) × (at ≡ x.at)
     first = by_rest h.0 refl (subst (λ n. 0 < n) (sym h.2) some)
 
-    pub expected_there : RefusedFor Sources (tokens_of ws) no_word (tokens_of (drop (length ws - st.left) ws)) → IsExpectedAt (tokens_of ws) at
+    pub expected_there : RefusedFor (Parts_of begin) (tokens_of ws) no_word (tokens_of (drop (length ws - st.left) ws)) → IsExpectedAt (Parts_of begin) (tokens_of ws) at
     expected_there why = record {
       token = first.0;
       rest = first.1;
-      refused = subst (RefusedFor Sources (tokens_of ws) no_word) (rest_there ∙ first.2) why;
+      refused = subst (RefusedFor (Parts_of begin) (tokens_of ws) no_word) (rest_there ∙ first.2) why;
       place = first.3;
     }
 
@@ -65,9 +65,15 @@ module _ (ws : List Word) (st : Stop) (h : Stands st (file_answer (tokens_of ws)
   nothing_left [] e = refl
   nothing_left (x ∷ r) e = absurd (cc)
 
-  pub open_there : (at : Pos) → st.left ≡ 0 → 0 < length ws → whole_statements (tokens_of ws) ≡ true → Unfinished 64 (tokens_of ws) at → IsOpenAt (tokens_of ws) at
-  open_there at none some whole more = record {
+  pub early_there : (at : Option Pos) → st.left ≡ 0 → 0 < length ws → Unfinished 64 begin (tokens_of ws) at → EndsEarly begin (tokens_of ws) at
+  early_there at none some more = record {
     some = subst (λ n. 0 < n) (sym (tokens_length ws)) some;
-    refused = refused_at_end Sources (tokens_of ws) (cause_of st.cause) (subst (Refused Sources (tokens_of ws) (cause_of st.cause)) (nothing_left h.0 (h.2 ∙ none)) refused);
-    innermost = open_told (tokens_of ws) at whole more;
+    refused = refused_at_end (Parts_of begin) (tokens_of ws) (cause_of st.cause) (subst (Refused (Parts_of begin) (tokens_of ws) (cause_of st.cause)) (nothing_left h.0 (h.2 ∙ none)) refused);
+    unfinished = more;
   }
+
+-- the last word
+pub last_there : (ws : List Word) (d : Word) → 0 < length ws → last_place (tokens_of ws) ≡ Some (get_or ws (length ws - 1) d).at
+last_there [] d h = absurd (omega arith)
+last_there (x ∷ []) d h = refl
+last_there (x ∷ y ∷ ws) d h = last_there (y ∷ ws) d (omega arith)

@@ -3,12 +3,11 @@ use Rattle.std.proofs.Common.{◌≡◌, ℕ, zero, suc, ◌+◌, ◌-◌, ◌<�
 use Rattle.std.proofs.lemmas.Bool.{and_parts, false≢true}
 use Rattle.std.proofs.lemmas.List.{length-reverse}
 use Rattle.reader_theory.specs.Words.{Mark, bare, Cause, expected, too_deep}
-use Rattle.reader_theory.specs.Refusals.{Begins, Refused, StopsAt}
+use Rattle.reader_theory.specs.Refusals.{Begins, Refused, StopsAt, Answers}
 use Rattle.reader_theory.specs.Limits.{RefusedFor, FirstSunk, SinksAt, level_at, shifted, reason}
 use Rattle.reader_theory.proofs.Fronts.{begins_front}
 use Rattle.reader_theory.proofs.Marks.{bare_length, same_front}
 use Rattle.fortran_grammar.specs.Tokens.{Token}
-use Rattle.fortran_grammar.specs.ProgramGrammar.{Sources}
 use Rattle.expr_reader.specs.Results.{cause_of, Stands, Fails}
 use Rattle.expr_reader.specs.Words.{token_of, tokens_of}
 use Rattle.expr_reader.specs.declared.error.Stop.{Stop}
@@ -16,9 +15,9 @@ use Rattle.expr_reader.specs.declared.error.ReadError.{ReadError}
 use Rattle.expr_reader.specs.declared.error.ReadError.TheVariants as errors
 use Rattle.expr_reader.specs.declared.word.Word.{Word}
 use Rattle.statement_reader.specs.Heads.{is_over}
-use Rattle.program_reader.specs.Sequence.{State, start}
+use Rattle.program_reader.specs.Sequence.{State, Parts_of}
 use Rattle.program_reader.specs.Unfinished.{behind, first_place}
-use Rattle.program_reader.proofs.Programs.{fault_refused}
+use Rattle.program_reader.proofs.Files.{file_answered}
 use Rattle.refusal_reasons.specs.Reasons.{place_at}
 use Rattle.refusal_reasons.specs.Statements.{one_statement}
 use Rattle.refusal_reasons.proofs.Files.{told_by_last}
@@ -32,6 +31,8 @@ use Rattle.refusal_reasons.specs.Reasons.{levels_at}
 use Rattle.refusal_reasons.specs.Statements.{statement_place, before}
 use Rattle.refusal_reasons.proofs.Earliest.{place_from_end}
 use Rattle.sequence_reader.specs.Views as view
+use Rattle.sequence_reader.specs.declared.state.Beginning.{Beginning}
+use Rattle.sequence_reader.specs.declared.state.Beginning.TheVariants as beginnings
 use Rattle.sequence_reader.specs.declared.state.Construct.{Construct}
 use Rattle.sequence_reader.specs.declared.state.State.{State as Held}
 use Rattle.sequence_reader.specs.declared.form.Form.{Form as HeldForm}
@@ -39,22 +40,22 @@ use Rattle.file_reader.specs.Refusals.{IsTooDeepAt}
 use Rattle.file_reader.proofs.Refusing.{tokens_length, refused, left_fits, rest_there, both_lengths}
 
 -- whole statements with which programs begin are read
-goes_no_further : (ts front : List Token) (c : Cause) (y : Token) (r : List Token) → Begins Sources ts → ts ≡ front ++ y ∷ r → StopsAt Sources front c (y ∷ r) → ⊥
-goes_no_further ts front expected y r b s h = h.0 (begins_front Sources (front ++ y ∷ []) r (subst (Begins Sources) (s ∙ sym (append_assoc front (y ∷ []) r)) b))
-goes_no_further ts front too_deep y r b s h = h.0 (begins_front Sources (front ++ y ∷ []) r (subst (Begins Sources) (s ∙ sym (append_assoc front (y ∷ []) r)) b))
+goes_no_further : (begin : State) (ts front : List Token) (c : Cause) (y : Token) (r : List Token) → Begins (Parts_of begin) ts → ts ≡ front ++ y ∷ r → StopsAt (Parts_of begin) front c (y ∷ r) → ⊥
+goes_no_further begin ts front expected y r b s h = h.0 (begins_front (Parts_of begin) (front ++ y ∷ []) r (subst (Begins (Parts_of begin)) (s ∙ sym (append_assoc front (y ∷ []) r)) b))
+goes_no_further begin ts front too_deep y r b s h = h.0 (begins_front (Parts_of begin) (front ++ y ∷ []) r (subst (Begins (Parts_of begin)) (s ∙ sym (append_assoc front (y ∷ []) r)) b))
 
-no_stop : (ts r : List Token) (c : Cause) → Refused Sources ts c r → 0 < length r → Begins Sources ts → ⊥
-no_stop ts [] c h l b = omega arith
-no_stop ts (y ∷ r) c h l b = goes_no_further ts h.front c y r b h.split h.stops
+no_stop : (begin : State) (ts r : List Token) (c : Cause) → Refused (Parts_of begin) ts c r → 0 < length r → Begins (Parts_of begin) ts → ⊥
+no_stop begin ts [] c h l b = omega arith
+no_stop begin ts (y ∷ r) c h l b = goes_no_further begin ts h.front c y r b h.split h.stops
 
-pub begins_read : (ts : List Token) (e : ReadError) → Fails e (file_answer ts) → Stops_before ts e → whole_statements ts ≡ true → 0 < length ts → Begins Sources ts → e ≡ errors.Memory
-begins_read ts errors.Memory h l whole some b = refl
-begins_read ts (errors.Stopped st) h l whole some b =
-    absurd (no_stop ts h.0 (cause_of st.cause) (fault_refused 64 ts (cause_of st.cause) h.0 h.1) (subst (λ n. 0 < n) (sym h.2) (l whole some)) b)
+pub begins_read : (begin : State) (ts : List Token) (e : ReadError) → Fails e (file_answer begin ts) → Stops_before ts e → whole_statements ts ≡ true → 0 < length ts → Begins (Parts_of begin) ts → e ≡ errors.Memory
+begins_read begin ts errors.Memory h l whole some b = refl
+begins_read begin ts (errors.Stopped st) h l whole some b =
+    absurd (no_stop begin ts h.0 (cause_of st.cause) (subst (Answers (Parts_of begin) ts) h.1 (file_answered 64 (length ts) begin ts (omega arith))) (subst (λ n. 0 < n) (sym h.2) (l whole some)) b)
 
-pub memory_alone : {X : Type 0} (ws : List Word) (v : Result X ReadError) → IfErr v (λ e. Fails e (file_answer (tokens_of ws))) → IfErr v (λ e. Stops_before (tokens_of ws) e) → whole_statements (tokens_of ws) ≡ true → 0 < length ws → Begins Sources (tokens_of ws) → IfErr v (λ e. e ≡ errors.Memory)
-memory_alone ws (Ok x) h l whole some b = tt
-memory_alone ws (Err e) h l whole some b = begins_read (tokens_of ws) e h l whole (subst (λ n. 0 < n) (sym (tokens_length ws)) some) b
+pub memory_alone : {X : Type 0} (begin : State) (ws : List Word) (v : Result X ReadError) → IfErr v (λ e. Fails e (file_answer begin (tokens_of ws))) → IfErr v (λ e. Stops_before (tokens_of ws) e) → whole_statements (tokens_of ws) ≡ true → 0 < length ws → Begins (Parts_of begin) (tokens_of ws) → IfErr v (λ e. e ≡ errors.Memory)
+memory_alone begin ws (Ok x) h l whole some b = tt
+memory_alone begin ws (Err e) h l whole some b = begins_read begin (tokens_of ws) e h l whole (subst (λ n. 0 < n) (sym (tokens_length ws)) some) b
 
 -- The words of the statement that fails.
 one_more : (y z : Token) (ts : List Token) → not (is_over y) ≡ true → one_statement (z ∷ ts) ≡ true → one_statement (y ∷ z ∷ ts) ≡ true
@@ -99,7 +100,7 @@ taken_length ws zero h = refl
 taken_length [] (suc n) h = absurd (omega arith)
 taken_length (w ∷ ws) (suc n) h = ap suc (taken_length ws n (omega arith))
 
-module _ (ws : List Word) (st : Stop) (h : Stands st (file_answer (tokens_of ws))) (some : 0 < st.left) (b m : ℕ) (at : m + st.left ≡ length ws) (low : b ≤ m) where
+module _ (begin : State) (ws : List Word) (st : Stop) (h : Stands st (file_answer begin (tokens_of ws))) (some : 0 < st.left) (b m : ℕ) (at : m + st.left ≡ length ws) (low : b ≤ m) where
   pub there : Cut ws b m
   there = cut ws b m low (omega arith)
 
@@ -127,32 +128,32 @@ module _ (ws : List Word) (st : Stop) (h : Stands st (file_answer (tokens_of ws)
   rest_is : h.0 ≡ x ∷ r
   rest_is =
       let size : length ws - st.left ≡ m = omega arith in
-      sym (rest_there ws st h) ∙ (ap (λ n. tokens_of (drop n ws)) size ∙ ap tokens_of there.from)
+      sym (rest_there begin ws st h) ∙ (ap (λ n. tokens_of (drop n ws)) size ∙ ap tokens_of there.from)
 
-  refusal : Refused Sources (tokens_of ws) (cause_of st.cause) (x ∷ r)
-  refusal = subst (Refused Sources (tokens_of ws) (cause_of st.cause)) rest_is (refused ws st h)
+  refusal : Refused (Parts_of begin) (tokens_of ws) (cause_of st.cause) (x ∷ r)
+  refusal = subst (Refused (Parts_of begin) (tokens_of ws) (cause_of st.cause)) rest_is (refused begin ws st h)
 
-  pub earlier_begins : Begins Sources earlier
+  pub earlier_begins : Begins (Parts_of begin) earlier
   earlier_begins =
       let same = same_front refusal.front (earlier ++ inside) (x ∷ r) (x ∷ r) (sym refusal.split ∙ (split ∙ sym (append_assoc earlier inside (x ∷ r)))) refl in
-      begins_front Sources earlier inside (subst (Begins Sources) same.0 refusal.begins)
+      begins_front (Parts_of begin) earlier inside (subst (Begins (Parts_of begin)) same.0 refusal.begins)
 
   pub one_there : no_end inside ≡ true → one_statement (tokens_of (take (suc m - b) (drop b ws))) ≡ true
   one_there e = subst (λ z. one_statement z ≡ true) (sym statement_is) (one_alone inside x e)
 
-  pub tells : (s : State) (o : Option ℕ) → Leads_to earlier s → whole_statements earlier ≡ true → place_at 64 s (tokens_of (take (suc m - b) (drop b ws))) ≡ o → RefusedFor Sources (tokens_of ws) (reason (shifted b o)) (tokens_of (drop m ws))
-  tells s o (bs, w) whole e =
+  pub tells : begin.conditions ≡ 0 → (s : State) (o : Option ℕ) → Leads_to begin earlier s → whole_statements earlier ≡ true → place_at 64 s (tokens_of (take (suc m - b) (drop b ws))) ≡ o → RefusedFor (Parts_of begin) (tokens_of ws) (reason (shifted b o)) (tokens_of (drop m ws))
+  tells fresh s o (bs, n, w) whole e =
       let bare_is : earlier ≡ bare w.word = w.split ∙ append-nil (bare w.word) in
       let size : length w.word ≡ b = sym (bare_length w.word) ∙ (sym (ap length bare_is) ∙ taken_length ws b (omega arith)) in
-      let conds = no_conditions 64 bs start w.word w.is_word (subst (λ z. whole_statements z ≡ true) bare_is whole) (inl refl) in
-      let place : place_at 64 (behind start bs) (inside ++ x ∷ []) ≡ o = ap (λ z. place_at 64 z (inside ++ x ∷ [])) w.place ∙ (ap (place_at 64 s) (sym statement_is) ∙ e) in
-      let told = told_by_last 64 bs w.word (tokens_of ws) inside (cause_of st.cause) x r w.is_word w.shallow conds (split ∙ ap (λ z. z ++ (inside ++ x ∷ r)) bare_is) refusal in
-      let named : RefusedFor Sources (tokens_of ws) (reason (shifted b o)) (x ∷ r) = subst (λ z. RefusedFor Sources (tokens_of ws) (reason z) (x ∷ r)) (ap (λ n. shifted n (place_at 64 (behind start bs) (inside ++ x ∷ []))) size ∙ ap (shifted b) place) told in
-      subst (RefusedFor Sources (tokens_of ws) (reason (shifted b o))) (sym (ap tokens_of there.from)) named
+      let conds = no_conditions 64 bs begin w.word w.is_word (subst (λ z. whole_statements z ≡ true) bare_is whole) (inl fresh) in
+      let place : place_at 64 (behind begin bs) (inside ++ x ∷ []) ≡ o = ap (λ z. place_at 64 z (inside ++ x ∷ [])) w.place ∙ (ap (place_at 64 s) (sym statement_is) ∙ e) in
+      let told = told_by_last 64 begin bs w.word (tokens_of ws) inside (cause_of st.cause) x r w.is_word w.shallow conds (split ∙ ap (λ z. z ++ (inside ++ x ∷ r)) bare_is) refusal in
+      let named : RefusedFor (Parts_of begin) (tokens_of ws) (reason (shifted b o)) (x ∷ r) = subst (λ z. RefusedFor (Parts_of begin) (tokens_of ws) (reason z) (x ∷ r)) (ap (λ n. shifted n (place_at 64 (behind begin bs) (inside ++ x ∷ []))) size ∙ ap (shifted b) place) told in
+      subst (RefusedFor (Parts_of begin) (tokens_of ws) (reason (shifted b o))) (sym (ap tokens_of there.from)) named
 
 -- the token that is too deep stands in the file
-sunk_inside : (front : List Token) (d : ℕ) → SinksAt Sources front d → d < length front
-sunk_inside front d (a, f, g, v, m, is, e, shallow, deep, n) =
+sunk_inside : (begin : State) (front : List Token) (d : ℕ) → SinksAt (Parts_of begin) front d → d < length front
+sunk_inside begin front d (a, f, g, v, m, is, e, shallow, deep, n) =
     let size : length front ≡ length (f ++ m ∷ g) = ap length e ∙ bare_length (f ++ m ∷ g) in
     let both = both_marks f (m ∷ g) in
     omega arith
@@ -161,11 +162,11 @@ sunk_inside front d (a, f, g, v, m, is, e, shallow, deep, n) =
     both_marks [] v = omega arith
     both_marks (x ∷ u) v = let k = both_marks u v in omega arith
 
-pub number_inside : (ts r : List Token) (d : ℕ) → RefusedFor Sources ts (level_at d) r → d < length ts
-number_inside ts [] d h = absurd (let e = h.stops.0 in cc)
-number_inside ts (y ∷ more) d h =
-    let first : FirstSunk Sources (h.front ++ y ∷ []) (Some d) = h.stops.1 in
-    let low = sunk_inside (h.front ++ y ∷ []) d first.0 in
+pub number_inside : (begin : State) (ts r : List Token) (d : ℕ) → RefusedFor (Parts_of begin) ts (level_at d) r → d < length ts
+number_inside begin ts [] d h = absurd (let e = h.stops.0 in cc)
+number_inside begin ts (y ∷ more) d h =
+    let first : FirstSunk (Parts_of begin) (h.front ++ y ∷ []) (Some d) = h.stops.1 in
+    let low = sunk_inside begin (h.front ++ y ∷ []) d first.0 in
     let one = both_lengths h.front (y ∷ []) in
     let two = ap length h.split ∙ both_lengths h.front (y ∷ more) in
     omega arith
@@ -176,9 +177,9 @@ stands_at [] d h = absurd (omega arith)
 stands_at (w ∷ ws) zero h = (token_of w, refl, refl)
 stands_at (w ∷ ws) (suc d) h = stands_at ws d (omega arith)
 
-pub sunk_there : (ws : List Word) (r : List Token) (d : ℕ) (at : Pos) → RefusedFor Sources (tokens_of ws) (level_at d) r → at ≡ first_place (tokens_of (drop (length ws - (length ws - d)) ws)) → IsTooDeepAt (tokens_of ws) at
-sunk_there ws r d at h e =
-    let low = number_inside (tokens_of ws) r d h in
+pub sunk_there : (begin : State) (ws : List Word) (r : List Token) (d : ℕ) (at : Pos) → RefusedFor (Parts_of begin) (tokens_of ws) (level_at d) r → at ≡ first_place (tokens_of (drop (length ws - (length ws - d)) ws)) → IsTooDeepAt (Parts_of begin) (tokens_of ws) at
+sunk_there begin ws r d at h e =
+    let low = number_inside begin (tokens_of ws) r d h in
     let size = tokens_length ws in
     let same : length ws - (length ws - d) ≡ d = omega arith in
     let k = stands_at ws d (omega arith) in
@@ -197,16 +198,21 @@ place_told h us left is o d l one all e =
     let size : levels_at (view.state h) + left ≡ 64 = let z = levels_held h in omega arith in
     place_from_end 64 left (view.state h) us one size ∙ ap (before (length us)) (sym (e ∙ ap (λ z. statement_place left z us) all))
 
+-- a file begins behind no condition
+pub fresh_conditions : (b : Beginning) → (view.beginning b).conditions ≡ 0
+fresh_conditions beginnings.Program = refl
+fresh_conditions beginnings.Units = refl
+
 -- The last statement that is begun, and what stands before it.
-module _ (ws : List Word) (st : Stop) (h : Stands st (file_answer (tokens_of ws))) (some : 0 < st.left) (b : ℕ) (front : List Word) (size : length front ≡ length ws - st.left) (is : front ≡ take (length ws - st.left) ws) (low : b ≤ length front) where
+module _ (begin : State) (ws : List Word) (st : Stop) (h : Stands st (file_answer begin (tokens_of ws))) (some : 0 < st.left) (b : ℕ) (front : List Word) (size : length front ≡ length ws - st.left) (is : front ≡ take (length ws - st.left) ws) (low : b ≤ length front) where
   fits : (length ws - st.left) + st.left ≡ length ws
-  fits = let k = left_fits ws st h in omega arith
+  fits = let k = left_fits begin ws st h in omega arith
 
   under : b ≤ length ws - st.left
   under = subst (λ n. b ≤ n) size low
 
-  pub begins_early : (early : List Word) → early ≡ take b ws → Begins Sources (tokens_of early)
-  begins_early early e = subst (λ z. Begins Sources (tokens_of z)) (sym e) (earlier_begins ws st h some b (length ws - st.left) fits under)
+  pub begins_early : (early : List Word) → early ≡ take b ws → Begins (Parts_of begin) (tokens_of early)
+  begins_early early e = subst (λ z. Begins (Parts_of begin) (tokens_of z)) (sym e) (earlier_begins begin ws st h some b (length ws - st.left) fits under)
 
   module _ (more statement : List Word) (behind_is : more ≡ drop b ws) (taken : statement ≡ take (length front + 1 - b) more) where
     count : length front + 1 - b ≡ suc (length ws - st.left) - b
@@ -216,13 +222,13 @@ module _ (ws : List Word) (st : Stop) (h : Stands st (file_answer (tokens_of ws)
     cut_is = taken ∙ (ap (λ n. take n more) count ∙ ap (λ z. take (suc (length ws - st.left) - b) z) behind_is)
 
     pub one_begun : no_end (tokens_of (drop b front)) ≡ true → one_statement (tokens_of statement) ≡ true
-    one_begun e = subst (λ z. one_statement (tokens_of z) ≡ true) (sym cut_is) (one_there ws st h some b (length ws - st.left) fits under (subst (λ z. no_end (tokens_of (drop b z)) ≡ true) is e))
+    one_begun e = subst (λ z. one_statement (tokens_of z) ≡ true) (sym cut_is) (one_there begin ws st h some b (length ws - st.left) fits under (subst (λ z. no_end (tokens_of (drop b z)) ≡ true) is e))
 
-    pub told_begun : (s : State) (from o : Option ℕ) (early : List Word) → early ≡ take b ws → Leads_to (tokens_of early) s → whole_statements (tokens_of (take b front)) ≡ true
-        → place_at 64 s (tokens_of statement) ≡ before (length (tokens_of statement)) from → o ≡ shifted b (before (length statement) from) → RefusedFor Sources (tokens_of ws) (reason o) (tokens_of (drop (length ws - st.left) ws))
-    told_begun s from o early e leads whole at n =
-        let there = subst (λ z. Leads_to (tokens_of z) s) e leads in
-        let all : whole_statements (tokens_of (take b ws)) ≡ true = subst (λ z. whole_statements z ≡ true) (earlier_is ws st h some b (length ws - st.left) fits under) (subst (λ z. whole_statements (tokens_of (take b z)) ≡ true) is whole) in
+    pub told_begun : begin.conditions ≡ 0 → (s : State) (from o : Option ℕ) (early : List Word) → early ≡ take b ws → Leads_to begin (tokens_of early) s → whole_statements (tokens_of (take b front)) ≡ true
+        → place_at 64 s (tokens_of statement) ≡ before (length (tokens_of statement)) from → o ≡ shifted b (before (length statement) from) → RefusedFor (Parts_of begin) (tokens_of ws) (reason o) (tokens_of (drop (length ws - st.left) ws))
+    told_begun fresh s from o early e leads whole at n =
+        let there = subst (λ z. Leads_to begin (tokens_of z) s) e leads in
+        let all : whole_statements (tokens_of (take b ws)) ≡ true = subst (λ z. whole_statements z ≡ true) (earlier_is begin ws st h some b (length ws - st.left) fits under) (subst (λ z. whole_statements (tokens_of (take b z)) ≡ true) is whole) in
         let place = subst (λ z. place_at 64 s (tokens_of z) ≡ before (length (tokens_of statement)) from) cut_is at in
         let same : shifted b (before (length (tokens_of statement)) from) ≡ o = ap (λ k. shifted b (before k from)) (tokens_length statement) ∙ sym n in
-        subst (λ z. RefusedFor Sources (tokens_of ws) (reason z) (tokens_of (drop (length ws - st.left) ws))) same (tells ws st h some b (length ws - st.left) fits under s (before (length (tokens_of statement)) from) there all place)
+        subst (λ z. RefusedFor (Parts_of begin) (tokens_of ws) (reason z) (tokens_of (drop (length ws - st.left) ws))) same (tells begin ws st h some b (length ws - st.left) fits under fresh s (before (length (tokens_of statement)) from) there all place)

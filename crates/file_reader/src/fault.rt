@@ -6,9 +6,9 @@ use caf_base::place::Pos;
 #[derive(Clone, Copy, PartialEq, Eq, Debug)]
 pub enum FileFault {
     /// A token with which no statement that the grammar allows there goes on, or just past the statement where more was
-    /// needed.
+    /// needed, as behind the last module where no program follows.
     Expected { at: Pos },
-    /// What is open innermost where the file ends: a construct, a procedure or the main program, at its first token.
+    /// What is open innermost where the file ends: a construct, a procedure or a program unit, at its first token.
     NotClosed { at: Pos },
     /// More than 64 levels are open, at the first token of the 65th.
     TooDeep { at: Pos },

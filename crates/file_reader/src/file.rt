@@ -1,18 +1,19 @@
 //! The reader of the words of a source.
 
-ghost use Rattle.std.specs.Prelude.{◌≡◌, ◌<◌, ◌≤◌, ◌-◌, true, [], length, map, drop, IfOk, IfErr};
+ghost use Rattle.std.specs.Prelude.{◌≡◌, ◌<◌, ◌≤◌, ◌-◌, true, [], Some, length, map, drop, IfOk, IfErr};
 ghost use Rattle.expr_reader.specs.Results.{Stands};
 ghost use Rattle.expr_reader.specs.Words.{tokens_of};
 ghost use Rattle.fortran_lines.specs.Causes.{IfCause};
-ghost use Rattle.fortran_grammar.specs.ProgramGrammar.{Sources};
 ghost use Rattle.reader_theory.specs.Limits.{RefusedFor, reason};
 ghost use Rattle.reader_theory.specs.Words.{found};
 ghost use Rattle.part_reader.specs.Views as held;
-ghost use Rattle.program_reader.specs.Sequence.{rest_reader, start};
+ghost use Rattle.program_reader.specs.Sequence.{Parts_of, rest_reader, start, start_of_units};
 ghost use Rattle.program_reader.specs.Unfinished as unfinished;
 ghost use Rattle.sequence_reader.specs.Halts as halts;
 ghost use Rattle.sequence_reader.specs.Statements.{whole_statements};
-ghost use Rattle.file_reader.specs.Refusals.{AreRefused};
+ghost use Rattle.sequence_reader.specs.Views as view;
+ghost use Rattle.file_reader.specs.Beginnings.{EndsEarly, PartsAreRefused};
+ghost use Rattle.file_reader.specs.Refusals.{AreRefused, AreRefusedUnits, last_place};
 
 use crate::fault::FileFault;
 use crate::reason::sunk_word;
@@ -22,6 +23,7 @@ use expr_reader::error::Stop;
 use expr_reader::word::Word;
 use part_reader::part::Part;
 use sequence_reader::sequence::{Halt, read_parts};
+use sequence_reader::state::Beginning;
 use std::alloc::Global;
 
 /// The place of the word from which on so many are left.
@@ -37,11 +39,11 @@ fn place_from(words: &[Word], left: usize) -> Pos
 }
 
 /// The fault at a word: the place of the first that is too deep, if there is one.
-fn told(words: &[Word], stop: Stop, sunk: Option<usize>) -> FileFault
+fn told(beginning: Beginning, words: &[Word], stop: Stop, sunk: Option<usize>) -> FileFault
     requires some { 0 < stop.left }
-    requires stands { Stands stop (halts.file_answer (tokens_of words.now)) }
-    requires refused { RefusedFor Sources (tokens_of words.now) (reason sunk) (tokens_of (drop (length words.now - stop.left) words.now)) }
-    ensures { AreRefused (tokens_of words.now) result }
+    requires stands { Stands stop (halts.file_answer (view.beginning beginning) (tokens_of words.now)) }
+    requires refused { RefusedFor (Parts_of (view.beginning beginning)) (tokens_of words.now) (reason sunk) (tokens_of (drop (length words.now - stop.left) words.now)) }
+    ensures { PartsAreRefused (view.beginning beginning) (tokens_of words.now) result }
 {
     match sunk {
         None => FileFault::Expected {
@@ -53,21 +55,63 @@ fn told(words: &[Word], stop: Stop, sunk: Option<usize>) -> FileFault
     }
 }
 
+/// The place of the last word.
+fn last_of(words: &[Word]) -> Pos
+    requires { 0 < length words.now }
+    ensures { last_place (tokens_of words.now) ≡ Some result }
+{
+    words[words.len() - 1].at
+}
+
+/// The fault where more was needed: what is open innermost, or that a program was to follow.
+fn early(beginning: Beginning, words: &[Word], at: Option<Pos>) -> FileFault
+    requires some { 0 < length words.now }
+    requires ends { EndsEarly (view.beginning beginning) (tokens_of words.now) at }
+    ensures { PartsAreRefused (view.beginning beginning) (tokens_of words.now) result }
+{
+    match at {
+        Some(at) => FileFault::NotClosed { at },
+        None => FileFault::Expected { at: last_of(words) },
+    }
+}
+
 /// Why words aren't read.
-fn refusal(alloc: Global, halt: Halt, words: &[Word]) -> Refusal<FileFault>
+fn refusal(alloc: Global, beginning: Beginning, halt: Halt, words: &[Word]) -> Refusal<FileFault>
     requires whole { whole_statements (tokens_of words.now) ≡ true }
     requires some { 0 < length words.now }
     requires fits { length words.now < 4294967295 }
-    requires halts { halts.Halts halt (tokens_of words.now) }
-    ensures { IfCause result (λ fault. AreRefused (tokens_of words.now) fault) }
+    requires halts { halts.Halts (view.beginning beginning) halt (tokens_of words.now) }
+    ensures { IfCause result (λ fault. PartsAreRefused (view.beginning beginning) (tokens_of words.now) fault) }
 {
     match halt {
         Halt::Memory => Refusal::NoMemory,
-        Halt::Unfinished { at, .. } => Refusal::Cause(FileFault::NotClosed { at }),
-        Halt::Stopped(stop) => match sunk_word(alloc, words, stop) {
-            Ok(sunk) => Refusal::Cause(told(words, stop, sunk)),
+        Halt::Unfinished { at, .. } => Refusal::Cause(early(beginning, words, at)),
+        Halt::Stopped(stop) => match sunk_word(alloc, beginning, words, stop) {
+            Ok(sunk) => Refusal::Cause(told(beginning, words, stop, sunk)),
             Err(_) => Refusal::NoMemory,
         },
+    }
+}
+
+/// Reads words, which are whole statements, from a beginning on: their parts in their order.
+fn parts_from(
+    alloc: Global,
+    beginning: Beginning,
+    words: &[Word],
+) -> Result<Vec<Part>, Refusal<FileFault>>
+    requires whole { whole_statements (tokens_of words.now) ≡ true }
+    requires fits { length words.now < 4294967295 }
+    ensures parts { IfOk result (λ parts. rest_reader 64 (length (tokens_of words.now)) (view.beginning beginning) (tokens_of words.now) ≡ found (map held.part parts.items) []) }
+    ensures refused { IfErr result (λ refusal. IfCause refusal (λ fault. PartsAreRefused (view.beginning beginning) (tokens_of words.now) fault)) }
+{
+    if words.is_empty() {
+        return Err(Refusal::Cause(FileFault::Expected {
+            at: Pos { line: 1, col: 1 },
+        }));
+    }
+    match read_parts(alloc, beginning, words) {
+        Ok(parts) => Ok(parts),
+        Err(halt) => Err(refusal(alloc, beginning, halt, words)),
     }
 }
 
@@ -82,13 +126,20 @@ pub fn file_parts(alloc: Global, words: &[Word]) -> Result<Vec<Part>, Refusal<Fi
     ensures parts { IfOk result (λ parts. rest_reader 64 (length (tokens_of words.now)) start (tokens_of words.now) ≡ found (map held.part parts.items) []) }
     ensures refused { IfErr result (λ refusal. IfCause refusal (λ fault. AreRefused (tokens_of words.now) fault)) }
 {
-    if words.is_empty() {
-        return Err(Refusal::Cause(FileFault::Expected {
-            at: Pos { line: 1, col: 1 },
-        }));
-    }
-    match read_parts(alloc, words) {
-        Ok(parts) => Ok(parts),
-        Err(halt) => Err(refusal(alloc, halt, words)),
-    }
+    parts_from(alloc, Beginning::Program, words)
+}
+
+/// Reads the words of a source that may have modules, which are whole statements: its parts in their order, which spell
+/// one file.
+///
+/// # Errors
+///
+/// The cause for which the words spell no file, with its place; want of memory, at any time.
+pub fn unit_parts(alloc: Global, words: &[Word]) -> Result<Vec<Part>, Refusal<FileFault>>
+    requires whole { whole_statements (tokens_of words.now) ≡ true }
+    requires fits { length words.now < 4294967295 }
+    ensures parts { IfOk result (λ parts. rest_reader 64 (length (tokens_of words.now)) start_of_units (tokens_of words.now) ≡ found (map held.part parts.items) []) }
+    ensures refused { IfErr result (λ refusal. IfCause refusal (λ fault. AreRefusedUnits (tokens_of words.now) fault)) }
+{
+    parts_from(alloc, Beginning::Units, words)
 }

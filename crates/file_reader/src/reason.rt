@@ -3,8 +3,8 @@
 ghost use Rattle.std.specs.Prelude.{◌≡◌, ◌<◌, ◌≤◌, ◌+◌, ◌-◌, true, length, map, take, drop, MatchResult, IfOk, IfErr};
 ghost use Rattle.expr_reader.specs.Results.{Stands};
 ghost use Rattle.expr_reader.specs.Words.{token_of, tokens_of};
-ghost use Rattle.fortran_grammar.specs.ProgramGrammar.{Sources};
 ghost use Rattle.program_reader.specs.Sequence as sequence;
+ghost use Rattle.program_reader.specs.Sequence.{Parts_of};
 ghost use Rattle.reason_reader.specs.Ends.{fits};
 ghost use Rattle.reader_theory.specs.Refusals.{Begins};
 ghost use Rattle.reader_theory.specs.Limits.{RefusedFor, reason, shifted};
@@ -22,7 +22,7 @@ use expr_reader::word::{Word, WordKind};
 use reason_reader::reason::statement_place;
 use sequence_reader::form::Form;
 use sequence_reader::sequence::place_behind;
-use sequence_reader::state::{Allowed, State, allowed_forms, start};
+use sequence_reader::state::{Allowed, Beginning, State, allowed_forms, start};
 use std::alloc::Global;
 
 /// How many levels may be open.
@@ -85,18 +85,22 @@ fn too_deep_from(
     Ok(place)
 }
 
-/// The place of a statement that fails behind these whole statements, with which programs begin.
-fn place_of_statement(alloc: Global, words: &[Word]) -> Result<State, ReadError>
+/// The place of a statement that fails behind these whole statements, with which files begin.
+fn place_of_statement(
+    alloc: Global,
+    beginning: Beginning,
+    words: &[Word],
+) -> Result<State, ReadError>
     requires whole { whole_statements (tokens_of words.now) ≡ true }
-    requires begins { Begins Sources (tokens_of words.now) }
+    requires begins { Begins (Parts_of (view.beginning beginning)) (tokens_of words.now) }
     ensures depth { IfOk result (λ s. s.conditions + length s.blocks.items ≤ 64) }
-    ensures leads { IfOk result (λ s. halts.Leads_to (tokens_of words.now) (view.state s)) }
+    ensures leads { IfOk result (λ s. halts.Leads_to (view.beginning beginning) (tokens_of words.now) (view.state s)) }
     ensures memory { IfErr result (λ e. e ≡ ReadError.Memory) }
 {
     if words.is_empty() {
-        return Ok(start(alloc));
+        return Ok(start(alloc, beginning));
     }
-    place_behind(alloc, words)
+    place_behind(alloc, beginning, words)
 }
 
 /// So many words further on, where the place is told by the number of words from there on, of so many.
@@ -111,20 +115,25 @@ fn number(begin: usize, size: usize, from: Option<usize>) -> Option<usize>
     }
 }
 
-/// The number of the word at which a level too deep is open first, of all programs that go on with the words up to and
-/// with the one at which reading stops, if any does.
-pub fn sunk_word(alloc: Global, words: &[Word], stop: Stop) -> Result<Option<usize>, ReadError>
+/// The number of the word at which a level too deep is open first, of all files that go on with the words up to the one
+/// at which reading stops and with it, if any does.
+pub fn sunk_word(
+    alloc: Global,
+    beginning: Beginning,
+    words: &[Word],
+    stop: Stop,
+) -> Result<Option<usize>, ReadError>
     requires some { 0 < stop.left }
     requires whole { whole_statements (tokens_of words.now) ≡ true }
     requires fits { length words.now < 4294967295 }
-    requires stands { Stands stop (halts.file_answer (tokens_of words.now)) }
-    ensures { MatchResult result (λ o. RefusedFor Sources (tokens_of words.now) (reason o) (tokens_of (drop (length words.now - stop.left) words.now))) (λ e. e ≡ ReadError.Memory) }
+    requires stands { Stands stop (halts.file_answer (view.beginning beginning) (tokens_of words.now)) }
+    ensures { MatchResult result (λ o. RefusedFor (Parts_of (view.beginning beginning)) (tokens_of words.now) (reason o) (tokens_of (drop (length words.now - stop.left) words.now))) (λ e. e ≡ ReadError.Memory) }
 {
     let (front, _) = words.split_at(words.len() - stop.left);
     let begin = beginning(front);
     let (earlier, behind) = words.split_at(begin);
     let (statement, _) = behind.split_at(front.len() + 1 - begin);
-    let state = place_of_statement(alloc, earlier)?;
+    let state = place_of_statement(alloc, beginning, earlier)?;
     let from = too_deep_from(alloc, &state, statement)?;
     drop(state);
     Ok(number(begin, statement.len(), from))

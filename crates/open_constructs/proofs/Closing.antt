@@ -15,7 +15,7 @@ use Rattle.fortran_grammar.specs.ProgramGrammar.{Programs}
 use Rattle.statement_reader.specs.Parts as f
 use Rattle.statement_reader.specs.Parts.{Part, Form, formed}
 use Rattle.program_reader.specs.Sequence as q
-use Rattle.program_reader.specs.Sequence.{Scope, Open, State, start, block_forms, next, Rest_of_file}
+use Rattle.program_reader.specs.Sequence.{ProgramUnit, Scope, Open, State, start, block_forms, next, Rest_of_file}
 use Rattle.program_reader.specs.Unfinished.{Parts_from, behind}
 use Rattle.program_reader.proofs.Steps.{In, step}
 use Rattle.program_reader.proofs.NestedUnits.{nested_program}
@@ -113,16 +113,24 @@ module _ (limit : ℕ) (ts : List Token) (p : Pos) (new : stands ts p ≡ false)
   over_closed : Closing limit ts (at_place q.over [])
   over_closed = record { parts = []; word = []; is_rest = (refl, refl); shallow = tt; elsewhere = tt }
 
-  between_closed : Closing limit ts (at_place q.between [])
-  between_closed = closed_by f.end_program_form (at_place q.between []) (at_place q.over []) (f.end_program_part None p) (codes "end") (inl refl) (refl, (_ ∷ [], _ ∷ [], (refl, inl (p, refl)), (p, refl), refl)) refl (omega arith) over_closed
+  no_unit_closed : Closing limit ts (at_place q.no_unit [])
+  no_unit_closed = closed_by f.end_program_form (at_place q.no_unit []) (at_place q.over []) (f.end_program_part None p) (codes "end") (inl refl) (refl, (_ ∷ [], _ ∷ [], (refl, inl (p, refl)), (p, refl), refl)) refl (omega arith) over_closed
+
+  between_closed : (y : ProgramUnit) → Closing limit ts (at_place (q.between y) [])
+  between_closed q.alone = closed_by f.end_program_form (at_place (q.between q.alone) []) (at_place q.over []) (f.end_program_part None p) (codes "end") (inl refl) (refl, (_ ∷ [], _ ∷ [], (refl, inl (p, refl)), (p, refl), refl)) refl (omega arith) over_closed
+  between_closed q.main = closed_by f.end_program_form (at_place (q.between q.main) []) (at_place q.over []) (f.end_program_part None p) (codes "end") (inl refl) (refl, (_ ∷ [], _ ∷ [], (refl, inl (p, refl)), (p, refl), refl)) refl (omega arith) over_closed
+  between_closed (q.module_at g) = closed_by f.end_module_form (at_place (q.between (q.module_at g)) []) (at_place q.no_unit []) (f.end_module_part None p) (codes "end") (inl refl) (refl, (_ ∷ [], _ ∷ [], (refl, inr (p, refl)), (p, refl), refl)) refl (omega arith) no_unit_closed
 
   unit_closed : (k : Scope) → Closing limit ts (at_place k [])
-  unit_closed (q.main_program g) = closed_by f.end_program_form (at_place (q.main_program g) []) (at_place q.over []) (f.end_program_part None p) (codes "end") (inl refl) (refl, (_ ∷ [], _ ∷ [], (refl, inl (p, refl)), (p, refl), refl)) refl (omega arith) over_closed
-  unit_closed q.between = between_closed
-  unit_closed (q.in_subroutine at g) =
-      closed_by f.end_subroutine_form (at_place (q.in_subroutine at g) []) (at_place q.between []) (f.end_subroutine_part None p) (codes "end") (inl refl) (refl, (_ ∷ [], _ ∷ [], (refl, inr (p, refl)), (p, refl), refl)) refl (omega arith) between_closed
-  unit_closed (q.in_function at g) =
-      closed_by f.end_function_form (at_place (q.in_function at g) []) (at_place q.between []) (f.end_function_part None p) (codes "end") (inl refl) (refl, (_ ∷ [], _ ∷ [], (refl, inr (p, refl)), (p, refl), refl)) refl (omega arith) between_closed
+  unit_closed q.no_unit = no_unit_closed
+  unit_closed (q.in_program_unit q.alone t) = closed_by f.end_program_form (at_place (q.in_program_unit q.alone t) []) (at_place q.over []) (f.end_program_part None p) (codes "end") (inl refl) (refl, (_ ∷ [], _ ∷ [], (refl, inl (p, refl)), (p, refl), refl)) refl (omega arith) over_closed
+  unit_closed (q.in_program_unit q.main t) = closed_by f.end_program_form (at_place (q.in_program_unit q.main t) []) (at_place q.over []) (f.end_program_part None p) (codes "end") (inl refl) (refl, (_ ∷ [], _ ∷ [], (refl, inl (p, refl)), (p, refl), refl)) refl (omega arith) over_closed
+  unit_closed (q.in_program_unit (q.module_at g) t) = closed_by f.end_module_form (at_place (q.in_program_unit (q.module_at g) t) []) (at_place q.no_unit []) (f.end_module_part None p) (codes "end") (inl refl) (refl, (_ ∷ [], _ ∷ [], (refl, inr (p, refl)), (p, refl), refl)) refl (omega arith) no_unit_closed
+  unit_closed (q.between y) = between_closed y
+  unit_closed (q.in_subroutine y at g) =
+      closed_by f.end_subroutine_form (at_place (q.in_subroutine y at g) []) (at_place (q.between y) []) (f.end_subroutine_part None p) (codes "end") (inl refl) (refl, (_ ∷ [], _ ∷ [], (refl, inr (p, refl)), (p, refl), refl)) refl (omega arith) (between_closed y)
+  unit_closed (q.in_function y at g) =
+      closed_by f.end_function_form (at_place (q.in_function y at g) []) (at_place (q.between y) []) (f.end_function_part None p) (codes "end") (inl refl) (refl, (_ ∷ [], _ ∷ [], (refl, inr (p, refl)), (p, refl), refl)) refl (omega arith) (between_closed y)
   unit_closed q.over = over_closed
 
   all_closed : (os : List Open) (k : Scope) → length os ≤ limit → Closing limit ts (at_place k os)
@@ -130,9 +138,15 @@ module _ (limit : ℕ) (ts : List Token) (p : Pos) (new : stands ts p ≡ false)
   all_closed (o ∷ os) k l =
       closed_by (end_form o) (at_place k (o ∷ os)) (at_place k os) (end_part p o) (end_word o) (end_allowed o) (ends_word p limit (suc (length os)) o) (ended p k o os) l (all_closed os k (omega arith))
 
+  -- whole statements with which a file begins go on to one
+  pub closes : (begin : State) (bs : List Part) (w : List (Mark Token)) → Parts_from limit begin bs w → (behind begin bs).conditions ≡ 0 → length (behind begin bs).blocks ≤ limit → (es : List Part) × (more : List (Mark Token)) × Rest_of_file limit begin es (w ++ more) × Shallow more × AreElsewhere ts (bare more)
+  closes begin bs w h z l =
+      let at_end : at_place (behind begin bs).scope (behind begin bs).blocks ≡ behind begin bs = ap (λ n. record { scope = (behind begin bs).scope; blocks = (behind begin bs).blocks; conditions = n }) (sym z) in
+      let c = subst (Closing limit ts) at_end (all_closed (behind begin bs).blocks (behind begin bs).scope l) in
+      (bs ++ c.parts, c.word, parts_then limit bs c.parts begin w c.word h c.is_rest, c.shallow, c.elsewhere)
+
   pub goes_on : (bs : List Part) (w : List (Mark Token)) → Parts_from limit start bs w → Shallow w → (behind start bs).conditions ≡ 0 → length (behind start bs).blocks ≤ limit → (x : Program) × (more : List Token) × AreElsewhere ts more × Reads (Programs limit) (bare w ++ more) x
   goes_on bs w h sh z l =
-      let at_end : at_place (behind start bs).scope (behind start bs).blocks ≡ behind start bs = ap (λ n. record { scope = (behind start bs).scope; blocks = (behind start bs).blocks; conditions = n }) (sym z) in
-      let c = subst (Closing limit ts) at_end (all_closed (behind start bs).blocks (behind start bs).scope l) in
-      let (x, is, k) = nested_program limit (bs ++ c.parts) (w ++ c.word) (parts_then limit bs c.parts start w c.word h c.is_rest) in
-      (x, bare c.word, c.elsewhere, (w ++ c.word, k, shallow_append w c.word sh c.shallow, sym (bare_append w c.word)))
+      let (es, more, rest, flat, elsewhere) = closes start bs w h z l in
+      let (x, is, k) = nested_program limit es (w ++ more) rest in
+      (x, bare more, elsewhere, (w ++ more, k, shallow_append w more sh flat, sym (bare_append w more)))

@@ -1,11 +1,12 @@
 -- Parts one behind the other, of which some open a construct or a procedure and some close one: where the innermost one
 -- is that is left open behind some of them.
-use Rattle.std.proofs.Common.{◌≡◌, ℕ, zero, suc, Bool, true, false, not, cond, ◌&&◌, List, [], ◌∷◌, ◌++◌, refl, ap, sym, ◌∙◌}
+use Rattle.std.proofs.Common.{◌≡◌, ℕ, zero, suc, Bool, true, false, not, cond, ◌&&◌, List, [], ◌∷◌, ◌++◌, Option, Some, refl, ap, sym, ◌∙◌}
 use Rattle.caf_base.specs.declared.place.Pos.{Pos}
 use Rattle.fortran_grammar.specs.Tokens.{Token}
 use Rattle.statement_reader.specs.Parts as f
 use Rattle.statement_reader.specs.Parts.{Part}
-use Rattle.open_constructs.specs.Open.{Extent, stands, innermost}
+use Rattle.open_constructs.specs.Open.{Extent, stands}
+use Rattle.open_constructs.specs.InFiles.{innermost_in}
 
 -- what a part does: it opens one at this place, closes one there, or does neither
 pub data Turn : Type 0 where
@@ -20,6 +21,7 @@ turn (f.select_part e at) = opens at
 turn (f.critical_part x at) = opens at
 turn (f.team_part e ps at) = opens at
 turn (f.heading_part x at) = opens at
+turn (f.module_part n at) = opens at
 turn (f.end_if_part at) = closes at
 turn (f.end_do_part n at) = closes at
 turn (f.end_select_part at) = closes at
@@ -27,6 +29,7 @@ turn (f.end_critical_part at) = closes at
 turn (f.end_team_part x at) = closes at
 turn (f.end_subroutine_part n at) = closes at
 turn (f.end_function_part n at) = closes at
+turn (f.end_module_part n at) = closes at
 turn b = neither
 
 -- where the first part is that closes more than so many of those that the parts before it open; else the place that is
@@ -79,9 +82,9 @@ abbrev pub open_behind : List Part → List Pos → List Pos
 open_behind [] st = st
 open_behind (b ∷ bs) st = open_behind bs (turned (turn b) st)
 
-abbrev pub top : Pos → List Pos → Pos
+abbrev pub top : Option Pos → List Pos → Option Pos
 top outer [] = outer
-top outer (p ∷ st) = p
+top outer (p ∷ st) = Some p
 
 abbrev without : ℕ → List Pos → List Pos
 without zero st = st
@@ -119,8 +122,8 @@ module _ (ts : List Token) where
   closing_elsewhere (closes at) rest (suc n) k h = h n
   closing_elsewhere neither rest n k h = h n
 
-  spanning_elsewhere : (t : Turn) (end : Pos) (es : List Extent) (p : Pos) → StandsAt false t → ((o : Pos) → innermost ts es o ≡ o) → innermost ts (spanning t end es) p ≡ p
-  spanning_elsewhere (opens at) end es p k h = ap (λ v. innermost ts es (cond (v && not (stands ts end)) at p)) k ∙ h p
+  spanning_elsewhere : (t : Turn) (end : Pos) (es : List Extent) (p : Option Pos) → StandsAt false t → ((o : Option Pos) → innermost_in ts es o ≡ o) → innermost_in ts (spanning t end es) p ≡ p
+  spanning_elsewhere (opens at) end es p k h = ap (λ v. innermost_in ts es (cond (v && not (stands ts end)) (Some at) p)) k ∙ h p
   spanning_elsewhere (closes at) end es p k h = h p
   spanning_elsewhere neither end es p k h = h p
 
@@ -131,11 +134,11 @@ module _ (ts : List Token) where
   closing_told (closes at) rest m (suc n) k h = h n
   closing_told neither rest m n k h = h n
 
-  spanning_told : (outer : Pos) (t : Turn) (end : Pos) (es : List Extent) (m : ℕ) (st : List Pos) (left : List Pos → List Pos) → StandsAt true t → stands ts end ≡ exceeds m zero
-      → ((z : List Pos) → innermost ts es (top outer (without m z)) ≡ top outer (left z)) → innermost ts (spanning t end es) (top outer (without (popped t m) st)) ≡ top outer (left (turned t st))
-  spanning_told outer (opens at) end es zero st left k e h = ap (λ v. innermost ts es (cond (v && not (stands ts end)) at (top outer st))) k ∙ (ap (λ v. innermost ts es (cond (not v) at (top outer st))) e ∙ h (at ∷ st))
+  spanning_told : (outer : Option Pos) (t : Turn) (end : Pos) (es : List Extent) (m : ℕ) (st : List Pos) (left : List Pos → List Pos) → StandsAt true t → stands ts end ≡ exceeds m zero
+      → ((z : List Pos) → innermost_in ts es (top outer (without m z)) ≡ top outer (left z)) → innermost_in ts (spanning t end es) (top outer (without (popped t m) st)) ≡ top outer (left (turned t st))
+  spanning_told outer (opens at) end es zero st left k e h = ap (λ v. innermost_in ts es (cond (v && not (stands ts end)) (Some at) (top outer st))) k ∙ (ap (λ v. innermost_in ts es (cond (not v) (Some at) (top outer st))) e ∙ h (at ∷ st))
   spanning_told outer (opens at) end es (suc m) st left k e h =
-      ap (λ v. innermost ts es (cond (v && not (stands ts end)) at (top outer (without m st)))) k ∙ (ap (λ v. innermost ts es (cond (not v) at (top outer (without m st)))) e ∙ h (at ∷ st))
+      ap (λ v. innermost_in ts es (cond (v && not (stands ts end)) (Some at) (top outer (without m st)))) k ∙ (ap (λ v. innermost_in ts es (cond (not v) (Some at) (top outer (without m st)))) e ∙ h (at ∷ st))
   spanning_told outer (closes at) end es m st left k e h = h (others st)
   spanning_told outer neither end es m st left k e h = h st
 
@@ -144,7 +147,7 @@ module _ (ts : List Token) where
     end_elsewhere [] n h = new
     end_elsewhere (b ∷ cs) n h = closing_elsewhere (turn b) (λ k. end_behind none cs k) n h.0 (λ k. end_elsewhere cs k h.1)
 
-    spans_elsewhere : (cs : List Part) (p : Pos) → StandAt false cs → innermost ts (spans none cs) p ≡ p
+    spans_elsewhere : (cs : List Part) (p : Option Pos) → StandAt false cs → innermost_in ts (spans none cs) p ≡ p
     spans_elsewhere [] p h = refl
     spans_elsewhere (b ∷ cs) p h = spanning_elsewhere (turn b) (end_behind none cs 0) (spans none cs) p h.0 (λ o. spans_elsewhere cs o h.1)
 
@@ -152,11 +155,11 @@ module _ (ts : List Token) where
     end_told [] cs n h k = end_elsewhere cs n k
     end_told (b ∷ bs) cs n h k = closing_told (turn b) (λ i. end_behind none (bs ++ cs) i) (pops bs) n h.0 (λ i. end_told bs cs i h.1 k)
 
-    spans_told : (outer : Pos) (bs cs : List Part) (st : List Pos) → StandAt true bs → StandAt false cs → innermost ts (spans none (bs ++ cs)) (top outer (without (pops bs) st)) ≡ top outer (open_behind bs st)
+    spans_told : (outer : Option Pos) (bs cs : List Part) (st : List Pos) → StandAt true bs → StandAt false cs → innermost_in ts (spans none (bs ++ cs)) (top outer (without (pops bs) st)) ≡ top outer (open_behind bs st)
     spans_told outer [] cs st h k = spans_elsewhere cs (top outer st) k
     spans_told outer (b ∷ bs) cs st h k =
         spanning_told outer (turn b) (end_behind none (bs ++ cs) 0) (spans none (bs ++ cs)) (pops bs) st (λ z. open_behind bs z) h.0 (end_told bs cs 0 h.1 k) (λ z. spans_told outer bs cs z h.1 k)
 
     -- the innermost of all that is open behind the tokens is the last one that their parts leave open
-    pub innermost_left : (outer : Pos) (bs cs : List Part) → StandAt true bs → StandAt false cs → innermost ts (spans none (bs ++ cs)) outer ≡ top outer (open_behind bs [])
-    innermost_left outer bs cs h k = ap (λ z. innermost ts (spans none (bs ++ cs)) (top outer z)) (sym (none_without (pops bs))) ∙ spans_told outer bs cs [] h k
+    pub innermost_left : (outer : Option Pos) (bs cs : List Part) → StandAt true bs → StandAt false cs → innermost_in ts (spans none (bs ++ cs)) outer ≡ top outer (open_behind bs [])
+    innermost_left outer bs cs h k = ap (λ z. innermost_in ts (spans none (bs ++ cs)) (top outer z)) (sym (none_without (pops bs))) ∙ spans_told outer bs cs [] h k

@@ -32,6 +32,7 @@ begins_whole (f.select_part e at) l d w o = o.0
 begins_whole (f.critical_part x at) l d w o = o.0
 begins_whole (f.team_part e ps at) l d w o = o.0
 begins_whole (f.heading_part x at) l d w (u, v, h, r, split) = first_more at w u v h.0 split
+begins_whole (f.module_part n at) l d w (u, v, h, r, split) = first_more at w u v h.0 split
 begins_whole (f.end_if_part at) l d w (u, v, h, r, split) = first_more at w u v h.0 split
 begins_whole (f.end_do_part n at) l d w (u, v, h, r, split) = first_more at w u v h.0 split
 begins_whole (f.end_select_part at) l d w (u, v, h, r, split) = first_more at w u v h.0 split
@@ -39,6 +40,7 @@ begins_whole (f.end_critical_part at) l d w (u, v, h, r, split) = first_more at 
 begins_whole (f.end_team_part x at) l d w (u, v, h, r, split) = first_more at w u v h.0 split
 begins_whole (f.end_subroutine_part n at) l d w (u, v, h, r, split) = first_more at w u v h.0 split
 begins_whole (f.end_function_part n at) l d w (u, v, h, r, split) = first_more at w u v h.0 split
+begins_whole (f.end_module_part n at) l d w (u, v, h, r, split) = first_more at w u v h.0 split
 begins_whole b l d w o = tt
 
 begins_there : (i : Form) (n l d : ℕ) (b : Part) (w : List (Mark Token)) → Words (formed i n b) l d w → FirstOf (turn b) w

@@ -7,10 +7,13 @@ use Rattle.fortran_tree.specs.Statements as s
 use Rattle.fortran_tree.specs.Statements.{ActionStatement, Declaration, Statement, Statements, ElseIfBlocks, ElseBlock, CaseBlocks}
 use Rattle.fortran_tree.specs.Units as u
 use Rattle.fortran_tree.specs.Units.{Use, Body, Heading, Procedure, Program}
+use Rattle.unit_tree.specs.Files as files
+use Rattle.unit_tree.specs.Files.{Module, MainProgram, UnitFile}
 use Rattle.statement_reader.specs.Parts as f
 use Rattle.statement_reader.specs.Parts.{Part}
-use Rattle.program_reader.specs.Nesting.{action_parts, statement_parts, statements_parts, else_if_parts, else_parts, case_parts, use_parts, declaration_parts, implicit_parts, body_parts, end_of, procedure_parts, contained_parts, name_parts, program_parts}
+use Rattle.program_reader.specs.Nesting.{action_parts, statement_parts, statements_parts, else_if_parts, else_parts, case_parts, use_parts, declaration_parts, implicit_parts, body_parts, end_of, procedure_parts, contained_parts, name_parts, program_parts, unit_use_parts, module_parts, modules_parts, main_parts, file_parts}
 use Rattle.open_constructs.specs.Open.{Extent, statement_extents, statements_extents, else_if_extents, else_extents, case_extents, procedure_extents, contained_extents, extents}
+use Rattle.open_constructs.specs.InFiles.{module_extents, file_extents}
 use Rattle.open_constructs.proofs.Spans.{Turn, closes, turn, closing, end_behind, spanning, spans}
 
 -- the parts of a procedure end with one that closes it
@@ -160,3 +163,45 @@ module _ (none : Pos) where
       let behind = contained_parts x.procedures closed in
       opened_by_name x.name (use_parts x.uses (body_parts x.body behind)) ∙ (opened_by_uses x.uses (body_parts x.body behind) ∙ (opened_by_body x.body behind
       ∙ ap (λ l. statements_extents x.body.statements ++ l) (opened_by_contained x.procedures closed ∙ append-nil (contained_extents x.procedures))))
+
+  even_unit_uses : (xs : List files.Use) (es : List Part) (n : ℕ) → end_behind none (unit_use_parts xs es) n ≡ end_behind none es n
+  even_unit_uses [] es n = refl
+  even_unit_uses (x ∷ xs) es n = even_unit_uses xs es n
+
+  even_procedures : (xs : List Procedure) (es : List Part) (n : ℕ) → end_behind none (procedure_parts xs es) n ≡ end_behind none es n
+  even_procedures [] es n = refl
+  even_procedures (x ∷ xs) es n =
+      let more = procedure_parts xs es in
+      even_body x.body (end_of x.heading x.end ∷ more) (suc n) ∙ (ap (λ (t : Turn). closing t (λ k. end_behind none more k) (suc n)) (end_turn x.heading x.end) ∙ even_procedures xs es n)
+
+  even_contained : (o : Option (List Procedure)) (es : List Part) (n : ℕ) → end_behind none (contained_parts o es) n ≡ end_behind none es n
+  even_contained None es n = refl
+  even_contained (Some xs) es n = even_procedures xs es n
+
+  opened_by_unit_uses : (xs : List files.Use) (es : List Part) → spans none (unit_use_parts xs es) ≡ spans none es
+  opened_by_unit_uses [] es = refl
+  opened_by_unit_uses (x ∷ xs) es = opened_by_unit_uses xs es
+
+  opened_by_modules : (xs : List Module) (es : List Part) → spans none (modules_parts xs es) ≡ module_extents xs ++ spans none es
+  opened_by_modules [] es = refl
+  opened_by_modules (x ∷ xs) es =
+      let more = modules_parts xs es in
+      let closed : List Part = f.end_module_part x.end.name x.end.at ∷ more in
+      let behind = implicit_parts x.implicit_none (declaration_parts x.declarations (contained_parts x.procedures closed)) in
+      around x.at x.end.at (unit_use_parts x.uses behind) es (contained_extents x.procedures ++ module_extents xs)
+      (even_unit_uses x.uses behind 0 ∙ (even_implicit x.implicit_none (declaration_parts x.declarations (contained_parts x.procedures closed)) 0 ∙ (even_declarations x.declarations (contained_parts x.procedures closed) 0 ∙ even_contained x.procedures closed 0)))
+      (opened_by_unit_uses x.uses behind
+      ∙ (opened_by_implicit x.implicit_none (declaration_parts x.declarations (contained_parts x.procedures closed))
+      ∙ (opened_by_declarations x.declarations (contained_parts x.procedures closed)
+      ∙ (opened_by_contained x.procedures closed ∙ (ap (λ l. contained_extents x.procedures ++ l) (opened_by_modules xs es) ∙ sym (append_assoc (contained_extents x.procedures) (module_extents xs) (spans none es)))))))
+
+  opened_by_main : (x : MainProgram) → spans none (main_parts x) ≡ statements_extents x.body.statements ++ contained_extents x.procedures
+  opened_by_main x =
+      let closed : List Part = f.end_program_part x.end.name x.end.at ∷ [] in
+      let behind = contained_parts x.procedures closed in
+      opened_by_name x.name (unit_use_parts x.uses (body_parts x.body behind)) ∙ (opened_by_unit_uses x.uses (body_parts x.body behind) ∙ (opened_by_body x.body behind
+      ∙ ap (λ l. statements_extents x.body.statements ++ l) (opened_by_contained x.procedures closed ∙ append-nil (contained_extents x.procedures))))
+
+  -- so in the parts of a file that may have modules
+  pub opened_by_file : (x : UnitFile) → spans none (file_parts x) ≡ file_extents x
+  opened_by_file x = opened_by_modules x.modules (main_parts x.main) ∙ ap (λ l. module_extents x.modules ++ l) (opened_by_main x.main)

@@ -11,11 +11,13 @@ use Rattle.expr_reader.specs.declared.error.ReadError.{ReadError}
 use Rattle.expr_reader.specs.declared.error.ReadError.TheVariants as errors
 use Rattle.expr_reader.specs.Tests.{is_key, is_sign, is_word, a_name, list_of}
 use Rattle.statement_reader.specs.Actions.{Assigned, a_specifier}
-use Rattle.statement_reader.specs.Families.{Family, an_expression, is_one_of}
+use Rattle.statement_reader.specs.Families.{Family, an_expression, is_one_of, maybe_list}
 use Rattle.statement_reader.specs.Forms.{a_do}
 use Rattle.statement_reader.specs.Heads.{a_joined, deepened, located, step_part}
 use Rattle.statement_reader.specs.Lines.{a_case_range, at_most_of}
 use Rattle.statement_reader.specs.Units.{maybe_dummies, maybe_only}
+use Rattle.statement_reader.specs.UseLists.{a_use_list, an_only_item}
+use Rattle.unit_tree.specs.Files.{OnlyItem, UseList}
 use Rattle.action_reader.specs.Beginnings.{one}
 
 abbrev pub deep_one : (Token → Bool) → Family (Unit {0})
@@ -60,6 +62,23 @@ used left = both pair a_name (maybe_only left)
 
 abbrev pub signature : Family (Name × Option (List Name))
 signature left = both pair a_name (maybe_dummies left)
+
+-- in a file that may have modules: the name of a module and what USE makes accessible of it, an entity behind `=>`, and
+-- items behind ONLY
+abbrev pub unit_used : Family (Name × UseList)
+unit_used left = both pair a_name (a_use_list left)
+
+abbrev pub an_entity : Family Name
+an_entity left = behind (is_sign sign.Arrow) a_name
+
+abbrev pub maybe_entity : Family (Option Name)
+maybe_entity left = optional (is_sign sign.Arrow) (an_entity left)
+
+abbrev pub items_or_none : Family (List OnlyItem)
+items_or_none left = maybe_list is_word (an_only_item left)
+
+abbrev pub begins_only : List Token → Bool
+begins_only ts = two_pass (is_key (codes "only")) (is_sign sign.Colon) ts
 
 -- why a text can't be read where no level is left, of so many tokens
 abbrev pub no_level : Bool → ℕ → ReadError

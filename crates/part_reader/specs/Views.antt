@@ -8,6 +8,7 @@ use Rattle.fortran_tree.specs.ActionViews.{action_statement}
 use Rattle.fortran_tree.specs.DeclarationViews.{declaration}
 use Rattle.fortran_tree.specs.StatementViews.{bracketed_specifier, case_selector, loop_control}
 use Rattle.fortran_tree.specs.UnitViews.{heading, use_statement}
+use Rattle.unit_tree.specs.FileViews as files
 use Rattle.statement_reader.specs.Parts as p
 use Rattle.statement_reader.specs.Parts.{Part}
 use Rattle.part_reader.specs.declared.part.Part.{Part as Held}
@@ -16,6 +17,8 @@ use Rattle.part_reader.specs.declared.part.Part.TheVariants as held
 abbrev pub part : Held → Part
 part (held.Program n) = p.program_part n
 part (held.Use x) = p.use_part (use_statement x)
+part (held.Module n at) = p.module_part n at
+part (held.UnitUse x) = p.unit_use_part (files.use_statement x)
 part (held.ImplicitNone at) = p.implicit_part at
 part (held.Declaration d) = p.declaration_part (declaration d)
 part (held.Action f at) = p.action_part (action_statement f) at
@@ -38,6 +41,7 @@ part (held.Heading x at) = p.heading_part (heading x) at
 part (held.EndSubroutine x) = p.end_subroutine_part x.name x.at
 part (held.EndFunction x) = p.end_function_part x.name x.at
 part (held.EndProgram x) = p.end_program_part x.name x.at
+part (held.EndModule x) = p.end_module_part x.name x.at
 
 -- a specifier that may be missing
 abbrev pub maybe_assigned : Option Specifier → Option Assigned

@@ -1,5 +1,5 @@
 //! Readers of statements that are keywords and names alone: those that end constructs and program units, ELSE,
-//! CONTAINS, PROGRAM and IMPLICIT NONE.
+//! CONTAINS, PROGRAM, MODULE and IMPLICIT NONE.
 
 ghost use Rattle.std.specs.Prelude.{◌≡◌, ◌++◌, codes};
 ghost use Rattle.action_reader.specs.Beginnings.{one};
@@ -110,7 +110,19 @@ pub fn program(words: &[Word]) -> Result<(Part, &[Word]), ReadError>
     Ok((Part::Program(name), rest))
 }
 
-/// END of a procedure or of the main program: alone, with its keyword, or with its keyword and its name.
+/// MODULE with its name (R1405).
+#[tactic(auto, using(action_reader::proofs::Keys::key_laws))]
+pub fn module(words: &[Word]) -> Result<(Part, &[Word]), ReadError>
+    ensures { Gives (λ r. (view.part r.0, tokens_of r.1.now)) result (forms.form_reader f.module_form 0 (tokens_of words.now)) }
+{
+    let at = place(words);
+    let rest = key(words, b"module")?;
+    let (name, rest) = name(rest)?;
+    let (name, rest) = ended(name, rest)?;
+    Ok((Part::Module { name, at }, rest))
+}
+
+/// END of a program unit or of a procedure: alone, with its keyword, or with its keyword and its name.
 #[tactic(auto, using(action_reader::proofs::Keys::key_laws))]
 fn end_with<'a>(
     words: &'a [Word],
@@ -166,4 +178,12 @@ pub fn end_program(words: &[Word]) -> Result<(Part, &[Word]), ReadError>
 {
     let (end, rest) = end_line(words, b"endprogram", b"program")?;
     Ok((Part::EndProgram(end), rest))
+}
+
+/// END of a module (R1406).
+pub fn end_module(words: &[Word]) -> Result<(Part, &[Word]), ReadError>
+    ensures { Gives (λ r. (view.part r.0, tokens_of r.1.now)) result (forms.form_reader f.end_module_form 0 (tokens_of words.now)) }
+{
+    let (end, rest) = end_line(words, b"endmodule", b"module")?;
+    Ok((Part::EndModule(end), rest))
 }

@@ -15,3 +15,4 @@ pub mod looping;
 pub mod part;
 pub mod team;
 pub mod unit;
+pub mod unit_use;

@@ -7,6 +7,7 @@ use fortran_tree::expr::{Expr, Specifier};
 use fortran_tree::name::Name;
 use fortran_tree::statement::{BracketedSpecifier, CaseSelector, End, LoopControl};
 use fortran_tree::unit::{Heading, Use};
+use unit_tree::file::Use as UnitUse;
 
 /// A statement with its end, or the condition of a one-line IF; the place is that of its first token.
 #[derive(Drop)]
@@ -14,6 +15,13 @@ pub enum Part {
     /// PROGRAM with its name.
     Program(Name),
     Use(Use),
+    /// MODULE with its name.
+    Module {
+        name: Name,
+        at: Pos,
+    },
+    /// USE in a file that may have modules.
+    UnitUse(UnitUse),
     ImplicitNone(Pos),
     Declaration(Declaration),
     /// An action that is no IF.
@@ -74,4 +82,5 @@ pub enum Part {
     EndSubroutine(End),
     EndFunction(End),
     EndProgram(End),
+    EndModule(End),
 }

@@ -24,7 +24,7 @@ use std::alloc::Global;
 
 /// What a USE statement says of its module's nature, up to its colons.
 #[tactic(auto, using(crate::proofs::Deepened::deep_laws))]
-fn nature(words: &[Word]) -> Result<(ModuleNature, &[Word]), ReadError>
+pub fn nature(words: &[Word]) -> Result<(ModuleNature, &[Word]), ReadError>
     ensures { Gives (λ r. (r.0, tokens_of r.1.now)) result (spec.a_nature 0 (tokens_of words.now)) }
 {
     if begins_with(words, Sign::Comma) {

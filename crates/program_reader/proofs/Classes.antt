@@ -31,6 +31,8 @@ cls f.end_team_form = f.end_if_form
 cls f.end_subroutine_form = f.end_if_form
 cls f.end_function_form = f.end_if_form
 cls f.end_program_form = f.end_if_form
+cls f.end_module_form = f.end_if_form
+cls f.unit_use_form = f.use_form
 cls i = i
 
 abbrev key_form : List (List ℕ × Form) → List ℕ → Form
@@ -38,7 +40,7 @@ key_form [] k = f.function_form
 key_form ((j, i) ∷ more) k = cond (bytes_eq j k) i (key_form more k)
 
 abbrev table : List (List ℕ × Form)
-table = (codes "program", f.program_form) ∷ (codes "use", f.use_form) ∷ (codes "implicit", f.implicit_form) ∷ (codes "integer", f.declaration_form) ∷ (codes "logical", f.declaration_form) ∷ (codes "type", f.declaration_form)
+table = (codes "program", f.program_form) ∷ (codes "module", f.module_form) ∷ (codes "endmodule", f.end_if_form) ∷ (codes "use", f.use_form) ∷ (codes "implicit", f.implicit_form) ∷ (codes "integer", f.declaration_form) ∷ (codes "logical", f.declaration_form) ∷ (codes "type", f.declaration_form)
     ∷ (codes "call", f.keyword_form) ∷ (codes "print", f.keyword_form) ∷ (codes "write", f.keyword_form) ∷ (codes "exit", f.keyword_form) ∷ (codes "cycle", f.keyword_form) ∷ (codes "stop", f.keyword_form) ∷ (codes "error", f.keyword_form) ∷ (codes "fail", f.keyword_form)
     ∷ (codes "allocate", f.keyword_form) ∷ (codes "deallocate", f.keyword_form) ∷ (codes "form", f.keyword_form) ∷ (codes "lock", f.keyword_form) ∷ (codes "unlock", f.keyword_form) ∷ (codes "sync", f.keyword_form) ∷ (codes "event", f.keyword_form) ∷ (codes "return", f.keyword_form)
     ∷ (codes "if", f.if_form) ∷ (codes "else", f.else_form) ∷ (codes "elseif", f.else_form) ∷ (codes "do", f.do_form) ∷ (codes "select", f.select_form) ∷ (codes "selectcase", f.select_form) ∷ (codes "case", f.case_form) ∷ (codes "critical", f.critical_form) ∷ (codes "change", f.team_form) ∷ (codes "contains", f.contains_form)
@@ -71,6 +73,9 @@ keyed i = true
 by_table : (i : Form) (y : Token) → keyed i ≡ true → begins_form i y ≡ true → tok_form y.tok ≡ cls i
 by_table f.program_form y k e = by_keys (first_keys f.program_form) (λ z. tok_form z ≡ cls f.program_form) (refl, tt) y e
 by_table f.use_form y k e = by_keys (first_keys f.use_form) (λ z. tok_form z ≡ cls f.use_form) (refl, tt) y e
+by_table f.module_form y k e = by_keys (first_keys f.module_form) (λ z. tok_form z ≡ cls f.module_form) (refl, tt) y e
+by_table f.unit_use_form y k e = by_keys (first_keys f.unit_use_form) (λ z. tok_form z ≡ cls f.unit_use_form) (refl, tt) y e
+by_table f.end_module_form y k e = by_keys (first_keys f.end_module_form) (λ z. tok_form z ≡ cls f.end_module_form) (refl, (refl, tt)) y e
 by_table f.implicit_form y k e = by_keys (first_keys f.implicit_form) (λ z. tok_form z ≡ cls f.implicit_form) (refl, tt) y e
 by_table f.declaration_form y k e = by_keys (first_keys f.declaration_form) (λ z. tok_form z ≡ cls f.declaration_form) (refl, (refl, (refl, tt))) y e
 by_table f.keyword_form y k e = by_keys (first_keys f.keyword_form) (λ z. tok_form z ≡ cls f.keyword_form) (refl, (refl, (refl, (refl, (refl, (refl, (refl, (refl, (refl, (refl, (refl, (refl, (refl, (refl, (refl, (refl, tt)))))))))))))))) y e
@@ -113,6 +118,15 @@ no_colon f.program_form (suc (suc left)) y z v k e = by_keys (first_keys f.progr
 no_colon f.use_form zero y z v k e = by_keys (first_keys f.use_form) (Colon_behind f.use_form zero y z v) ((_, _, refl), tt) y e
 no_colon f.use_form (suc zero) y z v k e = by_keys (first_keys f.use_form) (Colon_behind f.use_form (suc zero) y z v) ((_, _, refl), tt) y e
 no_colon f.use_form (suc (suc left)) y z v k e = by_keys (first_keys f.use_form) (Colon_behind f.use_form (suc (suc left)) y z v) ((_, _, refl), tt) y e
+no_colon f.module_form zero y z v k e = by_keys (first_keys f.module_form) (Colon_behind f.module_form zero y z v) ((_, _, refl), tt) y e
+no_colon f.module_form (suc zero) y z v k e = by_keys (first_keys f.module_form) (Colon_behind f.module_form (suc zero) y z v) ((_, _, refl), tt) y e
+no_colon f.module_form (suc (suc left)) y z v k e = by_keys (first_keys f.module_form) (Colon_behind f.module_form (suc (suc left)) y z v) ((_, _, refl), tt) y e
+no_colon f.unit_use_form zero y z v k e = by_keys (first_keys f.unit_use_form) (Colon_behind f.unit_use_form zero y z v) ((_, _, refl), tt) y e
+no_colon f.unit_use_form (suc zero) y z v k e = by_keys (first_keys f.unit_use_form) (Colon_behind f.unit_use_form (suc zero) y z v) ((_, _, refl), tt) y e
+no_colon f.unit_use_form (suc (suc left)) y z v k e = by_keys (first_keys f.unit_use_form) (Colon_behind f.unit_use_form (suc (suc left)) y z v) ((_, _, refl), tt) y e
+no_colon f.end_module_form zero y z v k e = by_keys (first_keys f.end_module_form) (Colon_behind f.end_module_form zero y z v) ((_, _, refl), ((_, _, refl), tt)) y e
+no_colon f.end_module_form (suc zero) y z v k e = by_keys (first_keys f.end_module_form) (Colon_behind f.end_module_form (suc zero) y z v) ((_, _, refl), ((_, _, refl), tt)) y e
+no_colon f.end_module_form (suc (suc left)) y z v k e = by_keys (first_keys f.end_module_form) (Colon_behind f.end_module_form (suc (suc left)) y z v) ((_, _, refl), ((_, _, refl), tt)) y e
 no_colon f.implicit_form zero y z v k e = by_keys (first_keys f.implicit_form) (Colon_behind f.implicit_form zero y z v) ((_, _, refl), tt) y e
 no_colon f.implicit_form (suc zero) y z v k e = by_keys (first_keys f.implicit_form) (Colon_behind f.implicit_form (suc zero) y z v) ((_, _, refl), tt) y e
 no_colon f.implicit_form (suc (suc left)) y z v k e = by_keys (first_keys f.implicit_form) (Colon_behind f.implicit_form (suc (suc left)) y z v) ((_, _, refl), tt) y e

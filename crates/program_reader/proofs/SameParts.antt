@@ -8,9 +8,11 @@ use Rattle.fortran_tree.specs.Statements as s
 use Rattle.fortran_tree.specs.Statements.{ActionStatement, Declaration, Statement, Statements, ElseIfBlocks, ElseBlock, CaseBlocks}
 use Rattle.fortran_tree.specs.Units as u
 use Rattle.fortran_tree.specs.Units.{Use, Body, Heading, Procedure, Program}
+use Rattle.unit_tree.specs.Files as files
+use Rattle.unit_tree.specs.Files.{Module, MainProgram, UnitFile}
 use Rattle.statement_reader.specs.Parts as f
 use Rattle.statement_reader.specs.Parts.{Part}
-use Rattle.program_reader.specs.Nesting.{action_parts, statement_parts, statements_parts, else_if_parts, else_parts, case_parts, use_parts, declaration_parts, implicit_parts, body_parts, end_of, procedure_parts, contained_parts, name_parts, program_parts}
+use Rattle.program_reader.specs.Nesting.{action_parts, statement_parts, statements_parts, else_if_parts, else_parts, case_parts, use_parts, declaration_parts, implicit_parts, body_parts, end_of, procedure_parts, contained_parts, name_parts, program_parts, unit_use_parts, module_parts, modules_parts, main_parts, file_parts}
 use Rattle.program_reader.proofs.Nested.{begins_first}
 
 plain_same : (x : ActionStatement) (at : Pos) (es : List Part) (y : ActionStatement) (there : Pos) (fs : List Part) → f.action_part x at ∷ es ≡ action_parts y there fs → (s.action x at ≡ s.action y there) × (es ≡ fs)
@@ -142,6 +144,7 @@ mutual
 -- what stands first
 abbrev uses : List Part → Bool
 uses (f.use_part x ∷ es) = true
+uses (f.unit_use_part x ∷ es) = true
 uses es = false
 
 abbrev declares : List Part → Bool
@@ -162,6 +165,12 @@ uses_same [] [] es fs i j k = (refl, k)
 uses_same [] (y ∷ ys) es fs i j k = absurd (true≢false (ap uses (sym k) ∙ i))
 uses_same (x ∷ xs) [] es fs i j k = absurd (true≢false (ap uses k ∙ j))
 uses_same (x ∷ xs) (y ∷ ys) es fs i j k = let a : x ≡ y = cc in let q = uses_same xs ys es fs i j (cc) in (ap (λ z. z ∷ xs) a ∙ ap (λ z. y ∷ z) q.0, q.1)
+
+unit_uses_same : (xs ys : List files.Use) (es fs : List Part) → uses es ≡ false → uses fs ≡ false → unit_use_parts xs es ≡ unit_use_parts ys fs → Same xs ys es fs
+unit_uses_same [] [] es fs i j k = (refl, k)
+unit_uses_same [] (y ∷ ys) es fs i j k = absurd (true≢false (ap uses (sym k) ∙ i))
+unit_uses_same (x ∷ xs) [] es fs i j k = absurd (true≢false (ap uses k ∙ j))
+unit_uses_same (x ∷ xs) (y ∷ ys) es fs i j k = let a : x ≡ y = cc in let q = unit_uses_same xs ys es fs i j (cc) in (ap (λ z. z ∷ xs) a ∙ ap (λ z. y ∷ z) q.0, q.1)
 
 declarations_same : (xs ys : List Declaration) (es fs : List Part) → declares es ≡ false → declares fs ≡ false → declaration_parts xs es ≡ declaration_parts ys fs → Same xs ys es fs
 declarations_same [] [] es fs i j k = (refl, k)
@@ -208,6 +217,10 @@ implicit_late (Some at) es h k = (refl, refl)
 uses_late : (xs : List Use) (es : List Part) → names es ≡ false → names (use_parts xs es) ≡ false
 uses_late [] es h = h
 uses_late (x ∷ xs) es h = refl
+
+unit_uses_late : (xs : List files.Use) (es : List Part) → names es ≡ false → names (unit_use_parts xs es) ≡ false
+unit_uses_late [] es h = h
+unit_uses_late (x ∷ xs) es h = refl
 
 -- behind a unit's statements
 abbrev Closes : List Part → Type 0
@@ -290,3 +303,126 @@ program_same x y k =
     ∙ (ap (λ z. record { name = y.name; uses = y.uses; body = z; procedures = x.procedures; end = x.end }) b.0
     ∙ (ap (λ z. record { name = y.name; uses = y.uses; body = y.body; procedures = z; end = x.end }) c.0
     ∙ ap (λ z. record { name = y.name; uses = y.uses; body = y.body; procedures = y.procedures; end = z }) c.1)))
+
+-- the main program of a file
+main_same : (x y : MainProgram) → main_parts x ≡ main_parts y → x ≡ y
+main_same x y k =
+    let xc = contained_closes x.procedures x.end.name x.end.at in
+    let yc = contained_closes y.procedures y.end.name y.end.at in
+    let xs : List Part = contained_parts x.procedures (f.end_program_part x.end.name x.end.at ∷ []) in
+    let ys : List Part = contained_parts y.procedures (f.end_program_part y.end.name y.end.at ∷ []) in
+    let xb = body_late x.body xs xc.1 in
+    let yb = body_late y.body ys yc.1 in
+    let n = name_same x.name y.name (unit_use_parts x.uses (body_parts x.body xs)) (unit_use_parts y.uses (body_parts y.body ys)) (unit_uses_late x.uses (body_parts x.body xs) xb.0) (unit_uses_late y.uses (body_parts y.body ys) yb.0) k in
+    let v = unit_uses_same x.uses y.uses (body_parts x.body xs) (body_parts y.body ys) xb.1 yb.1 n.1 in
+    let b = body_same x.body y.body xs ys xc yc v.1 in
+    let c = contained_same x.procedures y.procedures x.end y.end b.1 in
+    ap (λ z. record { name = z; uses = x.uses; body = x.body; procedures = x.procedures; end = x.end }) n.0
+    ∙ (ap (λ z. record { name = y.name; uses = z; body = x.body; procedures = x.procedures; end = x.end }) v.0
+    ∙ (ap (λ z. record { name = y.name; uses = y.uses; body = z; procedures = x.procedures; end = x.end }) b.0
+    ∙ (ap (λ z. record { name = y.name; uses = y.uses; body = y.body; procedures = z; end = x.end }) c.0
+    ∙ ap (λ z. record { name = y.name; uses = y.uses; body = y.body; procedures = y.procedures; end = z }) c.1)))
+
+-- modules
+abbrev contains_first : List Part → Bool
+contains_first (f.contains_part ∷ es) = true
+contains_first es = false
+
+abbrev module_first : List Part → Bool
+module_first (f.module_part n at ∷ es) = true
+module_first es = false
+
+-- what a module's procedures stand before: neither CONTAINS nor a heading
+module_contained_same : (o p : Option (List Procedure)) (es fs : List Part) → contains_first es ≡ false → contains_first fs ≡ false → heads es ≡ false → heads fs ≡ false → contained_parts o es ≡ contained_parts p fs → Same o p es fs
+module_contained_same None None es fs i j h g k = (refl, k)
+module_contained_same None (Some ys) es fs i j h g k = absurd (true≢false (ap contains_first (sym k) ∙ i))
+module_contained_same (Some xs) None es fs i j h g k = absurd (true≢false (ap contains_first k ∙ j))
+module_contained_same (Some xs) (Some ys) es fs i j h g k = let q = procedures_same xs ys es fs h g (cc) in (ap (λ z. Some z) q.0, q.1)
+
+module_closes : (o : Option (List Procedure)) (n : Option Name) (at : Pos) (es : List Part) → Late (contained_parts o (f.end_module_part n at ∷ es))
+module_closes None n at es = (refl, refl, refl, refl)
+module_closes (Some xs) n at es = (refl, refl, refl, refl)
+
+module_same : (x y : Module) (es fs : List Part) → module_parts x es ≡ module_parts y fs → Same x y es fs
+module_same x y es fs k =
+    let xs : List Part = contained_parts x.procedures (f.end_module_part x.end.name x.end.at ∷ es) in
+    let ys : List Part = contained_parts y.procedures (f.end_module_part y.end.name y.end.at ∷ fs) in
+    let xc = module_closes x.procedures x.end.name x.end.at es in
+    let yc = module_closes y.procedures y.end.name y.end.at fs in
+    let xd = declarations_late x.declarations xs xc in
+    let yd = declarations_late y.declarations ys yc in
+    let xi = implicit_late x.implicit_none (declaration_parts x.declarations xs) xd.0 xd.1 in
+    let yi = implicit_late y.implicit_none (declaration_parts y.declarations ys) yd.0 yd.1 in
+    let m : x.name ≡ y.name = cc in
+    let t : x.at ≡ y.at = cc in
+    let v = unit_uses_same x.uses y.uses (implicit_parts x.implicit_none (declaration_parts x.declarations xs)) (implicit_parts y.implicit_none (declaration_parts y.declarations ys)) xi.1 yi.1 (cc) in
+    let i = implicit_same x.implicit_none y.implicit_none (declaration_parts x.declarations xs) (declaration_parts y.declarations ys) xd.2 yd.2 v.1 in
+    let d = declarations_same x.declarations y.declarations xs ys xc.3 yc.3 i.1 in
+    let c = module_contained_same x.procedures y.procedures (f.end_module_part x.end.name x.end.at ∷ es) (f.end_module_part y.end.name y.end.at ∷ fs) refl refl refl refl d.1 in
+    let a : x.end.name ≡ y.end.name = (let z = c.1 in cc) in
+    let b : x.end.at ≡ y.end.at = (let z = c.1 in cc) in
+    let e : x.end ≡ y.end = ap (λ z. record { name = z; at = x.end.at }) a ∙ ap (λ z. record { name = y.end.name; at = z }) b in (
+      ap (λ z. record { name = z; uses = x.uses; implicit_none = x.implicit_none; declarations = x.declarations; procedures = x.procedures; end = x.end; at = x.at }) m
+          ∙ (ap (λ z. record { name = y.name; uses = z; implicit_none = x.implicit_none; declarations = x.declarations; procedures = x.procedures; end = x.end; at = x.at }) v.0
+          ∙ (ap (λ z. record { name = y.name; uses = y.uses; implicit_none = z; declarations = x.declarations; procedures = x.procedures; end = x.end; at = x.at }) i.0
+          ∙ (ap (λ z. record { name = y.name; uses = y.uses; implicit_none = y.implicit_none; declarations = z; procedures = x.procedures; end = x.end; at = x.at }) d.0
+          ∙ (ap (λ z. record { name = y.name; uses = y.uses; implicit_none = y.implicit_none; declarations = y.declarations; procedures = z; end = x.end; at = x.at }) c.0
+          ∙ (ap (λ z. record { name = y.name; uses = y.uses; implicit_none = y.implicit_none; declarations = y.declarations; procedures = y.procedures; end = z; at = x.at }) e
+          ∙ ap (λ z. record { name = y.name; uses = y.uses; implicit_none = y.implicit_none; declarations = y.declarations; procedures = y.procedures; end = y.end; at = z }) t))))),
+      (let z = c.1 in cc),
+    )
+
+modules_same : (xs ys : List Module) (es fs : List Part) → module_first es ≡ false → module_first fs ≡ false → modules_parts xs es ≡ modules_parts ys fs → Same xs ys es fs
+modules_same [] [] es fs i j k = (refl, k)
+modules_same [] (y ∷ ys) es fs i j k = absurd (true≢false (ap module_first (sym k) ∙ i))
+modules_same (x ∷ xs) [] es fs i j k = absurd (true≢false (ap module_first k ∙ j))
+modules_same (x ∷ xs) (y ∷ ys) es fs i j k =
+    let q = module_same x y (modules_parts xs es) (modules_parts ys fs) k in
+    let r = modules_same xs ys es fs i j q.1 in
+    (ap (λ z. z ∷ xs) q.0 ∙ ap (λ z. y ∷ z) r.0, r.1)
+
+-- no module begins a main program
+action_no_module : (x : ActionStatement) (at : Pos) (es : List Part) → module_first (action_parts x at es) ≡ false
+action_no_module (s.if_statement e x place) at es = refl
+action_no_module x at es = refl
+
+statement_no_module : (x : Statement) (es : List Part) → module_first (statement_parts x es) ≡ false
+statement_no_module (s.action x at) es = action_no_module x at es
+statement_no_module x es = refl
+
+statements_no_module : (b : Statements) (es : List Part) → module_first es ≡ false → module_first (statements_parts b es) ≡ false
+statements_no_module s.no_statements es h = h
+statements_no_module (s.more_statements x m) es h = statement_no_module x (statements_parts m es)
+
+declarations_no_module : (ds : List Declaration) (es : List Part) → module_first es ≡ false → module_first (declaration_parts ds es) ≡ false
+declarations_no_module [] es h = h
+declarations_no_module (d ∷ ds) es h = refl
+
+implicit_no_module : (o : Option Pos) (es : List Part) → module_first es ≡ false → module_first (implicit_parts o es) ≡ false
+implicit_no_module None es h = h
+implicit_no_module (Some at) es h = refl
+
+contained_no_module : (o : Option (List Procedure)) (n : Option Name) (at : Pos) → module_first (contained_parts o (f.end_program_part n at ∷ [])) ≡ false
+contained_no_module None n at = refl
+contained_no_module (Some xs) n at = refl
+
+unit_uses_no_module : (xs : List files.Use) (es : List Part) → module_first es ≡ false → module_first (unit_use_parts xs es) ≡ false
+unit_uses_no_module [] es h = h
+unit_uses_no_module (x ∷ xs) es h = refl
+
+name_no_module : (o : Option Name) (es : List Part) → module_first es ≡ false → module_first (name_parts o es) ≡ false
+name_no_module None es h = h
+name_no_module (Some n) es h = refl
+
+main_no_module : (x : MainProgram) → module_first (main_parts x) ≡ false
+main_no_module x =
+    let tail : List Part = contained_parts x.procedures (f.end_program_part x.end.name x.end.at ∷ []) in
+    let declared : List Part = declaration_parts x.body.declarations (statements_parts x.body.statements tail) in
+    let h = declarations_no_module x.body.declarations (statements_parts x.body.statements tail) (statements_no_module x.body.statements tail (contained_no_module x.procedures x.end.name x.end.at)) in
+    name_no_module x.name (unit_use_parts x.uses (body_parts x.body tail)) (unit_uses_no_module x.uses (body_parts x.body tail) (implicit_no_module x.body.implicit_none declared h))
+
+pub file_same : (x y : UnitFile) → file_parts x ≡ file_parts y → x ≡ y
+file_same x y k =
+    let m = modules_same x.modules y.modules (main_parts x.main) (main_parts y.main) (main_no_module x.main) (main_no_module y.main) k in
+    let n = main_same x.main y.main m.1 in
+    ap (λ z. record { modules = z; main = x.main }) m.0 ∙ ap (λ z. record { modules = y.modules; main = z }) n

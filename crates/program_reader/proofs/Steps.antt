@@ -8,7 +8,7 @@ use Rattle.fortran_grammar.specs.Phrases.{Words}
 use Rattle.statement_reader.specs.Parts.{Part, Form, formed}
 use Rattle.statement_reader.specs.Laws.{Part_at}
 use Rattle.program_reader.specs.Sequence as q
-use Rattle.program_reader.specs.Sequence.{Stage, Scope, Open, State, forms, placed_at, allowed, action_forms, statement_forms, block_forms, stage_forms, scope_forms, open_forms, allowed_behind, staged, next, Rest_of_file}
+use Rattle.program_reader.specs.Sequence.{Stage, ProgramUnit, Scope, Open, State, forms, placed_at, allowed, action_forms, statement_forms, block_forms, executed_forms, stage_forms, scope_forms, open_forms, allowed_behind, staged, next, Rest_of_file}
 
 -- the form is one of these
 abbrev pub In : Form → List Form → Type 0
@@ -37,18 +37,19 @@ abbrev pub Runs : Scope → List Open → Type 0
 Runs k os = (i : Form) → In i statement_forms → In i (open_forms k os)
 
 pub staged_twice : (t u : Stage) (k : Scope) → staged t (staged u k) ≡ staged t k
-staged_twice t u (q.main_program s) = refl
-staged_twice t u q.between = refl
-staged_twice t u (q.in_subroutine at s) = refl
-staged_twice t u (q.in_function at s) = refl
+staged_twice t u q.no_unit = refl
+staged_twice t u (q.in_program_unit p s) = refl
+staged_twice t u (q.between p) = refl
+staged_twice t u (q.in_subroutine p at s) = refl
+staged_twice t u (q.in_function p at s) = refl
 staged_twice t u q.over = refl
 
-pub runs_stage : (t : Stage) (i : Form) → In i statement_forms → In i (stage_forms t)
-runs_stage q.starting i m = inr (inr (inr (inr m)))
-runs_stage q.in_uses i m = inr (inr (inr m))
-runs_stage q.opening i m = inr (inr m)
-runs_stage q.in_declarations i m = inr m
-runs_stage q.in_statements i m = m
+pub runs_stage : (y : ProgramUnit) (t : Stage) (i : Form) → In i (executed_forms y) → In i (stage_forms y t)
+runs_stage y q.starting i m = inr (inr (inr (inr m)))
+runs_stage y q.in_uses i m = inr (inr (inr m))
+runs_stage y q.opening i m = inr (inr m)
+runs_stage y q.in_declarations i m = inr m
+runs_stage y q.in_statements i m = m
 
 pub runs_action : (i : Form) → In i action_forms → In i statement_forms
 runs_action i (inl e) = inl e

@@ -6,6 +6,9 @@ use Rattle.fortran_tree.specs.declared.statement.CaseBlock.{CaseBlock}
 use Rattle.fortran_tree.specs.declared.declaration.Declaration.{Declaration}
 use Rattle.fortran_tree.specs.declared.unit.Use.{Use}
 use Rattle.fortran_tree.specs.declared.unit.Procedure.{Procedure}
+use Rattle.unit_tree.specs.declared.file.Use.{Use as UnitUse}
+use Rattle.unit_tree.specs.declared.file.Module.{Module}
+use Rattle.unit_tree.specs.FileViews as files
 use Rattle.fortran_tree.specs.ExpressionViews.{expression}
 use Rattle.fortran_tree.specs.DeclarationViews.{declaration}
 use Rattle.fortran_tree.specs.StatementViews.{statement, statement_list, else_ifs, case_blocks, case_selector}
@@ -13,7 +16,7 @@ use Rattle.fortran_tree.specs.UnitViews as u
 use Rattle.statement_reader.specs.Parts as f
 use Rattle.statement_reader.specs.Parts.{Part}
 use Rattle.program_reader.specs.Sequence.{Open}
-use Rattle.program_reader.specs.Nesting.{statement_parts, statements_parts, else_if_parts, case_parts, use_parts, declaration_parts, body_parts, end_of, procedure_parts}
+use Rattle.program_reader.specs.Nesting.{statement_parts, statements_parts, else_if_parts, case_parts, use_parts, declaration_parts, body_parts, end_of, procedure_parts, unit_use_parts, module_parts, modules_parts}
 use Rattle.program_tree.specs.declared.block.Condition.{Condition}
 use Rattle.program_tree.specs.declared.block.Frame.{Frame}
 use Rattle.program_tree.specs.Blocks.{construct_front, frames_front, conditions_front, open_of, opens}
@@ -46,6 +49,14 @@ pub one_use : (xs : List Use) (x : Use) (es : List Part) → use_parts (map u.us
 one_use [] x es = refl
 one_use (y ∷ ys) x es = ap (λ z. f.use_part (u.use_statement y) ∷ z) (one_use ys x es)
 
+pub one_unit_use : (xs : List UnitUse) (x : UnitUse) (es : List Part) → unit_use_parts (map files.use_statement (xs ++ x ∷ [])) es ≡ unit_use_parts (map files.use_statement xs) (f.unit_use_part (files.use_statement x) ∷ es)
+one_unit_use [] x es = refl
+one_unit_use (y ∷ ys) x es = ap (λ z. f.unit_use_part (files.use_statement y) ∷ z) (one_unit_use ys x es)
+
+pub one_module : (xs : List Module) (x : Module) (es : List Part) → modules_parts (map files.module_unit (xs ++ x ∷ [])) es ≡ modules_parts (map files.module_unit xs) (module_parts (files.module_unit x) es)
+one_module [] x es = refl
+one_module (y ∷ ys) x es = ap (module_parts (files.module_unit y)) (one_module ys x es)
+
 pub one_declaration : (xs : List Declaration) (x : Declaration) (es : List Part) → declaration_parts (map declaration (xs ++ x ∷ [])) es ≡ declaration_parts (map declaration xs) (f.declaration_part (declaration x) ∷ es)
 one_declaration [] x es = refl
 one_declaration (y ∷ ys) x es = ap (λ z. f.declaration_part (declaration y) ∷ z) (one_declaration ys x es)
@@ -55,4 +66,4 @@ pub one_procedure : (xs : List Procedure) (x : Procedure) (es : List Part) → p
 one_procedure [] x es = refl
 one_procedure (y ∷ ys) x es = ap (λ z. f.heading_part (u.heading y.heading) y.at ∷ body_parts (u.body y.body) (end_of (u.heading y.heading) y.end ∷ z)) (one_procedure ys x es)
 
-pub ruleset front_laws = (one_statement, one_else_if, one_case, one_frame, one_condition, one_open, one_use, one_declaration, one_procedure)
+pub ruleset front_laws = (one_statement, one_else_if, one_case, one_frame, one_condition, one_open, one_use, one_unit_use, one_declaration, one_procedure)

@@ -2,15 +2,17 @@
 use Rattle.std.proofs.Common.{◌≡◌, ◌≤◌, ◌<◌, List, [], ◌∷◌, Option, Some, None, length, ap, arith}
 use Rattle.std.proofs.lemmas.List.{length-map}
 use Rattle.caf_base.specs.declared.place.Pos.{Pos}
+use Rattle.fortran_tree.specs.declared.name.Name.{Name}
 use Rattle.fortran_tree.specs.declared.unit.Heading.{Heading}
 use Rattle.fortran_tree.specs.Statements as s
 use Rattle.fortran_tree.specs.Statements.{ActionStatement, Declaration, Statement, Statements, ElseIfBlocks, ElseBlock, CaseBlocks}
 use Rattle.fortran_tree.specs.Units as u
+use Rattle.unit_tree.specs.Files as units
 use Rattle.part_reader.specs.Views.{part}
 use Rattle.part_reader.specs.declared.part.Part.TheVariants as parts
 use Rattle.statement_reader.specs.Parts as f
 use Rattle.statement_reader.specs.Parts.{Part}
-use Rattle.program_reader.specs.Nesting.{action_parts, statement_parts, statements_parts, else_if_parts, else_parts, case_parts, declaration_parts, implicit_parts, body_parts, end_of, procedure_parts}
+use Rattle.program_reader.specs.Nesting.{action_parts, statement_parts, statements_parts, else_if_parts, else_parts, case_parts, declaration_parts, implicit_parts, body_parts, end_of, procedure_parts, contained_parts, unit_use_parts, module_parts}
 use Rattle.program_tree.specs.declared.next.Rest.{Rest}
 use Rattle.program_tree.specs.Rests as view
 
@@ -71,4 +73,32 @@ procedure_shorter x h at g before old new taken e =
     let b = body_longer x.body (end_of x.heading x.end ∷ view.parts new) in
     let m = length-map (view.left old) part in
     let n = length-map (view.left new) part in
+    omega arith
+
+-- behind a module too
+uses_longer : (xs : List units.Use) (es : List Part) → length es ≤ length (unit_use_parts xs es)
+uses_longer [] es = omega arith
+uses_longer (x ∷ xs) es = let a = uses_longer xs es in omega arith
+
+procedures_longer : (xs : List u.Procedure) (es : List Part) → length es ≤ length (procedure_parts xs es)
+procedures_longer [] es = omega arith
+procedures_longer (x ∷ xs) es = let a = procedures_longer xs es in let b = body_longer x.body (end_of x.heading x.end ∷ procedure_parts xs es) in omega arith
+
+contained_longer : (o : Option (List u.Procedure)) (es : List Part) → length es ≤ length (contained_parts o es)
+contained_longer None es = omega arith
+contained_longer (Some xs) es = let a = procedures_longer xs es in omega arith
+
+pub module_shorter : (x : units.Module) (n : Name) (at : Pos) (before old new : Rest) → view.left before ≡ parts.Module n at ∷ view.left old
+    → f.module_part n at ∷ view.parts old ≡ module_parts x (view.parts new) → length (view.left new) < length (view.left before)
+module_shorter x n at before old new taken e =
+    let closed : List Part = f.end_module_part x.end.name x.end.at ∷ view.parts new in
+    let last : List Part = contained_parts x.procedures closed in
+    let l = ap length e in
+    let t = ap length taken in
+    let c = contained_longer x.procedures closed in
+    let d = declarations_longer x.declarations last in
+    let i = implicit_longer x.implicit_none (declaration_parts x.declarations last) in
+    let b = uses_longer x.uses (implicit_parts x.implicit_none (declaration_parts x.declarations last)) in
+    let m = length-map (view.left old) part in
+    let k = length-map (view.left new) part in
     omega arith

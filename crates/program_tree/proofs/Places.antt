@@ -6,7 +6,7 @@ use Rattle.fortran_tree.specs.Statements.{ActionStatement}
 use Rattle.statement_reader.specs.Parts as f
 use Rattle.statement_reader.specs.Parts.{Part, Form, is_of}
 use Rattle.program_reader.specs.Sequence as q
-use Rattle.program_reader.specs.Sequence.{Stage, Scope, Open, State, action_forms, block_forms, stage_forms, scope_forms, open_forms, allowed, allowed_behind, staged}
+use Rattle.program_reader.specs.Sequence.{ProgramUnit, Stage, Scope, Open, State, action_forms, block_forms, stage_forms, scope_forms, open_forms, allowed, allowed_behind, staged}
 use Rattle.program_reader.proofs.Nested.{is_if}
 use Rattle.program_tree.specs.declared.block.Begun.{Begun}
 use Rattle.program_tree.specs.declared.block.Begun.TheVariants as begun
@@ -50,47 +50,70 @@ fewer i is b e = by_test (is_of i b) e
     by_test true e = absurd (true≢false e)
     by_test false e = e
 
-not_at_start : (b : Part) → closes b ≡ true → has_form (stage_forms q.starting) b ≡ false
-not_at_start (f.else_if_part e at) h = refl
-not_at_start (f.else_part at) h = refl
-not_at_start (f.end_if_part at) h = refl
-not_at_start (f.end_do_part n at) h = refl
-not_at_start (f.case_part x at) h = refl
-not_at_start (f.end_select_part at) h = refl
-not_at_start (f.end_critical_part at) h = refl
-not_at_start (f.end_team_part x at) h = refl
-not_at_start b h = absurd (false≢true h)
+-- where a unit begins such a part has none of the forms
+not_executed : (u : ProgramUnit) (b : Part) → closes b ≡ true → has_form (f.program_form ∷ q.uses_form u ∷ f.implicit_form ∷ f.declaration_form ∷ q.executed_forms u) b ≡ false
+not_executed q.alone (f.else_if_part e at) h = refl
+not_executed q.alone (f.else_part at) h = refl
+not_executed q.alone (f.end_if_part at) h = refl
+not_executed q.alone (f.end_do_part n at) h = refl
+not_executed q.alone (f.case_part x at) h = refl
+not_executed q.alone (f.end_select_part at) h = refl
+not_executed q.alone (f.end_critical_part at) h = refl
+not_executed q.alone (f.end_team_part x at) h = refl
+not_executed q.main (f.else_if_part e at) h = refl
+not_executed q.main (f.else_part at) h = refl
+not_executed q.main (f.end_if_part at) h = refl
+not_executed q.main (f.end_do_part n at) h = refl
+not_executed q.main (f.case_part x at) h = refl
+not_executed q.main (f.end_select_part at) h = refl
+not_executed q.main (f.end_critical_part at) h = refl
+not_executed q.main (f.end_team_part x at) h = refl
+not_executed (q.module_at m) (f.else_if_part e at) h = refl
+not_executed (q.module_at m) (f.else_part at) h = refl
+not_executed (q.module_at m) (f.end_if_part at) h = refl
+not_executed (q.module_at m) (f.end_do_part n at) h = refl
+not_executed (q.module_at m) (f.case_part x at) h = refl
+not_executed (q.module_at m) (f.end_select_part at) h = refl
+not_executed (q.module_at m) (f.end_critical_part at) h = refl
+not_executed (q.module_at m) (f.end_team_part x at) h = refl
+not_executed u b h = absurd (false≢true h)
 
-not_in_stage : (t : Stage) (b : Part) → closes b ≡ true → has_form (stage_forms t) b ≡ false
-not_in_stage q.starting b h = not_at_start b h
-not_in_stage q.in_uses b h = fewer f.program_form (stage_forms q.in_uses) b (not_at_start b h)
-not_in_stage q.opening b h = fewer f.use_form (stage_forms q.opening) b (fewer f.program_form (stage_forms q.in_uses) b (not_at_start b h))
-not_in_stage q.in_declarations b h = fewer f.implicit_form (stage_forms q.in_declarations) b (fewer f.use_form (stage_forms q.opening) b (fewer f.program_form (stage_forms q.in_uses) b (not_at_start b h)))
-not_in_stage q.in_statements b h = fewer f.declaration_form (stage_forms q.in_statements) b (fewer f.implicit_form (stage_forms q.in_declarations) b (fewer f.use_form (stage_forms q.opening) b (fewer f.program_form (stage_forms q.in_uses) b (not_at_start b h))))
+not_in_stage : (u : ProgramUnit) (t : Stage) (b : Part) → closes b ≡ true → has_form (stage_forms u t) b ≡ false
+not_in_stage u q.starting b h = not_executed u b h
+not_in_stage u q.in_uses b h = fewer f.program_form (stage_forms u q.in_uses) b (not_executed u b h)
+not_in_stage u q.opening b h = fewer (q.uses_form u) (stage_forms u q.opening) b (fewer f.program_form (stage_forms u q.in_uses) b (not_executed u b h))
+not_in_stage u q.in_declarations b h = fewer f.implicit_form (stage_forms u q.in_declarations) b (fewer (q.uses_form u) (stage_forms u q.opening) b (fewer f.program_form (stage_forms u q.in_uses) b (not_executed u b h)))
+not_in_stage u q.in_statements b h = fewer f.declaration_form (stage_forms u q.in_statements) b (fewer f.implicit_form (stage_forms u q.in_declarations) b (fewer (q.uses_form u) (stage_forms u q.opening) b (fewer f.program_form (stage_forms u q.in_uses) b (not_executed u b h))))
 
 -- such a part is none of a program unit
 unit_form : (i : Form) (is : List Form) (b : Part) → is_of i b ≡ false → has_form is b ≡ false → has_form (i ∷ is) b ≡ false
 unit_form i is b e h = ap (λ z. cond z true (has_form is b)) e ∙ h
 
 abbrev no_unit : Part → Type 0
-no_unit b = (is_of f.end_program_form b ≡ false) × (is_of f.contains_form b ≡ false) × (is_of f.subroutine_form b ≡ false) × (is_of f.function_form b ≡ false) × (is_of f.end_subroutine_form b ≡ false) × (is_of f.end_function_form b ≡ false)
+no_unit b = (is_of f.end_program_form b ≡ false) × (is_of f.contains_form b ≡ false) × (is_of f.subroutine_form b ≡ false) × (is_of f.function_form b ≡ false) × (is_of f.end_subroutine_form b ≡ false) × (is_of f.end_function_form b ≡ false) × (is_of f.module_form b ≡ false) × (is_of f.end_module_form b ≡ false)
 
 closes_no_unit : (b : Part) → closes b ≡ true → no_unit b
-closes_no_unit (f.else_if_part e at) h = (refl, refl, refl, refl, refl, refl)
-closes_no_unit (f.else_part at) h = (refl, refl, refl, refl, refl, refl)
-closes_no_unit (f.end_if_part at) h = (refl, refl, refl, refl, refl, refl)
-closes_no_unit (f.end_do_part n at) h = (refl, refl, refl, refl, refl, refl)
-closes_no_unit (f.case_part x at) h = (refl, refl, refl, refl, refl, refl)
-closes_no_unit (f.end_select_part at) h = (refl, refl, refl, refl, refl, refl)
-closes_no_unit (f.end_critical_part at) h = (refl, refl, refl, refl, refl, refl)
-closes_no_unit (f.end_team_part x at) h = (refl, refl, refl, refl, refl, refl)
+closes_no_unit (f.else_if_part e at) h = (refl, refl, refl, refl, refl, refl, refl, refl)
+closes_no_unit (f.else_part at) h = (refl, refl, refl, refl, refl, refl, refl, refl)
+closes_no_unit (f.end_if_part at) h = (refl, refl, refl, refl, refl, refl, refl, refl)
+closes_no_unit (f.end_do_part n at) h = (refl, refl, refl, refl, refl, refl, refl, refl)
+closes_no_unit (f.case_part x at) h = (refl, refl, refl, refl, refl, refl, refl, refl)
+closes_no_unit (f.end_select_part at) h = (refl, refl, refl, refl, refl, refl, refl, refl)
+closes_no_unit (f.end_critical_part at) h = (refl, refl, refl, refl, refl, refl, refl, refl)
+closes_no_unit (f.end_team_part x at) h = (refl, refl, refl, refl, refl, refl, refl, refl)
 closes_no_unit b h = absurd (false≢true h)
 
+no_end_form : (u : ProgramUnit) (b : Part) → no_unit b → is_of (q.end_form u) b ≡ false
+no_end_form q.alone b n = n.0
+no_end_form q.main b n = n.0
+no_end_form (q.module_at p) b n = n.7
+
 pub not_in_scope : (k : Scope) (b : Part) → closes b ≡ true → has_form (scope_forms k) b ≡ false
-not_in_scope (q.main_program t) b h = let n = closes_no_unit b h in unit_form f.end_program_form (f.contains_form ∷ stage_forms t) b n.0 (unit_form f.contains_form (stage_forms t) b n.1 (not_in_stage t b h))
-not_in_scope q.between b h = let n = closes_no_unit b h in unit_form f.end_program_form (f.subroutine_form ∷ f.function_form ∷ []) b n.0 (unit_form f.subroutine_form (f.function_form ∷ []) b n.2 (unit_form f.function_form [] b n.3 refl))
-not_in_scope (q.in_subroutine at t) b h = let n = closes_no_unit b h in unit_form f.end_subroutine_form (stage_forms t) b n.4 (not_in_stage t b h)
-not_in_scope (q.in_function at t) b h = let n = closes_no_unit b h in unit_form f.end_function_form (stage_forms t) b n.5 (not_in_stage t b h)
+not_in_scope q.no_unit b h = let n = closes_no_unit b h in unit_form f.end_program_form (f.contains_form ∷ f.module_form ∷ stage_forms q.main q.starting) b n.0 (unit_form f.contains_form (f.module_form ∷ stage_forms q.main q.starting) b n.1 (unit_form f.module_form (stage_forms q.main q.starting) b n.6 (not_in_stage q.main q.starting b h)))
+not_in_scope (q.in_program_unit u t) b h = let n = closes_no_unit b h in unit_form (q.end_form u) (f.contains_form ∷ stage_forms u t) b (no_end_form u b n) (unit_form f.contains_form (stage_forms u t) b n.1 (not_in_stage u t b h))
+not_in_scope (q.between u) b h = let n = closes_no_unit b h in unit_form (q.end_form u) (f.subroutine_form ∷ f.function_form ∷ []) b (no_end_form u b n) (unit_form f.subroutine_form (f.function_form ∷ []) b n.2 (unit_form f.function_form [] b n.3 refl))
+not_in_scope (q.in_subroutine u at t) b h = let n = closes_no_unit b h in unit_form f.end_subroutine_form (stage_forms q.alone t) b n.4 (not_in_stage q.alone t b h)
+not_in_scope (q.in_function u at t) b h = let n = closes_no_unit b h in unit_form f.end_function_form (stage_forms q.alone t) b n.5 (not_in_stage q.alone t b h)
 not_in_scope q.over b h = refl
 
 -- an action alone stands behind conditions

@@ -23,6 +23,8 @@ starts_with i (b ∷ es) = is_of i b
 abbrev pub executes : Part → Bool
 executes (f.program_part n) = false
 executes (f.use_part x) = false
+executes (f.module_part n at) = false
+executes (f.unit_use_part x) = false
 executes (f.implicit_part at) = false
 executes (f.declaration_part d) = false
 executes f.contains_part = false
@@ -30,6 +32,7 @@ executes (f.heading_part x at) = false
 executes (f.end_subroutine_part n at) = false
 executes (f.end_function_part n at) = false
 executes (f.end_program_part n at) = false
+executes (f.end_module_part n at) = false
 executes b = true
 
 -- the first part belongs to an execution part

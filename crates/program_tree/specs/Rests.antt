@@ -5,7 +5,8 @@ use Rattle.part_reader.specs.declared.part.Part.{Part}
 use Rattle.part_reader.specs.Views.{part}
 use Rattle.statement_reader.specs.Parts as f
 use Rattle.statement_reader.specs.Parts.{Part as Seen, Form}
-use Rattle.program_reader.specs.Sequence.{Stage, Scope, staged}
+use Rattle.program_reader.specs.Sequence as q
+use Rattle.program_reader.specs.Sequence.{ProgramUnit, Stage, Scope, staged}
 use Rattle.program_tree.specs.declared.next.Rest.{Rest}
 use Rattle.program_tree.specs.Following.{MayFollow, starts_with}
 
@@ -36,3 +37,22 @@ NoHeading old new = (left new ≡ left old) × (starts_with f.subroutine_form (p
 -- the main program's END is left, and nothing else
 abbrev pub EndsProgram : Rest → Type 0
 EndsProgram r = (end : End) × (parts r ≡ f.end_program_part end.name end.at ∷ [])
+
+-- the END of a module is left, and behind it what may stand there
+abbrev pub EndsModule : Rest → Type 0
+EndsModule r = (end : End) × (es : List Seen) × (parts r ≡ f.end_module_part end.name end.at ∷ es) × MayFollow q.start_of_units es
+
+-- the END of such a unit is left
+abbrev pub EndsUnit : ProgramUnit → Rest → Type 0
+EndsUnit q.alone r = EndsProgram r
+EndsUnit q.main r = EndsProgram r
+EndsUnit (q.module_at at) r = EndsModule r
+
+-- of which unit the stages of a place are: each procedure has those of a program that is a file by itself
+abbrev pub stages_of : Scope → ProgramUnit
+stages_of q.no_unit = q.main
+stages_of (q.in_program_unit u t) = u
+stages_of (q.between u) = q.alone
+stages_of (q.in_subroutine u at t) = q.alone
+stages_of (q.in_function u at t) = q.alone
+stages_of q.over = q.alone

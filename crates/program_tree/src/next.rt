@@ -18,6 +18,7 @@ use fortran_tree::unit::{Heading, Use};
 use part_reader::part::Part;
 use std::collections::VecDeque;
 use std::mem;
+use unit_tree::file::Use as UnitUse;
 
 /// The parts that are left: the next one, and those behind it.
 #[derive(Drop)]
@@ -32,6 +33,7 @@ fn is_executed(part: &Part) -> bool
 {
     match part {
         Part::Program(_) | Part::Use(_) | Part::ImplicitNone(_) | Part::Declaration(_) => false,
+        Part::Module { .. } | Part::UnitUse(_) | Part::EndModule(_) => false,
         Part::Contains | Part::Heading { .. } => false,
         Part::EndSubroutine(_) | Part::EndFunction(_) | Part::EndProgram(_) => false,
         Part::Action { .. } | Part::Condition { .. } | Part::IfThen { .. } => true,
@@ -74,6 +76,24 @@ fn use_statement_in(part: Part) -> Use
 {
     match part {
         Part::Use(statement) => statement,
+        _ => unreachable!(),
+    }
+}
+
+/// Whether a part is a USE statement of a file that may have modules.
+fn is_unit_use(part: &Part) -> bool
+    ensures { result ≡ is_of f.unit_use_form (seen part.now) }
+{
+    matches!(part, Part::UnitUse(_))
+}
+
+/// What a part is that is a USE statement of a file that may have modules.
+fn unit_use_in(part: Part) -> UnitUse
+    requires { is_of f.unit_use_form (seen part) ≡ true }
+    ensures { part ≡ Part.UnitUse result }
+{
+    match part {
+        Part::UnitUse(statement) => statement,
         _ => unreachable!(),
     }
 }
@@ -177,6 +197,37 @@ impl Rest {
         Some(use_statement_in(part))
     }
 
+    /// A USE statement of a file that may have modules, where it comes next.
+    pub(crate) fn unit_use(&mut self) -> Option<UnitUse>
+        ensures { MatchOption result (view.IsKept f.unit_use_form self.old self.new) (λ statement. view.left self.old ≡ Part.UnitUse statement ∷ view.left self.new) }
+    {
+        let comes = match &self.next {
+            Some(part) => is_unit_use(part),
+            None => false,
+        };
+        if !comes {
+            return None;
+        }
+        let Some(part) = self.take() else {
+            unreachable!()
+        };
+        Some(unit_use_in(part))
+    }
+
+    /// The name of a module and its place, where its first statement comes next.
+    pub(crate) fn module(&mut self) -> Option<(Name, Pos)>
+        ensures { MatchOption result (view.IsKept f.module_form self.old self.new) (λ first. view.left self.old ≡ Part.Module first.0 first.1 ∷ view.left self.new) }
+    {
+        match &self.next {
+            Some(Part::Module { .. }) => {}
+            _ => return None,
+        }
+        match self.take() {
+            Some(Part::Module { name, at }) => Some((name, at)),
+            _ => unreachable!(),
+        }
+    }
+
     /// The place of IMPLICIT NONE, where it comes next.
     pub(crate) fn implicit_none(&mut self) -> Option<Pos>
         ensures { MatchOption result (view.IsKept f.implicit_form self.old self.new) (λ at. view.left self.old ≡ Part.ImplicitNone at ∷ view.left self.new) }
@@ -255,6 +306,16 @@ impl Rest {
     {
         match self.take() {
             Some(Part::EndProgram(end)) => end,
+            _ => unreachable!(),
+        }
+    }
+    /// The END statement of a module.
+    pub(crate) fn end_of_module(&mut self) -> End
+        requires { (end : End) × (es : List Kind) × (view.parts self.old ≡ f.end_module_part end.name end.at ∷ es) }
+        ensures { view.parts self.old ≡ f.end_module_part result.name result.at ∷ view.parts self.new }
+    {
+        match self.take() {
+            Some(Part::EndModule(end)) => end,
             _ => unreachable!(),
         }
     }

@@ -4,6 +4,7 @@ ghost use Rattle.std.specs.Prelude.{◌≡◌, ◌∷◌, [], false, List, map, 
 ghost use Rattle.fortran_tree.specs.DeclarationViews as declarations;
 ghost use Rattle.fortran_tree.specs.StatementViews as statements;
 ghost use Rattle.fortran_tree.specs.UnitViews as units;
+ghost use Rattle.unit_tree.specs.FileViews as files;
 ghost use Rattle.part_reader.specs.Views.{part as seen};
 ghost use Rattle.program_reader.specs.Nesting as nesting;
 ghost use Rattle.program_reader.specs.Sequence as q;
@@ -21,15 +22,29 @@ use fortran_tree::statement::Statement;
 use fortran_tree::unit::{Body, Heading, Procedure, Program, Use};
 use part_reader::part::Part;
 use std::alloc::Global;
+use unit_tree::file::{MainProgram, Module, UnitFile, Use as UnitUse};
 
 /// The USE statements that come next.
 #[tactic(auto, using(crate::proofs::Fronts::front_laws))]
 fn uses_of(alloc: Global, rest: &mut Rest) -> Result<Vec<Use>, NoMemory>
     ensures front { IfOk result (λ uses. view.parts rest.old ≡ nesting.use_parts (map units.use_statement uses.items) (view.parts rest.new)) }
-    ensures follow { OnOk result ((k : q.Scope) → view.Stands q.in_uses k rest.old → view.Stands q.opening k rest.new) }
+    ensures follow { OnOk result ((k : q.Scope) → q.uses_form (view.stages_of k) ≡ f.use_form → view.Stands q.in_uses k rest.old → view.Stands q.opening k rest.new) }
 {
     let mut uses = Vec::new(alloc);
     while let Some(statement) = rest.use_statement() {
+        uses.push(statement)?;
+    }
+    Ok(uses)
+}
+
+/// The USE statements that come next in a file that may have modules.
+#[tactic(auto, using(crate::proofs::Fronts::front_laws))]
+fn unit_uses_of(alloc: Global, rest: &mut Rest) -> Result<Vec<UnitUse>, NoMemory>
+    ensures front { IfOk result (λ uses. view.parts rest.old ≡ nesting.unit_use_parts (map files.use_statement uses.items) (view.parts rest.new)) }
+    ensures follow { OnOk result ((k : q.Scope) → q.uses_form (view.stages_of k) ≡ f.unit_use_form → view.Stands q.in_uses k rest.old → view.Stands q.opening k rest.new) }
+{
+    let mut uses = Vec::new(alloc);
+    while let Some(statement) = rest.unit_use() {
         uses.push(statement)?;
     }
     Ok(uses)
@@ -86,9 +101,9 @@ fn procedure_of(
     heading: Heading,
     at: Pos,
 ) -> Result<Procedure, NoMemory>
-    requires { MayFollow (record { scope = q.unit_of (units.heading heading) at; blocks = []; conditions = 0 }) (view.parts rest.old) }
+    requires { (u : q.ProgramUnit) × MayFollow (record { scope = q.unit_of u (units.heading heading) at; blocks = []; conditions = 0 }) (view.parts rest.old) }
     ensures front { IfOk result (λ x. f.heading_part (units.heading heading) at ∷ view.parts rest.old ≡ nesting.procedure_parts (units.procedure x ∷ []) (view.parts rest.new)) }
-    ensures follow { OnOk result (view.Stands q.opening q.between rest.new) }
+    ensures follow { OnOk result ((u : q.ProgramUnit) → MayFollow (record { scope = q.unit_of u (units.heading heading) at; blocks = []; conditions = 0 }) (view.parts rest.old) → view.Stands q.opening (q.between u) rest.new) }
 {
     let body = body_of(alloc, rest)?;
     let end = rest.end_of_procedure();
@@ -102,10 +117,10 @@ fn procedure_of(
 
 /// The procedures behind CONTAINS, where it comes next.
 fn procedures_of(alloc: Global, rest: &mut Rest) -> Result<Option<Vec<Procedure>>, NoMemory>
-    requires follow { view.Stands q.in_statements (q.main_program q.starting) rest.old }
+    requires follow { (u : q.ProgramUnit) × view.Stands q.in_statements (q.in_program_unit u q.starting) rest.old }
     requires over { executes_first (view.parts rest.old) ≡ false }
     ensures front { IfOk result (λ found. view.parts rest.old ≡ nesting.contained_parts (units.maybe_procedures found) (view.parts rest.new)) }
-    ensures ends { OnOk result (view.EndsProgram rest.new) }
+    ensures ends { OnOk result ((u : q.ProgramUnit) → view.Stands q.in_statements (q.in_program_unit u q.starting) rest.old → view.EndsUnit u rest.new) }
 {
     if !rest.contains() {
         return Ok(None);
@@ -121,7 +136,7 @@ fn procedures_of(alloc: Global, rest: &mut Rest) -> Result<Option<Vec<Procedure>
 fn main_of(alloc: Global, rest: &mut Rest) -> Result<(Option<Name>, Vec<Use>, Body), NoMemory>
     requires { MayFollow q.start (view.parts rest.old) }
     ensures front { IfOk result (λ x. view.parts rest.old ≡ nesting.name_parts x.0 (nesting.use_parts (map units.use_statement x.1.items) (nesting.body_parts (units.body x.2) (view.parts rest.new)))) }
-    ensures follow { OnOk result (view.Stands q.in_statements (q.main_program q.starting) rest.new) }
+    ensures follow { OnOk result (view.Stands q.in_statements (q.in_program_unit q.alone q.starting) rest.new) }
     ensures over { OnOk result (executes_first (view.parts rest.new) ≡ false) }
 {
     let name = rest.name();
@@ -146,4 +161,75 @@ pub fn program_of(alloc: Global, parts: Vec<Part>) -> Result<Program, NoMemory>
         procedures,
         end,
     })
+}
+
+/// The module that has this first statement.
+fn module_of(alloc: Global, rest: &mut Rest, name: Name, at: Pos) -> Result<Module, NoMemory>
+    requires { view.Stands q.in_uses (q.in_program_unit (q.module_at at) q.starting) rest.old }
+    ensures front { IfOk result (λ x. f.module_part name at ∷ view.parts rest.old ≡ nesting.module_parts (files.module_unit x) (view.parts rest.new)) }
+    ensures follow { OnOk result (MayFollow q.start_of_units (view.parts rest.new)) }
+{
+    let uses = unit_uses_of(alloc, rest)?;
+    let implicit_none = rest.implicit_none();
+    let declarations = declarations_of(alloc, rest)?;
+    let procedures = procedures_of(alloc, rest)?;
+    let end = rest.end_of_module();
+    Ok(Module {
+        name,
+        uses,
+        implicit_none,
+        declarations,
+        procedures,
+        end,
+        at,
+    })
+}
+
+/// The modules that come next.
+fn modules_of(alloc: Global, rest: &mut Rest) -> Result<Vec<Module>, NoMemory>
+    requires { MayFollow q.start_of_units (view.parts rest.old) }
+    ensures front { IfOk result (λ found. view.parts rest.old ≡ nesting.modules_parts (map files.module_unit found.items) (view.parts rest.new)) }
+    ensures follow { OnOk result (view.Stands q.starting q.no_unit rest.new) }
+{
+    let mut found = Vec::new(alloc);
+    while let Some((name, at)) = rest.module() {
+        found.push(module_of(alloc, rest, name, at)?)?;
+    }
+    Ok(found)
+}
+
+/// The main program's PROGRAM statement, USE statements and body in a file that may have modules.
+fn unit_main_of(
+    alloc: Global,
+    rest: &mut Rest,
+) -> Result<(Option<Name>, Vec<UnitUse>, Body), NoMemory>
+    requires { view.Stands q.starting q.no_unit rest.old }
+    ensures front { IfOk result (λ x. view.parts rest.old ≡ nesting.name_parts x.0 (nesting.unit_use_parts (map files.use_statement x.1.items) (nesting.body_parts (units.body x.2) (view.parts rest.new)))) }
+    ensures follow { OnOk result (view.Stands q.in_statements (q.in_program_unit q.main q.starting) rest.new) }
+    ensures over { OnOk result (executes_first (view.parts rest.new) ≡ false) }
+{
+    let name = rest.name();
+    let uses = unit_uses_of(alloc, rest)?;
+    let body = body_of(alloc, rest)?;
+    Ok((name, uses, body))
+}
+
+/// The file that has these parts, which may follow one another in a file that may have modules.
+pub fn unit_file_of(alloc: Global, parts: Vec<Part>) -> Result<UnitFile, NoMemory>
+    requires { MayFollow q.start_of_units (map seen parts.items) }
+    ensures { IfOk result (λ file. map seen parts.items ≡ nesting.file_parts (files.unit_file file)) }
+{
+    let mut rest = Rest::new(parts);
+    let modules = modules_of(alloc, &mut rest)?;
+    let (name, uses, body) = unit_main_of(alloc, &mut rest)?;
+    let procedures = procedures_of(alloc, &mut rest)?;
+    let end = rest.end_of_program();
+    let main = MainProgram {
+        name,
+        uses,
+        body,
+        procedures,
+        end,
+    };
+    Ok(UnitFile { modules, main })
 }

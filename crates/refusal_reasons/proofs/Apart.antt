@@ -113,6 +113,9 @@ module _ (limit : ℕ) where
   not_assigned s f.condition_form b u x k o h = absurd (false≢true o.0)
   not_assigned s f.program_form (f.program_part n) u x k (e, o) h = line_quiet (f.program_part n) limit (s.conditions + length s.blocks) u x refl (within_out s.conditions (whole (f.program_part n)) limit (length s.blocks) u o)
   not_assigned s f.use_form (f.use_part y) u x k (e, o) h = line_quiet (f.use_part y) limit (s.conditions + length s.blocks) u x refl (within_out s.conditions (whole (f.use_part y)) limit (length s.blocks) u o)
+  not_assigned s f.module_form (f.module_part n at) u x k (e, o) h = line_quiet (f.module_part n at) limit (s.conditions + length s.blocks) u x refl (within_out s.conditions (whole (f.module_part n at)) limit (length s.blocks) u o)
+  not_assigned s f.unit_use_form (f.unit_use_part y) u x k (e, o) h = line_quiet (f.unit_use_part y) limit (s.conditions + length s.blocks) u x refl (within_out s.conditions (whole (f.unit_use_part y)) limit (length s.blocks) u o)
+  not_assigned s f.end_module_form (f.end_module_part n at) u x k (e, o) h = line_quiet (f.end_module_part n at) limit (s.conditions + length s.blocks) u x refl (within_out s.conditions (whole (f.end_module_part n at)) limit (length s.blocks) u o)
   not_assigned s f.implicit_form (f.implicit_part at) u x k (e, o) h = line_quiet (f.implicit_part at) limit (s.conditions + length s.blocks) u x refl (within_out s.conditions (whole (f.implicit_part at)) limit (length s.blocks) u o)
   not_assigned s f.declaration_form (f.declaration_part y) u x k (e, o) h = line_quiet (f.declaration_part y) limit (s.conditions + length s.blocks) u x refl (within_out s.conditions (whole (f.declaration_part y)) limit (length s.blocks) u o)
   not_assigned s f.if_form (f.if_part y at) u x k (e, o) h = line_quiet (f.if_part y at) limit (s.conditions + length s.blocks) u x refl (within_out s.conditions (whole (f.if_part y at)) limit (length s.blocks) u o)
@@ -153,6 +156,7 @@ ends f.end_team_form = true
 ends f.end_subroutine_form = true
 ends f.end_function_form = true
 ends f.end_program_form = true
+ends f.end_module_form = true
 ends i = false
 
 abbrev none_of : (Form → Bool) → List Form → Bool
@@ -172,18 +176,28 @@ fails test i (j ∷ js) e (inr m) = fails test i js (by_test (test j) e) m
     by_test true k = absurd (false≢true k)
     by_test false k = k
 
-abbrev between_forms : List Form
-between_forms = f.end_program_form ∷ f.subroutine_form ∷ f.function_form ∷ []
+abbrev between_forms : q.ProgramUnit → List Form
+between_forms u = q.end_form u ∷ f.subroutine_form ∷ f.function_form ∷ []
 
 -- no heading but between procedures
-stage_plain : (t : q.Stage) → none_of heading (q.stage_forms t) ≡ true
-stage_plain q.starting = refl
-stage_plain q.in_uses = refl
-stage_plain q.opening = refl
-stage_plain q.in_declarations = refl
-stage_plain q.in_statements = refl
+stage_plain : (u : q.ProgramUnit) (t : q.Stage) → none_of heading (q.stage_forms u t) ≡ true
+stage_plain q.alone q.starting = refl
+stage_plain q.alone q.in_uses = refl
+stage_plain q.alone q.opening = refl
+stage_plain q.alone q.in_declarations = refl
+stage_plain q.alone q.in_statements = refl
+stage_plain q.main q.starting = refl
+stage_plain q.main q.in_uses = refl
+stage_plain q.main q.opening = refl
+stage_plain q.main q.in_declarations = refl
+stage_plain q.main q.in_statements = refl
+stage_plain (q.module_at p) q.starting = refl
+stage_plain (q.module_at p) q.in_uses = refl
+stage_plain (q.module_at p) q.opening = refl
+stage_plain (q.module_at p) q.in_declarations = refl
+stage_plain (q.module_at p) q.in_statements = refl
 
-plain_or_between : (n : ℕ) (k : q.Scope) (os : List q.Open) → (none_of heading (q.allowed_behind n k os) ≡ true) ⊎ ((q.allowed_behind n k os ≡ between_forms) × (n ≡ 0) × (os ≡ []))
+plain_or_between : (n : ℕ) (k : q.Scope) (os : List q.Open) → (none_of heading (q.allowed_behind n k os) ≡ true) ⊎ ((u : q.ProgramUnit) × (q.allowed_behind n k os ≡ between_forms u) × (n ≡ 0) × (os ≡ []))
 plain_or_between (suc n) k os = inl refl
 plain_or_between zero k (q.if_open at ∷ os) = inl refl
 plain_or_between zero k (q.else_open at ∷ os) = inl refl
@@ -192,10 +206,13 @@ plain_or_between zero k (q.select_open at ∷ os) = inl refl
 plain_or_between zero k (q.case_open at ∷ os) = inl refl
 plain_or_between zero k (q.critical_open at ∷ os) = inl refl
 plain_or_between zero k (q.team_open at ∷ os) = inl refl
-plain_or_between zero (q.main_program t) [] = inl (stage_plain t)
-plain_or_between zero q.between [] = inr (refl, refl, refl)
-plain_or_between zero (q.in_subroutine at t) [] = inl (stage_plain t)
-plain_or_between zero (q.in_function at t) [] = inl (stage_plain t)
+plain_or_between zero q.no_unit [] = inl refl
+plain_or_between zero (q.in_program_unit q.alone t) [] = inl (stage_plain q.alone t)
+plain_or_between zero (q.in_program_unit q.main t) [] = inl (stage_plain q.main t)
+plain_or_between zero (q.in_program_unit (q.module_at p) t) [] = inl (stage_plain (q.module_at p) t)
+plain_or_between zero (q.between u) [] = inr (u, refl, refl, refl)
+plain_or_between zero (q.in_subroutine u at t) [] = inl (stage_plain q.alone t)
+plain_or_between zero (q.in_function u at t) [] = inl (stage_plain q.alone t)
 plain_or_between zero q.over [] = inl refl
 
 -- one END
@@ -203,12 +220,22 @@ first_only : (i j : Form) (is : List Form) → none_of ends is ≡ true → In i
 first_only i j is e (inl same) k = same
 first_only i j is e (inr m) k = absurd (true≢false (sym k ∙ fails ends i is e m))
 
-stage_open : (t : q.Stage) → none_of ends (q.stage_forms t) ≡ true
-stage_open q.starting = refl
-stage_open q.in_uses = refl
-stage_open q.opening = refl
-stage_open q.in_declarations = refl
-stage_open q.in_statements = refl
+stage_open : (u : q.ProgramUnit) (t : q.Stage) → none_of ends (q.stage_forms u t) ≡ true
+stage_open q.alone q.starting = refl
+stage_open q.alone q.in_uses = refl
+stage_open q.alone q.opening = refl
+stage_open q.alone q.in_declarations = refl
+stage_open q.alone q.in_statements = refl
+stage_open q.main q.starting = refl
+stage_open q.main q.in_uses = refl
+stage_open q.main q.opening = refl
+stage_open q.main q.in_declarations = refl
+stage_open q.main q.in_statements = refl
+stage_open (q.module_at p) q.starting = refl
+stage_open (q.module_at p) q.in_uses = refl
+stage_open (q.module_at p) q.opening = refl
+stage_open (q.module_at p) q.in_declarations = refl
+stage_open (q.module_at p) q.in_statements = refl
 
 one_end : (n : ℕ) (k : q.Scope) (os : List q.Open) → (j : Form) × ((i : Form) → In i (q.allowed_behind n k os) → ends i ≡ true → i ≡ j)
 one_end (suc n) k os = (f.end_if_form, λ i m e. absurd (true≢false (sym e ∙ fails ends i action_forms refl m)))
@@ -219,10 +246,13 @@ one_end zero k (q.select_open at ∷ os) = (_, λ i m e. first_only i f.end_sele
 one_end zero k (q.case_open at ∷ os) = (_, λ i m e. first_only i f.end_select_form (f.case_form ∷ q.statement_forms) refl m e)
 one_end zero k (q.critical_open at ∷ os) = (_, λ i m e. first_only i f.end_critical_form q.statement_forms refl m e)
 one_end zero k (q.team_open at ∷ os) = (_, λ i m e. first_only i f.end_team_form q.statement_forms refl m e)
-one_end zero (q.main_program t) [] = (_, λ i m e. first_only i f.end_program_form (f.contains_form ∷ q.stage_forms t) (stage_open t) m e)
-one_end zero q.between [] = (_, λ i m e. first_only i f.end_program_form (f.subroutine_form ∷ f.function_form ∷ []) refl m e)
-one_end zero (q.in_subroutine at t) [] = (_, λ i m e. first_only i f.end_subroutine_form (q.stage_forms t) (stage_open t) m e)
-one_end zero (q.in_function at t) [] = (_, λ i m e. first_only i f.end_function_form (q.stage_forms t) (stage_open t) m e)
+one_end zero q.no_unit [] = (_, λ i m e. first_only i f.end_program_form (f.contains_form ∷ f.module_form ∷ q.stage_forms q.main q.starting) refl m e)
+one_end zero (q.in_program_unit q.alone t) [] = (_, λ i m e. first_only i (q.end_form q.alone) (f.contains_form ∷ q.stage_forms q.alone t) (stage_open q.alone t) m e)
+one_end zero (q.in_program_unit q.main t) [] = (_, λ i m e. first_only i (q.end_form q.main) (f.contains_form ∷ q.stage_forms q.main t) (stage_open q.main t) m e)
+one_end zero (q.in_program_unit (q.module_at p) t) [] = (_, λ i m e. first_only i (q.end_form (q.module_at p)) (f.contains_form ∷ q.stage_forms (q.module_at p) t) (stage_open (q.module_at p) t) m e)
+one_end zero (q.between u) [] = (_, λ i m e. first_only i (q.end_form u) (f.subroutine_form ∷ f.function_form ∷ []) refl m e)
+one_end zero (q.in_subroutine u at t) [] = (_, λ i m e. first_only i f.end_subroutine_form (q.stage_forms q.alone t) (stage_open q.alone t) m e)
+one_end zero (q.in_function u at t) [] = (_, λ i m e. first_only i f.end_function_form (q.stage_forms q.alone t) (stage_open q.alone t) m e)
 one_end zero q.over [] = (f.end_if_form, λ i m e. absurd m)
 
 -- forms of one class
@@ -231,6 +261,8 @@ shared f.condition_form = true
 shared f.if_form = true
 shared f.else_if_form = true
 shared f.else_form = true
+shared f.use_form = true
+shared f.unit_use_form = true
 shared i = ends i
 
 shared_class : (i : Form) → shared (cls i) ≡ shared i
@@ -247,6 +279,8 @@ own_class f.end_team_form e = absurd (true≢false e)
 own_class f.end_subroutine_form e = absurd (true≢false e)
 own_class f.end_function_form e = absurd (true≢false e)
 own_class f.end_program_form e = absurd (true≢false e)
+own_class f.end_module_form e = absurd (true≢false e)
+own_class f.unit_use_form e = absurd (true≢false e)
 own_class i e = refl
 
 if_class : (j : Form) → f.if_form ≡ cls j → (j ≡ f.if_form) ⊎ (j ≡ f.condition_form)
@@ -259,6 +293,61 @@ else_class f.else_form e = inl refl
 else_class f.else_if_form e = inr refl
 else_class j e = absurd (cc)
 
+use_class : (j : Form) → f.use_form ≡ cls j → (j ≡ f.use_form) ⊎ (j ≡ f.unit_use_form)
+use_class f.use_form e = inl refl
+use_class f.unit_use_form e = inr refl
+use_class j e = absurd (cc)
+
+-- the forms of USE aren't allowed together
+abbrev is_unit_use : Form → Bool
+is_unit_use f.unit_use_form = true
+is_unit_use i = false
+
+abbrev is_use : Form → Bool
+is_use f.use_form = true
+is_use i = false
+
+stage_no_unit_use : (t : q.Stage) → none_of is_unit_use (q.stage_forms q.alone t) ≡ true
+stage_no_unit_use q.starting = refl
+stage_no_unit_use q.in_uses = refl
+stage_no_unit_use q.opening = refl
+stage_no_unit_use q.in_declarations = refl
+stage_no_unit_use q.in_statements = refl
+
+stage_no_use : (t : q.Stage) → none_of is_use (q.stage_forms q.main t) ≡ true
+stage_no_use q.starting = refl
+stage_no_use q.in_uses = refl
+stage_no_use q.opening = refl
+stage_no_use q.in_declarations = refl
+stage_no_use q.in_statements = refl
+
+module_no_use : (p : _) (t : q.Stage) → none_of is_use (q.stage_forms (q.module_at p) t) ≡ true
+module_no_use p q.starting = refl
+module_no_use p q.in_uses = refl
+module_no_use p q.opening = refl
+module_no_use p q.in_declarations = refl
+module_no_use p q.in_statements = refl
+
+one_use : (n : ℕ) (k : q.Scope) (os : List q.Open) → (none_of is_unit_use (q.allowed_behind n k os) ≡ true) ⊎ (none_of is_use (q.allowed_behind n k os) ≡ true)
+one_use (suc n) k os = inl refl
+one_use zero k (q.if_open at ∷ os) = inl refl
+one_use zero k (q.else_open at ∷ os) = inl refl
+one_use zero k (q.do_open at ∷ os) = inl refl
+one_use zero k (q.select_open at ∷ os) = inl refl
+one_use zero k (q.case_open at ∷ os) = inl refl
+one_use zero k (q.critical_open at ∷ os) = inl refl
+one_use zero k (q.team_open at ∷ os) = inl refl
+one_use zero q.no_unit [] = inr refl
+one_use zero (q.in_program_unit q.alone t) [] = inl (stage_no_unit_use t)
+one_use zero (q.in_program_unit q.main t) [] = inr (stage_no_use t)
+one_use zero (q.in_program_unit (q.module_at p) t) [] = inr (module_no_use p t)
+one_use zero (q.between q.alone) [] = inl refl
+one_use zero (q.between q.main) [] = inl refl
+one_use zero (q.between (q.module_at p)) [] = inl refl
+one_use zero (q.in_subroutine u at t) [] = inl (stage_no_unit_use t)
+one_use zero (q.in_function u at t) [] = inl (stage_no_unit_use t)
+one_use zero q.over [] = inl refl
+
 end_class : (j : Form) → f.end_if_form ≡ cls j → ends j ≡ true
 end_class f.end_if_form e = refl
 end_class f.end_do_form e = refl
@@ -268,6 +357,7 @@ end_class f.end_team_form e = refl
 end_class f.end_subroutine_form e = refl
 end_class f.end_function_form e = refl
 end_class f.end_program_form e = refl
+end_class f.end_module_form e = refl
 end_class j e = absurd (cc)
 
 -- two forms of one class that a place allows are one, but for IF and ELSE
@@ -282,7 +372,15 @@ module _ (s : State) where
   ended_told : (i j : Form) → In i (q.allowed s) → In j (q.allowed s) → ends i ≡ true → f.end_if_form ≡ cls j → Told i j
   ended_told i j m n e k = let z = one_end s.conditions s.scope s.blocks in is_one (z.1 i m e ∙ sym (z.1 j n (end_class j k)))
 
+  not_both : In f.use_form (q.allowed s) → In f.unit_use_form (q.allowed s) → ⊥
+  not_both m n = elim (one_use s.conditions s.scope s.blocks) [
+    | inl z ↦ true≢false (fails is_unit_use f.unit_use_form (q.allowed s) z n)
+    | inr z ↦ true≢false (fails is_use f.use_form (q.allowed s) z m)
+  ]
+
   told : (i j : Form) → In i (q.allowed s) → In j (q.allowed s) → cls i ≡ cls j → Told i j
+  told f.use_form j m n e = elim (use_class j e) [ inl k ↦ is_one (sym k) | inr k ↦ absurd (not_both m (subst (λ z. In z (q.allowed s)) k n)) ]
+  told f.unit_use_form j m n e = elim (use_class j e) [ inl k ↦ absurd (not_both (subst (λ z. In z (q.allowed s)) k n) m) | inr k ↦ is_one (sym k) ]
   told f.if_form j m n e = elim (if_class j e) [ inl k ↦ is_one (sym k) | inr k ↦ if_and_condition refl k ]
   told f.condition_form j m n e = elim (if_class j e) [ inl k ↦ condition_and_if refl k | inr k ↦ is_one (sym k) ]
   told f.else_form j m n e = elim (else_class j e) [ inl k ↦ is_one (sym k) | inr k ↦ else_and_else_if refl k ]
@@ -295,6 +393,7 @@ module _ (s : State) where
   told f.end_subroutine_form j m n e = ended_told f.end_subroutine_form j m n refl e
   told f.end_function_form j m n e = ended_told f.end_function_form j m n refl e
   told f.end_program_form j m n e = ended_told f.end_program_form j m n refl e
+  told f.end_module_form j m n e = ended_told f.end_module_form j m n refl e
   told i j m n e = is_one (apart i j e refl)
     where
       apart : (i j : Form) → cls i ≡ cls j → shared i ≡ false → i ≡ j
@@ -313,14 +412,25 @@ function_no_subroutine left at v = (_, _, refl)
 function_no_recursive : (left : ℕ) (at there : Pos) (v : List Token) → Gives_up (form_reader f.function_form left (recursive_ts at there v))
 function_no_recursive left at there v = (_, _, refl)
 
-end_no_subroutine : (left : ℕ) (at : Pos) (v : List Token) → Gives_up (form_reader f.end_program_form left (subroutine_ts at v))
-end_no_subroutine left at v = (_, _, refl)
+abbrev unit_end : q.ProgramUnit → Form
+unit_end u = q.end_form u
 
-end_no_recursive : (left : ℕ) (at there : Pos) (v : List Token) → Gives_up (form_reader f.end_program_form left (recursive_ts at there v))
-end_no_recursive left at there v = (_, _, refl)
+end_no_subroutine : (k : q.ProgramUnit) (left : ℕ) (at : Pos) (v : List Token) → Gives_up (form_reader (unit_end k) left (subroutine_ts at v))
+end_no_subroutine q.alone left at v = (_, _, refl)
+end_no_subroutine q.main left at v = (_, _, refl)
+end_no_subroutine (q.module_at p) left at v = (_, _, refl)
 
-end_no_function : (left : ℕ) (y : Token) (v : List Token) → begins_form f.function_form y ≡ true → Gives_up (form_reader f.end_program_form left (y ∷ v))
-end_no_function left y v e = by_keys (first_keys f.function_form) (λ k. Gives_up (form_reader f.end_program_form left (record { tok = k; at = y.at } ∷ v)))
+end_no_recursive : (k : q.ProgramUnit) (left : ℕ) (at there : Pos) (v : List Token) → Gives_up (form_reader (unit_end k) left (recursive_ts at there v))
+end_no_recursive q.alone left at there v = (_, _, refl)
+end_no_recursive q.main left at there v = (_, _, refl)
+end_no_recursive (q.module_at p) left at there v = (_, _, refl)
+
+end_no_function : (k : q.ProgramUnit) (left : ℕ) (y : Token) (v : List Token) → begins_form f.function_form y ≡ true → Gives_up (form_reader (unit_end k) left (y ∷ v))
+end_no_function q.alone left y v e = by_keys (first_keys f.function_form) (λ k. Gives_up (form_reader f.end_program_form left (record { tok = k; at = y.at } ∷ v)))
+    ((_, _, refl), ((_, _, refl), ((_, _, refl), ((_, _, refl), ((_, _, refl), tt))))) y e
+end_no_function q.main left y v e = by_keys (first_keys f.function_form) (λ k. Gives_up (form_reader f.end_program_form left (record { tok = k; at = y.at } ∷ v)))
+    ((_, _, refl), ((_, _, refl), ((_, _, refl), ((_, _, refl), ((_, _, refl), tt))))) y e
+end_no_function (q.module_at p) left y v e = by_keys (first_keys f.function_form) (λ k. Gives_up (form_reader f.end_module_form left (record { tok = k; at = y.at } ∷ v)))
     ((_, _, refl), ((_, _, refl), ((_, _, refl), ((_, _, refl), ((_, _, refl), tt))))) y e
 
 module _ (limit : ℕ) where
@@ -342,23 +452,23 @@ module _ (limit : ℕ) where
     | inr (at, there, v, is) ↦ gives_up_not limit (at_between j) (bare u ++ r) q c (λ left. subst (λ z. Gives_up (form_reader j left z)) (sym is) (more left at there v)) e
   ]
 
-  not_function : (b c : Part) (u : List (Mark Token)) (r q : List Token) → Words (formed f.function_form 0 b) limit 0 u → part_reader limit (at_between f.end_program_form) (bare u ++ r) ≡ found c q → ⊥
-  not_function b c [] r q h e = heads_at f.function_form 0 limit 0 b [] h
-  not_function b c (m ∷ u) r q h e = gives_up_not limit (at_between f.end_program_form) (bare (m ∷ u) ++ r) q c (λ left. end_no_function left m.token (bare u ++ r) (heads_at f.function_form 0 limit 0 b (m ∷ u) h)) e
+  not_function : (k : q.ProgramUnit) (b c : Part) (u : List (Mark Token)) (r q : List Token) → Words (formed f.function_form 0 b) limit 0 u → part_reader limit (at_between (unit_end k)) (bare u ++ r) ≡ found c q → ⊥
+  not_function k b c [] r q h e = heads_at f.function_form 0 limit 0 b [] h
+  not_function k b c (m ∷ u) r q h e = gives_up_not limit (at_between (unit_end k)) (bare (m ∷ u) ++ r) q c (λ left. end_no_function k left m.token (bare u ++ r) (heads_at f.function_form 0 limit 0 b (m ∷ u) h)) e
 
-  between_told : (i j : Form) (b c : Part) (u v : List (Mark Token)) (r q : List Token) → In i between_forms → In j between_forms → Words (formed i 0 b) limit 0 u → Words (formed j 0 c) limit 0 v
+  between_told : (z : q.ProgramUnit) (i j : Form) (b c : Part) (u v : List (Mark Token)) (r q : List Token) → In i (between_forms z) → In j (between_forms z) → Words (formed i 0 b) limit 0 u → Words (formed j 0 c) limit 0 v
       → part_reader limit (at_between j) (bare u ++ r) ≡ found c q → part_reader limit (at_between i) (bare v ++ q) ≡ found b r → i ≡ j
-  between_told i j b c u v r q (inl x) (inl y) h k e g = x ∙ sym y
-  between_told i j b c u v r q (inr (inl x)) (inr (inl y)) h k e g = x ∙ sym y
-  between_told i j b c u v r q (inr (inr (inl x))) (inr (inr (inl y))) h k e g = x ∙ sym y
-  between_told i j b c u v r q (inr (inl x)) (inr (inr (inl y))) h k e g = absurd (not_subroutine f.function_form b c u r q function_no_subroutine function_no_recursive (subst (λ z. Words (formed z 0 b) limit 0 u) x h) (subst (λ z. part_reader limit (at_between z) (bare u ++ r) ≡ found c q) y e))
-  between_told i j b c u v r q (inr (inl x)) (inl y) h k e g = absurd (not_subroutine f.end_program_form b c u r q end_no_subroutine end_no_recursive (subst (λ z. Words (formed z 0 b) limit 0 u) x h) (subst (λ z. part_reader limit (at_between z) (bare u ++ r) ≡ found c q) y e))
-  between_told i j b c u v r q (inr (inr (inl x))) (inl y) h k e g = absurd (not_function b c u r q (subst (λ z. Words (formed z 0 b) limit 0 u) x h) (subst (λ z. part_reader limit (at_between z) (bare u ++ r) ≡ found c q) y e))
-  between_told i j b c u v r q (inr (inr (inl x))) (inr (inl y)) h k e g = absurd (not_subroutine f.function_form c b v q r function_no_subroutine function_no_recursive (subst (λ z. Words (formed z 0 c) limit 0 v) y k) (subst (λ z. part_reader limit (at_between z) (bare v ++ q) ≡ found b r) x g))
-  between_told i j b c u v r q (inl x) (inr (inl y)) h k e g = absurd (not_subroutine f.end_program_form c b v q r end_no_subroutine end_no_recursive (subst (λ z. Words (formed z 0 c) limit 0 v) y k) (subst (λ z. part_reader limit (at_between z) (bare v ++ q) ≡ found b r) x g))
-  between_told i j b c u v r q (inl x) (inr (inr (inl y))) h k e g = absurd (not_function c b v q r (subst (λ z. Words (formed z 0 c) limit 0 v) y k) (subst (λ z. part_reader limit (at_between z) (bare v ++ q) ≡ found b r) x g))
-  between_told i j b c u v r q (inr (inr (inr m))) n h k e g = absurd m
-  between_told i j b c u v r q m (inr (inr (inr n))) h k e g = absurd n
+  between_told zz i j b c u v r q (inl x) (inl y) h k e g = x ∙ sym y
+  between_told zz i j b c u v r q (inr (inl x)) (inr (inl y)) h k e g = x ∙ sym y
+  between_told zz i j b c u v r q (inr (inr (inl x))) (inr (inr (inl y))) h k e g = x ∙ sym y
+  between_told zz i j b c u v r q (inr (inl x)) (inr (inr (inl y))) h k e g = absurd (not_subroutine f.function_form b c u r q function_no_subroutine function_no_recursive (subst (λ z. Words (formed z 0 b) limit 0 u) x h) (subst (λ z. part_reader limit (at_between z) (bare u ++ r) ≡ found c q) y e))
+  between_told zz i j b c u v r q (inr (inl x)) (inl y) h k e g = absurd (not_subroutine (unit_end zz) b c u r q (end_no_subroutine zz) (end_no_recursive zz) (subst (λ z. Words (formed z 0 b) limit 0 u) x h) (subst (λ z. part_reader limit (at_between z) (bare u ++ r) ≡ found c q) y e))
+  between_told zz i j b c u v r q (inr (inr (inl x))) (inl y) h k e g = absurd (not_function zz b c u r q (subst (λ z. Words (formed z 0 b) limit 0 u) x h) (subst (λ z. part_reader limit (at_between z) (bare u ++ r) ≡ found c q) y e))
+  between_told zz i j b c u v r q (inr (inr (inl x))) (inr (inl y)) h k e g = absurd (not_subroutine f.function_form c b v q r function_no_subroutine function_no_recursive (subst (λ z. Words (formed z 0 c) limit 0 v) y k) (subst (λ z. part_reader limit (at_between z) (bare v ++ q) ≡ found b r) x g))
+  between_told zz i j b c u v r q (inl x) (inr (inl y)) h k e g = absurd (not_subroutine (unit_end zz) c b v q r (end_no_subroutine zz) (end_no_recursive zz) (subst (λ z. Words (formed z 0 c) limit 0 v) y k) (subst (λ z. part_reader limit (at_between z) (bare v ++ q) ≡ found b r) x g))
+  between_told zz i j b c u v r q (inl x) (inr (inr (inl y))) h k e g = absurd (not_function zz c b v q r (subst (λ z. Words (formed z 0 c) limit 0 v) y k) (subst (λ z. part_reader limit (at_between z) (bare v ++ q) ≡ found b r) x g))
+  between_told zz i j b c u v r q (inr (inr (inr m))) n h k e g = absurd m
+  between_told zz i j b c u v r q m (inr (inr (inr n))) h k e g = absurd n
 
   -- what the tokens of a part and its rest tell
   abbrev placed : State → Form → Place
@@ -459,7 +569,7 @@ module _ (limit : ℕ) where
     pub same_form : i ≡ j
     same_form = elim (plain_or_between s.conditions s.scope s.blocks) [
       | inl p ↦ by_told (told s i j m n (sym (class_at s i b u x (fails heading i (q.allowed s) p m) h su rx) ∙ (ap class same ∙ class_at s j c v y (fails heading j (q.allowed s) p n) k sv ry)))
-      | inr (e, z, o) ↦ between_told i j b c u v x y (subst (In i) e m) (subst (In j) e n)
+      | inr (unit, e, z, o) ↦ between_told unit i j b c u v x y (subst (In i) e m) (subst (In j) e n)
           (subst (λ l. Words (formed i 0 b) limit (length l) u) o (subst (λ z. Words (formed i z b) limit (length s.blocks) u) z h)) (subst (λ l. Words (formed j 0 c) limit (length l) v) o (subst (λ z. Words (formed j z c) limit (length s.blocks) v) z k))
           (subst (λ l. part_reader limit (record { form = j; level = length l; conditions = 0 }) (bare u ++ x) ≡ found c y) o (subst (λ z. part_reader limit (record { form = j; level = length s.blocks; conditions = z }) (bare u ++ x) ≡ found c y) z (ap (part_reader limit (placed s j)) same ∙ found_second)))
           (subst (λ l. part_reader limit (record { form = i; level = length l; conditions = 0 }) (bare v ++ y) ≡ found b x) o (subst (λ z. part_reader limit (record { form = i; level = length s.blocks; conditions = z }) (bare v ++ y) ≡ found b x) z (ap (part_reader limit (placed s i)) (sym same) ∙ found_first)))

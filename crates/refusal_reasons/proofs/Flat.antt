@@ -25,6 +25,8 @@ use Rattle.fortran_grammar.specs.ExpressionGrammar as g
 use Rattle.fortran_grammar.specs.ActionGrammar as a
 use Rattle.fortran_grammar.specs.StatementGrammar as c
 use Rattle.fortran_grammar.specs.ProgramGrammar as h
+use Rattle.fortran_grammar.specs.FileGrammar as files
+use Rattle.unit_tree.specs.Files as units
 use Rattle.expr_reader.specs.Slack.{solid, slack}
 use Rattle.statement_reader.specs.Parts as f
 use Rattle.statement_reader.specs.Parts.{Part, Form, is_of, whole, within, line, formed}
@@ -348,6 +350,21 @@ recursion : (r : Recursion) → Flat (h.recursion r)
 recursion recursions.Unstated = none
 recursion recursions.Recursive = one
 
+-- of a file that may have modules
+rename : (r : units.Rename) → Flat (files.rename r)
+rename r = named (behind name)
+
+only_item : (x : units.OnlyItem) → Flat (files.only_item x)
+only_item (units.named n) = name
+only_item (units.renamed r) = rename r
+
+use_list : (x : units.UseList) → Flat (files.use_list x)
+use_list (units.all_but rs) = followed files.rename rename rs
+use_list (units.only xs) = behind (behind (behind (maybe_listed files.only_item only_item xs)))
+
+unit_use_line : (x : units.Use) → Flat (files.use_statement x)
+unit_use_line x = placed (behind (join (nature x.nature) (named (join (use_list x.list) one))))
+
 prefix : (x : PrefixSpec) → Flat (h.prefix_spec x)
 prefix u.recursive = one
 prefix (u.result_type t) = type_spec t
@@ -374,6 +391,8 @@ end_of_program (Some n) = join joined name
 part : (b : Part) → Flat (whole b)
 part (f.program_part n) = behind (named one)
 part (f.use_part x) = use_line x
+part (f.module_part n at) = join (placed (behind name)) one
+part (f.unit_use_part x) = unit_use_line x
 part (f.implicit_part at) = placed (behind (behind one))
 part (f.declaration_part d) = declaration d
 part (f.action_part x at) = join (placed (action x)) one
@@ -400,6 +419,7 @@ part (f.heading_part x at) = join (placed (heading x)) one
 part (f.end_subroutine_part n at) = join (placed (end_of_procedure (codes "subroutine") n)) one
 part (f.end_function_part n at) = join (placed (end_of_procedure (codes "function") n)) one
 part (f.end_program_part n at) = join (placed (end_of_program n)) one
+part (f.end_module_part n at) = join (placed (end_of_procedure (codes "module") n)) one
 
 -- behind conditions, each of which is a level
 flat_within : (n : ℕ) (P : Phrase) → slack P ≤ 1 → slack (within n P) ≤ suc n

@@ -11,3 +11,4 @@ pub mod Left
 pub mod Earliest
 pub mod Files
 mod Tries
+pub mod Trees

@@ -11,7 +11,7 @@ use Rattle.expr_reader.specs.declared.error.ReadError.{ReadError}
 use Rattle.expr_reader.specs.declared.error.ReadError.TheVariants as errors
 use Rattle.expr_reader.specs.declared.word.Word.{Word}
 use Rattle.statement_reader.specs.Parts.{Part}
-use Rattle.program_reader.specs.Sequence.{State, start, allowed, next, may_end, Rest_of_file, rest_reader}
+use Rattle.program_reader.specs.Sequence.{State, allowed, next, may_end, Rest_of_file, rest_reader}
 use Rattle.program_reader.proofs.Files.{file_answered}
 use Rattle.part_reader.specs.Views as views
 use Rattle.part_reader.specs.declared.part.Part.{Part as Held}
@@ -22,13 +22,13 @@ use Rattle.sequence_reader.proofs.Depths.{depth_kept}
 use Rattle.sequence_reader.proofs.Turns.{tokens_length}
 
 -- at the beginning of a file
-pub begins_file : (ws : List Word) → Reached 64 (answer_of (rest_reader 64 (length (tokens_of ws)) start (tokens_of ws))) start [] (record { cause = causes.Expected; left = length ws }) (tokens_of ws)
-begins_file ws =
+pub begins_file : (begin : State) (ws : List Word) → Reached 64 (answer_of (rest_reader 64 (length (tokens_of ws)) begin (tokens_of ws))) begin [] (record { cause = causes.Expected; left = length ws }) (tokens_of ws)
+begins_file begin ws =
     let ts = tokens_of ws in
     record {
       fuel = length ts;
       enough = omega arith;
-      is = sym (ap (λ n. better (answer_of (rest_reader 64 (length ts) start ts)) (stopped expected n)) (sym (tokens_length ws)) ∙ last_expected (length ts) (answer_of (rest_reader 64 (length ts) start ts)) (rest_within 64 (length ts) start ts (omega arith)));
+      is = sym (ap (λ n. better (answer_of (rest_reader 64 (length ts) begin ts)) (stopped expected n)) (sym (tokens_length ws)) ∙ last_expected (length ts) (answer_of (rest_reader 64 (length ts) begin ts)) (rest_within 64 (length ts) begin ts (omega arith)));
     }
 
 module _ {X : Type 0} (look : X → Part × List Token) (s : State) (tried : Option X) (f : Stop) (bs : List Part) (e : Stop) (every : Answer) where
@@ -97,18 +97,18 @@ ends_early s bs e new every r t k =
     r.is ∙ (ap (λ z. better (behind_parts bs z) (stop_of e)) (end_answered 64 r.fuel s ∙ ap (λ b. cond b (read []) (stopped expected 0)) t) ∙ (ap (λ z. better z (stop_of e)) (parts_stopped bs expected 0) ∙ (better_turned expected 0 (stop_of e) ∙ sym k)))
 
 -- the answer is the theory's
-pub found_of : (ts : List Token) (es : List Part) (v : Verdict Token (List Part)) → Answers (λ gs w. Rest_of_file 64 start gs w) ts v → answer_of v ≡ read es → v ≡ found es []
-found_of ts es (found gs r) h e = ap (λ z. found gs z) h.0 ∙ ap (λ z. found z []) (let k : gs ≡ es = cc in k)
-found_of ts es (fault c r) h e = absurd (cc)
+pub found_of : (begin : State) (ts : List Token) (es : List Part) (v : Verdict Token (List Part)) → Answers (λ gs w. Rest_of_file 64 begin gs w) ts v → answer_of v ≡ read es → v ≡ found es []
+found_of begin ts es (found gs r) h e = ap (λ z. found gs z) h.0 ∙ ap (λ z. found z []) (let k : gs ≡ es = cc in k)
+found_of begin ts es (fault c r) h e = absurd (cc)
 
 pub stands_of : (st : Stop) (v : Verdict Token (List Part)) → answer_of v ≡ stop_of st → Stands st v
 stands_of st (found gs r) e = absurd (cc)
 stands_of st (fault c r) e = (r, ap (λ z. fault z r) (let k : c ≡ cause_of st.cause = cc in k), (let k : length r ≡ st.left = cc in k))
 
-pub fails_as : (ts : List Token) (e : ReadError) → Ends e (answer_of (rest_reader 64 (length ts) start ts)) → Fails e (rest_reader 64 (length ts) start ts)
-fails_as ts errors.Memory h = tt
-fails_as ts (errors.Stopped st) h = stands_of st (rest_reader 64 (length ts) start ts) h
+pub fails_as : (begin : State) (ts : List Token) (e : ReadError) → Ends e (answer_of (rest_reader 64 (length ts) begin ts)) → Fails e (rest_reader 64 (length ts) begin ts)
+fails_as begin ts errors.Memory h = tt
+fails_as begin ts (errors.Stopped st) h = stands_of st (rest_reader 64 (length ts) begin ts) h
 
-pub gives_as : {X : Type 0} (look : X → List Part) (ts : List Token) (r : Result X ReadError) → MatchResult r (λ x. answer_of (rest_reader 64 (length ts) start ts) ≡ read (look x)) (λ e. Ends e (answer_of (rest_reader 64 (length ts) start ts))) → Gives (λ x. (look x, [])) r (rest_reader 64 (length ts) start ts)
-gives_as look ts (Ok x) h = found_of ts (look x) (rest_reader 64 (length ts) start ts) (file_answered 64 (length ts) start ts (omega arith)) h
-gives_as look ts (Err e) h = fails_as ts e h
+pub gives_as : {X : Type 0} (begin : State) (look : X → List Part) (ts : List Token) (r : Result X ReadError) → MatchResult r (λ x. answer_of (rest_reader 64 (length ts) begin ts) ≡ read (look x)) (λ e. Ends e (answer_of (rest_reader 64 (length ts) begin ts))) → Gives (λ x. (look x, [])) r (rest_reader 64 (length ts) begin ts)
+gives_as begin look ts (Ok x) h = found_of begin ts (look x) (rest_reader 64 (length ts) begin ts) (file_answered 64 (length ts) begin ts (omega arith)) h
+gives_as begin look ts (Err e) h = fails_as begin ts e h

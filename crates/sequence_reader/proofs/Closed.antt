@@ -26,6 +26,8 @@ use Rattle.fortran_grammar.specs.ExpressionGrammar as g
 use Rattle.fortran_grammar.specs.ActionGrammar as a
 use Rattle.fortran_grammar.specs.StatementGrammar as c
 use Rattle.fortran_grammar.specs.ProgramGrammar as h
+use Rattle.fortran_grammar.specs.FileGrammar as files
+use Rattle.unit_tree.specs.Files as units
 use Rattle.statement_reader.specs.Heads.{is_over_tok, is_over}
 use Rattle.statement_reader.specs.Parts as f
 use Rattle.statement_reader.specs.Parts.{Part, Form, is_of, whole, within, line, formed}
@@ -368,6 +370,21 @@ only_names ns = behind refl (behind refl (behind refl (maybe_listed p.name a_nam
 use_line : (x : Use) → Ends (h.use_statement x)
 use_line x = last_placed (then (one refl) (then (nature x.nature) (then name (then (optional h.only_names only_names x.only) over))))
 
+-- of a file that may have modules
+rename : (r : units.Rename) → Inner (files.rename r)
+rename r = named (behind refl name)
+
+only_item : (x : units.OnlyItem) → Inner (files.only_item x)
+only_item (units.named n) = name
+only_item (units.renamed r) = rename r
+
+use_list : (x : units.UseList) → Inner (files.use_list x)
+use_list (units.all_but rs) = followed files.rename rename rs
+use_list (units.only xs) = behind refl (behind refl (behind refl (maybe_listed files.only_item only_item xs)))
+
+unit_use_line : (x : units.Use) → Ends (files.use_statement x)
+unit_use_line x = last_placed (then (one refl) (then (nature x.nature) (then name (then (use_list x.list) over))))
+
 recursion : (r : Recursion) → Inner (h.recursion r)
 recursion recursions.Unstated = none
 recursion recursions.Recursive = one refl
@@ -411,6 +428,8 @@ shut_is_before (p.from at P) o = shut_is_before P o
 part : (b : Part) → Ends (whole b)
 part (f.program_part n) = then (one refl) (then name over)
 part (f.use_part x) = use_line x
+part (f.module_part n at) = then (placed (behind refl name)) over
+part (f.unit_use_part x) = unit_use_line x
 part (f.implicit_part at) = last_placed (then (one refl) (then (one refl) over))
 part (f.declaration_part d) = declaration d
 part (f.action_part x at) = then (placed (action x)) over
@@ -433,6 +452,7 @@ part (f.heading_part x at) = then (placed (heading x)) over
 part (f.end_subroutine_part n at) = then (placed (end_of_procedure (codes "subroutine") n)) over
 part (f.end_function_part n at) = then (placed (end_of_procedure (codes "function") n)) over
 part (f.end_program_part n at) = then (placed (end_of_program n)) over
+part (f.end_module_part n at) = then (placed (end_of_procedure (codes "module") n)) over
 
 shut_within : (n : ℕ) (P : Phrase) → shut P ≡ true → shut (within n P) ≡ true
 shut_within zero P o = o

@@ -77,6 +77,8 @@ changed_length g (o ∷ os) = refl
 next_depth : (s : State) (b : Part) → opens_level b ≡ false → depth (next s b) ≤ depth s
 next_depth s (f.program_part n) e = omega arith
 next_depth s (f.use_part x) e = omega arith
+next_depth s (f.module_part n at) e = omega arith
+next_depth s (f.unit_use_part x) e = omega arith
 next_depth s (f.implicit_part at) e = omega arith
 next_depth s (f.declaration_part d) e = omega arith
 next_depth s (f.action_part x at) e = omega arith
@@ -99,6 +101,7 @@ next_depth s (f.heading_part x at) e = omega arith
 next_depth s (f.end_subroutine_part n at) e = omega arith
 next_depth s (f.end_function_part n at) e = omega arith
 next_depth s (f.end_program_part n at) e = omega arith
+next_depth s (f.end_module_part n at) e = omega arith
 
 opened_depth : (s : State) (b : Part) → opens_level b ≡ true → depth (next s b) ≤ suc (depth s)
 opened_depth s (f.condition_part x at) e = omega arith

@@ -1,5 +1,5 @@
 -- A form more at a place.
-use Rattle.std.proofs.Common.{◌≡◌, ℕ, zero, suc, ◌+◌, ◌-◌, ◌<◌, ◌≤◌, true, false, cond, List, [], ◌∷◌, ◌++◌, map, reverse, take, get_or, length, Option, Some, None, inl, inr, refl, ap, sym, ◌∙◌, subst, arith}
+use Rattle.std.proofs.Common.{◌≡◌, ℕ, zero, suc, ◌+◌, ◌-◌, ◌<◌, ◌≤◌, true, false, cond, List, [], ◌∷◌, ◌++◌, map, reverse, take, drop, get_or, length, Option, Some, None, inl, inr, refl, ap, sym, ◌∙◌, subst, arith}
 use Rattle.std.proofs.lemmas.Bool.{le-ltb}
 use Rattle.std.proofs.lemmas.List.{length-reverse}
 use Rattle.reader_theory.specs.Words.{expected, found, fault}
@@ -41,6 +41,11 @@ shallow_reader s i ts h = ap (λ b. cond b (sunk (begins_form i)) (form_reader i
 pub tokens_length : (ws : List Word) → length (tokens_of ws) ≡ length ws
 tokens_length [] = refl
 tokens_length (x ∷ ws) = ap suc (tokens_length ws)
+
+pub tokens_dropped : (n : ℕ) (ws : List Word) → tokens_of (drop n ws) ≡ drop n (tokens_of ws)
+tokens_dropped zero ws = refl
+tokens_dropped (suc n) [] = refl
+tokens_dropped (suc n) (x ∷ ws) = tokens_dropped n ws
 
 pub reads_here : (h : Held) (i : Form) (ts : List Token) → h.conditions + length h.blocks.items ≤ 64 → part_reader 64 (placed (state h) i) ts ≡ form_reader i (64 - (h.conditions + length h.blocks.items)) ts
 reads_here h i ts l = shallow_reader (state h) i ts (subst (λ n. n ≤ 64) (sym (open_depth h)) l) ∙ ap (λ n. form_reader i (64 - n) ts) (open_depth h)

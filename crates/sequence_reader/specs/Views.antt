@@ -1,13 +1,17 @@
 -- What a place in memory stands for.
 use Rattle.std.specs.Prelude.{List, map, reverse}
 use Rattle.program_reader.specs.Sequence as q
-use Rattle.program_reader.specs.Sequence.{State, Scope, Stage, Open}
+use Rattle.program_reader.specs.Sequence.{State, Scope, Stage, Open, ProgramUnit}
 use Rattle.statement_reader.specs.Parts as f
 use Rattle.statement_reader.specs.Parts.{Form}
 use Rattle.sequence_reader.specs.declared.form.Form.{Form as HeldForm}
 use Rattle.sequence_reader.specs.declared.form.Form.TheVariants as held
 use Rattle.sequence_reader.specs.declared.state.Stage.{Stage as HeldStage}
 use Rattle.sequence_reader.specs.declared.state.Stage.TheVariants as stages
+use Rattle.sequence_reader.specs.declared.state.Beginning.{Beginning}
+use Rattle.sequence_reader.specs.declared.state.Beginning.TheVariants as beginnings
+use Rattle.sequence_reader.specs.declared.state.ProgramUnit.{ProgramUnit as HeldUnit}
+use Rattle.sequence_reader.specs.declared.state.ProgramUnit.TheVariants as held_units
 use Rattle.sequence_reader.specs.declared.state.Scope.{Scope as HeldScope}
 use Rattle.sequence_reader.specs.declared.state.Scope.TheVariants as scopes
 use Rattle.sequence_reader.specs.declared.state.Construct.{Construct}
@@ -21,12 +25,23 @@ stage stages.Opening = q.opening
 stage stages.InDeclarations = q.in_declarations
 stage stages.InStatements = q.in_statements
 
+abbrev pub program_unit : HeldUnit → ProgramUnit
+program_unit held_units.Alone = q.alone
+program_unit held_units.Main = q.main
+program_unit (held_units.Module at) = q.module_at at
+
 abbrev pub scope : HeldScope → Scope
-scope (scopes.MainProgram s) = q.main_program (stage s)
-scope scopes.Between = q.between
-scope (scopes.InSubroutine at s) = q.in_subroutine at (stage s)
-scope (scopes.InFunction at s) = q.in_function at (stage s)
+scope scopes.NoUnit = q.no_unit
+scope (scopes.InUnit u s) = q.in_program_unit (program_unit u) (stage s)
+scope (scopes.Between u) = q.between (program_unit u)
+scope (scopes.InSubroutine u at s) = q.in_subroutine (program_unit u) at (stage s)
+scope (scopes.InFunction u at s) = q.in_function (program_unit u) at (stage s)
 scope scopes.Over = q.over
+
+-- where a file begins
+abbrev pub beginning : Beginning → State
+beginning beginnings.Program = q.start
+beginning beginnings.Units = q.start_of_units
 
 abbrev pub construct : Construct → Open
 construct (constructs.If at) = q.if_open at
@@ -47,6 +62,8 @@ state s = record { scope = scope s.scope; blocks = blocks s.blocks.items; condit
 abbrev pub form : HeldForm → Form
 form held.Program = f.program_form
 form held.Use = f.use_form
+form held.Module = f.module_form
+form held.UnitUse = f.unit_use_form
 form held.Implicit = f.implicit_form
 form held.Declaration = f.declaration_form
 form held.Assignment = f.assignment_form
@@ -72,3 +89,4 @@ form held.Function = f.function_form
 form held.EndSubroutine = f.end_subroutine_form
 form held.EndFunction = f.end_function_form
 form held.EndProgram = f.end_program_form
+form held.EndModule = f.end_module_form

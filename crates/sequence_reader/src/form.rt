@@ -15,14 +15,15 @@ use keyword_reader::action::keyword_action;
 use part_reader::act::assignment;
 use part_reader::choice::case;
 use part_reader::ending::{
-    contains, end_critical, end_do, end_function, end_if, end_program, end_select, end_subroutine,
-    implicit_none, otherwise, program,
+    contains, end_critical, end_do, end_function, end_if, end_module, end_program, end_select,
+    end_subroutine, implicit_none, module, otherwise, program,
 };
 use part_reader::head::{condition, else_if, if_then, select_case};
 use part_reader::looping::{named_repetition, repetition};
 use part_reader::part::Part;
 use part_reader::team::{change_team, critical, end_team};
 use part_reader::unit::{subroutine, usage};
+use part_reader::unit_use::unit_usage;
 use std::alloc::Global;
 
 /// A form of parts: statements that are spelled alike.
@@ -30,6 +31,9 @@ use std::alloc::Global;
 pub enum Form {
     Program,
     Use,
+    Module,
+    /// USE in a file that may have modules.
+    UnitUse,
     Implicit,
     Declaration,
     Assignment,
@@ -58,6 +62,7 @@ pub enum Form {
     EndSubroutine,
     EndFunction,
     EndProgram,
+    EndModule,
 }
 
 /// A declaration.
@@ -104,6 +109,8 @@ pub fn read_form<'a>(
     match form {
         Form::Program => program(words),
         Form::Use => usage(alloc, words, left),
+        Form::Module => module(words),
+        Form::UnitUse => unit_usage(alloc, words, left),
         Form::Implicit => implicit_none(words),
         Form::Declaration => declared(alloc, words, left),
         Form::Assignment => assignment(alloc, words, left),
@@ -129,5 +136,6 @@ pub fn read_form<'a>(
         Form::EndSubroutine => end_subroutine(words),
         Form::EndFunction => end_function(words),
         Form::EndProgram => end_program(words),
+        Form::EndModule => end_module(words),
     }
 }

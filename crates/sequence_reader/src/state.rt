@@ -1,6 +1,7 @@
 //! Places in a file: the program unit, how far it has come, and what is open there.
 
 ghost use Rattle.std.specs.Prelude.{◌≡◌, ◌+◌, ◌<◌, ◌++◌, [], ◌∷◌, suc, map, MatchOption, MatchResult};
+ghost use Rattle.caf_base.specs.declared.place.Pos.{Pos};
 ghost use Rattle.program_reader.specs.Sequence as sequence;
 ghost use Rattle.fortran_tree.specs.UnitViews as units;
 ghost use Rattle.part_reader.specs.Views as parts;
@@ -25,14 +26,47 @@ pub enum Stage {
     InStatements,
 }
 
-/// The program unit; a procedure with the place of its first token.
+/// What a file is read as.
+#[derive(Clone, Copy)]
+pub enum Beginning {
+    /// A main program alone.
+    Program,
+    /// Modules, and a main program behind them.
+    Units,
+}
+
+/// A program unit.
+#[derive(Clone, Copy)]
+pub enum ProgramUnit {
+    /// The main program that is a file by itself.
+    Alone,
+    /// The main program of a file that may have modules.
+    Main,
+    /// A module, with the place of its first token.
+    Module(Pos),
+}
+
+/// The program unit, or the procedure of one with the place of its first token.
 #[derive(Clone, Copy)]
 pub enum Scope {
-    MainProgram(Stage),
+    /// In a file that may have modules, at its beginning or behind the END of a module.
+    NoUnit,
+    InUnit {
+        unit: ProgramUnit,
+        stage: Stage,
+    },
     /// Behind CONTAINS, in no procedure.
-    Between,
-    InSubroutine { at: Pos, stage: Stage },
-    InFunction { at: Pos, stage: Stage },
+    Between(ProgramUnit),
+    InSubroutine {
+        unit: ProgramUnit,
+        at: Pos,
+        stage: Stage,
+    },
+    InFunction {
+        unit: ProgramUnit,
+        at: Pos,
+        stage: Stage,
+    },
     /// Behind the main program's END.
     Over,
 }
@@ -63,11 +97,18 @@ pub struct State {
 }
 
 /// The place at the beginning of a file.
-pub fn start(alloc: Global) -> State
-    ensures { view.state result ≡ sequence.start }
+pub fn start(alloc: Global, beginning: Beginning) -> State
+    ensures { view.state result ≡ view.beginning beginning }
 {
+    let scope = match beginning {
+        Beginning::Program => Scope::InUnit {
+            unit: ProgramUnit::Alone,
+            stage: Stage::Starting,
+        },
+        Beginning::Units => Scope::NoUnit,
+    };
     State {
-        scope: Scope::MainProgram(Stage::Starting),
+        scope,
         blocks: Vec::new(alloc),
         conditions: 0,
     }
@@ -78,11 +119,29 @@ fn staged(stage: Stage, scope: Scope) -> Scope
     ensures { view.scope result ≡ sequence.staged (view.stage stage) (view.scope scope) }
 {
     match scope {
-        Scope::MainProgram(_) => Scope::MainProgram(stage),
-        Scope::InSubroutine { at, .. } => Scope::InSubroutine { at, stage },
-        Scope::InFunction { at, .. } => Scope::InFunction { at, stage },
-        Scope::Between => Scope::Between,
+        Scope::NoUnit => Scope::InUnit {
+            unit: ProgramUnit::Main,
+            stage,
+        },
+        Scope::InUnit { unit, .. } => Scope::InUnit { unit, stage },
+        Scope::InSubroutine { unit, at, .. } => Scope::InSubroutine { unit, at, stage },
+        Scope::InFunction { unit, at, .. } => Scope::InFunction { unit, at, stage },
+        Scope::Between(unit) => Scope::Between(unit),
         Scope::Over => Scope::Over,
+    }
+}
+
+/// The unit of a place.
+fn program_unit(scope: Scope) -> ProgramUnit
+    ensures { view.program_unit result ≡ sequence.program_unit (view.scope scope) }
+{
+    match scope {
+        Scope::NoUnit => ProgramUnit::Main,
+        Scope::InUnit { unit, .. } => unit,
+        Scope::InSubroutine { unit, .. } => unit,
+        Scope::InFunction { unit, .. } => unit,
+        Scope::Between(unit) => unit,
+        Scope::Over => ProgramUnit::Alone,
     }
 }
 
@@ -192,19 +251,31 @@ fn in_unit(state: &mut State, scope: Scope)
     state.conditions = 0;
 }
 
-/// The unit of a procedure.
-fn unit_of(heading: &Heading, at: Pos) -> Scope
-    ensures { view.scope result ≡ sequence.unit_of (units.heading heading.now) at }
+/// In a procedure of the unit.
+fn unit_of(unit: ProgramUnit, heading: &Heading, at: Pos) -> Scope
+    ensures { view.scope result ≡ sequence.unit_of (view.program_unit unit) (units.heading heading.now) at }
 {
     match heading {
         Heading::Subroutine { .. } => Scope::InSubroutine {
+            unit,
             at,
             stage: Stage::Opening,
         },
         Heading::Function { .. } => Scope::InFunction {
+            unit,
             at,
             stage: Stage::Opening,
         },
+    }
+}
+
+/// In a module behind its first statement.
+fn in_module(at: Pos) -> Scope
+    ensures { view.scope result ≡ sequence.in_program_unit (sequence.module_at at) sequence.in_uses }
+{
+    Scope::InUnit {
+        unit: ProgramUnit::Module(at),
+        stage: Stage::InUses,
     }
 }
 
@@ -213,6 +284,7 @@ pub fn step(state: &mut State, part: &Part) -> Result<(), ReadError>
     requires { state.old.conditions < 65 }
     ensures { MatchResult result (λ z. view.state state.new ≡ sequence.next (view.state state.old) (parts.part part.now)) (λ e. e ≡ ReadError.Memory) }
 {
+    let unit = program_unit(state.scope);
     match part {
         Part::IfThen { at, .. } => return opened(state, Construct::If(*at)),
         Part::Do { at, .. } => return opened(state, Construct::Do(*at)),
@@ -221,7 +293,7 @@ pub fn step(state: &mut State, part: &Part) -> Result<(), ReadError>
         Part::ChangeTeam { at, .. } => return opened(state, Construct::Team(*at)),
         Part::Else(_) => return otherwise(state),
         Part::Case { .. } => return case(state),
-        Part::Program(_) | Part::Use(_) => reach(state, Stage::InUses),
+        Part::Program(_) | Part::Use(_) | Part::UnitUse(_) => reach(state, Stage::InUses),
         Part::ImplicitNone(_) | Part::Declaration(_) => reach(state, Stage::InDeclarations),
         Part::Action { .. } => reach(state, Stage::InStatements),
         Part::Condition { .. } => condition(state),
@@ -231,11 +303,13 @@ pub fn step(state: &mut State, part: &Part) -> Result<(), ReadError>
         | Part::EndSelect(_)
         | Part::EndCritical(_)
         | Part::EndTeam { .. } => closed(state),
-        Part::Heading { heading, at } => in_unit(state, unit_of(heading, *at)),
+        Part::Heading { heading, at } => in_unit(state, unit_of(unit, heading, *at)),
         Part::Contains | Part::EndSubroutine(_) | Part::EndFunction(_) => {
-            in_unit(state, Scope::Between)
+            in_unit(state, Scope::Between(unit))
         }
         Part::EndProgram(_) => in_unit(state, Scope::Over),
+        Part::Module { at, .. } => in_unit(state, in_module(*at)),
+        Part::EndModule(_) => in_unit(state, Scope::NoUnit),
     }
     Ok(())
 }
@@ -264,9 +338,9 @@ const STATEMENTS: [Form; 9] = [
     Form::Team,
 ];
 
-/// The forms before a unit's statements.
+/// The forms before the statements of a main program that is a file by itself, or of a procedure.
 fn early(stage: Stage) -> &'static [Form]
-    ensures { map view.form result.now ++ sequence.statement_forms ≡ sequence.stage_forms (view.stage stage) }
+    ensures { map view.form result.now ++ sequence.statement_forms ≡ sequence.stage_forms sequence.alone (view.stage stage) }
 {
     match stage {
         Stage::Starting => &[Form::Program, Form::Use, Form::Implicit, Form::Declaration],
@@ -277,18 +351,72 @@ fn early(stage: Stage) -> &'static [Form]
     }
 }
 
-/// The forms that a unit allows where nothing is open in it.
-fn of_unit(scope: Scope) -> Allowed
-    ensures { map view.form result.own.now ++ (map view.form result.early.now ++ map view.form result.statements.now) ≡ sequence.scope_forms (view.scope scope) }
+/// Those before the statements of a unit in a file that may have modules.
+fn unit_early(stage: Stage) -> &'static [Form]
+    ensures in_main { map view.form result.now ++ sequence.statement_forms ≡ sequence.stage_forms sequence.main (view.stage stage) }
+    ensures in_module { (at : Pos) → map view.form result.now ++ [] ≡ sequence.stage_forms (sequence.module_at at) (view.stage stage) }
 {
-    match scope {
-        Scope::MainProgram(stage) => Allowed {
+    match stage {
+        Stage::Starting => &[
+            Form::Program,
+            Form::UnitUse,
+            Form::Implicit,
+            Form::Declaration,
+        ],
+        Stage::InUses => &[Form::UnitUse, Form::Implicit, Form::Declaration],
+        Stage::Opening => &[Form::Implicit, Form::Declaration],
+        Stage::InDeclarations => &[Form::Declaration],
+        Stage::InStatements => &[],
+    }
+}
+
+/// The forms that a unit allows where nothing is open in it.
+fn in_unit_forms(unit: ProgramUnit, stage: Stage) -> Allowed
+    ensures { map view.form result.own.now ++ (map view.form result.early.now ++ map view.form result.statements.now) ≡ sequence.scope_forms (sequence.in_program_unit (view.program_unit unit) (view.stage stage)) }
+{
+    match unit {
+        ProgramUnit::Alone => Allowed {
             own: &[Form::EndProgram, Form::Contains],
             early: early(stage),
             statements: &STATEMENTS,
         },
-        Scope::Between => Allowed {
-            own: &[Form::EndProgram, Form::Subroutine, Form::Function],
+        ProgramUnit::Main => Allowed {
+            own: &[Form::EndProgram, Form::Contains],
+            early: unit_early(stage),
+            statements: &STATEMENTS,
+        },
+        ProgramUnit::Module(_) => Allowed {
+            own: &[Form::EndModule, Form::Contains],
+            early: unit_early(stage),
+            statements: &[],
+        },
+    }
+}
+
+/// Those behind CONTAINS.
+fn procedure_forms(unit: ProgramUnit) -> &'static [Form]
+    ensures { map view.form result.now ≡ sequence.scope_forms (sequence.between (view.program_unit unit)) }
+{
+    match unit {
+        ProgramUnit::Alone => &[Form::EndProgram, Form::Subroutine, Form::Function],
+        ProgramUnit::Main => &[Form::EndProgram, Form::Subroutine, Form::Function],
+        ProgramUnit::Module(_) => &[Form::EndModule, Form::Subroutine, Form::Function],
+    }
+}
+
+/// The forms that a unit or a procedure allows where nothing is open in it.
+fn of_unit(scope: Scope) -> Allowed
+    ensures { map view.form result.own.now ++ (map view.form result.early.now ++ map view.form result.statements.now) ≡ sequence.scope_forms (view.scope scope) }
+{
+    match scope {
+        Scope::NoUnit => Allowed {
+            own: &[Form::EndProgram, Form::Contains, Form::Module],
+            early: unit_early(Stage::Starting),
+            statements: &STATEMENTS,
+        },
+        Scope::InUnit { unit, stage } => in_unit_forms(unit, stage),
+        Scope::Between(unit) => Allowed {
+            own: procedure_forms(unit),
             early: &[],
             statements: &[],
         },

@@ -31,7 +31,7 @@ use Rattle.source_reader.specs.Sources.{AreStatements, AreSourceWords, IsRead}
 use Rattle.program_reader.specs.Unfinished.{No_statement}
 use Rattle.open_constructs.proofs.Opened.{open_once}
 use Rattle.file_reader.specs.Refusals.{IsExpectedAt, IsOpenAt, IsTooDeepAt}
-use Rattle.source_reader.specs.Refusals.{IsTokenFault, AreRefused, WordsAreRefused, IsRefused, of_line, of_token}
+use Rattle.source_reader.specs.Refusals.{IsTokenFault, AreRefused, WordsAreRefusedBy, IsRefusedBy, IsRefused, of_line, of_token}
 
 abbrev byte : ℕ → Pos → PlacedByte
 byte b p = record { code = b; at = p }
@@ -76,34 +76,34 @@ same_list (x ∷ xs) (y ∷ ys) e = ap (λ z. z ∷ xs) (same_statement x y (cc)
 same_statements : (bytes : List ℕ) (xs ys : List Stmt) → AreStatements bytes xs → AreStatements bytes ys → xs ≡ ys
 same_statements bytes xs ys h k = same_list xs ys (h.joined ∙ sym k.joined)
 
-same_words : (bytes : List ℕ) (ts us : List Token) → AreSourceWords bytes ts → AreSourceWords bytes us → ts ≡ us
+pub same_words : (bytes : List ℕ) (ts us : List Token) → AreSourceWords bytes ts → AreSourceWords bytes us → ts ≡ us
 same_words bytes ts us h k = words_once k.statements ts us (subst (λ z. AreWords z ts) (same_statements bytes h.statements k.statements h.are k.are) h.cut) k.cut
 
-not_cut : (bytes : List ℕ) (ts : List Token) (f : TokenFault) → AreSourceWords bytes ts → IsTokenFault bytes f → ⊥
+pub not_cut : (bytes : List ℕ) (ts : List Token) (f : TokenFault) → AreSourceWords bytes ts → IsTokenFault bytes f → ⊥
 not_cut bytes ts f h k = never_both k.statements ts f (subst (λ z. AreWords z ts) (same_statements bytes h.statements k.statements h.are k.are) h.cut) k.first
 
 pub read_once : (bytes : List ℕ) (x y : Program) → IsRead bytes x → IsRead bytes y → x ≡ y
 read_once bytes x y h k = one_program 64 k.words x y (subst (λ z. Reads Sources z x) (same_words bytes h.words k.words h.are k.are) h.spelled) k.spelled
 
 -- the sorts of refusals
-data Told (bytes : List ℕ) (f : ReadFault) : Type 0 where
-  by_lines : (l : LineFault) → f ≡ of_line l → IsFirst (faults_of bytes) l → Told bytes f
-  by_tokens : (l : TokenFault) → f ≡ of_token l → IsTokenFault bytes l → Told bytes f
-  by_words : WordsAreRefused bytes f → Told bytes f
+pub data Told (R : List Token → ReadFault → Type 0) (bytes : List ℕ) (f : ReadFault) : Type 0 where
+  by_lines : (l : LineFault) → f ≡ of_line l → IsFirst (faults_of bytes) l → Told R bytes f
+  by_tokens : (l : TokenFault) → f ≡ of_token l → IsTokenFault bytes l → Told R bytes f
+  by_words : WordsAreRefusedBy R bytes f → Told R bytes f
 
-told : (bytes : List ℕ) (f : ReadFault) → IsRefused bytes f → Told bytes f
-told bytes (NotAscii at) h = by_lines (lines.NotAscii at) refl h
-told bytes (LineTooLong at) h = by_lines (lines.LineTooLong at) refl h
-told bytes (DanglingContinuation at) h = by_lines (lines.DanglingContinuation at) refl h
-told bytes (OpenLiteral at) h = by_lines (lines.OpenLiteral at) refl h
-told bytes (BadCharacter at) h = by_tokens (tokens.BadCharacter at) refl h
-told bytes (NumberTooWide at) h = by_tokens (tokens.NumberTooWide at) refl h
-told bytes (Expected at) h = by_words h
-told bytes (BlockNotClosed at) h = by_words h
-told bytes (TooDeep at) h = by_words h
+pub told : (R : List Token → ReadFault → Type 0) (bytes : List ℕ) (f : ReadFault) → IsRefusedBy R bytes f → Told R bytes f
+told R bytes (NotAscii at) h = by_lines (lines.NotAscii at) refl h
+told R bytes (LineTooLong at) h = by_lines (lines.LineTooLong at) refl h
+told R bytes (DanglingContinuation at) h = by_lines (lines.DanglingContinuation at) refl h
+told R bytes (OpenLiteral at) h = by_lines (lines.OpenLiteral at) refl h
+told R bytes (BadCharacter at) h = by_tokens (tokens.BadCharacter at) refl h
+told R bytes (NumberTooWide at) h = by_tokens (tokens.NumberTooWide at) refl h
+told R bytes (Expected at) h = by_words h
+told R bytes (BlockNotClosed at) h = by_words h
+told R bytes (TooDeep at) h = by_words h
 
 -- lines that break no rule have no first fault
-unbroken : (fs : List LineFault) (l : LineFault) → fs ≡ [] → IsFirst fs l → ⊥
+pub unbroken : (fs : List LineFault) (l : LineFault) → fs ≡ [] → IsFirst fs l → ⊥
 unbroken fs l e h = none (subst (λ z. Contains z l) e h.one)
   where
     none : Contains [] l → ⊥
@@ -131,28 +131,28 @@ not_words ts x (TooDeep at) h k = not_read Sources ts (level_at k.before) k.rest
 not_words ts x f h k = k
 
 pub read_not_refused : (bytes : List ℕ) (x : Program) (f : ReadFault) → IsRead bytes x → IsRefused bytes f → ⊥
-read_not_refused bytes x f h k = elim (told bytes f k) [
+read_not_refused bytes x f h k = elim (told AreRefused bytes f k) [
   | by_lines l e first ↦ unbroken (faults_of bytes) l h.are.are.unbroken first
   | by_tokens l e first ↦ not_cut bytes h.words l h.are first
   | by_words (ts, are, refused) ↦ not_words h.words x f h.spelled (subst (λ z. AreRefused z f) (same_words bytes ts h.words are h.are) refused)
 ]
 
 -- words are refused in one way
-no_rest : (ts : List Token) (at : Pos) → ts ≡ [] → IsExpectedAt ts at → ⊥
+no_rest : (ts : List Token) (at : Pos) → ts ≡ [] → IsExpectedAt Sources ts at → ⊥
 no_rest ts at e k = by_front k.refused.front (sym e ∙ k.refused.split)
   where
     by_front : (front : List Token) → [] ≡ front ++ k.token ∷ k.rest → ⊥
     by_front [] e = absurd (cc)
     by_front (t ∷ front) e = absurd (cc)
 
-no_token : (ts : List Token) (at : Pos) → ts ≡ [] → IsTooDeepAt ts at → ⊥
+no_token : (ts : List Token) (at : Pos) → ts ≡ [] → IsTooDeepAt Sources ts at → ⊥
 no_token ts at e k = absurd (let none : slice_get [] k.before ≡ Some k.token = subst (λ z. slice_get z k.before ≡ Some k.token) e k.stands in cc)
 
-not_some : (ts : List Token) → ts ≡ [] → 0 < length ts → ⊥
+pub not_some : (ts : List Token) → ts ≡ [] → 0 < length ts → ⊥
 not_some ts e h = absurd (let none = ap length e in omega arith)
 
 module _ (ts : List Token) where
-  expected_once : (at : Pos) (g : ReadFault) → No_statement ts at ⊎ IsExpectedAt ts at → AreRefused ts g → Expected at ≡ g
+  expected_once : (at : Pos) (g : ReadFault) → No_statement ts at ⊎ IsExpectedAt Sources ts at → AreRefused ts g → Expected at ≡ g
   expected_once at (Expected there) (inl (none, p)) (inl (also, q)) = ap Expected (p ∙ sym q)
   expected_once at (Expected there) (inl (none, p)) (inr k) = absurd (no_rest ts there none k)
   expected_once at (Expected there) (inr h) (inl (none, p)) = absurd (no_rest ts at none h)
@@ -172,7 +172,7 @@ module _ (ts : List Token) where
   unclosed_once at (TooDeep there) h k = absurd (let both = one_refusal Sources ts [] k.rest no_word (level_at k.before) h.refused k.refused in let z = both.0 in cc)
   unclosed_once at g h k = absurd k
 
-  deep_once : (at : Pos) (g : ReadFault) → IsTooDeepAt ts at → AreRefused ts g → TooDeep at ≡ g
+  deep_once : (at : Pos) (g : ReadFault) → IsTooDeepAt Sources ts at → AreRefused ts g → TooDeep at ≡ g
   deep_once at (Expected there) h k = sym (expected_once there (TooDeep at) k h)
   deep_once at (BlockNotClosed there) h k = sym (unclosed_once there (TooDeep at) k h)
   deep_once at (TooDeep there) h k =
@@ -189,25 +189,29 @@ module _ (ts : List Token) where
   words_refused_once (TooDeep at) g h k = deep_once at g h k
   words_refused_once f g h k = absurd h
 
-module _ (bytes : List ℕ) where
-  lines_once : (f g : ReadFault) (l : LineFault) → f ≡ of_line l → IsFirst (faults_of bytes) l → Told bytes g → f ≡ g
+-- of how words are refused in one way alone a source is
+module _ (R : List Token → ReadFault → Type 0) (once : (ts : List Token) (f g : ReadFault) → R ts f → R ts g → f ≡ g) (bytes : List ℕ) where
+  lines_once : (f g : ReadFault) (l : LineFault) → f ≡ of_line l → IsFirst (faults_of bytes) l → Told R bytes g → f ≡ g
   lines_once f g l e h (by_lines m i k) = e ∙ (ap of_line (one_first (faults_of bytes) l m h k) ∙ sym i)
   lines_once f g l e h (by_tokens m i k) = absurd (unbroken (faults_of bytes) l k.are.unbroken h)
   lines_once f g l e h (by_words (ts, are, k)) = absurd (unbroken (faults_of bytes) l are.are.unbroken h)
 
-  tokens_once : (f g : ReadFault) (l : TokenFault) → f ≡ of_token l → IsTokenFault bytes l → Told bytes g → f ≡ g
+  tokens_once : (f g : ReadFault) (l : TokenFault) → f ≡ of_token l → IsTokenFault bytes l → Told R bytes g → f ≡ g
   tokens_once f g l e h (by_lines m i k) = sym (lines_once g f m i k (by_tokens l e h))
   tokens_once f g l e h (by_tokens m i k) = e ∙ (ap of_token (first_once k.statements l m (subst (λ z. IsFirstRefused z l) (same_statements bytes h.statements k.statements h.are k.are) h.first) k.first) ∙ sym i)
   tokens_once f g l e h (by_words (ts, are, k)) = absurd (not_cut bytes ts l are h)
 
-  words_told_once : (f g : ReadFault) (ts : List Token) → AreSourceWords bytes ts → AreRefused ts f → Told bytes g → f ≡ g
+  words_told_once : (f g : ReadFault) (ts : List Token) → AreSourceWords bytes ts → R ts f → Told R bytes g → f ≡ g
   words_told_once f g ts are h (by_lines m i k) = sym (lines_once g f m i k (by_words (ts, are, h)))
   words_told_once f g ts are h (by_tokens m i k) = sym (tokens_once g f m i k (by_words (ts, are, h)))
-  words_told_once f g ts are h (by_words (us, also, k)) = words_refused_once ts f g h (subst (λ z. AreRefused z g) (same_words bytes us ts also are) k)
+  words_told_once f g ts are h (by_words (us, also, k)) = once ts f g h (subst (λ z. R z g) (same_words bytes us ts also are) k)
 
-  pub refused_once : (f g : ReadFault) → IsRefused bytes f → IsRefused bytes g → f ≡ g
-  refused_once f g h k = elim (told bytes f h) [
-    | by_lines l e first ↦ lines_once f g l e first (told bytes g k)
-    | by_tokens l e first ↦ tokens_once f g l e first (told bytes g k)
-    | by_words (ts, are, refused) ↦ words_told_once f g ts are refused (told bytes g k)
+  pub source_once : (f g : ReadFault) → IsRefusedBy R bytes f → IsRefusedBy R bytes g → f ≡ g
+  source_once f g h k = elim (told R bytes f h) [
+    | by_lines l e first ↦ lines_once f g l e first (told R bytes g k)
+    | by_tokens l e first ↦ tokens_once f g l e first (told R bytes g k)
+    | by_words (ts, are, refused) ↦ words_told_once f g ts are refused (told R bytes g k)
   ]
+
+pub refused_once : (bytes : List ℕ) (f g : ReadFault) → IsRefused bytes f → IsRefused bytes g → f ≡ g
+refused_once bytes = source_once AreRefused words_refused_once bytes

@@ -70,16 +70,30 @@ AreRefused ts (BlockNotClosed at) = words.AreRefused ts (files.NotClosed at)
 AreRefused ts (TooDeep at) = words.AreRefused ts (files.TooDeep at)
 AreRefused ts f = ⊥
 
--- so are words of this source
-abbrev pub WordsAreRefused : List ℕ → ReadFault → Type 0
-WordsAreRefused bytes f = (ts : List Token) × AreSourceWords bytes ts × AreRefused ts f
+-- so those of a file that may have modules
+abbrev pub AreRefusedUnits : List Token → ReadFault → Type 0
+AreRefusedUnits ts (Expected at) = words.AreRefusedUnits ts (files.Expected at)
+AreRefusedUnits ts (BlockNotClosed at) = words.AreRefusedUnits ts (files.NotClosed at)
+AreRefusedUnits ts (TooDeep at) = words.AreRefusedUnits ts (files.TooDeep at)
+AreRefusedUnits ts f = ⊥
 
--- how a source is refused
+-- so are words of this source
+abbrev pub WordsAreRefusedBy : (List Token → ReadFault → Type 0) → List ℕ → ReadFault → Type 0
+WordsAreRefusedBy R bytes f = (ts : List Token) × AreSourceWords bytes ts × R ts f
+
+-- how a source is refused, by how words are
+abbrev pub IsRefusedBy : (List Token → ReadFault → Type 0) → List ℕ → ReadFault → Type 0
+IsRefusedBy R bytes (NotAscii at) = IsFirst (faults_of bytes) (lines.NotAscii at)
+IsRefusedBy R bytes (LineTooLong at) = IsFirst (faults_of bytes) (lines.LineTooLong at)
+IsRefusedBy R bytes (DanglingContinuation at) = IsFirst (faults_of bytes) (lines.DanglingContinuation at)
+IsRefusedBy R bytes (OpenLiteral at) = IsFirst (faults_of bytes) (lines.OpenLiteral at)
+IsRefusedBy R bytes (BadCharacter at) = IsTokenFault bytes (tokens.BadCharacter at)
+IsRefusedBy R bytes (NumberTooWide at) = IsTokenFault bytes (tokens.NumberTooWide at)
+IsRefusedBy R bytes f = WordsAreRefusedBy R bytes f
+
+-- how a source is refused as a program, and as a file that may have modules
 abbrev pub IsRefused : List ℕ → ReadFault → Type 0
-IsRefused bytes (NotAscii at) = IsFirst (faults_of bytes) (lines.NotAscii at)
-IsRefused bytes (LineTooLong at) = IsFirst (faults_of bytes) (lines.LineTooLong at)
-IsRefused bytes (DanglingContinuation at) = IsFirst (faults_of bytes) (lines.DanglingContinuation at)
-IsRefused bytes (OpenLiteral at) = IsFirst (faults_of bytes) (lines.OpenLiteral at)
-IsRefused bytes (BadCharacter at) = IsTokenFault bytes (tokens.BadCharacter at)
-IsRefused bytes (NumberTooWide at) = IsTokenFault bytes (tokens.NumberTooWide at)
-IsRefused bytes f = WordsAreRefused bytes f
+IsRefused bytes f = IsRefusedBy AreRefused bytes f
+
+abbrev pub IsRefusedUnits : List ℕ → ReadFault → Type 0
+IsRefusedUnits bytes f = IsRefusedBy AreRefusedUnits bytes f

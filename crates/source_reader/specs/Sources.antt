@@ -7,8 +7,10 @@ use Rattle.fortran_lines.specs.Statements.{placed_bytes}
 use Rattle.token_words.specs.Words.{AreWords}
 use Rattle.reader_theory.specs.Refusals.{Reads}
 use Rattle.fortran_tree.specs.Units.{Program}
+use Rattle.unit_tree.specs.Files.{UnitFile}
 use Rattle.fortran_grammar.specs.Tokens.{Token}
 use Rattle.fortran_grammar.specs.ProgramGrammar.{Sources}
+use Rattle.fortran_grammar.specs.FileGrammar.{UnitSources}
 
 -- these are the statements that the lines of a file join to, and no line breaks a rule
 pub record AreStatements (bytes : List ℕ) (ss : List Stmt) : Type 0 where
@@ -26,3 +28,9 @@ pub record IsRead (bytes : List ℕ) (x : Program) : Type 0 where
   pub words : List Token
   pub are : AreSourceWords bytes words
   pub spelled : Reads Sources words x
+
+-- a source that may have modules is read as the file that its words spell, where 64 levels may be open
+pub record IsReadUnits (bytes : List ℕ) (x : UnitFile) : Type 0 where
+  pub words : List Token
+  pub are : AreSourceWords bytes words
+  pub spelled : Reads UnitSources words x

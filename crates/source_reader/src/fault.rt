@@ -31,10 +31,11 @@ pub enum ReadFault {
     #[error("NumberTooWide at {}:{}", .at.line, .at.col)]
     NumberTooWide { at: Pos },
     /// A token with which no statement that the grammar allows there goes on, or just past the statement where more was
-    /// needed.
+    /// needed, as behind the last module where no program follows.
     #[error("Expected at {}:{}", .at.line, .at.col)]
     Expected { at: Pos },
-    /// A construct that is open where the file ends, at its first token: the innermost one.
+    /// A construct, a procedure or a program unit that is open where the file ends, at its first token: the innermost
+    /// one.
     #[error("BlockNotClosed at {}:{}", .at.line, .at.col)]
     BlockNotClosed { at: Pos },
     /// More than 64 levels are open, at the first token of the 65th.

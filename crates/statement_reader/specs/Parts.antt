@@ -13,6 +13,8 @@ use Rattle.fortran_grammar.specs.ExpressionGrammar as g
 use Rattle.fortran_grammar.specs.ActionGrammar as a
 use Rattle.fortran_grammar.specs.StatementGrammar as c
 use Rattle.fortran_grammar.specs.ProgramGrammar as h
+use Rattle.fortran_grammar.specs.FileGrammar as files
+use Rattle.unit_tree.specs.Files as units
 use Rattle.statement_reader.specs.Keywords.{is_keyword_action}
 use Rattle.statement_reader.specs.Lines.{is_assignment}
 
@@ -20,6 +22,9 @@ use Rattle.statement_reader.specs.Lines.{is_assignment}
 pub data Part : Type 0 where
   program_part : Name → Part
   use_part : Use → Part
+  -- MODULE with its name; USE in a file that may have modules
+  module_part : Name → Pos → Part
+  unit_use_part : units.Use → Part
   implicit_part : Pos → Part
   declaration_part : Declaration → Part
   -- an action that is no IF
@@ -44,6 +49,7 @@ pub data Part : Type 0 where
   end_subroutine_part : Option Name → Pos → Part
   end_function_part : Option Name → Pos → Part
   end_program_part : Option Name → Pos → Part
+  end_module_part : Option Name → Pos → Part
 
 -- so many levels further in
 abbrev pub within : ℕ → Phrase → Phrase
@@ -54,6 +60,8 @@ within (suc n) P = p.deeper (within n P)
 abbrev pub whole : Part → Phrase
 whole (program_part n) = h.program_statement n
 whole (use_part x) = h.use_statement x
+whole (module_part n at) = p.from at (p.key (codes "module") ▸ p.name n) ▸ p.over
+whole (unit_use_part x) = files.use_statement x
 whole (implicit_part at) = h.implicit_none at
 whole (declaration_part d) = a.declaration d
 whole (action_part f at) = a.action f at ▸ p.over
@@ -76,11 +84,14 @@ whole (heading_part x at) = p.from at (h.heading x) ▸ p.over
 whole (end_subroutine_part n at) = p.from at (h.end_of_procedure (codes "subroutine") n) ▸ p.over
 whole (end_function_part n at) = p.from at (h.end_of_procedure (codes "function") n) ▸ p.over
 whole (end_program_part n at) = p.from at (h.end_of_program n) ▸ p.over
+whole (end_module_part n at) = p.from at (h.end_of_procedure (codes "module") n) ▸ p.over
 
 -- The forms of parts, of which a place allows some.
 pub data Form : Type 0 where
   program_form : Form
   use_form : Form
+  module_form : Form
+  unit_use_form : Form
   implicit_form : Form
   declaration_form : Form
   assignment_form : Form
@@ -108,11 +119,14 @@ pub data Form : Type 0 where
   end_subroutine_form : Form
   end_function_form : Form
   end_program_form : Form
+  end_module_form : Form
 
 -- the part has this form
 abbrev pub is_of : Form → Part → Bool
 is_of program_form (program_part n) = true
 is_of use_form (use_part x) = true
+is_of module_form (module_part n at) = true
+is_of unit_use_form (unit_use_part x) = true
 is_of implicit_form (implicit_part at) = true
 is_of declaration_form (declaration_part d) = true
 is_of assignment_form (action_part f at) = is_assignment f
@@ -138,6 +152,7 @@ is_of function_form (heading_part (u.function ps n ns r) at) = true
 is_of end_subroutine_form (end_subroutine_part n at) = true
 is_of end_function_form (end_function_part n at) = true
 is_of end_program_form (end_program_part n at) = true
+is_of end_module_form (end_module_part n at) = true
 is_of f b = false
 
 -- an action behind the conditions of so many one-line IFs, each of which is a level: the end of the statement stands in

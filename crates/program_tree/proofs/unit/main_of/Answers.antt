@@ -1,3 +1,4 @@
+use Rattle.std.proofs.Common.{refl}
 use Rattle.program_reader.specs.Sequence as q
 use Rattle.program_tree.proofs.Units.{name_stands}
 use Rattle.program_tree.proofs.unit.main_of.Goals as goal
@@ -5,11 +6,11 @@ use Rattle.program_tree.proofs.unit.main_of.Goals as goal
 pub body_of-requires : goal.body_of-requires
 body_of-requires c =
     let name = c.name-name in
-    let k = q.main_program q.starting in
-    (k, c.in_ok-uses.ensures.follow k (name_stands name.result c.args.rest.now name.new.self name.ensures k c.requires))
+    let k = q.in_program_unit q.alone q.starting in
+    (k, c.in_ok-uses.ensures.follow k refl (name_stands name.result c.args.rest.now name.new.self name.ensures k c.requires))
 
 pub returns-clause-follow : goal.returns-clause-follow
 returns-clause-follow c =
     let name = c.name-name in
-    let k = q.main_program q.starting in
-    c.in_ok-body.ensures.follow k (c.in_ok-uses.ensures.follow k (name_stands name.result c.args.rest.now name.new.self name.ensures k c.requires))
+    let k = q.in_program_unit q.alone q.starting in
+    c.in_ok-body.ensures.follow k (c.in_ok-uses.ensures.follow k refl (name_stands name.result c.args.rest.now name.new.self name.ensures k c.requires))

@@ -1,11 +1,11 @@
-use Rattle.std.proofs.Common.{rules, arith, ◌≡◌, ◌≤◌, ◌<◌, suc, List, [], ◌∷◌, ◌++◌, length, map, Bor, ap, sym, ◌∙◌, subst}
+use Rattle.std.proofs.Common.{rules, arith, ◌≡◌, ◌≤◌, ◌<◌, suc, List, [], ◌∷◌, ◌++◌, length, map, cond, Bor, ap, sym, ◌∙◌, subst}
 use Rattle.fortran_grammar.specs.Tokens.{Token}
 use Rattle.expr_reader.specs.Words.{tokens_of}
 use Rattle.expr_reader.specs.declared.word.Word.{Word}
 use Rattle.part_reader.specs.Views as held
 use Rattle.part_reader.specs.declared.part.Part.{Part as Held}
 use Rattle.program_reader.specs.Sequence.{next}
-use Rattle.statement_reader.specs.Parts.{Part}
+use Rattle.statement_reader.specs.Parts.{Part, is_of, end_module_form}
 use Rattle.sequence_reader.specs.Answers as answers
 use Rattle.sequence_reader.specs.Views as view
 use Rattle.sequence_reader.proofs.Advances.{all_stop, one_goes, goes_shorter, goes_fitting, held_more}
@@ -44,9 +44,10 @@ pub returns-clause-walks : goal.returns-clause-walks
 returns-clause-walks c =
     let s = view.state c.args.progress.now.state in
     let items : c.push.new.self.items ≡ c.args.progress.now.parts.items ++ c.in-Some.part ∷ [] = search rules in
-    λ every w. subst (λ z. halts.Walked 64 every z (map held.part c.push.new.self.items) (tokens_of c.in-Some.rest.now)) (sym c.in-Ok.ensures)
-    (subst (λ z. halts.Walked 64 every (next s (held.part c.in-Some.part)) z (tokens_of c.in-Some.rest.now)) (sym (ap (map held.part) items ∙ held_more c.args.progress.now.parts.items c.in-Some.part))
-    (walk_on seen every s (map held.part c.args.progress.now.parts.items) (tokens_of c.args.words.now) _ c.in_ok-tried.tried.found c.in_ok-tried.tried.fault (c.in-Some.part, c.in-Some.rest) c.in_ok-tried.ensures c.in-Some.is w))
+    λ begin every w. subst (λ z. halts.Walked 64 begin every z (map held.part c.push.new.self.items) (tokens_of c.in-Some.rest.now) c.unit_left-progress.result) (sym c.in-Ok.ensures)
+    (subst (λ z. halts.Walked 64 begin every (next s (held.part c.in-Some.part)) z (tokens_of c.in-Some.rest.now) c.unit_left-progress.result) (sym (ap (map held.part) items ∙ held_more c.args.progress.now.parts.items c.in-Some.part))
+    (walk_on begin seen every s (map held.part c.args.progress.now.parts.items) (tokens_of c.args.words.now) _ c.in_ok-tried.tried.found c.in_ok-tried.tried.fault (c.in-Some.part, c.in-Some.rest) c.args.progress.now.unit c.unit_left-progress.result c.in_ok-tried.ensures c.in-Some.is
+    (c.unit_left-progress.ensures ∙ ap (λ n. cond (is_of end_module_form (held.part c.in-Some.part)) n c.args.progress.now.unit) (sym (tokens_length c.in-Some.rest.now))) w))
 
 pub returns-in_default-clause-late : goal.returns-in_default-clause-late
 returns-in_default-clause-late c = λ every w. late_on seen every (view.state c.args.progress.now.state) (tokens_of c.args.words.now) _ c.in_ok-tried.tried.found c.args.progress.now.fault c.in_ok-tried.tried.fault c.further-progress.result c.in_ok-tried.ensures

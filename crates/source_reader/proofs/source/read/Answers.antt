@@ -2,6 +2,7 @@ use Rattle.std.proofs.Common.{◌≡◌, true, map, sym, subst}
 use Rattle.expr_reader.specs.Words.{tokens_of}
 use Rattle.fortran_tree.specs.UnitViews.{program}
 use Rattle.part_reader.specs.Views as held
+use Rattle.program_reader.specs.Sequence.{start}
 use Rattle.sequence_reader.specs.Statements.{whole_statements}
 use Rattle.source_reader.specs.Sources.{AreSourceWords}
 use Rattle.source_reader.proofs.Whole.{whole_words}
@@ -14,7 +15,7 @@ parts_of-requires c =
     subst (λ z. whole_statements (tokens_of z) ≡ true) (sym c.as_slice.ensures.value) (whole_words are.statements (tokens_of c.in_ok-words.words.items) are.cut)
 
 pub program_of-requires : goal.program_of-requires
-program_of-requires c = found_follow (tokens_of c.as_slice.result.now) (map held.part c.in_ok-parts.parts.items) c.in_ok-parts.ensures.parts
+program_of-requires c = found_follow start (tokens_of c.as_slice.result.now) (map held.part c.in_ok-parts.parts.items) c.in_ok-parts.ensures.parts
 
 pub returns-clause-read : goal.returns-clause-read
 returns-clause-read c =
