@@ -1,5 +1,5 @@
--- In a program that is a file by itself there is no module.
-use Rattle.std.proofs.Common.{◌≡◌, ℕ, zero, suc, Bool, true, false, cond, List, [], ◌∷◌, ◌++◌, length, inl, inr, refl, ap, sym, ◌∙◌, subst}
+-- In a program, be it a file by itself or that of a file that may have modules, there is no module.
+use Rattle.std.proofs.Common.{◌≡◌, ℕ, zero, suc, Bool, true, false, cond, List, [], ◌∷◌, ◌++◌, length, Option, inl, inr, refl, ap, sym, ◌∙◌, subst}
 use Rattle.std.proofs.lemmas.Bool.{false≢true, true≢false}
 use Rattle.caf_base.specs.declared.place.Pos.{Pos}
 use Rattle.reader_theory.specs.Words.{Mark}
@@ -10,22 +10,30 @@ use Rattle.statement_reader.specs.Parts as f
 use Rattle.statement_reader.specs.Parts.{Part, Form, is_of}
 use Rattle.program_reader.specs.Sequence as q
 use Rattle.program_reader.specs.Sequence.{Stage, ProgramUnit, Scope, Open, State, action_forms, block_forms, scope_forms, allowed, allowed_behind, staged, unit_of, next}
-use Rattle.program_reader.specs.Unfinished.{Parts_from, behind, ends_module, in_one_unit}
+use Rattle.program_reader.specs.Unfinished.{Parts_from, behind, in_one_unit}
 use Rattle.program_reader.proofs.Steps.{In, which}
-use Rattle.open_constructs.proofs.States.{has_form}
+use Rattle.open_constructs.proofs.States.{outermost, has_form}
 
-abbrev is_alone : ProgramUnit → Bool
-is_alone q.alone = true
-is_alone y = false
+abbrev is_program : ProgramUnit → Bool
+is_program (q.module_at at) = false
+is_program y = true
 
--- the place is one of such a program
+-- the place is one of a program
 abbrev pub in_program : Scope → Bool
 in_program q.no_unit = false
-in_program (q.in_program_unit y t) = is_alone y
-in_program (q.between y) = is_alone y
-in_program (q.in_subroutine y at t) = is_alone y
-in_program (q.in_function y at t) = is_alone y
+in_program (q.in_program_unit y t) = is_program y
+in_program (q.between y) = is_program y
+in_program (q.in_subroutine y at t) = is_program y
+in_program (q.in_function y at t) = is_program y
 in_program q.over = true
+
+pub program_outermost : (k : Scope) (main : Option Pos) → in_program k ≡ true → outermost k main ≡ main
+program_outermost q.no_unit main e = absurd (false≢true e)
+program_outermost (q.in_program_unit y t) main e = refl
+program_outermost (q.between y) main e = refl
+program_outermost (q.in_subroutine y at t) main e = refl
+program_outermost (q.in_function y at t) main e = refl
+program_outermost q.over main e = refl
 
 -- MODULE and its END aren't allowed there
 abbrev of_module : Form → Bool
@@ -57,6 +65,13 @@ stage_has_none q.opening = refl
 stage_has_none q.in_declarations = refl
 stage_has_none q.in_statements = refl
 
+main_has_none : (t : Stage) → none_of (q.stage_forms q.main t) ≡ true
+main_has_none q.starting = refl
+main_has_none q.in_uses = refl
+main_has_none q.opening = refl
+main_has_none q.in_declarations = refl
+main_has_none q.in_statements = refl
+
 has_none : (n : ℕ) (os : List Open) (k : Scope) → in_program k ≡ true → none_of (allowed_behind n k os) ≡ true
 has_none (suc n) os k e = refl
 has_none zero (q.if_open at ∷ os) k e = refl
@@ -68,10 +83,10 @@ has_none zero (q.critical_open at ∷ os) k e = refl
 has_none zero (q.team_open at ∷ os) k e = refl
 has_none zero [] q.no_unit e = absurd (false≢true e)
 has_none zero [] (q.in_program_unit q.alone t) e = stage_has_none t
-has_none zero [] (q.in_program_unit q.main t) e = absurd (false≢true e)
+has_none zero [] (q.in_program_unit q.main t) e = main_has_none t
 has_none zero [] (q.in_program_unit (q.module_at p) t) e = absurd (false≢true e)
 has_none zero [] (q.between q.alone) e = refl
-has_none zero [] (q.between q.main) e = absurd (false≢true e)
+has_none zero [] (q.between q.main) e = refl
 has_none zero [] (q.between (q.module_at p)) e = absurd (false≢true e)
 has_none zero [] (q.in_subroutine y at t) e = stage_has_none t
 has_none zero [] (q.in_function y at t) e = stage_has_none t
@@ -85,15 +100,15 @@ staged_program t (q.in_subroutine y at s) e = e
 staged_program t (q.in_function y at s) e = e
 staged_program t q.over e = e
 
-alone_unit : (k : Scope) → in_program k ≡ true → is_alone (q.program_unit k) ≡ true
-alone_unit q.no_unit e = absurd (false≢true e)
-alone_unit (q.in_program_unit y s) e = e
-alone_unit (q.between y) e = e
-alone_unit (q.in_subroutine y at s) e = e
-alone_unit (q.in_function y at s) e = e
-alone_unit q.over e = refl
+unit_of_program : (k : Scope) → in_program k ≡ true → is_program (q.program_unit k) ≡ true
+unit_of_program q.no_unit e = absurd (false≢true e)
+unit_of_program (q.in_program_unit y s) e = e
+unit_of_program (q.between y) e = e
+unit_of_program (q.in_subroutine y at s) e = e
+unit_of_program (q.in_function y at s) e = e
+unit_of_program q.over e = refl
 
-procedure_program : (y : ProgramUnit) (x : Heading) (at : Pos) → is_alone y ≡ true → in_program (unit_of y x at) ≡ true
+procedure_program : (y : ProgramUnit) (x : Heading) (at : Pos) → is_program y ≡ true → in_program (unit_of y x at) ≡ true
 procedure_program y (u.subroutine r n ns) at e = e
 procedure_program y (u.function ps n ns r) at e = e
 
@@ -118,10 +133,10 @@ next_program s i (f.do_part n k at) m e h = staged_program q.in_statements s.sco
 next_program s i (f.select_part x at) m e h = staged_program q.in_statements s.scope h
 next_program s i (f.critical_part x at) m e h = staged_program q.in_statements s.scope h
 next_program s i (f.team_part x ps at) m e h = staged_program q.in_statements s.scope h
-next_program s i f.contains_part m e h = alone_unit s.scope h
-next_program s i (f.heading_part x at) m e h = procedure_program (q.program_unit s.scope) x at (alone_unit s.scope h)
-next_program s i (f.end_subroutine_part n at) m e h = alone_unit s.scope h
-next_program s i (f.end_function_part n at) m e h = alone_unit s.scope h
+next_program s i f.contains_part m e h = unit_of_program s.scope h
+next_program s i (f.heading_part x at) m e h = procedure_program (q.program_unit s.scope) x at (unit_of_program s.scope h)
+next_program s i (f.end_subroutine_part n at) m e h = unit_of_program s.scope h
+next_program s i (f.end_function_part n at) m e h = unit_of_program s.scope h
 next_program s i (f.end_program_part n at) m e h = refl
 next_program s i (f.module_part n at) m e h = absurd (true≢false (sym (no_module i n at e) ∙ fails i (allowed s) (has_none s.conditions s.blocks s.scope h) m))
 next_program s i (f.end_module_part n at) m e h = absurd (true≢false (sym (no_end_module i n at e) ∙ fails i (allowed s) (has_none s.conditions s.blocks s.scope h) m))
@@ -145,16 +160,3 @@ module _ (limit : ℕ) where
       let (i, m, k) = which limit (allowed s) (length s.blocks) s.conditions b x h in
       let is = has_form i s.conditions limit (length s.blocks) b x k in
       ap (λ z. cond z false (in_one_unit bs)) (ends_none s i b m is e) ∙ one_unit bs (next s b) y r (next_program s i b m is e)
-
--- parts that end a module and have no END of one are none
-pub no_modules : (bs : List Part) → ends_module bs ≡ true → in_one_unit bs ≡ true → bs ≡ []
-no_modules [] h k = refl
-no_modules (b ∷ []) h k = absurd (false≢true (ap (λ z. cond z false true) (sym h) ∙ k))
-no_modules (b ∷ c ∷ bs) h k = absurd (by_rest (no_modules (c ∷ bs) h (by_test (is_of f.end_module_form b) k)))
-  where
-    by_test : (z : Bool) → cond z false (in_one_unit (c ∷ bs)) ≡ true → in_one_unit (c ∷ bs) ≡ true
-    by_test true k = absurd (false≢true k)
-    by_test false k = k
-
-    by_rest : c ∷ bs ≡ [] → ⊥
-    by_rest e = (cc)

@@ -65,3 +65,13 @@ module _ (limit : ℕ) where
       (regroup u v r ∙ (ap (λ y. bare y ++ r) (sym split) ∙ (sym e ∙ (ap bare cut ∙ bare_append i j)))) in
       let more = same_parts bs cs (next s b) v j r hr (shallow_back u v own) z (subst (λ d. Rest_of_file limit (next s d) cs j) (sym one.0) k) (shallow_back i j its) (sym one.1) in
       record { left = more.left; rest = more.rest; parts = ap (λ d. d ∷ cs) (sym one.0) ∙ ap (λ l. b ∷ l) more.parts; is_rest = more.is_rest; over = more.over }
+
+  -- and what stands behind one list of parts is the same in both readings
+  pub same_rest : (bs : List Part) (s : State) (w v : List (Mark Token)) (x y : List Token) → Parts_from limit s bs w → Parts_from limit s bs v → Shallow w → Shallow v → (behind s bs).conditions ≡ 0 → bare w ++ x ≡ bare v ++ y → x ≡ y
+  same_rest [] s w v x y h k sh sv z e = ap (λ t. bare t ++ x) (sym h) ∙ (e ∙ ap (λ t. bare t ++ y) k)
+  same_rest (b ∷ bs) s w v x y (i, j, hb, hr, cut) (k, l, kb, kr, split) sh sv z e =
+      let own = subst Shallow cut sh in
+      let its = subst Shallow split sv in
+      let one = one_part s b b i k (bare j ++ x) (bare l ++ y) hb kb (shallow_front i j own) (shallow_front k l its) (parts_continue (next s b) bs j x hr z) (parts_continue (next s b) bs l y kr z)
+      (regroup i j x ∙ (ap (λ t. bare t ++ x) (sym cut) ∙ (e ∙ (ap (λ t. bare t ++ y) split ∙ sym (regroup k l y))))) in
+      same_rest bs (next s b) j l x y hr kr (shallow_back i j own) (shallow_back k l its) z one.1

@@ -1,7 +1,6 @@
 -- Of whole statements that need more the place that their parts tell is that of the innermost construct that is open,
 -- in each program to which they go on.
 use Rattle.std.proofs.Common.{◌≡◌, ◌<◌, Bool, true, false, cond, List, [], ◌∷◌, ◌++◌, length, Option, Some, inl, refl, ap, sym, ◌∙◌, subst, arith}
-use Rattle.std.proofs.lemmas.Bool.{false≢true}
 use Rattle.caf_base.specs.declared.place.Pos.{Pos}
 use Rattle.reader_theory.specs.Words.{Mark, bare}
 use Rattle.reader_theory.specs.Refusals.{Reads}
@@ -9,8 +8,7 @@ use Rattle.fortran_tree.specs.Units.{Program}
 use Rattle.fortran_grammar.specs.Tokens.{Token}
 use Rattle.fortran_grammar.specs.ProgramGrammar.{Sources}
 use Rattle.statement_reader.specs.Parts.{Part}
-use Rattle.program_reader.specs.Sequence as q
-use Rattle.program_reader.specs.Sequence.{Scope, start}
+use Rattle.program_reader.specs.Sequence.{start}
 use Rattle.program_reader.specs.Nesting.{program_parts}
 use Rattle.program_reader.specs.Unfinished.{Unfinished, Parts_from, behind, first_place, maybe_first}
 use Rattle.program_reader.proofs.FlatUnits.{flat_program}
@@ -20,7 +18,8 @@ use Rattle.open_constructs.specs.InFiles.{innermost_in}
 use Rattle.open_constructs.proofs.Spans.{spans, top, innermost_left}
 use Rattle.open_constructs.proofs.Trees.{opened_by_program}
 use Rattle.open_constructs.proofs.States.{outermost, open_at, top_open, parts_leave}
-use Rattle.open_constructs.proofs.Alone.{in_program, stays_program, one_unit, no_modules}
+use Rattle.open_constructs.proofs.Units.{no_modules}
+use Rattle.open_constructs.proofs.Alone.{program_outermost, stays_program, one_unit}
 use Rattle.open_constructs.proofs.Standing.{AllAt, elsewhere_at, all_own, parts_stand, rest_parts, another_place}
 use Rattle.open_constructs.proofs.Whole.{no_conditions, levels_fit}
 use Rattle.open_constructs.proofs.Going.{same_parts}
@@ -34,14 +33,6 @@ innermost_some ts (e ∷ es) p = by_test (is_open ts e)
     by_test : (b : Bool) → innermost_in ts es (cond b (Some e.from) (Some p)) ≡ Some (innermost ts es (cond b e.from p))
     by_test true = innermost_some ts es e.from
     by_test false = innermost_some ts es p
-
-program_outermost : (k : Scope) (main : Option Pos) → in_program k ≡ true → outermost k main ≡ main
-program_outermost q.no_unit main e = absurd (false≢true e)
-program_outermost (q.in_program_unit y t) main e = refl
-program_outermost (q.between y) main e = refl
-program_outermost (q.in_subroutine y at t) main e = refl
-program_outermost (q.in_function y at t) main e = refl
-program_outermost q.over main e = refl
 
 -- something stands there in a text that isn't empty
 first_some : (ts : List Token) → 0 < length ts → maybe_first ts ≡ Some (first_place ts)

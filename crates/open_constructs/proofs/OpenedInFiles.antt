@@ -20,17 +20,13 @@ use Rattle.open_constructs.proofs.Standing.{AllAt, elsewhere_at, all_own, parts_
 use Rattle.open_constructs.proofs.Whole.{no_conditions, levels_fit}
 use Rattle.open_constructs.proofs.Going.{same_parts}
 use Rattle.open_constructs.proofs.Closing.{closes}
+use Rattle.open_constructs.proofs.MainBegins.{main_begins}
 
 same_top : (o p : Option Pos) (st : List Pos) → (st ≡ [] → o ≡ p) → top o st ≡ top p st
 same_top o p [] h = h refl
 same_top o p (x ∷ st) h = refl
 
--- where nothing is open but the main program, if that has begun, it begins at the first token behind the modules
-abbrev pub MainBegins : Type 0
-MainBegins = (ts : List Token) (at : Option Pos) (u : Unfinished 64 start_of_units ts at) (x : UnitFile) (g : GoesOnToFile ts x) → whole_statements ts ≡ true → open_at (behind start_of_units u.parts) ≡ []
-    → outermost (behind start_of_units u.parts).scope (maybe_first (bare u.parted.rest)) ≡ maybe_first (drop (length g.modules) ts)
-
-module _ (main_begins : MainBegins) (ts : List Token) (at : Option Pos) (whole : whole_statements ts ≡ true) (u : Unfinished 64 start_of_units ts at) where
+module _ (ts : List Token) (at : Option Pos) (whole : whole_statements ts ≡ true) (u : Unfinished 64 start_of_units ts at) where
   conditions : (behind start_of_units u.parts).conditions ≡ 0
   conditions = no_conditions 64 u.parts start_of_units u.word u.is_word (subst (λ z. whole_statements z ≡ true) u.same whole) (inl refl)
 
@@ -66,16 +62,16 @@ module _ (main_begins : MainBegins) (ts : List Token) (at : Option Pos) (whole :
       let (none, new) = another_place ts in
       let main = maybe_first (drop (length g.modules) ts) in
       u.place ∙ (top_open s.blocks s.scope (maybe_first (bare u.parted.rest))
-      ∙ (same_top (outermost s.scope (maybe_first (bare u.parted.rest))) main (open_at s) (λ e. main_begins ts at u x g whole e)
+      ∙ (same_top (outermost s.scope (maybe_first (bare u.parted.rest))) main (open_at s) (main_begins ts at whole u x g)
       ∙ (ap (top main) (parts_leave 64 start_of_units u.parts u.word u.is_word)
       ∙ (sym (innermost_left ts none new main u.parts begun.left inside behind_them)
       ∙ (ap (λ l. innermost_in ts (spans none l) main) (sym begun.parts) ∙ ap (λ l. innermost_in ts l main) (opened_by_file none x))))))
 
-  open_by_main : IsInnermostOpenInFile ts at
-  open_by_main = record { some = some_file; place = one_place }
+  in_some_file : IsInnermostOpenInFile ts at
+  in_some_file = record { some = some_file; place = one_place }
 
-pub open_in_file_told : MainBegins → (ts : List Token) (at : Option Pos) → 0 < length ts → whole_statements ts ≡ true → Unfinished 64 start_of_units ts at → IsInnermostOpenInFile ts at
-open_in_file_told main_begins ts at some whole u = open_by_main main_begins ts at whole u
+pub open_in_file_told : (ts : List Token) (at : Option Pos) → 0 < length ts → whole_statements ts ≡ true → Unfinished 64 start_of_units ts at → IsInnermostOpenInFile ts at
+open_in_file_told ts at some whole u = in_some_file ts at whole u
 
 pub open_in_file_once : (ts : List Token) (at there : Option Pos) → IsInnermostOpenInFile ts at → IsInnermostOpenInFile ts there → at ≡ there
 open_in_file_once ts at there h k = let (x, g) = h.some in h.place x g ∙ sym (k.place x g)

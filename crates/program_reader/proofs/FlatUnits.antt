@@ -162,7 +162,7 @@ module _ (limit : ℕ) where
       (used q.in_uses (inl refl) (inr (inl refl)) (inr (inr (inl refl))))))
 
   -- and so those of the main program of a file
-  flat_main : (x : MainProgram) (w : List (Mark Token)) → Words (g.main_program x) limit 0 w → Follows limit (q.in_program_unit q.main q.starting) [] (main_parts x) (w ++ [])
+  pub flat_main : (x : MainProgram) (w : List (Mark Token)) → Words (g.main_program x) limit 0 w → Follows limit (q.in_program_unit q.main q.starting) [] (main_parts x) (w ++ [])
   flat_main x w (w1, y1, k1, (w2, y2, k2, k3, e2), e1) =
       let rest : List Part = body_on q.main x.body x.procedures x.end in
       let bodied : (t : Stage) → In f.implicit_form (stage_forms q.main t) → In f.declaration_form (stage_forms q.main t) → Follows limit (q.in_program_unit q.main t) [] rest (y2 ++ []) =
@@ -199,7 +199,7 @@ module _ (limit : ℕ) where
       (behind_two limit (place (q.in_program_unit y q.in_uses) []) (unit_use_parts x.uses implied_parts) j x1 y1 v e1
       (unit_uses y refl x.uses implied_parts x1 (y1 ++ v) q.in_uses (inl refl) h1 implied implied)))
 
-  flat_modules : (xs : List Module) (es : List Part) (w v : List (Mark Token)) → Words (p.repeated g.module_unit xs) limit 0 w → Follows limit q.no_unit [] es v → Follows limit q.no_unit [] (modules_parts xs es) (w ++ v)
+  pub flat_modules : (xs : List Module) (es : List Part) (w v : List (Mark Token)) → Words (p.repeated g.module_unit xs) limit 0 w → Follows limit q.no_unit [] es v → Follows limit q.no_unit [] (modules_parts xs es) (w ++ v)
   flat_modules [] es w v k r = subst (λ z. Follows limit q.no_unit [] es (z ++ v)) (sym k) r
   flat_modules (x ∷ xs) es w v (i, j, k, o, e) r =
       behind_two limit (place q.no_unit []) (modules_parts (x ∷ xs) es) w i j v e (flat_module x (modules_parts xs es) i (j ++ v) k (flat_modules xs es j v o r))
