@@ -192,7 +192,7 @@ fn modules_of(alloc: Global, rest: &mut Rest) -> Result<Vec<Module>, NoMemory>
     ensures follow { OnOk result (view.Stands q.starting q.no_unit rest.new) }
 {
     let mut found = Vec::new(alloc);
-    while let Some((name, at)) = rest.module() {
+    while let Some((name, at)) = rest.module_statement() {
         found.push(module_of(alloc, rest, name, at)?)?;
     }
     Ok(found)
