@@ -1,6 +1,6 @@
 //! Readers of USE in a file that may have modules (ISO/IEC 1539-1:2018, 14.2.2).
 
-ghost use Rattle.std.specs.Prelude.{map};
+ghost use Rattle.std.specs.Prelude.{◌≡◌, map};
 ghost use Rattle.expr_reader.specs.Results.{Gives};
 ghost use Rattle.expr_reader.specs.Words.{tokens_of};
 ghost use Rattle.statement_reader.specs.Forms as forms;
@@ -70,6 +70,16 @@ impl Reads for ARename {
     }
 }
 
+/// A name behind ONLY, and that of its entity, where one stands.
+fn item(local: Name, entity: Option<Name>) -> OnlyItem
+    ensures { files.only_item result ≡ spec.item_of (local, entity) }
+{
+    match entity {
+        None => OnlyItem::Named(local),
+        Some(entity) => OnlyItem::Renamed(Rename { local, entity }),
+    }
+}
+
 /// An item behind ONLY (R1412).
 struct AnOnlyItem;
 
@@ -86,8 +96,7 @@ impl Reads for AnOnlyItem {
     fn read<'a>(_: Global, words: &'a [Word], _: u32) -> Result<(OnlyItem, &'a [Word]), ReadError> {
         let (local, rest) = name(words)?;
         match maybe_entity(rest) {
-            Ok((None, rest)) => Ok((OnlyItem::Named(local), rest)),
-            Ok((Some(entity), rest)) => Ok((OnlyItem::Renamed(Rename { local, entity }), rest)),
+            Ok((entity, rest)) => Ok((item(local, entity), rest)),
             Err(e) => {
                 drop(local);
                 Err(e)

@@ -29,6 +29,9 @@ use Rattle.sequence_reader.proofs.Late.{further_late, whole_rest}
 use Rattle.sequence_reader.proofs.Together.{found_word}
 use Rattle.sequence_reader.proofs.Advances.{found_of, stands_of}
 
+none_before : (n : ℕ) → n ≡ 0 + n
+none_before n = omega arith
+
 pub not_walked : (begin : State) (ts : List Token) (n : ℕ) → n ≡ length ts → Walked 64 begin ts begin [] ts n
 not_walked begin ts n e = record {
   word = [];
@@ -37,7 +40,7 @@ not_walked begin ts n e = record {
   split = refl;
   place = refl;
   parted = record { modules = []; unit = []; before = []; rest = []; all = refl; words = refl; are_modules = refl; are_unit = refl; whole = refl; one = refl };
-  from = e;
+  from = e ∙ none_before (length ts);
 }
 
 -- no level is open at the beginning of a file
@@ -101,7 +104,7 @@ module _ (begin : State) (bs : List Part) (word : List (Mark Token)) (b : Part) 
         whole = whole_more bs b t;
         one = refl;
       };
-      from = is ∙ ap (λ z. cond z (length r) old) t;
+      from = is ∙ (ap (λ z. cond z (length r) old) t ∙ none_before (length r));
     }
     | inr f ↦ record {
       parted = record {

@@ -16,7 +16,7 @@ pub returns : goal.returns
 returns c =
     let ws = c.args.words.now in
     let n = c.args.progress.unit in
-    let last : c.split_at.result.1.now ≡ drop (length ws - n) ws = search rules in
+    let last : c.split_at.result.1.now ≡ drop (length ws - n) ws = c.split_at.ensures.back ∙ ap (λ k. drop k ws) c.saturating_sub.ensures in
     let tokens : tokens_of c.split_at.result.1.now ≡ drop (length (tokens_of ws) - n) (tokens_of ws) =
     ap tokens_of last ∙ (tokens_dropped (length ws - n) ws ∙ ap (λ k. drop (k - n) (tokens_of ws)) (sym (tokens_length ws))) in
     λ begin every r w. (
