@@ -44,11 +44,11 @@ its_word i n l d p w o = within_out n (whole (an_end p)) l d w o.1
 
 -- such a statement begins at its place, and has two tokens at least
 two_tokens : (p : Pos) (l d : ℕ) (w : List (Mark Token)) → Words (whole (an_end p)) l d w → FirstAt p w × (2 ≤ length w)
-two_tokens p l d w ([], v, h, r, split) = absurd h.0
-two_tokens p l d w (m ∷ u, v, h, r, split) = (
-  first_more p w (m ∷ u) v h.0 split,
-  (let one = ap length r.1 in let both = length-append u v in let all = ap length split in omega arith),
-)
+two_tokens p l d w (u, v, h, r, split) = (first_more p w u v h.0 split, by_front u h.0 split)
+  where
+    by_front : (u : List (Mark Token)) → FirstAt p u → w ≡ u ++ v → 2 ≤ length w
+    by_front [] h e = absurd h
+    by_front (m ∷ u) h e = let one : length v ≡ 1 = ap length r.1 in let both = length-append u v in let all = ap length e in omega arith
 
 -- a text is cut where a token stands first that is none of the front's
 else_stands : (y : Token) (ts : List Token) (p : Pos) → stands (y ∷ ts) p ≡ false → stands ts p ≡ false
@@ -87,5 +87,5 @@ module _ (limit : ℕ) where
           let s = behind start_of_units (modules_parts ms []) in
           let (form, m, k) = which limit (allowed s) (length s.blocks) s.conditions (an_end p) a o in
           let two = two_tokens p limit (s.conditions + length s.blocks) a (its_word form s.conditions limit (length s.blocks) p a k) in
-          let enough : 2 ≤ length v = (let whole = ap length split in let parts = length-append a b in omega arith) in
+          let enough : 2 ≤ length v = (let some = two.1 in let all = ap length split in let parts = length-append a b in omega arith) in
           same_cut p i u (end_word limit p) v new (first_more p v a b two.0 split) enough cut
