@@ -412,17 +412,21 @@ function_no_subroutine left at v = (_, _, refl)
 function_no_recursive : (left : ℕ) (at there : Pos) (v : List Token) → Gives_up (form_reader f.function_form left (recursive_ts at there v))
 function_no_recursive left at there v = (_, _, refl)
 
-end_no_subroutine : (k : q.ProgramUnit) (left : ℕ) (at : Pos) (v : List Token) → Gives_up (form_reader (q.end_form k) left (subroutine_ts at v))
+-- the END of a unit (below, `q` is the rest of a text)
+abbrev unit_end : q.ProgramUnit → Form
+unit_end u = q.end_form u
+
+end_no_subroutine : (k : q.ProgramUnit) (left : ℕ) (at : Pos) (v : List Token) → Gives_up (form_reader (unit_end k) left (subroutine_ts at v))
 end_no_subroutine q.alone left at v = (_, _, refl)
 end_no_subroutine q.main left at v = (_, _, refl)
 end_no_subroutine (q.module_at p) left at v = (_, _, refl)
 
-end_no_recursive : (k : q.ProgramUnit) (left : ℕ) (at there : Pos) (v : List Token) → Gives_up (form_reader (q.end_form k) left (recursive_ts at there v))
+end_no_recursive : (k : q.ProgramUnit) (left : ℕ) (at there : Pos) (v : List Token) → Gives_up (form_reader (unit_end k) left (recursive_ts at there v))
 end_no_recursive q.alone left at there v = (_, _, refl)
 end_no_recursive q.main left at there v = (_, _, refl)
 end_no_recursive (q.module_at p) left at there v = (_, _, refl)
 
-end_no_function : (k : q.ProgramUnit) (left : ℕ) (y : Token) (v : List Token) → begins_form f.function_form y ≡ true → Gives_up (form_reader (q.end_form k) left (y ∷ v))
+end_no_function : (k : q.ProgramUnit) (left : ℕ) (y : Token) (v : List Token) → begins_form f.function_form y ≡ true → Gives_up (form_reader (unit_end k) left (y ∷ v))
 end_no_function q.alone left y v e = by_keys (first_keys f.function_form) (λ k. Gives_up (form_reader f.end_program_form left (record { tok = k; at = y.at } ∷ v)))
     ((_, _, refl), ((_, _, refl), ((_, _, refl), ((_, _, refl), ((_, _, refl), tt))))) y e
 end_no_function q.main left y v e = by_keys (first_keys f.function_form) (λ k. Gives_up (form_reader f.end_program_form left (record { tok = k; at = y.at } ∷ v)))
@@ -449,9 +453,9 @@ module _ (limit : ℕ) where
     | inr (at, there, v, is) ↦ gives_up_not limit (at_between j) (bare u ++ r) q c (λ left. subst (λ z. Gives_up (form_reader j left z)) (sym is) (more left at there v)) e
   ]
 
-  not_function : (k : q.ProgramUnit) (b c : Part) (u : List (Mark Token)) (r q : List Token) → Words (formed f.function_form 0 b) limit 0 u → part_reader limit (at_between (q.end_form k)) (bare u ++ r) ≡ found c q → ⊥
+  not_function : (k : q.ProgramUnit) (b c : Part) (u : List (Mark Token)) (r q : List Token) → Words (formed f.function_form 0 b) limit 0 u → part_reader limit (at_between (unit_end k)) (bare u ++ r) ≡ found c q → ⊥
   not_function k b c [] r q h e = heads_at f.function_form 0 limit 0 b [] h
-  not_function k b c (m ∷ u) r q h e = gives_up_not limit (at_between (q.end_form k)) (bare (m ∷ u) ++ r) q c (λ left. end_no_function k left m.token (bare u ++ r) (heads_at f.function_form 0 limit 0 b (m ∷ u) h)) e
+  not_function k b c (m ∷ u) r q h e = gives_up_not limit (at_between (unit_end k)) (bare (m ∷ u) ++ r) q c (λ left. end_no_function k left m.token (bare u ++ r) (heads_at f.function_form 0 limit 0 b (m ∷ u) h)) e
 
   between_told : (unit : q.ProgramUnit) (i j : Form) (b c : Part) (u v : List (Mark Token)) (r q : List Token) → In i (between_forms unit) → In j (between_forms unit) → Words (formed i 0 b) limit 0 u → Words (formed j 0 c) limit 0 v
       → part_reader limit (at_between j) (bare u ++ r) ≡ found c q → part_reader limit (at_between i) (bare v ++ q) ≡ found b r → i ≡ j
@@ -459,10 +463,10 @@ module _ (limit : ℕ) where
   between_told unit i j b c u v r q (inr (inl x)) (inr (inl y)) h k e g = x ∙ sym y
   between_told unit i j b c u v r q (inr (inr (inl x))) (inr (inr (inl y))) h k e g = x ∙ sym y
   between_told unit i j b c u v r q (inr (inl x)) (inr (inr (inl y))) h k e g = absurd (not_subroutine f.function_form b c u r q function_no_subroutine function_no_recursive (subst (λ z. Words (formed z 0 b) limit 0 u) x h) (subst (λ z. part_reader limit (at_between z) (bare u ++ r) ≡ found c q) y e))
-  between_told unit i j b c u v r q (inr (inl x)) (inl y) h k e g = absurd (not_subroutine (q.end_form unit) b c u r q (end_no_subroutine unit) (end_no_recursive unit) (subst (λ z. Words (formed z 0 b) limit 0 u) x h) (subst (λ z. part_reader limit (at_between z) (bare u ++ r) ≡ found c q) y e))
+  between_told unit i j b c u v r q (inr (inl x)) (inl y) h k e g = absurd (not_subroutine (unit_end unit) b c u r q (end_no_subroutine unit) (end_no_recursive unit) (subst (λ z. Words (formed z 0 b) limit 0 u) x h) (subst (λ z. part_reader limit (at_between z) (bare u ++ r) ≡ found c q) y e))
   between_told unit i j b c u v r q (inr (inr (inl x))) (inl y) h k e g = absurd (not_function unit b c u r q (subst (λ z. Words (formed z 0 b) limit 0 u) x h) (subst (λ z. part_reader limit (at_between z) (bare u ++ r) ≡ found c q) y e))
   between_told unit i j b c u v r q (inr (inr (inl x))) (inr (inl y)) h k e g = absurd (not_subroutine f.function_form c b v q r function_no_subroutine function_no_recursive (subst (λ z. Words (formed z 0 c) limit 0 v) y k) (subst (λ z. part_reader limit (at_between z) (bare v ++ q) ≡ found b r) x g))
-  between_told unit i j b c u v r q (inl x) (inr (inl y)) h k e g = absurd (not_subroutine (q.end_form unit) c b v q r (end_no_subroutine unit) (end_no_recursive unit) (subst (λ z. Words (formed z 0 c) limit 0 v) y k) (subst (λ z. part_reader limit (at_between z) (bare v ++ q) ≡ found b r) x g))
+  between_told unit i j b c u v r q (inl x) (inr (inl y)) h k e g = absurd (not_subroutine (unit_end unit) c b v q r (end_no_subroutine unit) (end_no_recursive unit) (subst (λ z. Words (formed z 0 c) limit 0 v) y k) (subst (λ z. part_reader limit (at_between z) (bare v ++ q) ≡ found b r) x g))
   between_told unit i j b c u v r q (inl x) (inr (inr (inl y))) h k e g = absurd (not_function unit c b v q r (subst (λ z. Words (formed z 0 c) limit 0 v) y k) (subst (λ z. part_reader limit (at_between z) (bare v ++ q) ≡ found b r) x g))
   between_told unit i j b c u v r q (inr (inr (inr m))) n h k e g = absurd m
   between_told unit i j b c u v r q m (inr (inr (inr n))) h k e g = absurd n
