@@ -1,6 +1,5 @@
 -- For what parts are refused, a program is, and a file that may have modules.
 use Rattle.std.proofs.Common.{◌≡◌, true, List, [], ◌∷◌, Some, None, Result, Ok, Err, IfErr, inl, inr, sym, subst}
-use Rattle.caf_base.specs.declared.place.Pos.{Pos}
 use Rattle.caf_base.specs.declared.refusal.Refusal.{Refusal}
 use Rattle.caf_base.specs.declared.refusal.Refusal.TheVariants as refusals
 use Rattle.fortran_lines.specs.Causes.{IfCause}

@@ -2,7 +2,7 @@ use Rattle.std.proofs.Common.{[], arith, rules}
 use Rattle.std.proofs.lemmas.Grind.{common_steps}
 use Rattle.program_reader.specs.Sequence as q
 use Rattle.program_tree.proofs.Units.{program_over}
-use Rattle.program_tree.proofs.unit.unit_file_of.Goals as goal
+use Rattle.program_tree.proofs.unit.whole_main_of.Goals as goal
 
 pub procedures_of-requires-clause-follow : goal.procedures_of-requires-clause-follow
 procedures_of-requires-clause-follow c = (q.main, search rules)
