@@ -1,7 +1,6 @@
 -- The fault of the reader of files is the refusal of the words.
-use Rattle.std.proofs.Common.{◌≡◌, suc, ◌+◌, ◌-◌, ◌<◌, ◌≤◌, List, [], ◌∷◌, ◌++◌, length, drop, get_or, Option, Some, refl, ap, sym, ◌∙◌, subst, arith}
+use Rattle.std.proofs.Common.{◌≡◌, suc, ◌+◌, ◌-◌, ◌<◌, ◌≤◌, List, [], ◌∷◌, ◌++◌, length, drop, Option, Some, refl, ap, sym, ◌∙◌, subst, arith}
 use Rattle.caf_base.specs.declared.place.Pos.{Pos}
-use Rattle.reader_theory.specs.Words.{fault}
 use Rattle.reader_theory.specs.Refusals.{Refused, Answers}
 use Rattle.reader_theory.specs.Limits.{RefusedFor, no_word}
 use Rattle.reader_theory.proofs.Limits.{refused_at_end}
@@ -73,7 +72,11 @@ module _ (begin : State) (ws : List Word) (st : Stop) (h : Stands st (file_answe
   }
 
 -- the last word
-pub last_there : (ws : List Word) (d : Word) → 0 < length ws → last_place (tokens_of ws) ≡ Some (get_or ws (length ws - 1) d).at
-last_there [] d h = absurd (omega arith)
-last_there (x ∷ []) d h = refl
-last_there (x ∷ y ∷ ws) d h = last_there (y ∷ ws) d (omega arith)
+pub last_there : (ws : List Word) → 0 < length ws → last_place (tokens_of ws) ≡ Some (first_place (tokens_of (drop (length ws - 1) ws)))
+last_there [] h = absurd (omega arith)
+last_there (x ∷ []) h =
+    let none : length (x ∷ []) - 1 ≡ 0 = omega arith in
+    ap (λ n. Some (first_place (tokens_of (drop n (x ∷ []))))) (sym none)
+last_there (x ∷ y ∷ ws) h =
+    let more : length (x ∷ y ∷ ws) - 1 ≡ suc (length (y ∷ ws) - 1) = omega arith in
+    last_there (y ∷ ws) (omega arith) ∙ ap (λ n. Some (first_place (tokens_of (drop n (x ∷ y ∷ ws))))) (sym more)

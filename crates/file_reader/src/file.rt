@@ -1,6 +1,6 @@
 //! The reader of the words of a source.
 
-ghost use Rattle.std.specs.Prelude.{◌≡◌, ◌<◌, ◌≤◌, ◌-◌, true, [], Some, length, map, drop, IfOk, IfErr};
+ghost use Rattle.std.specs.Prelude.{◌≡◌, ◌<◌, ◌≤◌, ◌-◌, true, [], length, map, drop, IfOk, IfErr};
 ghost use Rattle.expr_reader.specs.Results.{Stands};
 ghost use Rattle.expr_reader.specs.Words.{tokens_of};
 ghost use Rattle.fortran_lines.specs.Causes.{IfCause};
@@ -13,7 +13,7 @@ ghost use Rattle.sequence_reader.specs.Halts as halts;
 ghost use Rattle.sequence_reader.specs.Statements.{whole_statements};
 ghost use Rattle.sequence_reader.specs.Views as view;
 ghost use Rattle.file_reader.specs.Beginnings.{EndsEarly, PartsAreRefused};
-ghost use Rattle.file_reader.specs.Refusals.{AreRefused, AreRefusedUnits, last_place};
+ghost use Rattle.file_reader.specs.Refusals.{AreRefused, AreRefusedUnits};
 
 use crate::fault::FileFault;
 use crate::reason::sunk_word;
@@ -55,14 +55,6 @@ fn told(beginning: Beginning, words: &[Word], stop: Stop, sunk: Option<usize>) -
     }
 }
 
-/// The place of the last word.
-fn last_of(words: &[Word]) -> Pos
-    requires { 0 < length words.now }
-    ensures { last_place (tokens_of words.now) ≡ Some result }
-{
-    words[words.len() - 1].at
-}
-
 /// The fault where more was needed: what is open innermost, or that a program was to follow.
 fn early(beginning: Beginning, words: &[Word], at: Option<Pos>) -> FileFault
     requires some { 0 < length words.now }
@@ -71,7 +63,9 @@ fn early(beginning: Beginning, words: &[Word], at: Option<Pos>) -> FileFault
 {
     match at {
         Some(at) => FileFault::NotClosed { at },
-        None => FileFault::Expected { at: last_of(words) },
+        None => FileFault::Expected {
+            at: place_from(words, 1),
+        },
     }
 }
 

@@ -35,8 +35,8 @@ fn is_end(word: &Word) -> bool
     matches!(word.kind, WordKind::End)
 }
 
-/// How many words stand up to the last one that ends a statement.
-fn beginning(words: &[Word]) -> usize
+/// Where the last statement begins: how many words stand up to the last one that ends a statement.
+fn last_begin(words: &[Word]) -> usize
     ensures fits { result ≤ length words.now }
     ensures whole { whole_statements (tokens_of (take result words.now)) ≡ true }
     ensures rest { no_end (tokens_of (drop result words.now)) ≡ true }
@@ -130,7 +130,7 @@ pub fn sunk_word(
     ensures { MatchResult result (λ o. RefusedFor (Parts_of (view.beginning beginning)) (tokens_of words.now) (reason o) (tokens_of (drop (length words.now - stop.left) words.now))) (λ e. e ≡ ReadError.Memory) }
 {
     let (front, _) = words.split_at(words.len() - stop.left);
-    let begin = beginning(front);
+    let begin = last_begin(front);
     let (earlier, behind) = words.split_at(begin);
     let (statement, _) = behind.split_at(front.len() + 1 - begin);
     let state = place_of_statement(alloc, beginning, earlier)?;

@@ -222,6 +222,10 @@ procedure_over y x at old new end m h told =
     let now = told x ends.end ends.rest ends.split in
     (now, subst (Stands q.opening (q.between y)) (ap rest_of (sym ends.split ∙ now)) ends.stands)
 
+-- the END of a program that is over
+pub program_over : (old new : Rest) (end : End) → Ends (view.parts old) → view.parts old ≡ f.end_program_part end.name end.at ∷ view.parts new → view.parts old ≡ f.end_program_part end.name end.at ∷ []
+program_over old new end (e, alone) now = now ∙ ap (λ z. f.end_program_part end.name end.at ∷ z) (ap rest_of (sym now ∙ alone))
+
 -- the END of a module that is over
 pub module_over : (old new : Rest) (end : End) → Module_ends (view.parts old) → view.parts old ≡ f.end_module_part end.name end.at ∷ view.parts new → MayFollow q.start_of_units (view.parts new)
 module_over old new end (e, rest, split, more) now = subst (MayFollow q.start_of_units) (ap rest_of (sym split ∙ now)) more

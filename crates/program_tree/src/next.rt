@@ -215,7 +215,7 @@ impl Rest {
     }
 
     /// The name of a module and its place, where its first statement comes next.
-    pub(crate) fn module(&mut self) -> Option<(Name, Pos)>
+    pub(crate) fn module_statement(&mut self) -> Option<(Name, Pos)>
         ensures { MatchOption result (view.IsKept f.module_form self.old self.new) (λ first. view.left self.old ≡ Part.Module first.0 first.1 ∷ view.left self.new) }
     {
         match &self.next {
@@ -309,6 +309,7 @@ impl Rest {
             _ => unreachable!(),
         }
     }
+
     /// The END statement of a module.
     pub(crate) fn end_of_module(&mut self) -> End
         requires { (end : End) × (es : List Kind) × (view.parts self.old ≡ f.end_module_part end.name end.at ∷ es) }

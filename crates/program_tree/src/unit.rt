@@ -192,7 +192,7 @@ fn modules_of(alloc: Global, rest: &mut Rest) -> Result<Vec<Module>, NoMemory>
     ensures follow { OnOk result (view.Stands q.starting q.no_unit rest.new) }
 {
     let mut found = Vec::new(alloc);
-    while let Some((name, at)) = rest.module() {
+    while let Some((name, at)) = rest.module_statement() {
         found.push(module_of(alloc, rest, name, at)?)?;
     }
     Ok(found)
@@ -214,6 +214,23 @@ fn unit_main_of(
     Ok((name, uses, body))
 }
 
+/// The main program of a file that may have modules, of which nothing else is left.
+fn whole_main_of(alloc: Global, rest: &mut Rest) -> Result<MainProgram, NoMemory>
+    requires { view.Stands q.starting q.no_unit rest.old }
+    ensures { IfOk result (λ main. view.parts rest.old ≡ nesting.main_parts (files.main_program main)) }
+{
+    let (name, uses, body) = unit_main_of(alloc, rest)?;
+    let procedures = procedures_of(alloc, rest)?;
+    let end = rest.end_of_program();
+    Ok(MainProgram {
+        name,
+        uses,
+        body,
+        procedures,
+        end,
+    })
+}
+
 /// The file that has these parts, which may follow one another in a file that may have modules.
 pub fn unit_file_of(alloc: Global, parts: Vec<Part>) -> Result<UnitFile, NoMemory>
     requires { MayFollow q.start_of_units (map seen parts.items) }
@@ -221,15 +238,6 @@ pub fn unit_file_of(alloc: Global, parts: Vec<Part>) -> Result<UnitFile, NoMemor
 {
     let mut rest = Rest::new(parts);
     let modules = modules_of(alloc, &mut rest)?;
-    let (name, uses, body) = unit_main_of(alloc, &mut rest)?;
-    let procedures = procedures_of(alloc, &mut rest)?;
-    let end = rest.end_of_program();
-    let main = MainProgram {
-        name,
-        uses,
-        body,
-        procedures,
-        end,
-    };
+    let main = whole_main_of(alloc, &mut rest)?;
     Ok(UnitFile { modules, main })
 }

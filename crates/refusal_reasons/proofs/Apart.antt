@@ -412,6 +412,7 @@ function_no_subroutine left at v = (_, _, refl)
 function_no_recursive : (left : ℕ) (at there : Pos) (v : List Token) → Gives_up (form_reader f.function_form left (recursive_ts at there v))
 function_no_recursive left at there v = (_, _, refl)
 
+-- the END of a unit (below, `q` is the rest of a text)
 abbrev unit_end : q.ProgramUnit → Form
 unit_end u = q.end_form u
 
@@ -456,19 +457,19 @@ module _ (limit : ℕ) where
   not_function k b c [] r q h e = heads_at f.function_form 0 limit 0 b [] h
   not_function k b c (m ∷ u) r q h e = gives_up_not limit (at_between (unit_end k)) (bare (m ∷ u) ++ r) q c (λ left. end_no_function k left m.token (bare u ++ r) (heads_at f.function_form 0 limit 0 b (m ∷ u) h)) e
 
-  between_told : (z : q.ProgramUnit) (i j : Form) (b c : Part) (u v : List (Mark Token)) (r q : List Token) → In i (between_forms z) → In j (between_forms z) → Words (formed i 0 b) limit 0 u → Words (formed j 0 c) limit 0 v
+  between_told : (unit : q.ProgramUnit) (i j : Form) (b c : Part) (u v : List (Mark Token)) (r q : List Token) → In i (between_forms unit) → In j (between_forms unit) → Words (formed i 0 b) limit 0 u → Words (formed j 0 c) limit 0 v
       → part_reader limit (at_between j) (bare u ++ r) ≡ found c q → part_reader limit (at_between i) (bare v ++ q) ≡ found b r → i ≡ j
-  between_told zz i j b c u v r q (inl x) (inl y) h k e g = x ∙ sym y
-  between_told zz i j b c u v r q (inr (inl x)) (inr (inl y)) h k e g = x ∙ sym y
-  between_told zz i j b c u v r q (inr (inr (inl x))) (inr (inr (inl y))) h k e g = x ∙ sym y
-  between_told zz i j b c u v r q (inr (inl x)) (inr (inr (inl y))) h k e g = absurd (not_subroutine f.function_form b c u r q function_no_subroutine function_no_recursive (subst (λ z. Words (formed z 0 b) limit 0 u) x h) (subst (λ z. part_reader limit (at_between z) (bare u ++ r) ≡ found c q) y e))
-  between_told zz i j b c u v r q (inr (inl x)) (inl y) h k e g = absurd (not_subroutine (unit_end zz) b c u r q (end_no_subroutine zz) (end_no_recursive zz) (subst (λ z. Words (formed z 0 b) limit 0 u) x h) (subst (λ z. part_reader limit (at_between z) (bare u ++ r) ≡ found c q) y e))
-  between_told zz i j b c u v r q (inr (inr (inl x))) (inl y) h k e g = absurd (not_function zz b c u r q (subst (λ z. Words (formed z 0 b) limit 0 u) x h) (subst (λ z. part_reader limit (at_between z) (bare u ++ r) ≡ found c q) y e))
-  between_told zz i j b c u v r q (inr (inr (inl x))) (inr (inl y)) h k e g = absurd (not_subroutine f.function_form c b v q r function_no_subroutine function_no_recursive (subst (λ z. Words (formed z 0 c) limit 0 v) y k) (subst (λ z. part_reader limit (at_between z) (bare v ++ q) ≡ found b r) x g))
-  between_told zz i j b c u v r q (inl x) (inr (inl y)) h k e g = absurd (not_subroutine (unit_end zz) c b v q r (end_no_subroutine zz) (end_no_recursive zz) (subst (λ z. Words (formed z 0 c) limit 0 v) y k) (subst (λ z. part_reader limit (at_between z) (bare v ++ q) ≡ found b r) x g))
-  between_told zz i j b c u v r q (inl x) (inr (inr (inl y))) h k e g = absurd (not_function zz c b v q r (subst (λ z. Words (formed z 0 c) limit 0 v) y k) (subst (λ z. part_reader limit (at_between z) (bare v ++ q) ≡ found b r) x g))
-  between_told zz i j b c u v r q (inr (inr (inr m))) n h k e g = absurd m
-  between_told zz i j b c u v r q m (inr (inr (inr n))) h k e g = absurd n
+  between_told unit i j b c u v r q (inl x) (inl y) h k e g = x ∙ sym y
+  between_told unit i j b c u v r q (inr (inl x)) (inr (inl y)) h k e g = x ∙ sym y
+  between_told unit i j b c u v r q (inr (inr (inl x))) (inr (inr (inl y))) h k e g = x ∙ sym y
+  between_told unit i j b c u v r q (inr (inl x)) (inr (inr (inl y))) h k e g = absurd (not_subroutine f.function_form b c u r q function_no_subroutine function_no_recursive (subst (λ z. Words (formed z 0 b) limit 0 u) x h) (subst (λ z. part_reader limit (at_between z) (bare u ++ r) ≡ found c q) y e))
+  between_told unit i j b c u v r q (inr (inl x)) (inl y) h k e g = absurd (not_subroutine (unit_end unit) b c u r q (end_no_subroutine unit) (end_no_recursive unit) (subst (λ z. Words (formed z 0 b) limit 0 u) x h) (subst (λ z. part_reader limit (at_between z) (bare u ++ r) ≡ found c q) y e))
+  between_told unit i j b c u v r q (inr (inr (inl x))) (inl y) h k e g = absurd (not_function unit b c u r q (subst (λ z. Words (formed z 0 b) limit 0 u) x h) (subst (λ z. part_reader limit (at_between z) (bare u ++ r) ≡ found c q) y e))
+  between_told unit i j b c u v r q (inr (inr (inl x))) (inr (inl y)) h k e g = absurd (not_subroutine f.function_form c b v q r function_no_subroutine function_no_recursive (subst (λ z. Words (formed z 0 c) limit 0 v) y k) (subst (λ z. part_reader limit (at_between z) (bare v ++ q) ≡ found b r) x g))
+  between_told unit i j b c u v r q (inl x) (inr (inl y)) h k e g = absurd (not_subroutine (unit_end unit) c b v q r (end_no_subroutine unit) (end_no_recursive unit) (subst (λ z. Words (formed z 0 c) limit 0 v) y k) (subst (λ z. part_reader limit (at_between z) (bare v ++ q) ≡ found b r) x g))
+  between_told unit i j b c u v r q (inl x) (inr (inr (inl y))) h k e g = absurd (not_function unit c b v q r (subst (λ z. Words (formed z 0 c) limit 0 v) y k) (subst (λ z. part_reader limit (at_between z) (bare v ++ q) ≡ found b r) x g))
+  between_told unit i j b c u v r q (inr (inr (inr m))) n h k e g = absurd m
+  between_told unit i j b c u v r q m (inr (inr (inr n))) h k e g = absurd n
 
   -- what the tokens of a part and its rest tell
   abbrev placed : State → Form → Place

@@ -24,7 +24,7 @@ module _ (limit : ℕ) (begin : State) where
       → RefusedFor (λ fs v. Rest_of_file limit begin fs v) ts (reason (shifted (length w) (place_at limit (behind begin es) (us ++ x ∷ [])))) (x ∷ rest)
   told_by_last es w ts us c x rest h sh z split r =
       let fronts = same_front r.front (bare w ++ us) (x ∷ rest) (x ∷ rest) (sym r.split ∙ (split ∙ sym (append_assoc (bare w) us (x ∷ rest)))) refl in
-      let first = first_behind limit begin es w (us ++ x ∷ []) h sh z _ (first_of_rest limit (behind begin es) (us ++ x ∷ [])) in
+      let first = first_behind limit begin es w (us ++ x ∷ []) h sh z (place_at limit (behind begin es) (us ++ x ∷ [])) (first_of_rest limit (behind begin es) (us ++ x ∷ [])) in
       let whole : bare w ++ (us ++ x ∷ []) ≡ r.front ++ x ∷ [] = sym (append_assoc (bare w) us (x ∷ [])) ∙ ap (λ y. y ++ x ∷ []) (sym fronts.0) in
       refused_for Parts ts c x rest _ r (subst (λ y. FirstSunk Parts y (shifted (length w) (place_at limit (behind begin es) (us ++ x ∷ [])))) whole first)
 

@@ -1,8 +1,8 @@
 -- Languages of the same words are refused alike.
-use Rattle.std.proofs.Common.{◌≡◌, ℕ, List, [], ◌∷◌, ◌++◌, Option, Some, None, refl}
+use Rattle.std.proofs.Common.{ℕ, List, [], ◌∷◌, ◌++◌}
 use Rattle.reader_theory.specs.Words.{Mark}
-use Rattle.reader_theory.specs.Refusals.{Reads, Begins}
-use Rattle.reader_theory.specs.Limits.{Goes, SinksAt, FirstSunk, Reason, no_word, level_at, Because, Halts, RefusedFor}
+use Rattle.reader_theory.specs.Refusals.{Begins}
+use Rattle.reader_theory.specs.Limits.{Goes, SinksAt, Reason, no_word, level_at, Because, Halts, RefusedFor}
 use Rattle.fortran_grammar.specs.Tokens.{Token}
 use Rattle.fortran_grammar.specs.ProgramGrammar.{Programs}
 use Rattle.fortran_grammar.specs.FileGrammar.{Files}

@@ -14,7 +14,7 @@ blocks (suc n) = q.do_open (here 1) ∷ blocks n
 
 -- within so many DO constructs
 abbrev doing : ℕ → State
-doing n = record { scope = q.main_program q.in_statements; blocks = blocks n; conditions = 0 }
+doing n = record { scope = q.in_program_unit q.alone q.in_statements; blocks = blocks n; conditions = 0 }
 
 abbrev brackets : ℕ → List ℕ
 brackets zero = []

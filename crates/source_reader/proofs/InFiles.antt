@@ -1,5 +1,5 @@
 -- A source that may have modules has one answer at most.
-use Rattle.std.proofs.Common.{◌≡◌, ℕ, ◌<◌, List, [], ◌∷◌, ◌++◌, ◌⊎◌, inl, inr, refl, ap, sym, ◌∙◌, subst, arith, length, Some, None}
+use Rattle.std.proofs.Common.{◌≡◌, ℕ, List, [], ◌∷◌, ◌++◌, ◌⊎◌, inl, inr, refl, ap, sym, ◌∙◌, subst, Some, None}
 use Rattle.std.specs.Prelude.{slice_get}
 use Rattle.caf_base.specs.declared.place.Pos.{Pos}
 use Rattle.fortran_lines.specs.Faults.{faults_of}
@@ -14,12 +14,12 @@ use Rattle.fortran_grammar.specs.FileGrammar.{UnitSources}
 use Rattle.program_reader.specs.Unfinished.{No_statement}
 use Rattle.program_reader.proofs.Programs.{one_unit_file, fault_of_file}
 use Rattle.open_constructs.proofs.OpenedInFiles.{open_in_file_once}
-use Rattle.file_reader.specs.Refusals.{IsExpectedAt, IsOpenInFileAt, IsProgramWantedAt, IsTooDeepAt, last_place}
+use Rattle.file_reader.specs.Refusals.{IsExpectedAt, IsOpenInFileAt, IsProgramWantedAt, IsTooDeepAt}
 use Rattle.source_reader.specs.declared.fault.ReadFault.{ReadFault}
 use Rattle.source_reader.specs.declared.fault.ReadFault.TheVariants.{Expected, BlockNotClosed, TooDeep}
-use Rattle.source_reader.specs.Sources.{AreSourceWords, IsReadUnits}
+use Rattle.source_reader.specs.Sources.{IsReadUnits}
 use Rattle.source_reader.specs.Refusals.{AreRefusedUnits, IsRefusedUnits}
-use Rattle.source_reader.proofs.OneAnswer.{same_words, not_cut, unbroken, not_some, Told, by_lines, by_tokens, by_words, told, source_once}
+use Rattle.source_reader.proofs.OneAnswer.{same_words, not_cut, unbroken, not_some, by_lines, by_tokens, by_words, told, source_once}
 
 pub read_units_once : (bytes : List ℕ) (x y : UnitFile) → IsReadUnits bytes x → IsReadUnits bytes y → x ≡ y
 read_units_once bytes x y h k = one_unit_file 64 k.words x y (subst (λ z. Reads UnitSources z x) (same_words bytes h.words k.words h.are k.are) h.spelled) k.spelled

@@ -2,4 +2,4 @@ pub mod Lengths
 pub mod OneAnswer
 pub mod Whole
 pub mod Reading
-mod InFiles
+pub mod InFiles

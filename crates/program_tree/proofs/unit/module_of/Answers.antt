@@ -1,4 +1,6 @@
-use Rattle.std.proofs.Common.{◌∷◌, refl, ap, ◌∙◌}
+use Rattle.std.proofs.Common.{◌∷◌, map, refl, ap, ◌∙◌}
+use Rattle.fortran_tree.specs.DeclarationViews.{declaration}
+use Rattle.fortran_tree.specs.UnitViews.{maybe_procedures}
 use Rattle.unit_tree.specs.FileViews as files
 use Rattle.statement_reader.specs.Parts as f
 use Rattle.program_reader.specs.Sequence as q
@@ -32,7 +34,7 @@ returns-clause-front c =
     let none = c.implicit_none-implicit_none in
     let end = c.end_of_module-end in
     ap (λ z. f.module_part c.args.name c.args.at ∷ z)
-    (c.in_ok-uses.ensures.front ∙ ap (unit_use_parts _) (implicit_front none.result c.unit_uses_of.new.rest none.new.self none.ensures ∙ ap (implicit_parts none.result) (c.in_ok-declarations.ensures.front ∙ ap (declaration_parts _) (c.in_ok-procedures.ensures.front ∙ ap (contained_parts _) end.ensures))))
+    (c.in_ok-uses.ensures.front ∙ ap (unit_use_parts (map files.use_statement c.in_ok-uses.uses.items)) (implicit_front none.result c.unit_uses_of.new.rest none.new.self none.ensures ∙ ap (implicit_parts none.result) (c.in_ok-declarations.ensures.front ∙ ap (declaration_parts (map declaration c.in_ok-declarations.declarations.items)) (c.in_ok-procedures.ensures.front ∙ ap (contained_parts (maybe_procedures c.in_ok-procedures.procedures)) end.ensures))))
 
 pub returns-clause-follow : goal.returns-clause-follow
 returns-clause-follow c =

@@ -16,21 +16,21 @@ pub module_of-requires : goal.module_of-requires
 module_of-requires c =
     let n = c.in-Some.name in
     let at = c.in-Some.at in
-    let taken : view.left c.loop-name.rest ≡ parts.Module n at ∷ view.left c.module.new.self = (let a = c.in-Some.ensures in let b = c.in-Some.name-is in let d = c.in-Some.at-is in cc) in
-    behind_module n at (view.parts c.module.new.self) (subst (λ z. MayFollow q.start_of_units (map part z)) taken c.loop-name.invariant.1)
+    let taken : view.left c.loop-name.rest ≡ parts.Module n at ∷ view.left c.module_statement.new.self = (let a = c.in-Some.ensures in let b = c.in-Some.name-is in let d = c.in-Some.at-is in cc) in
+    behind_module n at (view.parts c.module_statement.new.self) (subst (λ z. MayFollow q.start_of_units (map part z)) taken c.loop-name.invariant.1)
 
 pub loop-name-smaller : goal.loop-name-smaller
 loop-name-smaller c =
     let n = c.in-Some.name in
     let at = c.in-Some.at in
-    let taken : view.left c.loop-name.rest ≡ parts.Module n at ∷ view.left c.module.new.self = (let a = c.in-Some.ensures in let b = c.in-Some.name-is in let d = c.in-Some.at-is in cc) in
-    module_shorter (files.module_unit c.in_ok-module_of.field-0) n at c.loop-name.rest c.module.new.self c.module_of.new.rest taken c.in_ok-module_of.ensures.front
+    let taken : view.left c.loop-name.rest ≡ parts.Module n at ∷ view.left c.module_statement.new.self = (let a = c.in-Some.ensures in let b = c.in-Some.name-is in let d = c.in-Some.at-is in cc) in
+    module_shorter (files.module_unit c.in_ok-module_of.field-0) n at c.loop-name.rest c.module_statement.new.self c.module_of.new.rest taken c.in_ok-module_of.ensures.front
 
 pub loop-name-preserved : goal.loop-name-preserved
 loop-name-preserved c =
     let n = c.in-Some.name in
     let at = c.in-Some.at in
-    let taken : view.left c.loop-name.rest ≡ parts.Module n at ∷ view.left c.module.new.self = (let a = c.in-Some.ensures in let b = c.in-Some.name-is in let d = c.in-Some.at-is in cc) in
+    let taken : view.left c.loop-name.rest ≡ parts.Module n at ∷ view.left c.module_statement.new.self = (let a = c.in-Some.ensures in let b = c.in-Some.name-is in let d = c.in-Some.at-is in cc) in
     let found = c.loop-name.found.items in
     let now = view.parts c.module_of.new.rest in (
       c.loop-name.invariant.0

@@ -3,7 +3,7 @@ use Rattle.expr_reader.specs.Words.{token_of, tokens_of}
 use Rattle.sequence_reader.specs.Statements.{whole_statements}
 use Rattle.statement_reader.specs.Heads.{is_over}
 use Rattle.file_reader.proofs.Ends.{whole_at}
-use Rattle.file_reader.proofs.reason.beginning.Goals as goal
+use Rattle.file_reader.proofs.reason.last_begin.Goals as goal
 
 pub returns-then-is_end-clause-whole : goal.returns-then-is_end-clause-whole
 returns-then-is_end-clause-whole c =
