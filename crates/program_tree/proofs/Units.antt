@@ -32,10 +32,10 @@ Unit_ends q.alone es = Ends es
 Unit_ends q.main es = Ends es
 Unit_ends (q.module_at at) es = Module_ends es
 
-pub unit_ends : (y : ProgramUnit) (r : Rest) → Unit_ends y (view.parts r) → view.EndsUnit y r
-unit_ends q.alone r h = h
-unit_ends q.main r h = h
-unit_ends (q.module_at at) r h = h
+pub ends_told : (y : ProgramUnit) (r : Rest) → Unit_ends y (view.parts r) → view.EndsUnit y r
+ends_told q.alone r h = h
+ends_told q.main r h = h
+ends_told (q.module_at at) r h = h
 
 end_alone : (n : _) (at : Pos) (es : List Part) → MayFollow (plain_place q.over []) es → Ends (f.end_program_part n at ∷ es)
 end_alone n at [] m = (record { name = n; at = at }, refl)

@@ -6,7 +6,7 @@ use Rattle.program_reader.specs.Nesting.{procedure_parts}
 use Rattle.program_reader.specs.Sequence as q
 use Rattle.program_tree.specs.Rests as view
 use Rattle.program_tree.proofs.Fronts.{one_procedure}
-use Rattle.program_tree.proofs.Units.{Unit_ends, unit_ends, ends_main, ends_between, behind_heading}
+use Rattle.program_tree.proofs.Units.{Unit_ends, ends_told, ends_main, ends_between, behind_heading}
 use Rattle.program_tree.proofs.Stages.{Stands}
 use Rattle.program_tree.proofs.Longer.{procedure_shorter}
 use Rattle.program_tree.proofs.unit.procedures_of.Goals as goal
@@ -14,7 +14,7 @@ use Rattle.program_tree.proofs.unit.procedures_of.Goals as goal
 pub returns-then-not-contains-clause-ends : goal.returns-then-not-contains-clause-ends
 returns-then-not-contains-clause-ends c =
     let kept = c.if-not-contains.ensures in
-    λ y stands. unit_ends y c.contains.new.self (subst (λ z. Unit_ends y (map part z)) (sym kept.0) (ends_main y (view.parts c.args.rest.now) stands c.requires.over kept.1))
+    λ y stands. ends_told y c.contains.new.self (subst (λ z. Unit_ends y (map part z)) (sym kept.0) (ends_main y (view.parts c.args.rest.now) stands c.requires.over kept.1))
 
 pub loop-heading-smaller : goal.loop-heading-smaller
 loop-heading-smaller c =
@@ -48,4 +48,4 @@ procedure_of-requires c =
 pub returns-clause-ends : goal.returns-clause-ends
 returns-clause-ends c =
     let none = c.in_default.ensures in
-    λ y stands. unit_ends y c.heading.new.self (subst (λ z. Unit_ends y (map part z)) (sym none.0) (ends_between y (view.parts c.loop-heading.rest) (c.loop-heading.invariant.1 y stands) none.1 none.2))
+    λ y stands. ends_told y c.heading.new.self (subst (λ z. Unit_ends y (map part z)) (sym none.0) (ends_between y (view.parts c.loop-heading.rest) (c.loop-heading.invariant.1 y stands) none.1 none.2))
