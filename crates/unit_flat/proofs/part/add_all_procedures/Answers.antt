@@ -1,0 +1,25 @@
+use Rattle.std.proofs.Common.{ap, refl, drop, map, ◌+◌, ◌++◌, ◌∙◌}
+use Rattle.std.proofs.lemmas.List.{drop_all}
+use Rattle.fortran_tree.specs.UnitViews as view
+use Rattle.module_units.specs.Flat.{flat_procedure, flat_procedures}
+use Rattle.module_units.specs.Visible.{scope_of}
+use Rattle.scope_table.proofs.Orders.{item_drop}
+use Rattle.unit_flat.proofs.Parts.{flat_end, flat_walk}
+use Rattle.unit_flat.proofs.part.add_all_procedures.Goals as goal
+
+pub loop-unit-init : goal.loop-unit-init
+loop-unit-init c = λ ps o. (ps, (o, refl))
+
+pub loop-unit-preserved : goal.loop-unit-preserved
+loop-unit-preserved c = λ ps o.
+    flat_walk (λ p. map (flat_procedure (scope_of p)) p.unit.procedures) flat_procedures c.args.blocks.now (map view.procedure c.args.all.now.items) (map view.procedure c.loop-unit.all.items) (map view.procedure c.add_procedures.new.all.items)
+    c.unit-item.result (drop c.loop-unit.unit-index c.args.units.now) (drop (c.loop-unit.unit-index + 1) c.args.units.now) ps (λ p qs. refl)
+    (item_drop c.args.units.now c.loop-unit.unit-index c.unit-item.result c.unit-item.is c.loop-unit-test.true)
+    (λ p a. c.in_ok-add_procedures.ensures (scope_of p) (c.place.ensures (scope_of p) a.0.stands)
+    ∙ ap (λ xs. map view.procedure c.loop-unit.all.items ++ map (flat_procedure (scope_of p)) xs) (c.procedures_of-procedures.ensures ∙ ap (λ u. u.procedures) a.1.0))
+    (c.loop-unit.invariant ps o)
+
+pub returns : goal.returns
+returns c = λ ps o.
+    flat_end flat_procedures c.args.blocks.now (map view.procedure c.args.all.now.items) (map view.procedure c.loop-unit.all.items) (drop c.loop-unit.unit-index c.args.units.now) ps refl
+    (drop_all c.loop-unit.unit-index c.args.units.now c.loop-unit-test.false) (c.loop-unit.invariant ps o)

@@ -1,0 +1,81 @@
+//! The declarations and the procedures of all units.
+
+ghost use Rattle.std.specs.Prelude.{◌≡◌, ◌++◌, List, map, IfOk, OnOk};
+ghost use Rattle.std.specs.Option.{option_map};
+ghost use Rattle.fortran_tree.specs.DeclarationViews.{declaration as declaration_seen};
+ghost use Rattle.fortran_tree.specs.UnitViews as view;
+ghost use Rattle.module_units.specs.Flat.{and_procedures, flat_declarations, flat_procedure, flat_procedures};
+ghost use Rattle.module_units.specs.Visible.{Placed, Scope};
+ghost use Rattle.unit_judge.specs.Placed.{AllOpened};
+ghost use Rattle.unit_places.specs.Scopes.{IsPlace};
+
+use crate::procedure::add_procedures;
+use caf_base::refusal::NoMemory;
+use fortran_tree::declaration::Declaration;
+use fortran_tree::unit::Procedure;
+use std::alloc::Global;
+use unit_judge::unit::{PlacedModule, procedures_of};
+use unit_names::block::Block;
+use unit_places::place::{Intrinsics, Place};
+use unit_spelling::declaration::add_declarations;
+
+/// Puts the declarations of modules behind those that are there.
+pub fn add_all_declarations(
+    alloc: Global,
+    blocks: &[Block<'_>],
+    units: &[PlacedModule<'_>],
+    intrinsics: &Intrinsics<'_>,
+    all: &mut Vec<Declaration>,
+) -> Result<(), NoMemory>
+    ensures { OnOk result ((ps : List Placed) → AllOpened blocks.now units.now ps → map declaration_seen all.new.items ≡ map declaration_seen all.old.items ++ flat_declarations ps) }
+{
+    for unit in units {
+        let place = unit.unit.place(blocks, intrinsics);
+        let declarations = unit.module.declarations.as_slice();
+        add_declarations(alloc, &place, all, declarations)?;
+    }
+    Ok(())
+}
+
+/// Puts the procedures of modules behind those that are there.
+pub fn add_all_procedures(
+    alloc: Global,
+    blocks: &[Block<'_>],
+    units: &[PlacedModule<'_>],
+    intrinsics: &Intrinsics<'_>,
+    all: &mut Vec<Procedure>,
+) -> Result<(), NoMemory>
+    ensures { OnOk result ((ps : List Placed) → AllOpened blocks.now units.now ps → map view.procedure all.new.items ≡ map view.procedure all.old.items ++ flat_procedures ps) }
+{
+    for unit in units {
+        let place = unit.unit.place(blocks, intrinsics);
+        let procedures = procedures_of(&unit.module.procedures);
+        add_procedures(alloc, &place, all, procedures)?;
+    }
+    Ok(())
+}
+
+/// The procedures of modules and behind them those of the main program, whose place this is: none where neither has
+/// any.
+pub fn with_procedures(
+    alloc: Global,
+    place: &Place<'_>,
+    all: Vec<Procedure>,
+    procedures: &Option<Vec<Procedure>>,
+) -> Result<Option<Vec<Procedure>>, NoMemory>
+    ensures { IfOk result (λ o. (s : Scope) → IsPlace place.now s → view.maybe_procedures o ≡ and_procedures (map view.procedure all.items) (option_map (map (flat_procedure s)) (view.maybe_procedures procedures.now))) }
+{
+    let mut all = all;
+    match procedures {
+        Some(own) => {
+            add_procedures(alloc, place, &mut all, own.as_slice())?;
+            Ok(Some(all))
+        }
+        None => {
+            if all.is_empty() {
+                return Ok(None);
+            }
+            Ok(Some(all))
+        }
+    }
+}

@@ -1,0 +1,6 @@
+pub mod Turns
+pub mod Names
+pub mod Same
+pub mod Parts
+pub mod Placing
+pub mod Walks

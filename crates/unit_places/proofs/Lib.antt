@@ -1,0 +1,5 @@
+pub mod Added
+pub mod Kept
+pub mod Tables
+pub mod Uses
+pub mod Scopes
