@@ -21,8 +21,8 @@ use rule_definitions::broken::Broken;
 use std::alloc::Global;
 use unit_judge::file::{Judged, judge_file};
 use unit_places::place::Intrinsics;
-use unit_spelling::declaration::add_declarations;
-use unit_spelling::spelling::copied;
+use expr_spelling::declaration::add_declarations;
+use expr_spelling::spelling::copied;
 use unit_spelling::statement::{copied_end, spelled_statements};
 use unit_tree::file::UnitFile;
 

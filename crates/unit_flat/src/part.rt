@@ -17,7 +17,7 @@ use std::alloc::Global;
 use unit_judge::unit::{PlacedModule, procedures_of};
 use unit_names::block::Block;
 use unit_places::place::{Intrinsics, Place};
-use unit_spelling::declaration::add_declarations;
+use expr_spelling::declaration::add_declarations;
 
 /// Puts the declarations of modules behind those that are there.
 pub fn add_all_declarations(

@@ -18,7 +18,7 @@ use std::alloc::Global;
 use unit_locals::locals::Locals;
 use unit_places::place::Place;
 use unit_spelling::action::spelled_names;
-use unit_spelling::spelling::spelled_name;
+use expr_spelling::spelling::spelled_name;
 use unit_spelling::unit::{spelled_body, spelled_prefixes};
 
 // Dummy arguments, where there are brackets.

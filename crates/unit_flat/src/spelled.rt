@@ -13,7 +13,7 @@ use fortran_tree::statement::End;
 use std::alloc::Global;
 use unit_names::entity::Found;
 use unit_places::place::{Meant, Place};
-use unit_spelling::spelling::{Spells, copied_name};
+use expr_spelling::spelling::{Spells, copied_name};
 
 // The name of a module's entity: `m.x`, which no source has.
 fn qualified_text(module: &[u8], name: &[u8]) -> Result<Text, NoMemory>

@@ -11,7 +11,7 @@ use caf_base::refusal::NoMemory;
 use fortran_tree::unit::Use as WholeUse;
 use scope_table::outside::is_known_module;
 use std::alloc::Global;
-use unit_spelling::spelling::copied_name;
+use expr_spelling::spelling::copied_name;
 use unit_tree::file::{Module, Use};
 
 // The first USE of ISO_FORTRAN_ENV among these.

@@ -10,7 +10,7 @@ ghost use Rattle.unit_places.specs.Scopes.{IsPlace, IsUnit, HandsOn, Opened, Sta
 use crate::modules::Modules;
 use crate::owned::{add_owned, declared_names, name_set};
 use crate::place::{Intrinsics, Place};
-use crate::uses::{Reach, reach};
+use crate::uses::{Reach, reach_of};
 use caf_base::refusal::NoMemory;
 use fortran_tree::declaration::Declaration;
 use fortran_tree::name::Name;
@@ -66,7 +66,7 @@ fn levels_of<'a>(
     ensures blocks { OnOk result (Extends modules.old.blocks.items modules.new.blocks.items) }
     ensures levels { IfOk result (λ ls. (ks : List Known) → Knows modules.old ks → Gives modules.new.blocks.items ls.items (uses_given ks (map view.use_statement uses.now))) }
 {
-    let found = reach(alloc, modules, uses)?;
+    let found = reach_of(alloc, modules, uses)?;
     let Reach { levels, listed } = found;
     modules.settled(alloc, levels, listed)
 }

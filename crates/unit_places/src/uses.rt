@@ -22,7 +22,7 @@ pub struct Reach<'a> {
 }
 
 /// What USE statements give, behind these modules.
-pub fn reach<'a>(
+pub fn reach_of<'a>(
     alloc: Global,
     modules: &Modules<'a>,
     uses: &'a [Use],

@@ -8,11 +8,13 @@ ghost use Rattle.fortran_tree.specs.Statements as tree;
 ghost use Rattle.unit_references.specs.Renamed as renamed;
 ghost use Rattle.unit_spelling.specs.Groups.{event_spelled, lock_spelled, plain_spelled, sync_spelled};
 
-use crate::declaration::{spelled_dimensions, spelled_maybe, spelled_maybe_coshape};
-use crate::expr::{spelled_arguments, spelled_designator, spelled_expr, spelled_specifiers};
-use crate::spelling::{Spells, copied, spelled_name};
 use caf_base::place::Pos;
 use caf_base::refusal::NoMemory;
+use expr_spelling::declaration::{spelled_dimensions, spelled_maybe, spelled_maybe_coshape};
+use expr_spelling::expr::{
+    spelled_arguments, spelled_designator, spelled_expr, spelled_specifiers,
+};
+use expr_spelling::spelling::{Spells, copied, spelled_name};
 use fortran_tree::action::{Action, ActionForm, Allocation, Format, ImageSet, Item};
 use fortran_tree::expr::{Argument, Designator, Expr, Specifier};
 use fortran_tree::name::{Literal, Name};

@@ -11,11 +11,11 @@ ghost use Rattle.fortran_tree.specs.Statements as tree;
 ghost use Rattle.unit_references.specs.Renamed as renamed;
 
 use crate::action::spelled_action;
-use crate::declaration::spelled_maybe;
-use crate::expr::{spelled_expr, spelled_specifiers};
-use crate::spelling::{Spells, copied, copied_name, spelled_name};
 use caf_base::place::Pos;
 use caf_base::refusal::NoMemory;
+use expr_spelling::declaration::spelled_maybe;
+use expr_spelling::expr::{spelled_expr, spelled_specifiers};
+use expr_spelling::spelling::{Spells, copied, copied_name, spelled_name};
 use fortran_tree::action::Action;
 use fortran_tree::expr::{Expr, Specifier};
 use fortran_tree::name::Name;

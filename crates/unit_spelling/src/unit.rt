@@ -4,10 +4,10 @@ ghost use Rattle.std.specs.Prelude.{◌≡◌, IfOk, map};
 ghost use Rattle.fortran_tree.specs.UnitViews as view;
 ghost use Rattle.unit_references.specs.Renamed as renamed;
 
-use crate::declaration::{add_declarations, spelled_type};
-use crate::spelling::Spells;
 use crate::statement::spelled_statements;
 use caf_base::refusal::NoMemory;
+use expr_spelling::declaration::{add_declarations, spelled_type};
+use expr_spelling::spelling::Spells;
 use fortran_tree::unit::{Body, Prefix};
 use std::alloc::Global;
 

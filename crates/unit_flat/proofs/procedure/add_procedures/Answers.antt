@@ -3,7 +3,7 @@ use Rattle.std.proofs.lemmas.List.{append-nil, drop_all}
 use Rattle.fortran_tree.specs.UnitViews as view
 use Rattle.module_units.specs.Flat.{flat_procedure}
 use Rattle.scope_table.proofs.Orders.{item_drop}
-use Rattle.unit_spelling.proofs.Behind.{items_step}
+use Rattle.expr_spelling.proofs.Behind.{items_step}
 use Rattle.unit_flat.proofs.procedure.add_procedures.Goals as goal
 
 pub loop-procedure-preserved : goal.loop-procedure-preserved

@@ -1,6 +1,6 @@
 use Rattle.fortran_tree.specs.ActionViews as view
 use Rattle.unit_references.specs.Renamed as renamed
-use Rattle.unit_spelling.proofs.Behind.{item_drop, items_step}
+use Rattle.expr_spelling.proofs.Behind.{item_drop, items_step}
 use Rattle.unit_spelling.proofs.action.spelled_items.Goals as goal
 
 pub loop-item-preserved : goal.loop-item-preserved

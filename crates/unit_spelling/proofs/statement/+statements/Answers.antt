@@ -2,7 +2,7 @@ use Rattle.std.proofs.Common.{rules}
 use Rattle.std.proofs.lemmas.Result.{IfOk-equal}
 use Rattle.fortran_tree.specs.StatementViews.{statement_action, statement_if, statement_do, statement_select, statement_critical, statement_change_team}
 use Rattle.std.proofs.lemmas.List.{drop_all}
-use Rattle.unit_spelling.proofs.Behind.{item_drop}
+use Rattle.expr_spelling.proofs.Behind.{item_drop}
 use Rattle.unit_spelling.proofs.Blocks.{statements_step, statements_over, else_ifs_step, else_ifs_over, cases_step, cases_over}
 use Rattle.unit_spelling.proofs.statement.+statements.Goals as goal
 

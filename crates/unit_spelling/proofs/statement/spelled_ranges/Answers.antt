@@ -1,6 +1,6 @@
 use Rattle.fortran_tree.specs.StatementViews as view
 use Rattle.unit_references.specs.Renamed as renamed
-use Rattle.unit_spelling.proofs.Behind.{item_drop, items_step}
+use Rattle.expr_spelling.proofs.Behind.{item_drop, items_step}
 use Rattle.unit_spelling.proofs.statement.spelled_ranges.Goals as goal
 
 pub loop-range-preserved : goal.loop-range-preserved

@@ -1,6 +1,6 @@
 use Rattle.fortran_tree.specs.UnitViews as view
 use Rattle.unit_references.specs.Renamed as renamed
-use Rattle.unit_spelling.proofs.Behind.{item_drop, items_step}
+use Rattle.expr_spelling.proofs.Behind.{item_drop, items_step}
 use Rattle.unit_spelling.proofs.unit.spelled_prefixes.Goals as goal
 
 pub loop-prefix-preserved : goal.loop-prefix-preserved

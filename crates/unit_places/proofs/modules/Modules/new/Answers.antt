@@ -13,7 +13,7 @@ pub returns : goal.returns
 returns c =
     subst (λ bs. KnownBy bs c.add.new.self.table.entries []) (sym c.in_ok-add.ensures.blocks)
     (known_first c.settled-levels.new.self.blocks.items c.settled-levels.new.self.table.entries c.add.new.self.table.entries _ c.in_ok-levels.levels.items
-    (c.in_ok-levels.ensures.table ∙ c.new-table.ensures.entries) c.in_ok-add.ensures.table refl
+    (c.in_ok-levels.ensures.table ∙ c.new-table.ensures.empty) c.in_ok-add.ensures.table refl
     (record {
       within = c.in_ok-levels.ensures.levels.0;
       given = λ n.

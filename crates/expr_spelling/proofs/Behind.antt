@@ -20,7 +20,7 @@ use Rattle.fortran_tree.specs.declared.expr.Selector.{Selector, out-Selector, ro
 use Rattle.unit_references.proofs.SameTrees.{two, three}
 use Rattle.unit_references.specs.Renamed as renamed
 use Rattle.unit_references.specs.Renamed.{Spelling}
-use Rattle.unit_spelling.specs.Behind.{expressions_before, subscripts_before, specifiers_before, arguments_before, seen, spelled_link}
+use Rattle.expr_spelling.specs.Behind.{expressions_before, subscripts_before, specifiers_before, arguments_before, seen, spelled_link}
 
 pub expressions_more : (xs : List Expr) (x : Expr) (es : Expressions) → expressions_before (xs ++ x ∷ []) es ≡ expressions_before xs (s.more_expressions (expression x) es)
 expressions_more [] x es = refl

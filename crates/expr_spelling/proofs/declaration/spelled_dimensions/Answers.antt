@@ -1,7 +1,7 @@
 use Rattle.fortran_tree.specs.DeclarationViews as view
 use Rattle.unit_references.specs.Renamed as renamed
-use Rattle.unit_spelling.proofs.Behind.{item_drop, items_step}
-use Rattle.unit_spelling.proofs.declaration.spelled_dimensions.Goals as goal
+use Rattle.expr_spelling.proofs.Behind.{item_drop, items_step}
+use Rattle.expr_spelling.proofs.declaration.spelled_dimensions.Goals as goal
 
 pub loop-dimension-preserved : goal.loop-dimension-preserved
 loop-dimension-preserved g c =

@@ -1,8 +1,8 @@
 use Rattle.std.proofs.Common.{◌≡◌, ◌++◌, drop, map}
 use Rattle.fortran_tree.specs.ExpressionViews as view
 use Rattle.unit_references.specs.Renamed as renamed
-use Rattle.unit_spelling.specs.Behind.{expressions_before, subscripts_before, specifiers_before, arguments_before, seen, spelled_link}
-use Rattle.unit_spelling.proofs.expr.+expression.Given as goal
+use Rattle.expr_spelling.specs.Behind.{expressions_before, subscripts_before, specifiers_before, arguments_before, seen, spelled_link}
+use Rattle.expr_spelling.proofs.expr.+expression.Given as goal
 
 -- what is spelled, and then what is left to spell, is the whole
 

@@ -3,7 +3,7 @@ use Rattle.std.proofs.lemmas.List.{drop_all}
 use Rattle.scope_table.proofs.Orders.{item_drop}
 use Rattle.unit_tree.specs.FileViews as view
 use Rattle.unit_places.proofs.Uses.{reaching_end, reaching_start, reaching_turn}
-use Rattle.unit_places.proofs.uses.reach.Goals as goal
+use Rattle.unit_places.proofs.uses.reach_of.Goals as goal
 
 pub loop-statement-init : goal.loop-statement-init
 loop-statement-init c = λ ks k. reaching_start c.args.modules.now.blocks.items ks _ (map view.use_statement c.args.uses.now) c.new-levels.ensures.items c.new-listed.ensures

@@ -2,10 +2,10 @@ use Rattle.std.proofs.Common.{◌≡◌, map, refl, ap, sym, ◌∙◌, drop}
 use Rattle.std.proofs.lemmas.List.{drop_all}
 use Rattle.std.proofs.lemmas.Result.{IfOk-weaker}
 use Rattle.fortran_tree.specs.ExpressionViews.{expression, expressions, section_subscripts, specifiers, maybe_image_selector, expression_binary}
-use Rattle.unit_spelling.specs.Behind.{seen, spelled_link}
+use Rattle.expr_spelling.specs.Behind.{seen, spelled_link}
 use Rattle.unit_references.specs.Renamed as renamed
-use Rattle.unit_spelling.proofs.Behind.{item_drop, expressions_step, expressions_over, subscripts_step, subscripts_over, specifiers_step, specifiers_over, arguments_step, arguments_over, links_step, binary_spelled, designator_spelled, selector_spelled}
-use Rattle.unit_spelling.proofs.expr.+expression.Goals as goal
+use Rattle.expr_spelling.proofs.Behind.{item_drop, expressions_step, expressions_over, subscripts_step, subscripts_over, specifiers_step, specifiers_over, arguments_step, arguments_over, links_step, binary_spelled, designator_spelled, selector_spelled}
+use Rattle.expr_spelling.proofs.expr.+expression.Goals as goal
 
 pub spelled_exprs-loop-expr-preserved : goal.spelled_exprs-loop-expr-preserved
 spelled_exprs-loop-expr-preserved g t c =

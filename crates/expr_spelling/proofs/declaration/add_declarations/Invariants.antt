@@ -1,7 +1,7 @@
 use Rattle.std.proofs.Common.{◌≡◌, ◌++◌, drop, map}
 use Rattle.fortran_tree.specs.DeclarationViews as view
 use Rattle.unit_references.specs.Renamed as renamed
-use Rattle.unit_spelling.proofs.declaration.add_declarations.Given as goal
+use Rattle.expr_spelling.proofs.declaration.add_declarations.Given as goal
 
 abbrev pub invariant-loop-declaration : goal.invariant-loop-declaration
 invariant-loop-declaration g l =

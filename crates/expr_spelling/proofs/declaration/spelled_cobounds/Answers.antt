@@ -1,7 +1,7 @@
 use Rattle.fortran_tree.specs.DeclarationViews as view
 use Rattle.unit_references.specs.Renamed as renamed
-use Rattle.unit_spelling.proofs.Behind.{item_drop, items_step}
-use Rattle.unit_spelling.proofs.declaration.spelled_cobounds.Goals as goal
+use Rattle.expr_spelling.proofs.Behind.{item_drop, items_step}
+use Rattle.expr_spelling.proofs.declaration.spelled_cobounds.Goals as goal
 
 pub loop-bounds-preserved : goal.loop-bounds-preserved
 loop-bounds-preserved g c =

@@ -3,7 +3,7 @@
 ghost use Rattle.std.specs.Prelude.{◌≡◌, IfOk, map};
 ghost use Rattle.fortran_tree.specs.Expressions as tree;
 ghost use Rattle.fortran_tree.specs.ExpressionViews as view;
-ghost use Rattle.unit_spelling.specs.Behind.{seen, spelled_link};
+ghost use Rattle.expr_spelling.specs.Behind.{seen, spelled_link};
 ghost use Rattle.unit_references.specs.Renamed as renamed;
 
 use crate::spelling::{Spells, copied, copied_name, spelled_kind, spelled_name};
