@@ -14,6 +14,7 @@ ghost use Rattle.unit_places.specs.Scopes.{Stands};
 ghost use Rattle.unit_tree.specs.FileViews as view;
 
 use crate::part::{add_all_declarations, add_all_procedures, with_procedures};
+use crate::spelled::FlatNames;
 use crate::usage::flat_uses;
 use caf_base::refusal::{NoMemory, Refusal};
 use fortran_tree::unit::{Body, Procedure, Program};
@@ -38,12 +39,13 @@ fn flat_main_body(
     let blocks = judged.modules.blocks.as_slice();
     let units = judged.units.as_slice();
     let place = judged.main.place(blocks, intrinsics);
+    let names = FlatNames { alloc, place };
     let mut declarations = Vec::new(alloc);
     add_all_declarations(alloc, blocks, units, intrinsics, &mut declarations)?;
     let own = body.declarations.as_slice();
-    add_declarations(alloc, &place, &mut declarations, own)?;
+    add_declarations(alloc, &names, &mut declarations, own)?;
     let written = body.statements.as_slice();
-    let statements = spelled_statements(alloc, &place, written)?;
+    let statements = spelled_statements(alloc, &names, written)?;
     Ok(Body {
         implicit_none: body.implicit_none,
         declarations,
@@ -63,9 +65,10 @@ fn flat_all_procedures(
     let blocks = judged.modules.blocks.as_slice();
     let units = judged.units.as_slice();
     let place = judged.main.place(blocks, intrinsics);
+    let names = FlatNames { alloc, place };
     let mut all = Vec::new(alloc);
     add_all_procedures(alloc, blocks, units, intrinsics, &mut all)?;
-    with_procedures(alloc, &place, all, procedures)
+    with_procedures(alloc, &names, all, procedures)
 }
 
 // The program that a file is.

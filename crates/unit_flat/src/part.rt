@@ -10,14 +10,15 @@ ghost use Rattle.unit_judge.specs.Placed.{AllOpened};
 ghost use Rattle.unit_places.specs.Scopes.{IsPlace};
 
 use crate::procedure::add_procedures;
+use crate::spelled::FlatNames;
 use caf_base::refusal::NoMemory;
+use expr_spelling::declaration::add_declarations;
 use fortran_tree::declaration::Declaration;
 use fortran_tree::unit::Procedure;
 use std::alloc::Global;
 use unit_judge::unit::{PlacedModule, procedures_of};
 use unit_names::block::Block;
-use unit_places::place::{Intrinsics, Place};
-use expr_spelling::declaration::add_declarations;
+use unit_places::place::Intrinsics;
 
 /// Puts the declarations of modules behind those that are there.
 pub fn add_all_declarations(
@@ -31,8 +32,9 @@ pub fn add_all_declarations(
 {
     for unit in units {
         let place = unit.unit.place(blocks, intrinsics);
+        let names = FlatNames { alloc, place };
         let declarations = unit.module.declarations.as_slice();
-        add_declarations(alloc, &place, all, declarations)?;
+        add_declarations(alloc, &names, all, declarations)?;
     }
     Ok(())
 }
@@ -49,26 +51,27 @@ pub fn add_all_procedures(
 {
     for unit in units {
         let place = unit.unit.place(blocks, intrinsics);
+        let names = FlatNames { alloc, place };
         let procedures = procedures_of(&unit.module.procedures);
-        add_procedures(alloc, &place, all, procedures)?;
+        add_procedures(alloc, &names, all, procedures)?;
     }
     Ok(())
 }
 
-/// The procedures of modules and behind them those of the main program, whose place this is: none where neither has
+/// The procedures of modules and behind them those of the main program, whose names are spelled so: none where neither has
 /// any.
 pub fn with_procedures(
     alloc: Global,
-    place: &Place<'_>,
+    names: &FlatNames<'_>,
     all: Vec<Procedure>,
     procedures: &Option<Vec<Procedure>>,
 ) -> Result<Option<Vec<Procedure>>, NoMemory>
-    ensures { IfOk result (λ o. (s : Scope) → IsPlace place.now s → view.maybe_procedures o ≡ and_procedures (map view.procedure all.items) (option_map (map (flat_procedure s)) (view.maybe_procedures procedures.now))) }
+    ensures { IfOk result (λ o. (s : Scope) → IsPlace names.now.place s → view.maybe_procedures o ≡ and_procedures (map view.procedure all.items) (option_map (map (flat_procedure s)) (view.maybe_procedures procedures.now))) }
 {
     let mut all = all;
     match procedures {
         Some(own) => {
-            add_procedures(alloc, place, &mut all, own.as_slice())?;
+            add_procedures(alloc, names, &mut all, own.as_slice())?;
             Ok(Some(all))
         }
         None => {

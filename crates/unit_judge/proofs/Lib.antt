@@ -4,3 +4,4 @@ pub mod Same
 pub mod Parts
 pub mod Placing
 pub mod Walks
+mod Tries

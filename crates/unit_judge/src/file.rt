@@ -9,6 +9,7 @@ ghost use Rattle.unit_tree.specs.FileViews as view;
 ghost use Rattle.unit_tree.specs.Files.{UnitFile as UnitFileSeen};
 ghost use Rattle.unit_judge.specs.Placed.{AllOpened, AllPlaced, IsJudged, IsPlaced, UnitPlaced};
 ghost use Rattle.unit_judge.specs.Seen.{Alike, Noted};
+ghost use Rattle.unit_names.specs.Levels.{Extends};
 ghost use Rattle.unit_places.specs.Known.{Knows};
 ghost use Rattle.unit_places.specs.Scopes.{Opened};
 

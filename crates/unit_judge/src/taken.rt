@@ -2,7 +2,7 @@
 
 ghost use Rattle.std.specs.Prelude.{◌≡◌, ◌∷◌, [], OnOk};
 ghost use Rattle.module_units.specs.UnitRules.{denoted_taken, entity_taken, taken_breaks};
-ghost use Rattle.rule_definitions.specs.Judgements.{first_of, unless};
+ghost use Rattle.rule_definitions.specs.Judgements.{first_of};
 ghost use Rattle.scope_table.specs.Pending.{Adds};
 ghost use Rattle.unit_judge.specs.Seen.{taken_at};
 ghost use Rattle.unit_names.specs.Found.{entity as entity_seen, found as found_seen};

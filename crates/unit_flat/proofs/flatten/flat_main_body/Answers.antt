@@ -13,8 +13,8 @@ use Rattle.unit_flat.proofs.flatten.flat_main_body.Goals as goal
 pub returns : goal.returns
 returns c = λ ps s a k.
     let bs = c.as_slice-blocks.result.now in
-    let i = c.place.ensures s (subst (λ z. Stands z c.args.judged.now.main s) (sym c.as_slice-blocks.ensures.value) k) in
-    let r = spelling_is c.place.result s i in
+    let i = c.place-place.ensures s (subst (λ z. Stands z c.args.judged.now.main s) (sym c.as_slice-blocks.ensures.value) k) in
+    let r = spelling_is c.place-place.result s i in
     let o = subst (λ z. AllOpened z c.as_slice-units.result.now ps) (sym c.as_slice-blocks.ensures.value) (subst (λ xs. AllOpened c.args.judged.now.modules.blocks.items xs ps) (sym c.as_slice-units.ensures.value) a) in
     two (λ d z. record { implicit_none = c.args.body.now.implicit_none; declarations = d; statements = z }) _ _ _ _
     (c.in_ok-add_declarations.ensures

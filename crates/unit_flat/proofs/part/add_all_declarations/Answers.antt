@@ -17,7 +17,7 @@ loop-unit-preserved c = λ ps o.
     c.unit-item.result (drop c.loop-unit.unit-index c.args.units.now) (drop (c.loop-unit.unit-index + 1) c.args.units.now) ps (λ p qs. refl)
     (item_drop c.args.units.now c.loop-unit.unit-index c.unit-item.result c.unit-item.is c.loop-unit-test.true)
     (λ p a. c.in_ok-add_declarations.ensures
-    ∙ (ap (λ r. map declaration c.loop-unit.all.items ++ map (renamed.declaration r) (map declaration c.as_slice-declarations.result.now)) (spelling_is c.place.result (scope_of p) (c.place.ensures (scope_of p) a.0.stands))
+    ∙ (ap (λ r. map declaration c.loop-unit.all.items ++ map (renamed.declaration r) (map declaration c.as_slice-declarations.result.now)) (spelling_is c.place-place.result (scope_of p) (c.place-place.ensures (scope_of p) a.0.stands))
     ∙ ap (λ ds. map declaration c.loop-unit.all.items ++ map (renamed.declaration (spelled (scope_of p))) ds) (ap (map declaration) c.as_slice-declarations.ensures.value ∙ ap (λ u. u.declarations) a.1.0)))
     (c.loop-unit.invariant ps o)
 

@@ -7,5 +7,5 @@ use Rattle.unit_flat.proofs.procedure.add_procedures.Given as goal
 
 abbrev pub invariant-loop-procedure : goal.invariant-loop-procedure
 invariant-loop-procedure l =
-    (s : Scope) → IsPlace l.unit s
+    (s : Scope) → IsPlace l.unit.place s
     → map view.procedure l.all.items ++ map (flat_procedure s) (map view.procedure (drop l.procedure-index l.procedures)) ≡ map view.procedure l.initial.all.items ++ map (flat_procedure s) (map view.procedure l.procedures)

@@ -11,7 +11,7 @@ use Rattle.unit_flat.proofs.procedure.flat_function.Goals as goal
 pub returns : goal.returns
 returns c = λ s p h k.
     four tree.function _ _ _ _ _ _ _ _
-    (c.in_ok-prefixes.ensures ∙ ap (λ r. map (renamed.prefix_spec r) (map view.prefix_spec c.args.prefixes.now)) (spelling_is c.args.unit.now s h))
+    (c.in_ok-prefixes.ensures ∙ ap (λ r. map (renamed.prefix_spec r) (map view.prefix_spec c.args.prefixes.now)) (spelling_is c.args.unit.now.place s h))
     (c.in_ok-name.ensures ∙ ap (λ o. owned_name o c.args.name.now) h.unit)
-    (c.in_ok-dummies.ensures ∙ ap (λ r. map (renamed.name r) c.args.dummies.now) (spelling_is c.args.own.now p k))
-    (c.in_ok-result.ensures ∙ ap (λ r. option_map (renamed.name r) c.args.answer.now) (spelling_is c.args.own.now p k))
+    (c.in_ok-dummies.ensures ∙ ap (λ r. map (renamed.name r) c.args.dummies.now) (spelling_is c.args.own.now.place p k))
+    (c.in_ok-result.ensures ∙ ap (λ r. option_map (renamed.name r) c.args.answer.now) (spelling_is c.args.own.now.place p k))

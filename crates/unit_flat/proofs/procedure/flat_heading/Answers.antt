@@ -12,7 +12,7 @@ use Rattle.unit_flat.proofs.procedure.flat_heading.Goals as goal
 pub returns-in-Subroutine : goal.returns-in-Subroutine
 returns-in-Subroutine c = λ s p h k.
     two (tree.subroutine c.in-Subroutine.recursion.now) _ _ _ _ (c.in_ok-name.ensures ∙ ap (λ o. owned_name o c.in-Subroutine.name.now) h.unit)
-    (c.in_ok-dummies.ensures ∙ ap (λ r. option_map (map (renamed.name r)) (view.maybe_names c.in-Subroutine.dummies.now)) (spelling_is c.args.own.now p k))
+    (c.in_ok-dummies.ensures ∙ ap (λ r. option_map (map (renamed.name r)) (view.maybe_names c.in-Subroutine.dummies.now)) (spelling_is c.args.own.now.place p k))
     ∙ sym (ap (λ x. flat_heading s p (view.heading x)) c.in-Subroutine.is)
 
 pub returns-in-Function : goal.returns-in-Function

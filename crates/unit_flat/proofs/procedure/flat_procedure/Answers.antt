@@ -12,8 +12,8 @@ use Rattle.unit_flat.proofs.procedure.flat_procedure.Goals as goal
 pub returns : goal.returns
 returns c = λ s h.
     let x = view.procedure c.args.procedure.now in
-    let k = subst (λ ls. IsPlace c.inside-own.result (record s { locals = ls })) c.in_ok-locals.ensures (c.inside-own.ensures s h) in
+    let k = subst (λ ls. IsPlace c.inside-place.result (record s { locals = ls })) c.in_ok-locals.ensures (c.inside-place.ensures s h) in
     three (λ a b e. record { heading = a; body = b; end = e; at = x.at }) _ _ _ _ _ _
     (c.in_ok-heading.ensures s (procedure_scope s x) h k)
-    (c.in_ok-body.ensures ∙ ap (λ r. renamed.body r x.body) (spelling_is c.inside-own.result (procedure_scope s x) k))
+    (c.in_ok-body.ensures ∙ ap (λ r. renamed.body r x.body) (spelling_is c.inside-place.result (procedure_scope s x) k))
     (c.in_ok-end.ensures ∙ ap (λ o. flat_end o x.end) h.unit)

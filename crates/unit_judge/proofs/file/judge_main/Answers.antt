@@ -9,7 +9,7 @@ use Rattle.unit_judge.proofs.file.judge_main.Goals as goal
 pub returns : goal.returns
 returns c = on_ok_weaker c.judge_unit.result
     (λ h ms ks u a o e. h ms (scope_of (placed ks u)) u a
-    (c.place.ensures (scope_of (placed ks u)) (subst (λ bs. Stands bs c.args.judged.now.main (scope_of (placed ks u))) (sym c.as_slice-blocks.ensures.value) o.stands))
+    (c.place-place.ensures (scope_of (placed ks u)) (subst (λ bs. Stands bs c.args.judged.now.main (scope_of (placed ks u))) (sym c.as_slice-blocks.ensures.value) o.stands))
     (record {
       declarations = ap (map declaration) c.as_slice-declarations.ensures.value ∙ ap (λ v. v.declarations) e;
       statements = ap statement_list c.as_slice-statements.ensures.value ∙ ap (λ v. v.statements) e;
