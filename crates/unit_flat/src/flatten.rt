@@ -1,6 +1,6 @@
 //! A file as one program.
 
-ghost use Rattle.std.specs.Prelude.{◌≡◌, List, [], Some, map, IfOk, IfErr};
+ghost use Rattle.std.specs.Prelude.{◌≡◌, List, [], Some, map, true, IfOk, IfErr};
 ghost use Rattle.std.specs.Option.{option_map};
 ghost use Rattle.fortran_lines.specs.Causes.{IfCause};
 ghost use Rattle.fortran_tree.specs.UnitViews as tree;
@@ -9,10 +9,12 @@ ghost use Rattle.module_units.specs.Flat.{and_procedures, flat, flat_body, flat_
 ghost use Rattle.module_units.specs.Flat.{flat_procedure, flat_procedures};
 ghost use Rattle.module_units.specs.UnitRules.{file_breaks};
 ghost use Rattle.module_units.specs.Visible.{Placed, Scope};
+ghost use Rattle.unit_flat.specs.Own.{is_own as is_own_seen};
 ghost use Rattle.unit_judge.specs.Placed.{AllOpened, IsJudged};
 ghost use Rattle.unit_places.specs.Scopes.{Stands};
 ghost use Rattle.unit_tree.specs.FileViews as view;
 
+use crate::own::{is_own, own_program};
 use crate::part::{add_all_declarations, add_all_procedures, with_procedures};
 use crate::spelled::FlatNames;
 use crate::usage::flat_uses;
@@ -92,6 +94,30 @@ fn flat_program(alloc: Global, judged: &Judged<'_>, file: &UnitFile) -> Result<P
     })
 }
 
+// What the units of a file break first.
+fn first_break(alloc: Global, file: &UnitFile) -> Result<Option<Broken>, NoMemory>
+    ensures { IfOk result (λ o. o ≡ first_unit_break (view.unit_file file.now)) }
+{
+    let judged = judge_file(alloc, file)?;
+    Ok(judged.first)
+}
+
+// A file without modules and new names.
+fn own_file(alloc: Global, file: UnitFile) -> Result<Program, Refusal<Broken>>
+    requires own { is_own_seen (view.unit_file file) ≡ true }
+    ensures flat { IfOk result (λ p. (file_breaks (view.unit_file file) ≡ []) × (tree.program p ≡ flat (view.unit_file file))) }
+    ensures broken { IfErr result (λ r. IfCause r (λ b. first_unit_break (view.unit_file file) ≡ Some b)) }
+{
+    let first = first_break(alloc, &file)?;
+    match first {
+        Some(broken) => Err(Refusal::Cause(broken)),
+        None => {
+            let program = own_program(alloc, file)?;
+            Ok(program)
+        }
+    }
+}
+
 // The program that a file is, where its units break nothing.
 fn flat_file(alloc: Global, file: &UnitFile) -> Result<Program, Refusal<Broken>>
     ensures flat { IfOk result (λ p. (file_breaks (view.unit_file file.now) ≡ []) × (tree.program p ≡ flat (view.unit_file file.now))) }
@@ -108,11 +134,15 @@ fn flat_file(alloc: Global, file: &UnitFile) -> Result<Program, Refusal<Broken>>
 }
 
 /// The one program that a file is, where its units break nothing by themselves; else the first rule that they break, of
-/// 20, 41, 60, 61 and 62, with its place; or want of memory.
+/// 20, 41, 60, 61 and 62, with its place; or want of memory. A file without modules and new names is taken over; of
+/// another one each part is made anew.
 pub fn flatten(alloc: Global, file: UnitFile) -> Result<Program, Refusal<Broken>>
     ensures flat { IfOk result (λ p. (file_breaks (view.unit_file file) ≡ []) × (tree.program p ≡ flat (view.unit_file file))) }
     ensures broken { IfErr result (λ r. IfCause r (λ b. first_unit_break (view.unit_file file) ≡ Some b)) }
 {
+    if is_own(&file) {
+        return own_file(alloc, file);
+    }
     let program = flat_file(alloc, &file);
     drop(file);
     program

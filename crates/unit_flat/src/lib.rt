@@ -8,6 +8,7 @@
 #![tactic(auto)]
 
 pub mod flatten;
+pub mod own;
 pub mod part;
 pub mod procedure;
 pub mod spelled;
