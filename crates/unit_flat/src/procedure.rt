@@ -114,10 +114,10 @@ fn flat_heading(
 }
 
 /// A procedure of a unit.
-pub fn flat_procedure(
+pub fn flat_procedure<'x>(
     alloc: Global,
-    unit: &FlatNames<'_>,
-    procedure: &Procedure,
+    unit: &FlatNames<'x>,
+    procedure: &'x Procedure,
 ) -> Result<Procedure, NoMemory>
     ensures { IfOk result (λ p. (s : Scope) → IsPlace unit.now.place s → view.procedure p ≡ procedure_seen s (view.procedure procedure.now)) }
 {
@@ -136,11 +136,11 @@ pub fn flat_procedure(
 }
 
 /// Puts procedures of a unit behind those that are there.
-pub fn add_procedures(
+pub fn add_procedures<'x>(
     alloc: Global,
-    unit: &FlatNames<'_>,
+    unit: &FlatNames<'x>,
     all: &mut Vec<Procedure>,
-    procedures: &[Procedure],
+    procedures: &'x [Procedure],
 ) -> Result<(), NoMemory>
     ensures { OnOk result ((s : Scope) → IsPlace unit.now.place s → map view.procedure all.new.items ≡ map view.procedure all.old.items ++ map (procedure_seen s) (map view.procedure procedures.now)) }
 {

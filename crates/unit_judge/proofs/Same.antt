@@ -22,7 +22,6 @@ use Rattle.unit_places.specs.Known.{KnownBy, Matches, levels_in}
 use Rattle.unit_places.specs.Places.{local_names}
 use Rattle.unit_places.specs.Scopes.{IsPlace}
 use Rattle.unit_places.proofs.Scopes.{denoted_is}
-use Rattle.unit_places.proofs.Uses.{none_matched}
 
 -- an entity of a unit itself breaks nothing
 pub own_breaks_none : (mains : List (List ℕ)) (s : Scope) (n : Name) (o : Option (List ℕ)) (x : List ℕ) → entity_breaks mains s n (v.own_entity o x) ≡ []
@@ -89,6 +88,10 @@ list_same gs (f.only is) = items_same gs is
 pub declared_same : (gs : List Given) (ns : List Name) → declared_at (accessible gs) ns ≡ given_breaks gs ns
 declared_same gs [] = refl
 declared_same gs (n ∷ ns) = ap (λ b. unless (not b) 61 n.at ++ declared_at (accessible gs) ns) (sym (has_given gs n.text)) ∙ ap (λ z. unless (not (v.has_name gs n.text)) 61 n.at ++ z) (declared_same gs ns)
+
+none_matched : (bs : List (List Row)) (o : Option (List Given)) → Matches bs None o → o ≡ None
+none_matched bs None m = refl
+none_matched bs (Some gs) m = absurd (cc m)
 
 -- a USE statement of a module that isn't there
 pub use_of_none : (bs : List (List Row)) (es : List (Vec ℕ Global × Vec ℕ Global)) (ks : List Known) (x : Use) → levels_in es x.module_name.text ≡ None → KnownBy bs es ks

@@ -106,12 +106,12 @@ fn judge_heading(
 }
 
 // The names in a procedure of a unit.
-fn judge_procedure(
+fn judge_procedure<'x>(
     alloc: Global,
     notes: &mut Notes,
     mains: &Names,
-    place: &Place<'_>,
-    procedure: &Procedure,
+    place: &Place<'x>,
+    procedure: &'x Procedure,
 ) -> Result<(), NoMemory>
     ensures { OnOk result ((ms : List (List ℕ)) (s : Scope) → Alike mains.now ms → IsPlace place.now s → Noted ms notes.old notes.new (procedures_referring s (view.procedure procedure.now ∷ []))) }
 {
@@ -121,12 +121,12 @@ fn judge_procedure(
     judge_body(alloc, notes, mains, &own, &procedure.body)
 }
 
-fn judge_procedures(
+fn judge_procedures<'x>(
     alloc: Global,
     notes: &mut Notes,
     mains: &Names,
-    place: &Place<'_>,
-    procedures: &[Procedure],
+    place: &Place<'x>,
+    procedures: &'x [Procedure],
 ) -> Result<(), NoMemory>
     ensures { OnOk result ((ms : List (List ℕ)) (s : Scope) → Alike mains.now ms → IsPlace place.now s → Noted ms notes.old notes.new (procedures_referring s (map view.procedure procedures.now))) }
 {
@@ -137,14 +137,14 @@ fn judge_procedures(
 }
 
 /// What the names in a unit of these parts break, and which they take.
-pub fn judge_unit(
+pub fn judge_unit<'x>(
     alloc: Global,
     notes: &mut Notes,
     mains: &Names,
-    place: &Place<'_>,
+    place: &Place<'x>,
     declarations: &[Declaration],
     statements: &[Statement],
-    procedures: &[Procedure],
+    procedures: &'x [Procedure],
 ) -> Result<(), NoMemory>
     ensures { OnOk result ((ms : List (List ℕ)) (s : Scope) (u : ProgramUnit) → Alike mains.now ms → IsPlace place.now s → IsParts u declarations.now statements.now procedures.now → Noted ms notes.old notes.new (unit_referring s u)) }
 {

@@ -2,7 +2,7 @@ use Rattle.std.proofs.Common.{ap, map, ◌∙◌}
 use Rattle.fortran_tree.specs.UnitViews as tree
 use Rattle.module_units.specs.Flat.{first_use}
 use Rattle.unit_tree.specs.FileViews as view
-use Rattle.unit_flat.proofs.Own.{own_flat}
+use Rattle.unit_flat.proofs.OwnTrees.{own_flat}
 use Rattle.unit_flat.proofs.own.own_program.Goals as goal
 
 pub returns : goal.returns
