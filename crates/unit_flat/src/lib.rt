@@ -4,7 +4,7 @@
 //! Its main contract: `flatten::flatten` gives the program that the definition `flat` of `module_units` says exactly
 //! where the units break nothing, else the first rule that they break, with its number and its place. By the law
 //! `law_file_without_modules` of `module_units` a file without modules and new names is its own tree but for its USE
-//! statements.
+//! statements; its parts are taken over.
 #![tactic(auto)]
 
 pub mod flatten;
