@@ -23,7 +23,7 @@ use fortran_tree::unit::{Body, Procedure, Program};
 use rule_definitions::broken::Broken;
 use std::alloc::Global;
 use unit_judge::file::{Judged, judge_file};
-use unit_places::place::Intrinsics;
+use unit_places::intrinsics::Intrinsics;
 use expr_spelling::declaration::add_declarations;
 use expr_spelling::spelling::copied;
 use unit_spelling::statement::{copied_end, spelled_statements};

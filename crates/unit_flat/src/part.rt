@@ -18,7 +18,7 @@ use fortran_tree::unit::Procedure;
 use std::alloc::Global;
 use unit_judge::unit::{PlacedModule, procedures_of};
 use unit_names::block::Block;
-use unit_places::place::Intrinsics;
+use unit_places::intrinsics::Intrinsics;
 
 /// Puts the declarations of modules behind those that are there.
 pub fn add_all_declarations(

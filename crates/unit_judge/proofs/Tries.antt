@@ -14,7 +14,7 @@ use Rattle.unit_judge.specs.Placed.{own_breaks}
 use Rattle.unit_judge.specs.Seen.{declared_at, list_at, references_breaks, taken_at}
 use Rattle.unit_names.specs.Found.{Row}
 use Rattle.unit_names.specs.Levels.{reached}
-use Rattle.unit_places.specs.declared.place.Intrinsics.{Intrinsics}
+use Rattle.unit_places.specs.declared.intrinsics.Intrinsics.{Intrinsics}
 use Rattle.unit_places.specs.declared.place.Place.{Place}
 
 -- a place in the source, a name at one, and a reference to a value

@@ -5,7 +5,7 @@ ghost use Rattle.fortran_tree.specs.DeclarationViews.{declaration as declaration
 ghost use Rattle.fortran_tree.specs.StatementViews.{statement_list};
 ghost use Rattle.fortran_tree.specs.UnitViews as view;
 ghost use Rattle.module_units.specs.Visible.{ProgramUnit, Scope};
-ghost use Rattle.module_units.specs.UnitRules.{prefixes_of, procedures_referring, unit_referring};
+ghost use Rattle.module_units.specs.UnitRules.{prefixes_of, procedures_referring, referring, unit_referring};
 ghost use Rattle.unit_judge.specs.Seen.{Alike, IsParts, Noted, PartNoted};
 ghost use Rattle.unit_places.specs.Scopes.{IsPlace};
 ghost use Rattle.unit_references.specs.References as names;
@@ -105,6 +105,21 @@ fn judge_heading(
     judge_names(alloc, notes, mains, place, &refs)
 }
 
+// The names in the body of a procedure that declares these.
+fn judge_inside<'x>(
+    alloc: Global,
+    notes: &mut Notes,
+    mains: &Names,
+    place: &Place<'x>,
+    locals: &'x Locals<'x>,
+    body: &Body,
+) -> Result<(), NoMemory>
+    ensures { OnOk result ((ms : List (List ℕ)) (s : Scope) → Alike mains.now ms → IsPlace place.now s → Noted ms notes.old notes.new (referring (record s { locals = locals.now }) (names.body (view.body body.now)) ∷ [])) }
+{
+    let own = place.inside(locals);
+    judge_body(alloc, notes, mains, &own, body)
+}
+
 // The names in a procedure of a unit.
 fn judge_procedure<'x>(
     alloc: Global,
@@ -117,8 +132,7 @@ fn judge_procedure<'x>(
 {
     judge_heading(alloc, notes, mains, place, &procedure.heading)?;
     let locals = Locals::of(alloc, procedure)?;
-    let own = place.inside(&locals);
-    judge_body(alloc, notes, mains, &own, &procedure.body)
+    judge_inside(alloc, notes, mains, place, &locals, &procedure.body)
 }
 
 fn judge_procedures<'x>(

@@ -1,5 +1,5 @@
 pub mod Added
 pub mod Kept
 pub mod Tables
-pub mod Uses
+pub mod UseLists
 pub mod Scopes

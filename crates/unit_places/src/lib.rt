@@ -7,6 +7,7 @@
 #![tactic(auto)]
 
 pub mod environment;
+pub mod intrinsics;
 pub mod modules;
 pub mod owned;
 pub mod place;

@@ -1,46 +1,18 @@
 //! Scopes, and what names denote there.
 
-ghost use Rattle.std.specs.Prelude.{◌≡◌, []};
+ghost use Rattle.std.specs.Prelude.{◌≡◌};
 ghost use Rattle.module_units.specs.Visible.{Scope, or_by_default};
-ghost use Rattle.rule_definitions.specs.Judgements.{is_there};
-ghost use Rattle.rule_definitions.specs.Names.{denoted_in, intrinsic_procedures, is_among};
+ghost use Rattle.rule_definitions.specs.Names.{is_among};
 ghost use Rattle.unit_names.specs.Levels.{reached};
 ghost use Rattle.unit_places.specs.Places.{denoted_at, local_names, meant, unit_name};
 ghost use Rattle.unit_places.specs.Scopes.{IsPlace};
 
-use caf_base::refusal::NoMemory;
+use crate::intrinsics::Intrinsics;
 use scope_table::names::Names;
-use scope_table::outside::Outside;
-use std::alloc::Global;
 use unit_locals::locals::Locals;
 use unit_names::block::Block;
 use unit_names::entity::Found;
 use unit_names::levels::find_in;
-
-/// The intrinsic procedures, of a program without any other names.
-#[derive(Drop)]
-pub struct Intrinsics<'a> {
-    outside: Outside<'a>,
-    ghost bare: { (outside.procedures ≡ []) × (outside.accessible ≡ []) },
-}
-
-impl<'a> Intrinsics<'a> {
-    /// All of them.
-    pub fn new(alloc: Global) -> Result<Intrinsics<'a>, NoMemory> {
-        let outside = Outside::of(alloc, &[], &[])?;
-        Ok(Intrinsics { outside })
-    }
-
-    /// Whether a name is that of one.
-    pub fn contains(&self, name: &[u8]) -> bool
-        ensures { result ≡ is_there (denoted_in intrinsic_procedures name.now) }
-    {
-        match self.outside.find(name) {
-            Some(_) => true,
-            None => false,
-        }
-    }
-}
 
 /// A scope: its unit, by its name where it is a module; what that declares and what USE gives it, by levels; and what
 /// the procedure declares that the scope is, where it is one. Besides, the intrinsic procedures.

@@ -7,9 +7,10 @@ ghost use Rattle.unit_names.specs.Levels.{AreWithin, Extends};
 ghost use Rattle.unit_places.specs.Known.{Gives, Knows};
 ghost use Rattle.unit_places.specs.Scopes.{IsPlace, IsUnit, HandsOn, Opened, Stands};
 
+use crate::intrinsics::Intrinsics;
 use crate::modules::Modules;
 use crate::owned::{add_owned, declared_names, name_set};
-use crate::place::{Intrinsics, Place};
+use crate::place::Place;
 use crate::uses::{Reach, reach_of};
 use caf_base::refusal::NoMemory;
 use fortran_tree::declaration::Declaration;

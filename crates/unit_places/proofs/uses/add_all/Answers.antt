@@ -4,7 +4,7 @@ use Rattle.std.proofs.lemmas.Result.{on_ok_weaker}
 use Rattle.unit_tree.specs.Files as file
 use Rattle.unit_tree.specs.FileViews as view
 use Rattle.unit_places.specs.Known.{Besides}
-use Rattle.unit_places.proofs.Uses.{none_left, renamed_besides, whole_besides}
+use Rattle.unit_places.proofs.UseLists.{none_left, renamed_besides, whole_besides}
 use Rattle.unit_places.proofs.uses.add_all.Goals as goal
 
 pub returns : goal.returns

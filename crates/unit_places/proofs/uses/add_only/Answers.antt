@@ -1,7 +1,7 @@
 use Rattle.std.proofs.Common.{refl, map}
 use Rattle.std.proofs.lemmas.Result.{on_ok_weaker}
 use Rattle.unit_tree.specs.FileViews as view
-use Rattle.unit_places.proofs.Uses.{only_besides}
+use Rattle.unit_places.proofs.UseLists.{only_besides}
 use Rattle.unit_places.proofs.uses.add_only.Goals as goal
 
 pub returns : goal.returns

@@ -3,7 +3,7 @@ use Rattle.std.proofs.lemmas.Result.{on_ok_weaker}
 use Rattle.std.specs.Option.{option_copied}
 use Rattle.unit_tree.specs.FileViews as view
 use Rattle.unit_places.specs.Known.{levels_in, Besides}
-use Rattle.unit_places.proofs.Uses.{used_none, used_some}
+use Rattle.unit_places.proofs.UseLists.{used_none, used_some}
 use Rattle.unit_places.proofs.uses.add_use.Goals as goal
 
 pub returns-in-None : goal.returns-in-None

@@ -2,7 +2,7 @@ use Rattle.std.proofs.Common.{ap, drop, map, ◌+◌}
 use Rattle.std.proofs.lemmas.List.{drop_all}
 use Rattle.scope_table.proofs.Orders.{item_drop}
 use Rattle.unit_tree.specs.FileViews as view
-use Rattle.unit_places.proofs.Uses.{reaching_end, reaching_start, reaching_turn}
+use Rattle.unit_places.proofs.UseLists.{reaching_end, reaching_start, reaching_turn}
 use Rattle.unit_places.proofs.uses.reach_of.Goals as goal
 
 pub loop-statement-init : goal.loop-statement-init
