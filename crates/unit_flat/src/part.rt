@@ -60,11 +60,11 @@ pub fn add_all_procedures(
 
 /// The procedures of modules and behind them those of the main program, whose names are spelled so: none where neither has
 /// any.
-pub fn with_procedures<'x>(
+pub fn with_procedures(
     alloc: Global,
-    names: &FlatNames<'x>,
+    names: &FlatNames<'_>,
     all: Vec<Procedure>,
-    procedures: &'x Option<Vec<Procedure>>,
+    procedures: &Option<Vec<Procedure>>,
 ) -> Result<Option<Vec<Procedure>>, NoMemory>
     ensures { IfOk result (λ o. (s : Scope) → IsPlace names.now.place s → view.maybe_procedures o ≡ and_procedures (map view.procedure all.items) (option_map (map (flat_procedure s)) (view.maybe_procedures procedures.now))) }
 {

@@ -4,7 +4,7 @@ ghost use Rattle.std.specs.Prelude.{◌≡◌, ◌++◌, map, IfOk, OnOk};
 ghost use Rattle.std.specs.Option.{option_map};
 ghost use Rattle.fortran_tree.specs.Units as tree;
 ghost use Rattle.fortran_tree.specs.UnitViews as view;
-ghost use Rattle.module_units.specs.Flat.{flat_heading as heading_seen, flat_procedure as procedure_seen, flat_procedure_in};
+ghost use Rattle.module_units.specs.Flat.{flat_heading as heading_seen, flat_procedure as procedure_seen};
 ghost use Rattle.module_units.specs.Visible.{Scope};
 ghost use Rattle.unit_places.specs.Places.{spelled_at};
 ghost use Rattle.unit_places.specs.Scopes.{IsPlace};
@@ -113,16 +113,16 @@ fn flat_heading(
     }
 }
 
-// A procedure of a unit that declares these names.
-fn flat_inside<'x>(
+/// A procedure of a unit.
+pub fn flat_procedure(
     alloc: Global,
-    unit: &FlatNames<'x>,
-    locals: &'x Locals<'x>,
+    unit: &FlatNames<'_>,
     procedure: &Procedure,
 ) -> Result<Procedure, NoMemory>
-    ensures { IfOk result (λ p. (s : Scope) → IsPlace unit.now.place s → view.procedure p ≡ flat_procedure_in s (record s { locals = locals.now }) (view.procedure procedure.now)) }
+    ensures { IfOk result (λ p. (s : Scope) → IsPlace unit.now.place s → view.procedure p ≡ procedure_seen s (view.procedure procedure.now)) }
 {
-    let place = unit.place.inside(locals);
+    let locals = Locals::of(alloc, procedure)?;
+    let place = unit.place.inside(&locals);
     let own = FlatNames { alloc, place };
     let heading = flat_heading(alloc, unit, &own, &procedure.heading)?;
     let body = spelled_body(alloc, &own, &procedure.body)?;
@@ -135,24 +135,12 @@ fn flat_inside<'x>(
     })
 }
 
-/// A procedure of a unit.
-pub fn flat_procedure<'x>(
-    alloc: Global,
-    unit: &FlatNames<'x>,
-    procedure: &'x Procedure,
-) -> Result<Procedure, NoMemory>
-    ensures { IfOk result (λ p. (s : Scope) → IsPlace unit.now.place s → view.procedure p ≡ procedure_seen s (view.procedure procedure.now)) }
-{
-    let locals = Locals::of(alloc, procedure)?;
-    flat_inside(alloc, unit, &locals, procedure)
-}
-
 /// Puts procedures of a unit behind those that are there.
-pub fn add_procedures<'x>(
+pub fn add_procedures(
     alloc: Global,
-    unit: &FlatNames<'x>,
+    unit: &FlatNames<'_>,
     all: &mut Vec<Procedure>,
-    procedures: &'x [Procedure],
+    procedures: &[Procedure],
 ) -> Result<(), NoMemory>
     ensures { OnOk result ((s : Scope) → IsPlace unit.now.place s → map view.procedure all.new.items ≡ map view.procedure all.old.items ++ map (procedure_seen s) (map view.procedure procedures.now)) }
 {

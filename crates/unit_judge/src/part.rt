@@ -5,7 +5,7 @@ ghost use Rattle.fortran_tree.specs.DeclarationViews.{declaration as declaration
 ghost use Rattle.fortran_tree.specs.StatementViews.{statement_list};
 ghost use Rattle.fortran_tree.specs.UnitViews as view;
 ghost use Rattle.module_units.specs.Visible.{ProgramUnit, Scope};
-ghost use Rattle.module_units.specs.UnitRules.{prefixes_of, procedures_referring, referring, unit_referring};
+ghost use Rattle.module_units.specs.UnitRules.{prefixes_of, procedures_referring, unit_referring};
 ghost use Rattle.unit_judge.specs.Seen.{Alike, IsParts, Noted, PartNoted};
 ghost use Rattle.unit_places.specs.Scopes.{IsPlace};
 ghost use Rattle.unit_references.specs.References as names;
@@ -105,42 +105,28 @@ fn judge_heading(
     judge_names(alloc, notes, mains, place, &refs)
 }
 
-// The names in the body of a procedure that declares these.
-fn judge_inside<'x>(
-    alloc: Global,
-    notes: &mut Notes,
-    mains: &Names,
-    place: &Place<'x>,
-    locals: &'x Locals<'x>,
-    body: &Body,
-) -> Result<(), NoMemory>
-    ensures { OnOk result ((ms : List (List ℕ)) (s : Scope) → Alike mains.now ms → IsPlace place.now s → Noted ms notes.old notes.new (referring (record s { locals = locals.now }) (names.body (view.body body.now)) ∷ [])) }
-{
-    let own = place.inside(locals);
-    judge_body(alloc, notes, mains, &own, body)
-}
-
 // The names in a procedure of a unit.
-fn judge_procedure<'x>(
+fn judge_procedure(
     alloc: Global,
     notes: &mut Notes,
     mains: &Names,
-    place: &Place<'x>,
-    procedure: &'x Procedure,
+    place: &Place<'_>,
+    procedure: &Procedure,
 ) -> Result<(), NoMemory>
     ensures { OnOk result ((ms : List (List ℕ)) (s : Scope) → Alike mains.now ms → IsPlace place.now s → Noted ms notes.old notes.new (procedures_referring s (view.procedure procedure.now ∷ []))) }
 {
     judge_heading(alloc, notes, mains, place, &procedure.heading)?;
     let locals = Locals::of(alloc, procedure)?;
-    judge_inside(alloc, notes, mains, place, &locals, &procedure.body)
+    let own = place.inside(&locals);
+    judge_body(alloc, notes, mains, &own, &procedure.body)
 }
 
-fn judge_procedures<'x>(
+fn judge_procedures(
     alloc: Global,
     notes: &mut Notes,
     mains: &Names,
-    place: &Place<'x>,
-    procedures: &'x [Procedure],
+    place: &Place<'_>,
+    procedures: &[Procedure],
 ) -> Result<(), NoMemory>
     ensures { OnOk result ((ms : List (List ℕ)) (s : Scope) → Alike mains.now ms → IsPlace place.now s → Noted ms notes.old notes.new (procedures_referring s (map view.procedure procedures.now))) }
 {
@@ -151,14 +137,14 @@ fn judge_procedures<'x>(
 }
 
 /// What the names in a unit of these parts break, and which they take.
-pub fn judge_unit<'x>(
+pub fn judge_unit(
     alloc: Global,
     notes: &mut Notes,
     mains: &Names,
-    place: &Place<'x>,
+    place: &Place<'_>,
     declarations: &[Declaration],
     statements: &[Statement],
-    procedures: &'x [Procedure],
+    procedures: &[Procedure],
 ) -> Result<(), NoMemory>
     ensures { OnOk result ((ms : List (List ℕ)) (s : Scope) (u : ProgramUnit) → Alike mains.now ms → IsPlace place.now s → IsParts u declarations.now statements.now procedures.now → Noted ms notes.old notes.new (unit_referring s u)) }
 {

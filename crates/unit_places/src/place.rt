@@ -58,7 +58,7 @@ impl<'a> Place<'a> {
     }
 
     /// The scope of a procedure that declares these names.
-    pub fn inside(&self, locals: &'a Locals<'a>) -> Place<'a>
+    pub fn inside<'b>(&'b self, locals: &'b Locals<'b>) -> Place<'b>
         ensures { (s : Scope) → IsPlace self.now s → IsPlace result (record s { locals = locals.now }) }
     {
         Place {

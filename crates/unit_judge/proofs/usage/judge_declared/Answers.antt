@@ -1,6 +1,6 @@
 use Rattle.std.proofs.Common.{sym, ap, drop, [], ◌∷◌, ◌+◌, ◌++◌}
 use Rattle.std.proofs.lemmas.List.{append-nil}
-use Rattle.scope_table.proofs.Orders.{drop_at}
+use Rattle.scope_table.proofs.Orders.{item_drop}
 use Rattle.unit_judge.specs.Seen.{declared_at}
 use Rattle.unit_judge.proofs.Turns.{noted_turn}
 use Rattle.unit_names.specs.Levels.{reached}
@@ -10,5 +10,5 @@ use Rattle.unit_judge.proofs.usage.judge_declared.Goals as goal
 pub loop-name-preserved : goal.loop-name-preserved
 loop-name-preserved c =
     noted_turn (λ x. declared_at (reached c.args.blocks.now c.args.levels.now) (x.now ∷ [])) (λ xs. declared_at (reached c.args.blocks.now c.args.levels.now) (seen xs))
-    (drop c.loop-name.name-index c.args.names.now) (drop (c.loop-name.name-index + 1) c.args.names.now) _ c.loop-name.first c.judge_one.new.first _
-    (drop_at c.args.names.now c.loop-name.name-index _ c.loop-name-test.true) (sym (ap (λ z. z ++ _) (append-nil _))) c.judge_one.ensures c.loop-name.invariant
+    (drop c.loop-name.name-index c.args.names.now) (drop (c.loop-name.name-index + 1) c.args.names.now) c.name-item.result c.loop-name.first c.judge_one.new.first _
+    (item_drop c.args.names.now c.loop-name.name-index c.name-item.result c.name-item.is c.loop-name-test.true) (sym (ap (λ z. z ++ _) (append-nil _))) c.judge_one.ensures c.loop-name.invariant

@@ -10,12 +10,12 @@ returns-in-One c = ap (λ d. or_by_default d c.args.name.now) (ap found (sym c.i
 pub returns-in-Several : goal.returns-in-Several
 returns-in-Several c = ap (λ d. or_by_default d c.args.name.now) (ap found (sym c.in-Several.is) ∙ c.find_in.ensures)
 
-pub returns-in-Nothing-then-contains : goal.returns-in-Nothing-then-contains
-returns-in-Nothing-then-contains c =
+pub returns-then-contains : goal.returns-then-contains
+returns-then-contains c =
     ap (λ b. cond b (one (intrinsic c.args.name.now)) nothing) (sym c.if-contains.true ∙ c.contains.ensures)
     ∙ ap (λ d. or_by_default d c.args.name.now) (ap found (sym c.in-Nothing.is) ∙ c.find_in.ensures)
 
-pub returns-in-Nothing-else-contains : goal.returns-in-Nothing-else-contains
-returns-in-Nothing-else-contains c =
+pub returns-else-contains : goal.returns-else-contains
+returns-else-contains c =
     ap (λ b. cond b (one (intrinsic c.args.name.now)) nothing) (sym c.if-contains.false ∙ c.contains.ensures)
     ∙ ap (λ d. or_by_default d c.args.name.now) (ap found (sym c.in-Nothing.is) ∙ c.find_in.ensures)
