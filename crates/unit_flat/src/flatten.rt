@@ -19,13 +19,13 @@ use crate::part::{add_all_declarations, add_all_procedures, with_procedures};
 use crate::spelled::FlatNames;
 use crate::usage::flat_uses;
 use caf_base::refusal::{NoMemory, Refusal};
+use expr_spelling::declaration::add_declarations;
+use expr_spelling::spelling::copied;
 use fortran_tree::unit::{Body, Procedure, Program};
 use rule_definitions::broken::Broken;
 use std::alloc::Global;
 use unit_judge::file::{Judged, judge_file};
 use unit_places::intrinsics::Intrinsics;
-use expr_spelling::declaration::add_declarations;
-use expr_spelling::spelling::copied;
 use unit_spelling::statement::{copied_end, spelled_statements};
 use unit_tree::file::UnitFile;
 

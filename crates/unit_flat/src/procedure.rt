@@ -12,12 +12,12 @@ ghost use Rattle.unit_references.specs.Renamed as renamed;
 
 use crate::spelled::{FlatNames, owned, owned_end};
 use caf_base::refusal::NoMemory;
+use expr_spelling::spelling::spelled_name;
 use fortran_tree::name::Name;
 use fortran_tree::unit::{Heading, Prefix, Procedure};
 use std::alloc::Global;
 use unit_locals::locals::Locals;
 use unit_spelling::action::spelled_names;
-use expr_spelling::spelling::spelled_name;
 use unit_spelling::unit::{spelled_body, spelled_prefixes};
 
 // Dummy arguments, where there are brackets.

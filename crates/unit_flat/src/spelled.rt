@@ -8,12 +8,12 @@ ghost use Rattle.unit_places.specs.Places.{spelled_at, unit_name};
 
 use caf_base::listing::Text;
 use caf_base::refusal::NoMemory;
+use expr_spelling::spelling::{Spells, copied_name};
 use fortran_tree::name::Name;
 use fortran_tree::statement::End;
 use std::alloc::Global;
 use unit_names::entity::Found;
 use unit_places::place::{Meant, Place};
-use expr_spelling::spelling::{Spells, copied_name};
 
 // The name of a module's entity: `m.x`, which no source has.
 fn qualified_text(alloc: Global, module: &[u8], name: &[u8]) -> Result<Text, NoMemory>

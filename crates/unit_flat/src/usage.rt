@@ -8,10 +8,10 @@ ghost use Rattle.unit_tree.specs.Files.{Use as UsedSeen};
 ghost use Rattle.unit_flat.specs.Parts.{or_used, used};
 
 use caf_base::refusal::NoMemory;
+use expr_spelling::spelling::copied_name;
 use fortran_tree::unit::Use as WholeUse;
 use scope_table::outside::is_known_module;
 use std::alloc::Global;
-use expr_spelling::spelling::copied_name;
 use unit_tree::file::{Module, Use};
 
 // The first USE of ISO_FORTRAN_ENV among these.

@@ -22,8 +22,8 @@ use caf_base::refusal::NoMemory;
 use rule_definitions::broken::Broken;
 use scope_table::names::Names;
 use std::alloc::Global;
-use unit_places::modules::Modules;
 use unit_places::intrinsics::Intrinsics;
+use unit_places::modules::Modules;
 use unit_places::unit::Unit;
 use unit_tree::file::{MainProgram, Module, UnitFile};
 
