@@ -58,8 +58,8 @@ pub fn add_all_procedures(
     Ok(())
 }
 
-/// The procedures of modules and behind them those of the main program, whose names are spelled so: none where neither has
-/// any.
+/// The procedures of modules and behind them those of the main program, whose names are spelled so: none where neither
+/// has any.
 pub fn with_procedures(
     alloc: Global,
     names: &FlatNames<'_>,
