@@ -5,4 +5,4 @@ use Rattle.unit_judge.proofs.file.judge_file.Goals as goal
 pub returns : goal.returns
 returns c =
     let p = c.in_ok-judged.ensures in
-    record { first = c.in_ok-judge_all.ensures (view.unit_file c.args.file.now) p refl; units = p.units; main = p.main }
+    record { first = c.in_ok-judged-2.ensures (view.unit_file c.args.file.now) p refl; units = p.units; main = p.main }

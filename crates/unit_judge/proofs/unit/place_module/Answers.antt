@@ -18,7 +18,7 @@ hand_on-requires c =
     })).opened.stands.given.within
 
 pub returns-clause-blocks : goal.returns-clause-blocks
-returns-clause-blocks c = extends_twice c.args.modules.now.blocks.items c.place_unit-unit.new.modules.blocks.items c.hand_on.new.modules.blocks.items c.in_ok-unit.ensures.blocks c.in_ok-hand_on.ensures.blocks
+returns-clause-blocks c = extends_twice c.args.modules.now.blocks.items c.place_unit.new.modules.blocks.items c.hand_on.new.modules.blocks.items c.in_ok-unit.ensures.blocks c.in_ok-hand_on.ensures.blocks
 
 pub returns-clause-placed : goal.returns-clause-placed
 returns-clause-placed c = λ ks k.
@@ -31,9 +31,9 @@ returns-clause-placed c = λ ks k.
       procedures = c.procedures_of-procedures.ensures;
     }) in
     record {
-      unit = record { opened = opened_kept c.place_unit-unit.new.modules.blocks.items c.hand_on.new.modules.blocks.items c.in_ok-unit.unit ks (module_unit m) c.in_ok-hand_on.ensures.blocks p.opened; first = p.first };
+      unit = record { opened = opened_kept c.place_unit.new.modules.blocks.items c.hand_on.new.modules.blocks.items c.in_ok-unit.unit ks (module_unit m) c.in_ok-hand_on.ensures.blocks p.opened; first = p.first };
       known = c.in_ok-hand_on.ensures.known ks m
-          (subst (λ es. KnownBy c.place_unit-unit.new.modules.blocks.items es ks) (sym c.in_ok-unit.ensures.table)
-          (known_kept c.args.modules.now.blocks.items c.place_unit-unit.new.modules.blocks.items c.args.modules.now.table.entries ks c.in_ok-unit.ensures.blocks k))
+          (subst (λ es. KnownBy c.place_unit.new.modules.blocks.items es ks) (sym c.in_ok-unit.ensures.table)
+          (known_kept c.args.modules.now.blocks.items c.place_unit.new.modules.blocks.items c.args.modules.now.table.entries ks c.in_ok-unit.ensures.blocks k))
           c.as_slice-name.ensures p.opened.declared p.opened.stands.given.given;
     }

@@ -11,7 +11,7 @@ use Rattle.unit_judge.proofs.unit.place_unit.Goals as goal
 
 pub returns-clause-placed : goal.returns-clause-placed
 returns-clause-placed c = λ ks u k i.
-    let bs = c.open_unit-unit.new.modules.blocks.items in
+    let bs = c.open_unit.new.modules.blocks.items in
     let x = c.in_ok-unit.unit in
     let o = c.in_ok-unit.ensures.unit ks u k i in
     record {
