@@ -1,11 +1,11 @@
-use Rattle.std.proofs.Common.{ap, refl, drop, map, ◌+◌, ◌++◌, ◌∙◌}
+use Rattle.std.proofs.Common.{refl, drop, map, ◌+◌}
 use Rattle.std.proofs.lemmas.List.{drop_all}
 use Rattle.fortran_tree.specs.DeclarationViews.{declaration}
 use Rattle.module_units.specs.Flat.{flat_declarations, spelled}
 use Rattle.module_units.specs.Visible.{scope_of}
 use Rattle.scope_table.proofs.Orders.{item_drop}
 use Rattle.unit_references.specs.Renamed as renamed
-use Rattle.unit_flat.proofs.Parts.{flat_end, flat_walk, spelling_is}
+use Rattle.unit_flat.proofs.Parts.{flat_end, flat_walk}
 use Rattle.unit_flat.proofs.part.add_all_declarations.Goals as goal
 
 pub loop-unit-init : goal.loop-unit-init
@@ -13,12 +13,10 @@ loop-unit-init c = λ ps o. (ps, (o, refl))
 
 pub loop-unit-preserved : goal.loop-unit-preserved
 loop-unit-preserved c = λ ps o.
-    flat_walk (λ p. map (renamed.declaration (spelled (scope_of p))) p.unit.declarations) flat_declarations c.args.blocks.now (map declaration c.args.all.now.items) (map declaration c.loop-unit.all.items) (map declaration c.add_declarations.new.all.items)
+    flat_walk (λ p. map (renamed.declaration (spelled (scope_of p))) p.unit.declarations) flat_declarations c.args.blocks.now (map declaration c.args.all.now.items) (map declaration c.loop-unit.all.items) (map declaration c.add_module_declarations.new.all.items)
     c.unit-item.result (drop c.loop-unit.unit-index c.args.units.now) (drop (c.loop-unit.unit-index + 1) c.args.units.now) ps (λ p qs. refl)
     (item_drop c.args.units.now c.loop-unit.unit-index c.unit-item.result c.unit-item.is c.loop-unit-test.true)
-    (λ p a. c.in_ok-add_declarations.ensures
-    ∙ (ap (λ r. map declaration c.loop-unit.all.items ++ map (renamed.declaration r) (map declaration c.as_slice-declarations.result.now)) (spelling_is c.place-place.result (scope_of p) (c.place-place.ensures (scope_of p) a.0.stands))
-    ∙ ap (λ ds. map declaration c.loop-unit.all.items ++ map (renamed.declaration (spelled (scope_of p))) ds) (ap (map declaration) c.as_slice-declarations.ensures.value ∙ ap (λ u. u.declarations) a.1.0)))
+    (λ p a. c.in_ok-add_module_declarations.ensures p a)
     (c.loop-unit.invariant ps o)
 
 pub returns : goal.returns

@@ -1,4 +1,4 @@
-use Rattle.std.proofs.Common.{ap, refl, drop, map, ◌+◌, ◌++◌, ◌∙◌}
+use Rattle.std.proofs.Common.{refl, drop, map, ◌+◌}
 use Rattle.std.proofs.lemmas.List.{drop_all}
 use Rattle.fortran_tree.specs.UnitViews as view
 use Rattle.module_units.specs.Flat.{flat_procedure, flat_procedures}
@@ -12,11 +12,10 @@ loop-unit-init c = λ ps o. (ps, (o, refl))
 
 pub loop-unit-preserved : goal.loop-unit-preserved
 loop-unit-preserved c = λ ps o.
-    flat_walk (λ p. map (flat_procedure (scope_of p)) p.unit.procedures) flat_procedures c.args.blocks.now (map view.procedure c.args.all.now.items) (map view.procedure c.loop-unit.all.items) (map view.procedure c.add_procedures.new.all.items)
+    flat_walk (λ p. map (flat_procedure (scope_of p)) p.unit.procedures) flat_procedures c.args.blocks.now (map view.procedure c.args.all.now.items) (map view.procedure c.loop-unit.all.items) (map view.procedure c.add_module_procedures.new.all.items)
     c.unit-item.result (drop c.loop-unit.unit-index c.args.units.now) (drop (c.loop-unit.unit-index + 1) c.args.units.now) ps (λ p qs. refl)
     (item_drop c.args.units.now c.loop-unit.unit-index c.unit-item.result c.unit-item.is c.loop-unit-test.true)
-    (λ p a. c.in_ok-add_procedures.ensures (scope_of p) (c.place-place.ensures (scope_of p) a.0.stands)
-    ∙ ap (λ xs. map view.procedure c.loop-unit.all.items ++ map (flat_procedure (scope_of p)) xs) (c.procedures_of-procedures.ensures ∙ ap (λ u. u.procedures) a.1.0))
+    (λ p a. c.in_ok-add_module_procedures.ensures p a)
     (c.loop-unit.invariant ps o)
 
 pub returns : goal.returns
