@@ -6,7 +6,7 @@ use Rattle.unit_judge.proofs.Placing.{all_kept, placed_noted, placed_same}
 use Rattle.unit_judge.proofs.file.place_file.Goals as goal
 
 pub place_main-requires : goal.place_main-requires
-place_main-requires c = (all_known [] _, c.in_ok-units.ensures.known)
+place_main-requires c = (all_known [] (map view.module_unit c.as_slice-all.result.now), c.in_ok-units.ensures.known)
 
 pub returns : goal.returns
 returns c =
