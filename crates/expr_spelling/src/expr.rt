@@ -119,9 +119,21 @@ pub fn spelled_expr<S: Spells>(alloc: Global, names: &S, expr: &Expr) -> Result<
             at,
         } => {
             let left = spelled_expr(alloc, names, left)?;
-            let right = spelled_expr(alloc, names, right)?;
-            let links = spelled_links(alloc, names, links)?;
-            binary(alloc, *operator, (left, right), links, *at)
+            let right = match spelled_expr(alloc, names, right) {
+                Ok(right) => right,
+                Err(e) => {
+                    drop(left);
+                    return Err(e);
+                }
+            };
+            match spelled_links(alloc, names, links) {
+                Ok(links) => binary(alloc, *operator, (left, right), links, *at),
+                Err(e) => {
+                    drop(right);
+                    drop(left);
+                    Err(e)
+                }
+            }
         }
     }
 }

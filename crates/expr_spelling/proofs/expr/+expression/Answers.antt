@@ -44,15 +44,15 @@ spelled_links-loop-link-preserved g t c =
     links_step (g.S.Spells.spelling c.args.names.now) c.loop-link.all.items c.push.new.self.items _ c.link-item.result _ _ _
     (item_drop c.args.links.now c.loop-link.link-index c.link-item.result c.link-item.is c.loop-link-test.true) c.in_ok-push.ensures.items (ap (λ z. (c.link-item.result.operator, z)) c.in_ok-spelled_expr.ensures) c.loop-link.invariant
 
-pub spelled_expr-returns-in_ok-links-in-Binary : goal.spelled_expr-returns-in_ok-links-in-Binary
-spelled_expr-returns-in_ok-links-in-Binary g t c =
+pub spelled_expr-returns-in-Ok-spelled_links : goal.spelled_expr-returns-in-Ok-spelled_links
+spelled_expr-returns-in-Ok-spelled_links g t c =
     let r = g.S.Spells.spelling c.args.names.now in
     let b = c.in-Binary in
     let left = c.in_ok-left-in-Binary.ensures ∙ ap (λ z. renamed.expression r (expression z)) c.deref-in-Binary.ensures in
-    let right = c.in_ok-right-in-Binary.ensures ∙ ap (λ z. renamed.expression r (expression z)) c.deref-in-Binary-2.ensures in
-    let links = c.in_ok-links-in-Binary.ensures ∙ ap (λ z. map (spelled_link r) (map seen z)) c.deref-in-Binary-3.ensures.value in
+    let right = c.in-Ok-spelled_expr.ensures ∙ ap (λ z. renamed.expression r (expression z)) c.deref-in-Binary-2.ensures in
+    let links = c.in-Ok-spelled_links.ensures ∙ ap (λ z. map (spelled_link r) (map seen z)) c.deref-in-Binary-3.ensures.value in
     IfOk-weaker c.binary.result _ _
-    (λ e h. h ∙ (binary_spelled r b.operator (expression b.left.value) (expression b.right.value) _ _ b.links.items c.in_ok-links-in-Binary.links.items b.at left right links
+    (λ e h. h ∙ (binary_spelled r b.operator (expression b.left.value) (expression b.right.value) _ _ b.links.items c.in-Ok-spelled_links.links.items b.at left right links
     ∙ sym (ap (λ z. renamed.expression r (expression z)) b.is ∙ ap (renamed.expression r) (expression_binary b.operator b.left b.right b.links b.at))))
     c.binary.ensures
 
